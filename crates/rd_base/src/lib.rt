@@ -1,0 +1,15 @@
+//! What every crate of rd2 stands on: names, words, limits, the counter of steps, and the input
+//! and output of the program.
+#![tactic(auto)]
+
+mod byte_lists;
+mod counter;
+mod limits;
+mod memory;
+mod names;
+
+pub use byte_lists::{Bytes, Word};
+pub use counter::Steps;
+pub use limits::{LimitName, Limits};
+pub use memory::NoMemory;
+pub use names::{BadName, Name};

@@ -1,0 +1,48 @@
+-- What a line of a trace says, and its spelling: this project's profile.
+use Rattle.std.specs.Prelude.{◌≡◌, ℕ, Bool, true, ◌==◌, List, [], ◌∷◌, ◌++◌, codes}
+use Rattle.rd_base.specs.Names.{IsName}
+use Rattle.rd_event.specs.declared.items.Line.{Line}
+use Rattle.rd_event.specs.declared.items.Line.TheVariants.{Skip, Header, Thread, Object, Event}
+use Rattle.rd_event.specs.declared.items.LineEvent.{LineEvent}
+use Rattle.rd_event.specs.declared.items.LineEvent.TheVariants.{Fork, Join}
+
+-- an item of a trace: its names are names, and its version is 1
+abbrev pub IsEvent : LineEvent → Type 0
+IsEvent (Fork thread child) = IsName thread × IsName child
+IsEvent (Join thread child) = IsName thread × IsName child
+
+abbrev pub InRange : Line → Type 0
+InRange Skip = Unit {0}
+InRange (Header version) = version ≡ 1
+InRange (Thread thread) = IsName thread
+InRange (Object name kind) = IsName name × IsName kind
+InRange (Event event) = IsEvent event
+
+-- two names, one space apart
+abbrev pub apart : List ℕ → List ℕ → List ℕ
+apart first second = first ++ 32 ∷ second
+
+abbrev pub event_spelling : LineEvent → List ℕ
+event_spelling (Fork thread child) = codes "fork " ++ apart thread child
+event_spelling (Join thread child) = codes "join " ++ apart thread child
+
+-- the one spelling of each item that isn't skipped
+abbrev pub spelling : Line → List ℕ
+spelling Skip = []
+spelling (Header version) = codes "rdtrace 1"
+spelling (Thread thread) = codes "thread " ++ thread
+spelling (Object name kind) = codes "object " ++ apart name kind
+spelling (Event event) = event_spelling event
+
+-- an empty line, or one whose first byte is #
+abbrev pub is_skipped : List ℕ → Bool
+is_skipped [] = true
+is_skipped (byte ∷ bytes) = byte == 35
+
+-- the bytes are a spelling of the item
+abbrev pub Says : List ℕ → Line → Type 0
+Says bytes Skip = is_skipped bytes ≡ true
+Says bytes (Header version) = bytes ≡ spelling (Header version)
+Says bytes (Thread thread) = bytes ≡ spelling (Thread thread)
+Says bytes (Object name kind) = bytes ≡ spelling (Object name kind)
+Says bytes (Event event) = bytes ≡ spelling (Event event)

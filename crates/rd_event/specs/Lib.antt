@@ -1,0 +1,2 @@
+pub mod Items
+pub use Rattle.rd_base.specs.Names

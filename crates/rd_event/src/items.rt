@@ -1,0 +1,27 @@
+//! What a line of a trace says.
+
+use rd_base::Name;
+
+/// An event as a line spells it, by names.
+#[derive(Debug, Drop, PartialEq, Eq)]
+pub enum LineEvent {
+    /// `fork T U`: thread T begins thread U
+    Fork { thread: Name, child: Name },
+    /// `join T U`: thread T waits for the end of thread U
+    Join { thread: Name, child: Name },
+}
+
+/// What a line of a trace says.
+#[derive(Debug, Drop, PartialEq, Eq)]
+pub enum Line {
+    /// an empty line, or one whose first byte is `#`
+    Skip,
+    /// `rdtrace 1`
+    Header { version: u8 },
+    /// `thread T`: a thread that no other begins
+    Thread(Name),
+    /// `object O K`: an object and its kind
+    Object { name: Name, kind: Name },
+    /// what a thread does
+    Event(LineEvent),
+}
