@@ -1,1 +1,9 @@
 pub mod NameLemmas
+pub mod SinkLemmas
+pub mod FeedLemmas
+pub mod WindowLemmas
+pub mod LookLemmas
+pub mod FillLemmas
+pub mod ReadingLemmas
+pub mod AdvanceLemmas
+pub mod NextLemmas

@@ -2,6 +2,8 @@
 //! and output of the program.
 #![tactic(auto)]
 
+pub mod io;
+
 mod byte_lists;
 mod counter;
 mod limits;

@@ -1,0 +1,12 @@
+-- Sinks of bytes. This project's profile.
+use Rattle.std.specs.Prelude.{◌≡◌, ℕ, ◌≤◌, List, Option, Some, ◌++◌, take, length, Result, Ok, Err}
+use Rattle.rd_base.specs.Inputs.{Rose}
+
+-- where it is told what was written, these bytes are behind it now
+abbrev pub Appends : Option (List ℕ) → Option (List ℕ) → List ℕ → Type 0
+Appends before now bytes = (written : List ℕ) → before ≡ Some written → now ≡ Some (written ++ bytes)
+
+-- what a write leaves: a front of the part was written, or nothing
+abbrev pub Writes : {E : Type 0} → Option (List ℕ) → Option (List ℕ) → List ℕ → Result ℕ E → Type 0
+Writes before now bytes (Ok count) = Appends before now (take count bytes)
+Writes before now bytes (Err _) = now ≡ before
