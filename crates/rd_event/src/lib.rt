@@ -3,6 +3,10 @@
 
 mod events;
 mod items;
+mod reading;
+#[cfg(test)]
+mod tests;
 
 pub use events::Event;
 pub use items::{Line, LineEvent};
+pub use reading::{LineRefused, law_of_spelling, read_line};

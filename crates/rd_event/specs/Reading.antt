@@ -1,0 +1,46 @@
+-- The item that bytes spell, computed: this project's profile.
+use Rattle.std.specs.Prelude.{ℕ, Bool, ◌==◌, ◌&&◌, if◌then◌else◌, List, codes, Option, Some, None}
+use Rattle.std.specs.List.{before_first, after_first}
+use Rattle.std.specs.Option.{option_map}
+use Rattle.std.specs.Str.{bytes_eq}
+use Rattle.rd_base.specs.Names.{is_name}
+use Rattle.rd_event.specs.declared.items.Line.{Line}
+use Rattle.rd_event.specs.declared.items.Line.TheVariants.{Skip, Header, Thread, Object, Event}
+use Rattle.rd_event.specs.declared.items.LineEvent.{LineEvent}
+use Rattle.rd_event.specs.declared.items.LineEvent.TheVariants.{Fork, Join}
+use Rattle.rd_event.specs.Items.{is_skipped}
+
+abbrev pub is_space : ℕ → Bool
+is_space byte = byte == 32
+
+-- the bytes, if they are a name
+unfoldable pub name_of : List ℕ → Option (List ℕ)
+name_of bytes = if is_name bytes then Some bytes else None
+
+-- what stands before and after the first space, if both are names
+unfoldable pub names_of : List ℕ → Option (List ℕ × List ℕ)
+names_of bytes =
+    let first = before_first is_space bytes in
+    let second = after_first is_space bytes in
+    if is_name first && is_name second then Some (first, second) else None
+
+-- the event of a line with this keyword and these bytes after the space behind it
+unfoldable pub event_with : List ℕ → List ℕ → Option LineEvent
+event_with keyword rest =
+    if bytes_eq keyword (codes "fork") then option_map (λ names. Fork names.0 names.1) (names_of rest)
+    else if bytes_eq keyword (codes "join") then option_map (λ names. Join names.0 names.1) (names_of rest)
+    else None
+
+-- the item of such a line
+unfoldable pub item_with : List ℕ → List ℕ → Option Line
+item_with keyword rest =
+    if bytes_eq keyword (codes "rdtrace") then (if bytes_eq rest (codes "1") then Some (Header 1) else None)
+    else if bytes_eq keyword (codes "thread") then option_map (λ name. Thread name) (name_of rest)
+    else if bytes_eq keyword (codes "object") then option_map (λ names. Object names.0 names.1) (names_of rest)
+    else option_map (λ event. Event event) (event_with keyword rest)
+
+-- the item that the bytes spell
+unfoldable pub item_of : List ℕ → Option Line
+item_of bytes =
+    if is_skipped bytes then Some Skip
+    else item_with (before_first is_space bytes) (after_first is_space bytes)
