@@ -62,15 +62,29 @@ pub takes_none : (told : Option Source) → Goes told told (λ old new. Takes ol
 takes_none told old is =
     (old, is, record { files = refl; held = refl; taken = sym (append-nil old.taken); opens = refl; misses = refl })
 
-pub takes_on : (before between after : Option Source) (xs ys : List ℕ) → Goes before between (λ old new. Takes old new xs)
-    → Goes between after (λ old new. Takes old new ys) → Goes before after (λ old new. Takes old new (xs ++ ys))
-takes_on before between after xs ys f g old is =
-    let (mid, told, first) = f old is in
-    let (new, now, second) = g mid told in
-    (new, now, record {
+-- what was taken first, and then behind it
+pub takes_both : (old mid new : Source) (xs ys : List ℕ) → Takes old mid xs → Takes mid new ys → Takes old new (xs ++ ys)
+takes_both old mid new xs ys first second =
+    record {
       files = second.files ∙ first.files;
       held = first.held ∙ ap (λ zs. xs ++ zs) second.held ∙ sym (append_assoc xs ys new.held);
       taken = second.taken ∙ ap (λ zs. zs ++ ys) first.taken ∙ append_assoc old.taken xs ys;
       opens = second.opens ∙ first.opens;
       misses = second.misses ∙ first.misses;
-    })
+    }
+
+pub takes_on : (before between after : Option Source) (xs ys : List ℕ) → Goes before between (λ old new. Takes old new xs)
+    → Goes between after (λ old new. Takes old new ys) → Goes before after (λ old new. Takes old new (xs ++ ys))
+takes_on before between after xs ys f g old is =
+    let (mid, told, first) = f old is in
+    let (new, now, second) = g mid told in
+    (new, now, takes_both old mid new xs ys first second)
+
+-- the same, with what is known of the source then
+pub takes_then : (before between after : Option Source) (xs ys : List ℕ) (P Q : Source → Type 0) → ((new : Source) → P new → Q new)
+    → Goes before between (λ old new. Takes old new xs) → Goes between after (λ old new. Takes old new ys × P new)
+    → Goes before after (λ old new. Takes old new (xs ++ ys) × Q new)
+takes_then before between after xs ys P Q k f g old is =
+    let (mid, told, first) = f old is in
+    let (new, now, (second, so)) = g mid told in
+    (new, now, (takes_both old mid new xs ys first second, k new so))
