@@ -1,0 +1,6 @@
+pub mod WalkLemmas
+pub mod ContinueLemmas
+pub mod OutputLemmas
+pub mod RunLemmas
+pub mod FollowLemmas
+pub mod RosterLemmas

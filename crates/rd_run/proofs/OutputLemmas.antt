@@ -1,0 +1,86 @@
+-- What is written, and the status.
+use Rattle.std.proofs.Common.{◌≡◌, ◌≢◌, ℕ, ◌+◌, ◌≤◌, Bool, true, false, cond, List, [], ◌∷◌, ◌++◌, Option, refl, sym, ap, ◌∙◌, subst, eqb}
+use Rattle.std.proofs.lemmas.List.{append_assoc, append-nil}
+use Rattle.rd_run.specs.Commands.{halted_with}
+use Rattle.rd_run.specs.Output.{Outcome, IsOutput, IsFront, check_status, is_limit}
+use Rattle.rd_run.specs.declared.following.Halt.{Halt}
+use Rattle.rd_run.specs.declared.following.Halt.TheVariants as halt
+use Rattle.rd_run.specs.declared.endings.Ending.{Ending}
+use Rattle.rd_run.specs.declared.endings.Ending.TheVariants.{End, Refused, Fault}
+use Rattle.rd_run.specs.declared.status.Status.{Status}
+use Rattle.rd_run.specs.declared.status.Status.TheVariants.{Clean, Raced, Usage, SpecRefused, TraceRefused, ReplayDiffers, InputFault, OutputFault, NoMemory, LimitReached}
+
+-- all was written
+pub whole : (status : Status) (text : List ℕ) → IsOutput status text (record { text = text; status = status })
+whole Clean text = (refl, refl)
+whole Raced text = (refl, refl)
+whole Usage text = (refl, refl)
+whole SpecRefused text = (refl, refl)
+whole TraceRefused text = (refl, refl)
+whole ReplayDiffers text = (refl, refl)
+whole InputFault text = (refl, refl)
+whole OutputFault text = ([], sym (append-nil text))
+whole NoMemory text = ([], sym (append-nil text))
+whole LimitReached text = (refl, refl)
+
+-- a front was written, and then it was cut short
+pub front_only : (halt : Halt) (part rest : List ℕ) (outcome : Outcome) → outcome.text ≡ part ++ rest → IsOutput (halted_with halt) part outcome
+front_only halt.OutputFault part rest outcome is = (rest, is)
+front_only halt.NoMemory part rest outcome is = (rest, is)
+
+-- a text was written before
+pub behind : (status : Status) (front part text : List ℕ) (given : Status) → IsOutput status part (record { text = text; status = given })
+    → IsOutput status (front ++ part) (record { text = front ++ text; status = given })
+behind Clean front part text given is = (ap (λ t. front ++ t) is.0, is.1)
+behind Raced front part text given is = (ap (λ t. front ++ t) is.0, is.1)
+behind Usage front part text given is = (ap (λ t. front ++ t) is.0, is.1)
+behind SpecRefused front part text given is = (ap (λ t. front ++ t) is.0, is.1)
+behind TraceRefused front part text given is = (ap (λ t. front ++ t) is.0, is.1)
+behind ReplayDiffers front part text given is = (ap (λ t. front ++ t) is.0, is.1)
+behind InputFault front part text given is = (ap (λ t. front ++ t) is.0, is.1)
+behind OutputFault front part text given is = (is.0, ap (λ t. front ++ t) is.1 ∙ sym (append_assoc front part is.0))
+behind NoMemory front part text given is = (is.0, ap (λ t. front ++ t) is.1 ∙ sym (append_assoc front part is.0))
+behind LimitReached front part text given is = (ap (λ t. front ++ t) is.0, is.1)
+
+record IsPlain (status : Status) : Type 0 where
+  output : status ≢ OutputFault
+  input : status ≢ InputFault
+  usage : status ≢ Usage
+
+end_status : (b : Bool) → IsPlain (cond b Clean Raced)
+end_status true = record { output = λ e. cc; input = λ e. cc; usage = λ e. cc }
+end_status false = record { output = λ e. cc; input = λ e. cc; usage = λ e. cc }
+
+refused_status : (b : Bool) → IsPlain (cond b LimitReached TraceRefused)
+refused_status true = record { output = λ e. cc; input = λ e. cc; usage = λ e. cc }
+refused_status false = record { output = λ e. cc; input = λ e. cc; usage = λ e. cc }
+
+pub no_output_fault : (races : ℕ) (ending : Ending) → check_status races ending ≢ OutputFault
+unfolding check_status
+no_output_fault races End = (end_status (eqb races 0)).output
+no_output_fault races (Refused number cause) = (refused_status (is_limit cause)).output
+no_output_fault races Fault = λ e. cc
+
+pub only_fault : (races : ℕ) (ending : Ending) → check_status races ending ≡ InputFault → ending ≡ Fault
+unfolding check_status
+only_fault races End e = absurd ((end_status (eqb races 0)).input e)
+only_fault races (Refused number cause) e = absurd ((refused_status (is_limit cause)).input e)
+only_fault races Fault e = refl
+
+pub fault_status : (races : ℕ) (ending : Ending) → ending ≡ Fault → check_status races ending ≡ InputFault
+unfolding check_status
+fault_status races ending is = ap (check_status races) is
+
+pub no_usage : (races : ℕ) (ending : Ending) → check_status races ending ≢ Usage
+unfolding check_status
+no_usage races End = (end_status (eqb races 0)).usage
+no_usage races (Refused number cause) = (refused_status (is_limit cause)).usage
+no_usage races Fault = λ e. cc
+
+pub halted_no_usage : (halt : Halt) → halted_with halt ≢ Usage
+halted_no_usage halt.OutputFault = λ e. cc
+halted_no_usage halt.NoMemory = λ e. cc
+
+pub halted_no_input : (halt : Halt) → halted_with halt ≢ InputFault
+halted_no_input halt.OutputFault = λ e. cc
+halted_no_input halt.NoMemory = λ e. cc

@@ -1,0 +1,183 @@
+-- What a command writes, and its status. This project's profile.
+use Rattle.std.specs.Prelude.{◌≡◌, ℕ, ◌+◌, ◌<◌, ◌==◌, nat_lt, ◌≤◌, Bool, true, false, List, [], ◌∷◌, ◌++◌, length, count_by, codes, decimal, Option, Some, None, is_none, unwrap_or, if◌then◌else◌}
+use Rattle.rd_base.specs.Inputs.{Source, file_of}
+use Rattle.rd_base.specs.Lines.Stop.{end, fault}
+use Rattle.rd_base.specs.declared.limits.Limits.{Limits}
+use Rattle.rd_base.specs.declared.limits.LimitName.{LimitName}
+use Rattle.rd_base.specs.declared.limits.LimitName.TheVariants.{Bytes, Line, Events, Threads, Locks, Objects, Depth, SpecText, Tokens, Kinds, Methods, Arguments, Nodes, FormulaDepth, Predicates}
+use Rattle.rd_run.specs.MayFollow.{register_alone, same_name}
+use Rattle.rd_run.specs.Walk.{Walked, ends, Entry, entries_of, ending_of, trace_of, step_bound}
+use Rattle.rd_run.specs.declared.wf.causes.WfCause.{WfCause}
+use Rattle.rd_run.specs.declared.wf.causes.WfCause.TheVariants as wf
+use Rattle.rd_run.specs.declared.endings.TraceCause.{TraceCause}
+use Rattle.rd_run.specs.declared.endings.TraceCause.TheVariants as cause
+use Rattle.rd_run.specs.declared.endings.Ending.{Ending}
+use Rattle.rd_run.specs.declared.endings.Ending.TheVariants.{End, Refused, Fault}
+use Rattle.rd_run.specs.declared.status.Status.{Status}
+use Rattle.rd_run.specs.declared.status.Status.TheVariants.{Clean, Raced, Usage, SpecRefused, TraceRefused, ReplayDiffers, InputFault, OutputFault, NoMemory, LimitReached}
+
+-- the number of a status
+abbrev pub code_of : Status → ℕ
+code_of Clean = 0
+code_of Raced = 1
+code_of Usage = 2
+code_of SpecRefused = 3
+code_of TraceRefused = 4
+code_of ReplayDiffers = 5
+code_of InputFault = 6
+code_of OutputFault = 7
+code_of NoMemory = 8
+code_of LimitReached = 9
+
+-- ---- texts
+
+-- the name of a limit
+unfoldable pub limit_text : LimitName → List ℕ
+limit_text Bytes = codes "bytes"
+limit_text Line = codes "line"
+limit_text Events = codes "events"
+limit_text Threads = codes "threads"
+limit_text Locks = codes "locks"
+limit_text Objects = codes "objects"
+limit_text Depth = codes "depth"
+limit_text SpecText = codes "text"
+limit_text Tokens = codes "tokens"
+limit_text Kinds = codes "kinds"
+limit_text Methods = codes "methods"
+limit_text Arguments = codes "arguments"
+limit_text Nodes = codes "nodes"
+limit_text FormulaDepth = codes "depth"
+limit_text Predicates = codes "predicates"
+
+abbrev pub limit_cause_text : LimitName → ℕ → List ℕ
+limit_cause_text name number = codes "limit " ++ limit_text name ++ codes " " ++ decimal number
+
+abbrev pub wf_text : WfCause → List ℕ
+wf_text (wf.Limit name number) = limit_cause_text name number
+wf_text _ = codes "not-well-formed"
+
+-- the text of a cause
+unfoldable pub cause_text : TraceCause → List ℕ
+cause_text cause.NotBuilt = codes "not-built"
+cause_text cause.BadLine = codes "bad-line"
+cause_text cause.NoFinalNewline = codes "no-final-newline"
+cause_text (cause.Wf broken) = wf_text broken
+cause_text (cause.Limit name number) = limit_cause_text name number
+
+-- the line that tells how many calls are reported
+abbrev pub races_line : ℕ → List ℕ
+races_line races = codes "races " ++ decimal races ++ codes "\n"
+
+-- the line of a refusal
+abbrev pub refused_line : ℕ → TraceCause → List ℕ
+refused_line number cause = codes "refused line " ++ decimal number ++ codes " " ++ cause_text cause ++ codes "\n"
+
+-- the text behind the races: how many there are, and where the trace was refused
+abbrev pub ending_text : ℕ → Ending → List ℕ
+ending_text races End = races_line races
+ending_text races (Refused number cause) = races_line races ++ refused_line number cause
+ending_text races Fault = []
+
+-- ---- the outcome of a command
+
+-- what is written, and the status
+pub record Outcome : Type 0 where
+  pub text : List ℕ
+  pub status : Status
+
+-- how many of the accepted lines are reported: none, since none of them is a call
+unfoldable pub races_of : List Entry → ℕ
+races_of entries = 0
+
+-- the texts of the reported calls among the accepted lines
+unfoldable pub race_texts : List Entry → List ℕ
+race_texts entries = []
+
+-- the cause is a limit
+abbrev pub is_wf_limit : WfCause → Bool
+is_wf_limit (wf.Limit name number) = true
+is_wf_limit _ = false
+
+abbrev pub is_limit : TraceCause → Bool
+is_limit (cause.Wf broken) = is_wf_limit broken
+is_limit (cause.Limit name number) = true
+is_limit _ = false
+
+unfoldable pub check_status : ℕ → Ending → Status
+check_status races End = if races == 0 then Clean else Raced
+check_status races (Refused number cause) = if is_limit cause then LimitReached else TraceRefused
+check_status races Fault = InputFault
+
+-- `check` on a trace
+abbrev pub check_outcome : Walked → Outcome
+check_outcome walked =
+    record {
+      text = race_texts (entries_of walked) ++ ending_text (races_of (entries_of walked)) (ending_of walked);
+      status = check_status (races_of (entries_of walked)) (ending_of walked);
+    }
+
+-- ---- commands
+
+-- what the words ask for
+pub data Command : Type 0 where
+  check : List ℕ → Command
+
+-- the words are exactly those of a command
+abbrev pub command_of : List (List ℕ) → Option Command
+command_of (word ∷ name ∷ []) = if same_name word (codes "check") then Some (check name) else None
+command_of _ = None
+
+-- where the words match no command
+abbrev pub usage_outcome : Outcome
+usage_outcome = record { text = codes "refused usage\n"; status = Usage }
+
+-- where no file was opened
+abbrev pub fault_outcome : Outcome
+fault_outcome = record { text = []; status = InputFault }
+
+-- the files that a command names
+abbrev pub files_of : Option Command → List (List ℕ)
+files_of None = []
+files_of (Some (check name)) = name ∷ []
+
+-- The walk of a command over inputs that told `old` before it and `new` after it. Where the count of their faults rose
+-- (`rose`), it is over the bytes that were taken before a read failed, and else over the whole file.
+abbrev pub command_walk : Command → Limits → Bool → Source → Source → Walked
+command_walk (check name) limits false old new = trace_of register_alone limits end (unwrap_or (file_of old.files name) [])
+command_walk (check name) limits true old new = trace_of register_alone limits fault new.taken
+
+abbrev pub walk_of : Option Command → Limits → Bool → Source → Source → Walked
+walk_of None limits rose old new = ends Fault
+walk_of (Some command) limits rose old new = command_walk command limits rose old new
+
+-- the outcome of a command over such inputs
+abbrev pub outcome_of : Option Command → Limits → Bool → Source → Source → Outcome
+outcome_of None limits rose old new = usage_outcome
+outcome_of (Some command) limits false old new = check_outcome (command_walk command limits false old new)
+outcome_of (Some command) limits true old new =
+    if nat_lt old.opens new.opens then check_outcome (command_walk command limits true old new) else fault_outcome
+
+-- the bytes are a front of the whole
+abbrev pub IsFront : List ℕ → List ℕ → Type 0
+IsFront bytes whole = (rest : List ℕ) × (whole ≡ bytes ++ rest)
+
+-- a run that ends with this status and wrote these bytes has this outcome, or was cut short in it by a write fault or want of memory
+abbrev pub IsOutput : Status → List ℕ → Outcome → Type 0
+IsOutput OutputFault bytes outcome = IsFront bytes outcome.text
+IsOutput NoMemory bytes outcome = IsFront bytes outcome.text
+IsOutput status bytes outcome = (bytes ≡ outcome.text) × (status ≡ outcome.status)
+
+-- of the files, only those that the command names were opened, each at most once, and only a missing one of them was missed
+pub record OpensOnly (command : Option Command) (old new : Source) : Type 0 where
+  pub files : new.files ≡ old.files
+  pub opens : new.opens ≤ old.opens + length (files_of command)
+  pub misses : new.misses ≤ old.misses + count_by (λ name. is_none (file_of old.files name)) (files_of command)
+
+-- what a run leaves of inputs that told `old` before it and of the output, to which `part` was added
+pub record Runs (command : Option Command) (limits : Limits) (rose : Bool) (old new : Source) (part : List ℕ) (status : Status) (before after : ℕ) : Type 0 where
+  -- what was written, and the status
+  pub output : IsOutput status part (outcome_of command limits rose old new)
+  -- the files that were opened
+  pub opened : OpensOnly command old new
+  -- the steps that were taken
+  pub cost : after ≤ before + step_bound (entries_of (walk_of command limits rose old new))

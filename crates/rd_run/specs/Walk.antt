@@ -1,0 +1,108 @@
+-- The walk over the lines of a trace: which are accepted, and how they end. This project's profile.
+use Rattle.std.specs.Prelude.{◌≡◌, ℕ, ◌+◌, ◌*◌, ◌==◌, Bool, true, false, not, ◌&&◌, ◌||◌, nat_eq, List, [], ◌∷◌, ◌++◌, map, length, codes, Option, Some, None, Result, Ok, Err, if◌then◌else◌}
+use Rattle.std.specs.List.{list_any, starts_with}
+use Rattle.rd_base.specs.Lines.{Stop, Reading, reading, Ending as LinesEnding}
+use Rattle.rd_base.specs.Lines.Ending.{at_end, no_final_newline, line_too_long, bytes_limit, faulted}
+use Rattle.rd_base.specs.Lines.Reading.{stops, line}
+use Rattle.rd_base.specs.declared.limits.Limits.{Limits}
+use Rattle.rd_base.specs.declared.limits.LimitName.TheVariants.{Bytes, Line as LineBytes}
+use Rattle.rd_event.specs.Items.{is_skipped}
+use Rattle.rd_event.specs.Reading.{item_of}
+use Rattle.rd_event.specs.declared.items.Line.{Line}
+use Rattle.rd_event.specs.declared.items.Line.TheVariants.{Object}
+use Rattle.rd_run.specs.MayFollow.{first_broken, is_among, headers, is_event, threads_of}
+use Rattle.rd_run.specs.declared.wf.causes.WfCause.{WfCause}
+use Rattle.rd_run.specs.declared.wf.causes.WfCause.TheVariants.{HeaderFirst}
+use Rattle.rd_run.specs.declared.endings.TraceCause.{TraceCause}
+use Rattle.rd_run.specs.declared.endings.TraceCause.TheVariants.{NotBuilt, BadLine, NoFinalNewline, Wf, Limit}
+use Rattle.rd_run.specs.declared.endings.Ending.{Ending}
+use Rattle.rd_run.specs.declared.endings.Ending.TheVariants.{End, Refused, Fault}
+
+-- an accepted line, and its number in the trace, from 1
+pub record Entry : Type 0 where
+  pub number : ℕ
+  pub item : Line
+
+abbrev pub items : List Entry → List Line
+items entries = map (λ entry. entry.item) entries
+
+-- the accepted lines one after another, and how they end
+pub data Walked : Type 0 where
+  ends : Ending → Walked
+  goes : Entry → Walked → Walked
+
+unfoldable pub entries_of : Walked → List Entry
+entries_of (ends ending) = []
+entries_of (goes entry more) = entry ∷ entries_of more
+
+unfoldable pub ending_of : Walked → Ending
+ending_of (ends ending) = ending
+ending_of (goes entry more) = ending_of more
+
+-- a line that isn't skipped and begins with one of these words and a space, or holds a quotation mark
+abbrev pub is_unbuilt : List ℕ → Bool
+is_unbuilt bytes =
+    not (is_skipped bytes) && (starts_with nat_eq bytes (codes "acquire ") || (starts_with nat_eq bytes (codes "release ")
+        || (starts_with nat_eq bytes (codes "call ") || list_any (λ byte. byte == 34) bytes)))
+
+-- the kinds of objects that aren't built yet
+abbrev pub unbuilt_kinds : List (List ℕ)
+unbuilt_kinds = codes "counter" ∷ codes "set" ∷ codes "dictionary" ∷ []
+
+abbrev pub is_unbuilt_item : Line → Bool
+is_unbuilt_item (Object name kind) = is_among unbuilt_kinds kind
+is_unbuilt_item _ = false
+
+abbrev pub accepted_or : Line → Option WfCause → Result Line TraceCause
+accepted_or item None = Ok item
+accepted_or item (Some cause) = Err (Wf cause)
+
+abbrev pub judged_item : List (List ℕ) → Limits → List Line → Option Line → Result Line TraceCause
+judged_item kinds limits before None = Err BadLine
+judged_item kinds limits before (Some item) =
+    if is_unbuilt_item item then Err NotBuilt else accepted_or item (first_broken kinds limits before item)
+
+-- what the bytes of a line behind the accepted ones say, or the first cause to refuse it: it isn't built yet, it says
+-- no item, or its item may not follow
+unfoldable pub judged : List (List ℕ) → Limits → List Line → List ℕ → Result Line TraceCause
+judged kinds limits before bytes = if is_unbuilt bytes then Err NotBuilt else judged_item kinds limits before (item_of bytes)
+
+-- how a trace ends where its lines end so behind the accepted ones. The number is that of the next line
+abbrev pub ended : Limits → List Line → ℕ → LinesEnding → Ending
+ended limits before number at_end = if headers before == 0 then Refused number (Wf HeaderFirst) else End
+ended limits before number no_final_newline = Refused number NoFinalNewline
+ended limits before number line_too_long = Refused number (Limit LineBytes limits.line)
+ended limits before number bytes_limit = Refused number (Limit Bytes limits.bytes)
+ended limits before number faulted = Fault
+
+abbrev pub goes_or_ends : ℕ → Result Line TraceCause → (Line → Walked) → Walked
+goes_or_ends number (Ok item) more = goes (record { number = number; item = item }) (more item)
+goes_or_ends number (Err cause) more = ends (Refused number cause)
+
+-- the walk over lines that come behind the accepted ones, the first of them with this number
+unfoldable pub walk : List (List ℕ) → Limits → List Line → ℕ → Reading → Walked
+walk kinds limits before number (stops ending) = ends (ended limits before number ending)
+walk kinds limits before number (line bytes more) =
+    goes_or_ends number (judged kinds limits before bytes) (λ item. walk kinds limits (before ++ item ∷ []) (number + 1) more)
+
+-- the walk over the lines of the bytes of a trace
+unfoldable pub trace_of : List (List ℕ) → Limits → Stop → List ℕ → Walked
+trace_of kinds limits stop bytes = walk kinds limits [] 1 (reading limits.line limits.bytes stop bytes)
+
+-- entries before a walk
+unfoldable pub after : List Entry → Walked → Walked
+after [] walked = walked
+after (entry ∷ entries) walked = goes entry (after entries walked)
+
+-- The bound on the steps of an accepted line behind others: four for each thread that is known once an event is done, and
+-- none for what is no event
+abbrev pub line_bound : List Line → Line → ℕ
+line_bound before item = if is_event item then 4 * length (threads_of (before ++ item ∷ [])) else 0
+
+unfoldable pub bound_from : List Line → List Entry → ℕ
+bound_from before [] = 0
+bound_from before (entry ∷ entries) = line_bound before entry.item + bound_from (before ++ entry.item ∷ []) entries
+
+-- the bound on the steps of all accepted lines
+abbrev pub step_bound : List Entry → ℕ
+step_bound entries = bound_from [] entries

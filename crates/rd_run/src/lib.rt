@@ -1,0 +1,18 @@
+//! A run of the program over a trace.
+#![tactic(auto)]
+
+mod checking;
+mod endings;
+mod following;
+mod judging;
+mod status;
+mod texts;
+mod top;
+mod walking;
+mod wf;
+
+pub use endings::{Ending, TraceCause};
+pub use following::{Follower, Halt};
+pub use status::Status;
+pub use top::run;
+pub use wf::{Accepted, Roster, WfCause, WfRefused, law_of_following};

@@ -1,0 +1,271 @@
+//! The call that the program makes.
+ghost use Rattle.std.specs.Prelude.{◌≡◌, ◌≢◌, ◌⊎◌, ◌↔◌, ℕ, ◌+◌, ◌<◌, ◌≤◌, ◌^◌, nat_lt, List, [], ◌++◌, Option, Some, None, OnOk, OnErr, IsOk, IfErr, true};
+ghost use Rattle.rd_base.specs.Inputs.{Source, Goes, Takes, Rose};
+ghost use Rattle.rd_base.specs.Limits.{AreUsable};
+ghost use Rattle.rd_base.specs.Sinks.{Appends};
+ghost use Rattle.rd_run.specs.Follower.{WritesFront};
+ghost use Rattle.rd_run.specs.Output.{Runs, IsOutput, usage_outcome, command_of, races_line, refused_line, ending_text, check_status, is_limit};
+ghost use Rattle.rd_run.specs.Commands.{asked, halted_with, Checked};
+ghost use Rattle.rd_base.specs.LineReader.{fresh};
+ghost use Rattle.rd_run.specs.Roster.{StandsFor};
+ghost use Rattle.rd_run.specs.Walk.{Entry, step_bound};
+ghost use Rattle.rd_run.specs.Output.Command.{check};
+
+use crate::checking::Check;
+use crate::endings::{Ending, TraceCause};
+use crate::following::Halt;
+use crate::status::Status;
+use crate::texts::{races_line, refused_line};
+use crate::walking::walk_lines;
+use crate::wf::{Roster, WfCause};
+use rd_base::io::{Inputs, LineReader, Sink, write_all};
+use rd_base::{Bytes, Limits, Steps, Word};
+use std::alloc::Global;
+use std::sync::ledger::Ledger;
+
+/// What the words of the command line ask for.
+pub enum Command<'a> {
+    /// `check TRACE`
+    Check(&'a Word),
+}
+
+fn command_of(words: &[Word]) -> Option<Command<'_>>
+    ensures { asked result ≡ command_of words.now }
+{
+    let [word, trace] = words else {
+        return None;
+    };
+    if word.items() == b"check".as_slice() {
+        Some(Command::Check(trace))
+    } else {
+        None
+    }
+}
+
+fn status_of(halt: Halt) -> Status
+    ensures { result ≡ halted_with halt }
+{
+    match halt {
+        Halt::OutputFault => Status::OutputFault,
+        Halt::NoMemory => Status::NoMemory,
+    }
+}
+
+fn is_limit(cause: TraceCause) -> bool
+    ensures { result ≡ is_limit cause }
+{
+    matches!(cause, TraceCause::Limit(_, _) | TraceCause::Wf(WfCause::Limit(_, _)))
+}
+
+fn write_line<S: Sink>(out: &mut S, line: &[u8]) -> Result<(), Halt>
+    ensures ok { OnOk result (Appends (S.written out.old) (S.written out.new) line.now) }
+    ensures front { OnErr result (WritesFront (S.written out.old) (S.written out.new) [] line.now) }
+    ensures later { S.faults out.old ≤ S.faults out.new }
+    ensures cause { IfErr result (λ halt. (halt ≡ Halt.OutputFault) × Rose (S.faults out.old) (S.faults out.new)) }
+{
+    match write_all(out, line) {
+        Ok(()) => Ok(()),
+        Err(_) => Err(Halt::OutputFault),
+    }
+}
+
+fn write_races<S: Sink>(alloc: Global, races: u64, out: &mut S) -> Result<(), Halt>
+    ensures ok { OnOk result (Appends (S.written out.old) (S.written out.new) (races_line races)) }
+    ensures front { OnErr result (WritesFront (S.written out.old) (S.written out.new) [] (races_line races)) }
+    ensures later { S.faults out.old ≤ S.faults out.new }
+    ensures cause { IfErr result (λ halt. halt ≡ Halt.OutputFault → Rose (S.faults out.old) (S.faults out.new)) }
+{
+    match races_line(alloc, races) {
+        Ok(line) => write_line(out, line.items()),
+        Err(_) => Err(Halt::NoMemory),
+    }
+}
+
+fn write_refusal<S: Sink>(alloc: Global, line: u64, cause: TraceCause, out: &mut S) -> Result<(), Halt>
+    ensures ok { OnOk result (Appends (S.written out.old) (S.written out.new) (refused_line line cause)) }
+    ensures front { OnErr result (WritesFront (S.written out.old) (S.written out.new) [] (refused_line line cause)) }
+    ensures later { S.faults out.old ≤ S.faults out.new }
+    ensures cause { IfErr result (λ halt. halt ≡ Halt.OutputFault → Rose (S.faults out.old) (S.faults out.new)) }
+{
+    match refused_line(alloc, line, cause) {
+        Ok(text) => write_line(out, text.items()),
+        Err(_) => Err(Halt::NoMemory),
+    }
+}
+
+/// Writes how many calls are reported, and where the trace was refused.
+fn write_ending<S: Sink>(alloc: Global, races: u64, ending: Ending, out: &mut S) -> Result<(), Halt>
+    ensures ok { OnOk result (Appends (S.written out.old) (S.written out.new) (ending_text races ending)) }
+    ensures front { OnErr result (WritesFront (S.written out.old) (S.written out.new) [] (ending_text races ending)) }
+    ensures silent { ending ≡ Ending.Fault → IsOk result }
+    ensures later { S.faults out.old ≤ S.faults out.new }
+    ensures cause { IfErr result (λ halt. halt ≡ Halt.OutputFault → Rose (S.faults out.old) (S.faults out.new)) }
+{
+    match ending {
+        Ending::Fault => Ok(()),
+        Ending::End => write_races(alloc, races, out),
+        Ending::Refused { line, cause } => {
+            if let Err(halt) = write_races(alloc, races, out) {
+                return Err(halt);
+            }
+            write_refusal(alloc, line, cause, out)
+        }
+    }
+}
+
+/// The status of a check that wrote all.
+#[tactic(auto, unfolding(crate::specs::Output::check_status))]
+fn check_status(races: u64, ending: Ending) -> Status
+    ensures { result ≡ check_status races ending }
+{
+    match ending {
+        Ending::End => {
+            if races == 0 {
+                Status::Clean
+            } else {
+                Status::Raced
+            }
+        }
+        Ending::Refused { line: _, cause } => {
+            if is_limit(cause) {
+                Status::LimitReached
+            } else {
+                Status::TraceRefused
+            }
+        }
+        Ending::Fault => Status::InputFault,
+    }
+}
+
+/// Writes how `check` ends, and gives its status.
+fn report<S: Sink>(alloc: Global, races: u64, ending: Ending, out: &mut S) -> Status
+    ensures output { (part : List ℕ) × Appends (S.written out.old) (S.written out.new) part
+        × IsOutput result part (record { text = ending_text races ending; status = check_status races ending }) }
+    ensures later { S.faults out.old ≤ S.faults out.new }
+    ensures cause { result ≡ Status.OutputFault → Rose (S.faults out.old) (S.faults out.new) }
+    ensures input { result ≡ Status.InputFault → ending ≡ Ending.Fault }
+    ensures fault { ending ≡ Ending.Fault → result ≡ Status.InputFault }
+    ensures no_usage { result ≢ Status.Usage }
+{
+    match write_ending(alloc, races, ending, out) {
+        Ok(()) => check_status(races, ending),
+        Err(halt) => status_of(halt),
+    }
+}
+
+/// `check` on the current input, from its first byte on.
+fn check_opened<I: Inputs, S: Sink, L: Ledger>(
+    alloc: Global,
+    mut reader: LineReader,
+    mut roster: Roster,
+    inputs: &mut I,
+    out: &mut S,
+    limits: &Limits,
+    steps: &mut Steps<L>,
+) -> Status
+    requires usable { AreUsable limits.now }
+    requires fresh { reader ≡ fresh limits.now }
+    requires none { StandsFor roster [] }
+    ensures checked { (entries : List Entry) × (taken : List ℕ) × (part : List ℕ)
+        × Appends (S.written out.old) (S.written out.new) part
+        × (steps.new ≤ steps.old + step_bound entries)
+        × Goes (I.told inputs.old) (I.told inputs.new) (λ old new. Takes old new taken × Checked limits.now taken new.held entries part result) }
+    ensures fault { result ≡ Status.InputFault → Rose (I.faults inputs.old) (I.faults inputs.new) }
+    ensures calm { result ≢ Status.InputFault → I.faults inputs.new ≡ I.faults inputs.old }
+    ensures cause { result ≡ Status.OutputFault → Rose (S.faults out.old) (S.faults out.new) }
+    ensures no_usage { result ≢ Status.Usage }
+{
+    let mut follower = Check { races: 0 };
+    match walk_lines(
+        alloc,
+        &mut reader,
+        inputs,
+        &mut roster,
+        &mut follower,
+        out,
+        limits,
+        steps,
+    ) {
+        Ok(ending) => report(alloc, follower.races, ending, out),
+        Err(halt) => status_of(halt),
+    }
+}
+
+/// `check TRACE`
+fn check<I: Inputs, S: Sink, L: Ledger>(
+    alloc: Global,
+    trace: &Word,
+    inputs: &mut I,
+    out: &mut S,
+    limits: &Limits,
+    steps: &mut Steps<L>,
+) -> Status
+    requires { AreUsable limits.now }
+    ensures runs { (old : Source) → I.told inputs.old ≡ Some old → I.faults inputs.old < 2 ^ 63 → old.opens < 2 ^ 63 →
+        (new : Source) × (part : List ℕ) × (I.told inputs.new ≡ Some new) × Appends (S.written out.old) (S.written out.new) part
+        × Runs (Some (check trace.now)) limits.now (nat_lt (I.faults inputs.old) (I.faults inputs.new)) old new part result steps.old steps.new }
+    ensures fault { result ≡ Status.InputFault → Rose (I.faults inputs.old) (I.faults inputs.new) }
+    ensures calm { result ≢ Status.InputFault → I.faults inputs.new ≡ I.faults inputs.old }
+    ensures cause { result ≡ Status.OutputFault → Rose (S.faults out.old) (S.faults out.new) }
+    ensures no_usage { result ≢ Status.Usage }
+{
+    let Ok(roster) = Roster::new(alloc) else {
+        return Status::NoMemory;
+    };
+    let Ok(reader) = LineReader::new(alloc, limits) else {
+        return Status::NoMemory;
+    };
+    let Ok(()) = inputs.open(trace) else {
+        return Status::InputFault;
+    };
+    check_opened(alloc, reader, roster, inputs, out, limits, steps)
+}
+
+/// Says that the words match no command.
+fn refuse_usage<S: Sink>(out: &mut S) -> Status
+    ensures output { (part : List ℕ) × Appends (S.written out.old) (S.written out.new) part × IsOutput result part usage_outcome }
+    ensures status { (result ≡ Status.Usage) ⊎ (result ≡ Status.OutputFault) }
+    ensures cause { result ≡ Status.OutputFault → Rose (S.faults out.old) (S.faults out.new) }
+{
+    match write_line(out, b"refused usage\n") {
+        Ok(()) => Status::Usage,
+        Err(halt) => status_of(halt),
+    }
+}
+
+/// Runs the command that the words of the command line ask for, without the program's own name. The only command so far is
+/// `check TRACE`; any other words write `refused usage`. Each line is handed to the output by itself, with its line feed.
+///
+/// Whatever the inputs and the output tell: `Usage` comes exactly where the words match no command, unless writing failed;
+/// `InputFault` exactly where the inputs' count of faults rose in this call, unless writing failed or memory ran out; `OutputFault`
+/// only where the output's count rose. Where the inputs tell their bytes, what is written and the status are those of the
+/// file, or of the bytes that were taken before a read failed; `OutputFault` and `NoMemory` leave a front of it.
+pub fn run<I: Inputs, S: Sink, L: Ledger>(
+    alloc: Global,
+    words: &[Word],
+    inputs: &mut I,
+    out: &mut S,
+    limits: &Limits,
+    steps: &mut Steps<L>,
+) -> Status
+    requires { AreUsable limits.now }
+
+    // what is written and the status are the defined ones, only the files of the words are opened, and the steps are bounded
+    ensures runs { (old : Source) → I.told inputs.old ≡ Some old → I.faults inputs.old < 2 ^ 63 → old.opens < 2 ^ 63 →
+        (new : Source) × (part : List ℕ) × (I.told inputs.new ≡ Some new) × Appends (S.written out.old) (S.written out.new) part
+        × Runs (command_of words.now) limits.now (nat_lt (I.faults inputs.old) (I.faults inputs.new)) old new part result steps.old steps.new }
+
+    // each of these statuses has its cause
+    ensures usage { result ≡ Status.Usage → command_of words.now ≡ None }
+    ensures no_command { command_of words.now ≡ None → (result ≡ Status.Usage) ⊎ (result ≡ Status.OutputFault) }
+    ensures untouched { command_of words.now ≡ None → (inputs.new ≡ inputs.old) × (steps.new ≡ steps.old) }
+    ensures input_fault { result ≡ Status.InputFault → Rose (I.faults inputs.old) (I.faults inputs.new) }
+    ensures calm { result ≢ Status.InputFault → result ≢ Status.OutputFault → result ≢ Status.NoMemory →
+        I.faults inputs.new ≡ I.faults inputs.old }
+    ensures output_fault { result ≡ Status.OutputFault → Rose (S.faults out.old) (S.faults out.new) }
+{
+    match command_of(words) {
+        None => refuse_usage(out),
+        Some(Command::Check(trace)) => check(alloc, trace, inputs, out, limits, steps),
+    }
+}
