@@ -62,7 +62,7 @@ module _ (limits : Limits) (taken bytes : List ℕ) (old new : Reader) (entries 
   walks_end held is same none =
       rw same
       (to_ended limits (taken ++ bytes) held entries (old.number + 1) (Wf HeaderFirst) (eqb (headers (items entries)) 0)
-          (ap (trace_of register_alone limits end) (at_held held none) ∙ stopped end at_end is))
+      (ap (trace_of register_alone limits end) (at_held held none) ∙ stopped end at_end is))
 
   pub walks_refused : (held : List ℕ) (refused : ReadEnd) → Tells old bytes new (Err refused) → Moves old new (Err refused)
       → (IsAtEnd (Err refused) → held ≡ []) → WalksTo limits (taken ++ bytes) held entries (ending_for limits new.number refused)
@@ -100,8 +100,7 @@ walks_on limits taken reader entries so_far stop more =
 -- the same with further bytes behind those, of which nothing was given yet
 pub walks_further : (limits : Limits) (taken bytes : List ℕ) (reader : Reader) (entries : List Entry) → Continues limits taken reader entries
     → WalksOn limits (taken ++ bytes) entries
-walks_further limits taken bytes reader entries so_far stop more =
-    (
-      walk register_alone limits (items entries) (reader.number + 1) (left reader stop (bytes ++ more)),
-      ap (trace_of register_alone limits stop) (append_assoc taken bytes more) ∙ so_far stop (bytes ++ more),
-    )
+walks_further limits taken bytes reader entries so_far stop more = (
+  walk register_alone limits (items entries) (reader.number + 1) (left reader stop (bytes ++ more)),
+  ap (trace_of register_alone limits stop) (append_assoc taken bytes more) ∙ so_far stop (bytes ++ more),
+)

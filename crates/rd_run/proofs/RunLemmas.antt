@@ -33,10 +33,13 @@ outcome_at : (entries : List Entry) (ending : Ending) → check_outcome (after e
     ≡ record { text = race_texts entries ++ ending_text (races_of entries) ending; status = check_status (races_of entries) ending }
 outcome_at entries ending =
     ap (λ es. let o : Outcome = record {
-        text = race_texts es ++ ending_text (races_of es) (ending_of (after entries (ends ending)));
-        status = check_status (races_of es) (ending_of (after entries (ends ending))) } in o) (entries_at entries ending)
+      text = race_texts es ++ ending_text (races_of es) (ending_of (after entries (ends ending)));
+      status = check_status (races_of es) (ending_of (after entries (ends ending)));
+    } in o) (entries_at entries ending)
     ∙ ap (λ e. let o : Outcome = record {
-        text = race_texts entries ++ ending_text (races_of entries) e; status = check_status (races_of entries) e } in o) (ending_at entries ending)
+      text = race_texts entries ++ ending_text (races_of entries) e;
+      status = check_status (races_of entries) e;
+    } in o) (ending_at entries ending)
 
 bound_at : (entries : List Entry) (walked : Walked) → step_bound entries ≤ step_bound (entries_of (after entries walked))
 bound_at entries walked = subst (λ es. step_bound entries ≤ step_bound es) (sym (entries_after entries walked)) (bound_front [] entries (entries_of walked))
@@ -51,12 +54,11 @@ front_outcome : (entries : List Entry) (walked : Walked) (part rest : List ℕ) 
 front_outcome entries walked part rest is =
     let all = entries_of (after entries walked) in
     let behind = ending_text (races_of all) (ending_of (after entries walked)) in
-    let (more, texts) = texts_front entries (entries_of walked) in
-    (
+    let (more, texts) = texts_front entries (entries_of walked) in (
       rest ++ more ++ behind,
       ap (λ t. t ++ behind) (ap race_texts (entries_after entries walked) ∙ texts ∙ ap (λ t. t ++ more) is)
-      ∙ ap (λ t. t ++ behind) (append_assoc part rest more)
-      ∙ append_assoc part (rest ++ more) behind,
+          ∙ ap (λ t. t ++ behind) (append_assoc part rest more)
+          ∙ append_assoc part (rest ++ more) behind,
     )
 
 -- nothing was opened, and nothing written
@@ -152,7 +154,7 @@ module _ (name : List ℕ) (limits : Limits) (before now : ℕ) (old mid new : S
   runs_opened (inl (Refused number cause, is, output, input, other)) risen calm =
       let quiet : ltb before now ≡ false = let same = calm (λ e. let f = input e in cc) in grind (arith, nat_tests) in
       runs_over (ends (Refused number cause)) false quiet (whole_walk (ends (Refused number cause)) is)
-          (whole_output (ends (Refused number cause)) is (ends_with (Refused number cause) output))
+      (whole_output (ends (Refused number cause)) is (ends_with (Refused number cause) output))
   runs_opened (inl (Fault, is, output, input, other)) risen calm =
       let rose : ltb before now ≡ true = let r = risen (other refl) in grind (arith, nat_tests) in
       runs_over (ends Fault) true rose (ap (trace_of register_alone limits fault) taken_is ∙ is) (fault_output is (ends_with Fault output))
@@ -161,5 +163,5 @@ module _ (name : List ℕ) (limits : Limits) (before now : ℕ) (old mid new : S
       let (walked, is) = on end new.held in
       let (behind, front) = front_outcome entries walked part rest texts in
       runs_over walked false quiet (whole_walk walked is)
-          (whole_output walked is (subst (λ s. IsOutput s part (check_outcome (after entries walked))) (sym halted)
-              (front_only halt part behind (check_outcome (after entries walked)) front)))
+      (whole_output walked is (subst (λ s. IsOutput s part (check_outcome (after entries walked))) (sym halted)
+      (front_only halt part behind (check_outcome (after entries walked)) front)))

@@ -32,7 +32,7 @@ walk_stops kinds limits before number ending = refl
 pub walk_accepts : (kinds : List (List ℕ)) (limits : Limits) (before : List Line) (number : ℕ) (bytes : List ℕ) (more : Reading) (item : Line)
     → judged kinds limits before bytes ≡ Ok item
     → walk kinds limits before number (line bytes more)
-        ≡ goes (record { number = number; item = item }) (walk kinds limits (before ++ item ∷ []) (number + 1) more)
+    ≡ goes (record { number = number; item = item }) (walk kinds limits (before ++ item ∷ []) (number + 1) more)
 unfolding walk
 walk_accepts kinds limits before number bytes more item h =
     ap (λ r. goes_or_ends number r (λ item'. walk kinds limits (before ++ item' ∷ []) (number + 1) more)) h

@@ -28,6 +28,6 @@ halted_with halt.NoMemory = NoMemory
 abbrev pub Checked : Limits → List ℕ → List ℕ → List Entry → List ℕ → Status → Type 0
 Checked limits taken held entries part status =
     ((ending : Ending) × WalksTo limits taken held entries ending
-        × IsOutput status part (record { text = race_texts entries ++ ending_text (races_of entries) ending; status = check_status (races_of entries) ending })
-        × (status ≡ InputFault → ending ≡ Fault) × (ending ≡ Fault → status ≡ InputFault))
+    × IsOutput status part (record { text = race_texts entries ++ ending_text (races_of entries) ending; status = check_status (races_of entries) ending })
+    × (status ≡ InputFault → ending ≡ Fault) × (ending ≡ Fault → status ≡ InputFault))
     ⊎ ((halt : Halt) × (rest : List ℕ) × WalksOn limits taken entries × (race_texts entries ≡ part ++ rest) × (status ≡ halted_with halt))

@@ -43,7 +43,7 @@ ending_of (goes entry more) = ending_of more
 abbrev pub is_unbuilt : List ℕ → Bool
 is_unbuilt bytes =
     not (is_skipped bytes) && (starts_with nat_eq bytes (codes "acquire ") || (starts_with nat_eq bytes (codes "release ")
-        || (starts_with nat_eq bytes (codes "call ") || list_any (λ byte. byte == 34) bytes)))
+    || (starts_with nat_eq bytes (codes "call ") || list_any (λ byte. byte == 34) bytes)))
 
 -- the kinds of objects that aren't built yet
 abbrev pub unbuilt_kinds : List (List ℕ)

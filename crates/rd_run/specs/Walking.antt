@@ -36,4 +36,4 @@ WalksOn limits taken entries =
 abbrev pub Continues : Limits → List ℕ → Reader → List Entry → Type 0
 Continues limits taken reader entries =
     (stop : Stop) (more : List ℕ) → trace_of register_alone limits stop (taken ++ more)
-        ≡ after entries (walk register_alone limits (items entries) (reader.number + 1) (left reader stop more))
+    ≡ after entries (walk register_alone limits (items entries) (reader.number + 1) (left reader stop more))

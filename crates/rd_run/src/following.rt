@@ -43,10 +43,10 @@ pub trait Follower {
             IsNext roster.now before line.now accepted.now → follows start (before ++ record { number = number; item = line.now } ∷ []) self.new) }
         ensures written { OnOk result ((start : Self) (before : List Entry) → follows start before self.old →
             IsNext roster.now before line.now accepted.now → Writes (S.written out.old) (S.written out.new)
-                (text start before) (text start (before ++ record { number = number; item = line.now } ∷ []))) }
+            (text start before) (text start (before ++ record { number = number; item = line.now } ∷ []))) }
         ensures halted { OnErr result ((start : Self) (before : List Entry) → follows start before self.old →
             IsNext roster.now before line.now accepted.now → WritesFront (S.written out.old) (S.written out.new)
-                (text start before) (text start (before ++ record { number = number; item = line.now } ∷ []))) }
+            (text start before) (text start (before ++ record { number = number; item = line.now } ∷ []))) }
         ensures cost { (start : Self) (before : List Entry) → follows start before self.old →
             IsNext roster.now before line.now accepted.now → steps.new ≤ steps.old + line_bound (items before) line.now }
         ensures later { S.faults out.old ≤ S.faults out.new }
@@ -54,6 +54,7 @@ pub trait Follower {
 
     /// No line leads anywhere else, and nothing is written for none.
     ghost starts: { (start : Self) → follows start [] start };
+
     ghost silent: { (start : Self) → text start [] ≡ [] };
 
     /// Further lines add to the text.

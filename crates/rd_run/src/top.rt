@@ -54,7 +54,10 @@ fn status_of(halt: Halt) -> Status
 fn is_limit(cause: TraceCause) -> bool
     ensures { result ≡ is_limit cause }
 {
-    matches!(cause, TraceCause::Limit(_, _) | TraceCause::Wf(WfCause::Limit(_, _)))
+    matches!(
+        cause,
+        TraceCause::Limit(_, _) | TraceCause::Wf(WfCause::Limit(_, _))
+    )
 }
 
 fn write_line<S: Sink>(out: &mut S, line: &[u8]) -> Result<(), Halt>
@@ -81,7 +84,12 @@ fn write_races<S: Sink>(alloc: Global, races: u64, out: &mut S) -> Result<(), Ha
     }
 }
 
-fn write_refusal<S: Sink>(alloc: Global, line: u64, cause: TraceCause, out: &mut S) -> Result<(), Halt>
+fn write_refusal<S: Sink>(
+    alloc: Global,
+    line: u64,
+    cause: TraceCause,
+    out: &mut S,
+) -> Result<(), Halt>
     ensures ok { OnOk result (Appends (S.written out.old) (S.written out.new) (refused_line line cause)) }
     ensures front { OnErr result (WritesFront (S.written out.old) (S.written out.new) [] (refused_line line cause)) }
     ensures later { S.faults out.old ≤ S.faults out.new }

@@ -67,18 +67,18 @@ fn take_line<S: Sink, F: Follower, L: Ledger>(
     requires stands { (start : F) × (before : List Entry) × StandsFor roster.old (items before) × F.follows start before follower.old }
     ensures taken { IfOk result (λ refused. refused ≡ None → (start : F) (before : List Entry) → StandsFor roster.old (items before) →
         F.follows start before follower.old → (item : Item) × (judged register_alone limits.now (items before) bytes.now ≡ Ok item)
-            × StandsFor roster.new (items before ++ item ∷ [])
-            × F.follows start (before ++ record { number = number; item = item } ∷ []) follower.new
-            × Writes (S.written out.old) (S.written out.new) (F.text start before) (F.text start (before ++ record { number = number; item = item } ∷ []))
-            × (steps.new ≤ steps.old + line_bound (items before) item)) }
+        × StandsFor roster.new (items before ++ item ∷ [])
+        × F.follows start (before ++ record { number = number; item = item } ∷ []) follower.new
+        × Writes (S.written out.old) (S.written out.new) (F.text start before) (F.text start (before ++ record { number = number; item = item } ∷ []))
+        × (steps.new ≤ steps.old + line_bound (items before) item)) }
     ensures refused { IfOk result (λ refused. (cause : TraceCause) → refused ≡ Some cause → (before : List Entry) → StandsFor roster.old (items before) →
         (judged register_alone limits.now (items before) bytes.now ≡ Err cause) × StandsFor roster.new (items before)) }
     ensures silent { IfOk result (λ refused. (cause : TraceCause) → refused ≡ Some cause → (out.new ≡ out.old) × (follower.new ≡ follower.old) × (steps.new ≡ steps.old)) }
     ensures halted { OnErr result ((start : F) (before : List Entry) → StandsFor roster.old (items before) → F.follows start before follower.old →
         ((S.written out.new ≡ S.written out.old) × (steps.new ≡ steps.old))
         ⊎ ((item : Item) × (judged register_alone limits.now (items before) bytes.now ≡ Ok item)
-            × WritesFront (S.written out.old) (S.written out.new) (F.text start before) (F.text start (before ++ record { number = number; item = item } ∷ []))
-            × (steps.new ≤ steps.old + line_bound (items before) item))) }
+        × WritesFront (S.written out.old) (S.written out.new) (F.text start before) (F.text start (before ++ record { number = number; item = item } ∷ []))
+        × (steps.new ≤ steps.old + line_bound (items before) item))) }
     ensures later { S.faults out.old ≤ S.faults out.new }
     ensures cause { IfErr result (λ halt. halt ≡ Halt.OutputFault → Rose (S.faults out.old) (S.faults out.new)) }
 {

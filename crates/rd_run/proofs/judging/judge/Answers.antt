@@ -10,4 +10,4 @@ returns-in-Err-Cause-clause-refused c = λ cause is before stands.
     let broken = (c.in-Err-Cause.ensures.refused before stands c.in-Err-Cause.cause c.in-Err-Cause.field-0-is).0 in
     let same : Wf c.in-Err-Cause.cause ≡ cause = cc in
     judged_broken register_alone c.args.limits.now before c.args.bytes.now c.in-Ok.item c.in-Err-Cause.cause
-        (sym c.is_unbuilt.ensures ∙ c.if-is_unbuilt.false) c.in-Ok.ensures.item (sym c.is_unbuilt_item.ensures ∙ c.if-is_unbuilt_item.false) broken ∙ ap Err same
+    (sym c.is_unbuilt.ensures ∙ c.if-is_unbuilt.false) c.in-Ok.ensures.item (sym c.is_unbuilt_item.ensures ∙ c.if-is_unbuilt_item.false) broken ∙ ap Err same

@@ -12,14 +12,26 @@ returns-in-Ok-clause-checked g c =
     let ending = c.in-Ok.ending in
     let front = race_texts entries in
     let races : c.walk_lines.new.follower.races ≡ races_of entries = omega (arith, follows) in
-    let reported = subst (λ n. IsOutput c.report.result part (let o : Outcome = record { text = ending_text n ending; status = check_status n ending } in o)) races output in
-    (
-      entries, taken, front ++ part, appends_on _ _ _ front part text writes, cost,
-      λ old told. let (new, now, (takes, walks)) = goes old told in
-          (new, now, (takes,
-              inl (ending, walks,
-                  behind c.report.result front part (ending_text (races_of entries) ending) (check_status (races_of entries) ending) reported,
-                  c.report.ensures.input, c.report.ensures.fault))),
+    let reported = subst (λ n. IsOutput c.report.result part (let o : Outcome = record { text = ending_text n ending; status = check_status n ending } in o)) races output in (
+      entries,
+      taken,
+      front ++ part,
+      appends_on _ _ _ front part text writes,
+      cost,
+      λ old told. let (new, now, (takes, walks)) = goes old told in (
+        new,
+        now,
+        (
+          takes,
+          inl (
+            ending,
+            walks,
+            behind c.report.result front part (ending_text (races_of entries) ending) (check_status (races_of entries) ending) reported,
+            c.report.ensures.input,
+            c.report.ensures.fault,
+          ),
+        ),
+      ),
     )
 
 pub returns-in-Ok-clause-calm : goal.returns-in-Ok-clause-calm
@@ -29,8 +41,11 @@ returns-in-Ok-clause-calm g c = λ other.
 pub returns-clause-checked : goal.returns-clause-checked
 returns-clause-checked g c =
     let (entries, taken, front, cost, on, goes) = c.in-Err.ensures.halted in
-    let (part, rest, is, writes) = front in
-    (
-      entries, taken, part, writes, cost,
+    let (part, rest, is, writes) = front in (
+      entries,
+      taken,
+      part,
+      writes,
+      cost,
       λ old told. let (new, now, takes) = goes old told in (new, now, (takes, inr (c.in-Err.halt, rest, on, is, c.status_of.ensures))),
     )

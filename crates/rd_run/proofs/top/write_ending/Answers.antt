@@ -19,8 +19,8 @@ returns-in_default-clause-ok g c =
     let behind = refused_line c.in-Refused.line c.in-Refused.cause in
     on_ok_weaker c.write_refusal.result
     (λ (h : Appends (g.S.Sink.written c.write_races-in-Refused.new.out) (g.S.Sink.written c.write_refusal.new.out) behind).
-        subst wrote (sym (ap (ending_text c.args.races) c.in-Refused.is))
-        (appends_on _ _ _ (races_line c.args.races) behind c.in_default.ensures.ok h))
+    subst wrote (sym (ap (ending_text c.args.races) c.in-Refused.is))
+    (appends_on _ _ _ (races_line c.args.races) behind c.in_default.ensures.ok h))
     c.write_refusal.ensures.ok
 
 pub returns-in_default-clause-front : goal.returns-in_default-clause-front
@@ -28,10 +28,10 @@ returns-in_default-clause-front g c =
     let behind = refused_line c.in-Refused.line c.in-Refused.cause in
     let before = races_line c.args.races in
     on_err_weaker c.write_refusal.result
-    (λ (h : WritesFront (g.S.Sink.written c.write_races-in-Refused.new.out) (g.S.Sink.written c.write_refusal.new.out) [] behind).
-        (
-          before ++ h.0, h.1,
-          ap (ending_text c.args.races) c.in-Refused.is ∙ ap (λ t. before ++ t) h.2 ∙ sym (append_assoc before h.0 h.1),
-          appends_on _ _ _ before h.0 c.in_default.ensures.ok h.3,
-        ))
+    (λ (h : WritesFront (g.S.Sink.written c.write_races-in-Refused.new.out) (g.S.Sink.written c.write_refusal.new.out) [] behind). (
+      before ++ h.0,
+      h.1,
+      ap (ending_text c.args.races) c.in-Refused.is ∙ ap (λ t. before ++ t) h.2 ∙ sym (append_assoc before h.0 h.1),
+      appends_on _ _ _ before h.0 c.in_default.ensures.ok h.3,
+    ))
     c.write_refusal.ensures.front

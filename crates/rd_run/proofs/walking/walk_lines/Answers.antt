@@ -17,9 +17,9 @@ use Rattle.rd_run.proofs.walking.walk_lines.Goals as goal
 pub lines-init : goal.lines-init
 unfolding bound_from
 lines-init g c =
-    let written = g.S.Sink.written c.args.out.now in
-    (
-      [], [],
+    let written = g.S.Sink.written c.args.out.now in (
+      [],
+      [],
       ap (λ (r : Reader). r.ended) c.requires.fresh,
       rw c.requires.fresh (continues_fresh c.args.limits.now),
       c.requires.none,
@@ -38,13 +38,17 @@ returns-in-Ok-End-clause-walked g c =
     let moves = (rw c.in-Ok-End.field-0-is at c.in-Ok-End.ensures.moves) going in
     let limits = c.args.limits.now in
     let ending = c.at_end.ensures.ending (items entries) stands limits
-        ∙ ap (λ n. ended limits (items entries) (n + 1) at_end) c.number.ensures.value in
-    (
-      entries, taken ++ bytes, stands, follows, text, cost,
+    ∙ ap (λ n. ended limits (items entries) (n + 1) at_end) c.number.ensures.value in (
+      entries,
+      taken ++ bytes,
+      stands,
+      follows,
+      text,
+      cost,
       takes_then _ _ _ taken bytes (λ (source : Source). Unit {0} → source.held ≡ [])
           (λ (source : Source). WalksTo limits (taken ++ bytes) source.held entries c.at_end.result)
           (λ source none. subst (WalksTo limits (taken ++ bytes) source.held entries) (sym ending)
-              (walks_end limits taken bytes c.lines.reader c.next.new.self entries so_far source.held tell moves.number (none tt)))
+          (walks_end limits taken bytes c.lines.reader c.next.new.self entries so_far source.held tell moves.number (none tt)))
           told goes,
     )
 
@@ -54,13 +58,17 @@ returns-in-Err-clause-walked g c =
     let (bytes, tell, bound, goes) = c.in-Err.ensures.tells going in
     let limits = c.args.limits.now in
     let refused = c.in-Err.refused in
-    let ending = c.at_refusal.ensures ∙ ap (λ n. ending_for limits n refused) c.number-in-Err.ensures.value in
-    (
-      entries, taken ++ bytes, stands, follows, text, cost,
+    let ending = c.at_refusal.ensures ∙ ap (λ n. ending_for limits n refused) c.number-in-Err.ensures.value in (
+      entries,
+      taken ++ bytes,
+      stands,
+      follows,
+      text,
+      cost,
       takes_then _ _ _ taken bytes (λ (source : Source). IsAtEnd (Err refused) → source.held ≡ [])
           (λ (source : Source). WalksTo limits (taken ++ bytes) source.held entries c.at_refusal.result)
           (λ source none. subst (WalksTo limits (taken ++ bytes) source.held entries) (sym ending)
-              (walks_refused limits taken bytes c.lines.reader c.next.new.self entries so_far source.held refused tell (c.in-Err.ensures.moves going) none))
+          (walks_refused limits taken bytes c.lines.reader c.next.new.self entries so_far source.held refused tell (c.in-Err.ensures.moves going) none))
           told goes,
     )
 
@@ -72,14 +80,15 @@ lines-preserved g c =
     let taking = c.in-Ok-None.ensures.taken c.in-Ok-None.field-0-is c.args.follower.now entries stands follows in
     let (item, says, stands_now, follows_now, writes, cost_now) = rw (c.number-number.ensures.value, c.line.ensures) at taking in
     let limits = c.args.limits.now in
-    let entry : Entry = record { number = c.next.new.self.number; item = item } in
-    (
-      entries ++ entry ∷ [], taken ++ bytes, moves.ended,
+    let entry : Entry = record { number = c.next.new.self.number; item = item } in (
+      entries ++ entry ∷ [],
+      taken ++ bytes,
+      moves.ended,
       continues_line limits taken bytes c.lines.reader c.next.new.self entries so_far tell moves.number item says,
       subst (StandsFor c.take_line.new.roster) (sym (items_more entries entry)) stands_now,
       follows_now,
       subst (Appends (g.S.Sink.written c.args.out.now) (g.S.Sink.written c.take_line.new.out)) (sym writes.1)
-      (appends_on _ _ _ (g.F.Follower.text c.args.follower.now entries) writes.0 text writes.2),
+          (appends_on _ _ _ (g.F.Follower.text c.args.follower.now entries) writes.0 text writes.2),
       omega (arith, cost, cost_now, bound_more [] entries entry),
       takes_on _ _ _ taken bytes told (λ old is. let r = goes old is in (r.0, r.1, r.2.0)),
       c.in-Ok-Line.ensures.calm (λ e. let fault = sym (ap Ok c.in-Ok-Line.field-0-is) ∙ e in cc) ∙ calm,
@@ -93,14 +102,18 @@ returns-in-Ok-Some-clause-walked g c =
     let moves = (rw c.in-Ok-Line.field-0-is at c.in-Ok-Line.ensures.moves) going in
     let refusal = c.in-Ok-Some.ensures.refused c.in-Ok-Some.cause c.in-Ok-Some.field-0-is entries stands in
     let silent = c.in-Ok-Some.ensures.silent c.in-Ok-Some.cause c.in-Ok-Some.field-0-is in
-    let limits = c.args.limits.now in
-    (
-      entries, taken ++ bytes, refusal.1, rw silent.1 follows, rw silent.0 text, omega (arith, cost, silent.2),
+    let limits = c.args.limits.now in (
+      entries,
+      taken ++ bytes,
+      refusal.1,
+      rw silent.1 follows,
+      rw silent.0 text,
+      omega (arith, cost, silent.2),
       takes_then _ _ _ taken bytes (λ (source : Source). ⊥ → source.held ≡ [])
           (λ (source : Source). WalksTo limits (taken ++ bytes) source.held entries (Refused c.number-number.result c.in-Ok-Some.cause))
           (λ source none. subst (λ n. WalksTo limits (taken ++ bytes) source.held entries (Refused n c.in-Ok-Some.cause)) (sym c.number-number.ensures.value)
-              (walks_to_refusal limits taken bytes c.lines.reader c.next.new.self entries so_far tell moves.number source.held
-                  c.in-Ok-Some.cause (rw c.line.ensures at refusal.0)))
+          (walks_to_refusal limits taken bytes c.lines.reader c.next.new.self entries so_far tell moves.number source.held
+          c.in-Ok-Some.cause (rw c.line.ensures at refusal.0)))
           told goes,
     )
 
@@ -113,30 +126,34 @@ returns-in-Err-take_line-clause-halted g c =
     let wrote = g.S.Sink.written c.args.out.now in
     let goes_now = takes_on _ _ _ taken bytes told (λ old is. let r = goes old is in (r.0, r.1, r.2.0)) in
     elim (c.in-Err-take_line.ensures.halted c.args.follower.now entries stands follows) [
-      inl (same, steps) ↦ (
-        entries, taken ++ bytes,
+      | inl (same, steps) ↦ (
+        entries,
+        taken ++ bytes,
         (
-          g.F.Follower.text c.args.follower.now entries, [], sym (append-nil (g.F.Follower.text c.args.follower.now entries)),
+          g.F.Follower.text c.args.follower.now entries,
+          [],
+          sym (append-nil (g.F.Follower.text c.args.follower.now entries)),
           subst (λ now. Appends wrote now (g.F.Follower.text c.args.follower.now entries)) (sym same) text,
         ),
         omega (arith, cost, steps),
         walks_further limits taken bytes c.lines.reader entries so_far,
         goes_now,
       )
-    | inr (item, judged_so, front, cost_now) ↦
-        let entry : Entry = record { number = c.next.new.self.number; item = item } in
-        let says = rw c.line.ensures at judged_so in
-        let (part, rest, is, writes) = rw c.number-number.ensures.value at front in
-        (
-          entries ++ entry ∷ [], taken ++ bytes,
-          (
-            g.F.Follower.text c.args.follower.now entries ++ part, rest,
-            is ∙ sym (append_assoc (g.F.Follower.text c.args.follower.now entries) part rest),
-            appends_on _ _ _ (g.F.Follower.text c.args.follower.now entries) part text writes,
-          ),
-          omega (arith, cost, cost_now, bound_more [] entries entry),
-          walks_on limits (taken ++ bytes) c.next.new.self (entries ++ entry ∷ [])
-              (continues_line limits taken bytes c.lines.reader c.next.new.self entries so_far tell moves.number item says),
-          goes_now,
-        )
+      | inr (item, judged_so, front, cost_now) ↦
+          let entry : Entry = record { number = c.next.new.self.number; item = item } in
+          let says = rw c.line.ensures at judged_so in
+          let (part, rest, is, writes) = rw c.number-number.ensures.value at front in (
+            entries ++ entry ∷ [],
+            taken ++ bytes,
+            (
+              g.F.Follower.text c.args.follower.now entries ++ part,
+              rest,
+              is ∙ sym (append_assoc (g.F.Follower.text c.args.follower.now entries) part rest),
+              appends_on _ _ _ (g.F.Follower.text c.args.follower.now entries) part text writes,
+            ),
+            omega (arith, cost, cost_now, bound_more [] entries entry),
+            walks_on limits (taken ++ bytes) c.next.new.self (entries ++ entry ∷ [])
+                (continues_line limits taken bytes c.lines.reader c.next.new.self entries so_far tell moves.number item says),
+            goes_now,
+          )
     ]

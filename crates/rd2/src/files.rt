@@ -1,0 +1,56 @@
+//! Real files as inputs.
+ghost use Rattle.std.specs.Prelude.{None};
+
+use rd_base::Word;
+use rd_base::io::{Failed, Inputs};
+use std::fs;
+use std::io::Read;
+use std::rt::Files;
+use std::str;
+
+/// The files of the system, which tell nothing of what is in them. Each error counts as a fault, and so does a name that
+/// isn't UTF-8.
+#[derive(Drop)]
+pub struct FileInputs<'a, R: Files> {
+    rt: &'a R,
+    current: Option<R::File>,
+    faults: u64,
+}
+
+impl<'a, R: Files> FileInputs<'a, R> {
+    pub fn new(rt: &'a R) -> FileInputs<'a, R> {
+        FileInputs {
+            rt,
+            current: None,
+            faults: 0,
+        }
+    }
+}
+
+impl<'a, R: Files> Inputs for FileInputs<'a, R> {
+    ghost told = { λ _. None };
+
+    ghost faults = { λ inputs. inputs.faults };
+
+    fn open(&mut self, name: &Word) -> Result<(), Failed> {
+        if let Ok(path) = str::from_utf8(name.items())
+            && let Ok(file) = fs::open(self.rt, path)
+        {
+            self.current = Some(file);
+            return Ok(());
+        }
+        self.faults = self.faults.saturating_add(1);
+        Err(Failed)
+    }
+
+    fn read(&mut self, buffer: &mut [u8]) -> Result<usize, Failed> {
+        let Some(file) = &mut self.current else {
+            return Ok(0);
+        };
+        if let Ok(count) = file.read(buffer) {
+            return Ok(count);
+        }
+        self.faults = self.faults.saturating_add(1);
+        Err(Failed)
+    }
+}

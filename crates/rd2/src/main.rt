@@ -1,0 +1,57 @@
+//! rd2 analyses one recorded run of threads that call shared objects.
+#![tactic(auto)]
+
+ghost use Rattle.std.specs.Prelude.{◌≡◌, ◌<◌};
+
+mod files;
+mod output;
+mod words;
+
+use files::FileInputs;
+use output::OutputSink;
+use rd_base::{Limits, Steps, Word};
+use rd_run::{Status, run};
+use std::alloc::Global;
+use std::marker::Brand;
+use std::process::ExitCode;
+use std::rt::Files;
+use std::sync::ledger::{Blank, Ledger};
+use words::{WordsRefused, words};
+
+/// What the program ends with where the system doesn't give the words of the command line.
+const NO_WORDS: u8 = 20;
+
+/// Runs the command over real files and standard output, with a counter of steps of its own.
+fn run_counted<R: Files + Print, L: Ledger>(
+    rt: &R,
+    alloc: Global,
+    words: &[Word],
+    blank: Blank,
+) -> Status
+    requires name { blank.name ≡ L.name }
+    requires parts { blank.parts ≡ L.parts }
+    requires some { 0 < blank.parts }
+{
+    let mut inputs = FileInputs::new(rt);
+    let mut out = OutputSink::new(rt);
+    let mut steps = Steps::<L>::new(blank);
+    run(
+        alloc,
+        words,
+        &mut inputs,
+        &mut out,
+        &Limits::standard(),
+        &mut steps,
+    )
+}
+
+fn main(rt: HostRuntime) -> ExitCode {
+    match words(&rt, rt.alloc()) {
+        Ok(words) => {
+            let status = run_counted::<_, Brand>(&rt, rt.alloc(), words.as_slice(), Blank::new(1));
+            ExitCode::from(status.code())
+        }
+        Err(WordsRefused::NoMemory) => ExitCode::from(Status::NoMemory.code()),
+        Err(WordsRefused::NotGiven) => ExitCode::from(NO_WORDS),
+    }
+}
