@@ -1,11 +1,62 @@
 //! Events by numbers.
+ghost use Rattle.std.specs.Prelude.{◌≡◌, IfOk};
 
-/// An event of a trace, with threads by their numbers: the place, from 0, of the line that began
-/// each among all such lines.
-#[derive(Clone, Copy, Debug, PartialEq, Eq)]
+use rd_base::{NoMemory, Slots};
+use std::alloc::Global;
+
+/// A call by numbers. Threads and objects have the place, from 0, of the line that began or declared each among all such
+/// lines; a kind has its place among the kinds, and a method its place in its kind.
+#[derive(Debug, Drop, PartialEq, Eq)]
+pub struct Call {
+    pub thread: u32,
+    pub object: u32,
+    pub kind: u32,
+    pub method: u8,
+    /// the arguments, then the result
+    pub slots: Slots,
+}
+
+impl Call {
+    /// An equal call.
+    pub fn copy(&self, alloc: Global) -> Result<Call, NoMemory>
+        ensures { IfOk result (λ call. call ≡ self.now) }
+    {
+        Ok(Call {
+            thread: self.thread,
+            object: self.object,
+            kind: self.kind,
+            method: self.method,
+            slots: self.slots.copy(alloc)?,
+        })
+    }
+}
+
+/// An event of a trace, by numbers.
+#[derive(Debug, Drop, PartialEq, Eq)]
 pub enum Event {
     /// the thread begins the child
     Fork { thread: u32, child: u32 },
     /// the thread waits for the end of the child
     Join { thread: u32, child: u32 },
+    /// the thread calls a method of an object
+    Call(Call),
+}
+
+impl Event {
+    /// An equal event.
+    pub fn copy(&self, alloc: Global) -> Result<Event, NoMemory>
+        ensures { IfOk result (λ event. event ≡ self.now) }
+    {
+        Ok(match self {
+            Event::Fork { thread, child } => Event::Fork {
+                thread: *thread,
+                child: *child,
+            },
+            Event::Join { thread, child } => Event::Join {
+                thread: *thread,
+                child: *child,
+            },
+            Event::Call(call) => Event::Call(call.copy(alloc)?),
+        })
+    }
 }

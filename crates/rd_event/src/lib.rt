@@ -7,6 +7,6 @@ mod reading;
 #[cfg(test)]
 mod tests;
 
-pub use events::Event;
+pub use events::{Call, Event};
 pub use items::{Line, LineEvent};
 pub use reading::{LineRefused, law_of_spelling, read_line};

@@ -7,7 +7,7 @@ use thiserror::Error;
 
 /// What an accepted line is in numbers: threads and objects from 0, in the order of the lines that
 /// began or declared them, and kinds by their places among the kinds.
-#[derive(Clone, Copy, Debug, PartialEq, Eq)]
+#[derive(Debug, Drop, PartialEq, Eq)]
 pub enum Accepted {
     /// a skipped line, or the header
     Nothing,
