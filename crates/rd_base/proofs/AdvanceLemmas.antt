@@ -1,7 +1,5 @@
 -- The search for the next line.
-use Rattle.std.proofs.Common.{◌≡◌, ◌≢◌, ℕ, zero, suc, ◌+◌, ◌-◌, ◌<◌, ◌≤◌, Option, Some, None, List, [], ◌∷◌, ◌++◌, take, drop, length, get_or, min, sym, ap, ◌∙◌, subst, refl, arith}
-use Rattle.std.specs.Prelude.{slice_index}
-use Rattle.std.specs.List.{Contains}
+use Rattle.std.proofs.Common.{◌≡◌, ℕ, ◌+◌, ◌<◌, ◌≤◌, Option, List, [], ◌++◌, take, length, sym, ap, ◌∙◌, subst, refl, arith}
 use Rattle.std.proofs.lemmas.List.{append_assoc, append-nil, length-append, length-take, get_or-take, get_or_append_left, get_or_default}
 use Rattle.std.proofs.Math.Seq.{take-append_seam}
 use Rattle.rd_base.specs.Inputs.{Source, Goes, Takes}
@@ -36,9 +34,9 @@ pub searches_more : (start now after : Reader) (bytes more : List ℕ) (seen : �
     → after ≡ with_more now more → length now.pending + length more ≤ now.room + 1 → Searches start after (bytes ++ more) (length now.pending)
 searches_more start now after bytes more seen s short is fits =
     let clean : HasNoFeed (take (length now.pending) (with_more now more).pending) =
-        subst HasNoFeed (sym (take-append_seam now.pending more)) short.clean in
+    subst HasNoFeed (sym (take-append_seam now.pending more)) short.clean in
     let pending : length now.pending ≡ length start.pending + length bytes =
-        ap (λ (r : Reader). length r.pending) s.reader ∙ length-append start.pending bytes in
+    ap (λ (r : Reader). length r.pending) s.reader ∙ length-append start.pending bytes in
     let room : now.room ≡ start.room = ap (λ (r : Reader). r.room) s.reader in
     record {
       reader = is ∙ ap (λ r. with_more r more) s.reader ∙ more_more start bytes more;
@@ -55,8 +53,8 @@ no_line start now bytes is clean (k, inside, feed) =
     let front : k < start.room = omega (arith, simp length-take at inside) in
     let all : HasNoFeed (start.pending ++ bytes) = subst (λ (r : Reader). HasNoFeed r.pending) is clean in
     all k (omega (arith, length-append start.pending bytes))
-        (get_or_append_left start.pending bytes 0 k low ∙ sym (get_or-take start.room start.pending k 0 front)
-            ∙ get_or_default (take start.room start.pending) k 0 10 inside ∙ feed)
+    (get_or_append_left start.pending bytes 0 k low ∙ sym (get_or-take start.room start.pending k 0 front)
+    ∙ get_or_default (take start.room start.pending) k 0 10 inside ∙ feed)
 
 pub takes_none : (told : Option Source) → Goes told told (λ old new. Takes old new [])
 takes_none told old is =

@@ -1,5 +1,5 @@
 -- What the reader of lines holds after a read.
-use Rattle.std.proofs.Common.{◌≡◌, ℕ, ◌+◌, ◌-◌, ◌<◌, ◌≤◌, List, [], ◌∷◌, ◌++◌, Option, Result, Ok, Vec, take, drop, length, min, sym, ap, ◌∙◌, subst, refl, arith}
+use Rattle.std.proofs.Common.{◌≡◌, ℕ, ◌+◌, ◌-◌, ◌<◌, ◌≤◌, List, [], ◌++◌, Option, Result, Ok, take, drop, length, sym, ap, ◌∙◌, subst, arith}
 use Rattle.std.proofs.lemmas.List.{take-take, drop-take, drop-drop, length-drop, length-take}
 use Rattle.std.proofs.Math.Seq.{take-add}
 use Rattle.rd_base.specs.Inputs.{Source, Takes, Reads, Goes}
@@ -10,7 +10,7 @@ use Rattle.rd_base.specs.declared.io.lines.ReadEnd.{ReadEnd}
 
 pub same_reader : (p q l m : List ℕ) (room limit number : ℕ) (ended : Option (Result Next ReadEnd)) → p ≡ q → l ≡ m
     → ◌≡◌ {A = Reader} (record { pending = p; room = room; limit = limit; line = l; number = number; ended = ended })
-        (record { pending = q; room = room; limit = limit; line = m; number = number; ended = ended })
+    (record { pending = q; room = room; limit = limit; line = m; number = number; ended = ended })
 same_reader p q l m room limit number ended e f =
     ap (λ (x : List ℕ). let r : Reader = record { pending = x; room = room; limit = limit; line = l; number = number; ended = ended } in r) e
     ∙ ap (λ (x : List ℕ). let r : Reader = record { pending = q; room = room; limit = limit; line = x; number = number; ended = ended } in r) f
@@ -47,6 +47,11 @@ pub read_takes : (before after : Option Source) (now : List ℕ) (from asked cou
     → Goes before after (λ old new. Reads {E = Failed} old new (take asked (drop from now)) (Ok count))
     → Goes before after (λ old new. Takes old new (take count (drop from now)) × (count ≡ 0 → old.held ≡ []))
 read_takes before after now from asked count some few fits goes old is =
-    let (new, told, (takes, none)) = goes old is in
-    (new, told, (subst (λ bytes. Takes old new bytes) (take-take count asked (drop from now) few) takes,
-        λ zero. none zero (simp (length-take, length-drop) (omega arith))))
+    let (new, told, (takes, none)) = goes old is in (
+      new,
+      told,
+      (
+        subst (λ bytes. Takes old new bytes) (take-take count asked (drop from now) few) takes,
+        λ zero. none zero (simp (length-take, length-drop) (omega arith)),
+      ),
+    )

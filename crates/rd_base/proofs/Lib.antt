@@ -7,3 +7,4 @@ pub mod FillLemmas
 pub mod ReadingLemmas
 pub mod AdvanceLemmas
 pub mod NextLemmas
+pub mod StoredFileLemmas

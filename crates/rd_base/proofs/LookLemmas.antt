@@ -1,8 +1,7 @@
 -- What the reader of lines finds in the bytes that it holds.
-use Rattle.std.proofs.Common.{◌≡◌, ◌≢◌, ℕ, ◌+◌, ◌-◌, ◌*◌, ◌<◌, ◌≤◌, List, [], ◌∷◌, ◌++◌, Option, Result, take, drop, length, get_or, min, sym, ap, ◌∙◌, subst, refl, arith}
-use Rattle.std.specs.Prelude.{slice_index}
+use Rattle.std.proofs.Common.{◌≡◌, ◌≢◌, ℕ, ◌+◌, ◌-◌, ◌<◌, ◌≤◌, List, ◌∷◌, ◌++◌, Option, Result, take, drop, length, get_or, min, sym, ap, ◌∙◌, subst, refl, arith}
 use Rattle.std.proofs.lemmas.List.{take-take, length-drop, length-take, get_or-take}
-use Rattle.rd_base.specs.LineReader.{HasNoFeed, IsFirstFeed, GivesLine, IsPast, IsTooLong, IsShort, Reader}
+use Rattle.rd_base.specs.LineReader.{HasNoFeed, IsFirstFeed, GivesLine, IsPast, IsTooLong, IsShort}
 use Rattle.rd_base.specs.declared.io.lines.Next.{Next}
 use Rattle.rd_base.specs.declared.io.lines.ReadEnd.{ReadEnd}
 use Rattle.rd_base.proofs.WindowLemmas.{cut_at}
@@ -14,15 +13,15 @@ module _ (xs line : List ℕ) (start held within room limit number : ℕ) (ended
 
   pub gives_line : (at : ℕ) → held ≤ limit → IsFirstFeed (take (start + within - start) (drop start xs)) at
       → GivesLine
-          (record { pending = take held (drop start xs); room = room; limit = limit; line = line; number = number; ended = ended })
-          (record {
-              pending = take (held - (at + 1)) (drop (start + (at + 1)) xs);
-              room = room - (at + 1);
-              limit = limit;
-              line = take at (drop start xs);
-              number = number + 1;
-              ended = ended;
-          })
+      (record { pending = take held (drop start xs); room = room; limit = limit; line = line; number = number; ended = ended })
+      (record {
+        pending = take (held - (at + 1)) (drop (start + (at + 1)) xs);
+        room = room - (at + 1);
+        limit = limit;
+        line = take at (drop start xs);
+        number = number + 1;
+        ended = ended;
+      })
   gives_line at fits first =
       let f : IsFirstFeed (take within (drop start xs)) at = subst (λ n. IsFirstFeed (take n (drop start xs)) at) same_width first in
       let low : at < within = omega (arith, simp (length-take, length-drop) at f.within) in

@@ -1,7 +1,6 @@
 -- The test of a name.
-use Rattle.std.proofs.Common.{List, ℕ, length, ltb, leb, arith, ◌≤◌, ◌<◌, Decides}
-use Rattle.std.specs.List.{AllPass, list_all}
-use Rattle.std.proofs.lemmas.Bool.Decides.{Decides-and, Decides-ltb, Decides-like, leb_tells, nat_tests}
+use Rattle.std.proofs.Common.{List, ℕ, length, leb, arith, ◌≤◌, Decides}
+use Rattle.std.proofs.lemmas.Bool.Decides.{Decides-and, Decides-ltb, Decides-like, nat_tests}
 use Rattle.std.proofs.lemmas.List.Sums.{AllPass-from_list_all, list_all-from_AllPass}
 use Rattle.rd_base.specs.Names.{IsName, is_name, is_name_byte}
 
@@ -15,4 +14,4 @@ is_name_decides bytes =
     (λ h. record { some = h.0; few = h.1.0; each = h.1.1 })
     (λ n. (n.some, (n.few, n.each)))
     (Decides-and _ _ (Decides-ltb 0 (length bytes)) (Decides-and _ _ (few_decides bytes)
-        (AllPass-from_list_all is_name_byte bytes, list_all-from_AllPass is_name_byte bytes)))
+    (AllPass-from_list_all is_name_byte bytes, list_all-from_AllPass is_name_byte bytes)))

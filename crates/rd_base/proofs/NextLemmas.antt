@@ -1,11 +1,11 @@
 -- What the answers of the reader of lines say of the lines to come.
-use Rattle.std.proofs.Common.{◌≡◌, ◌≢◌, ℕ, ◌+◌, ◌≤◌, List, [], ◌∷◌, ◌++◌, Option, Some, None, Result, Ok, Err, length, sym, ap, ◌∙◌, subst, refl, arith}
+use Rattle.std.proofs.Common.{◌≡◌, ◌≢◌, ℕ, ◌+◌, List, [], ◌∷◌, ◌++◌, Some, Result, Ok, Err, sym, ap, ◌∙◌, refl, arith}
 use Rattle.std.proofs.lemmas.List.{append-nil}
-use Rattle.rd_base.specs.Lines.{Stop, Reading, ending_of}
-use Rattle.rd_base.specs.Lines.Stop.{end, fault}
-use Rattle.rd_base.specs.Lines.Ending.{at_end, no_final_newline, line_too_long, bytes_limit, faulted}
+use Rattle.rd_base.specs.Lines.{Stop, ending_of}
+use Rattle.rd_base.specs.Lines.Stop.{end}
+use Rattle.rd_base.specs.Lines.Ending.{line_too_long, bytes_limit}
 use Rattle.rd_base.specs.Lines.Reading.{stops, line}
-use Rattle.rd_base.specs.LineReader.{Reader, left, with_more, GivesLine, IsTooLong, IsPast, IsShort, Tells, IsAtEnd, Moves}
+use Rattle.rd_base.specs.LineReader.{Reader, left, with_more, GivesLine, IsTooLong, IsPast, IsShort, Tells, Moves}
 use Rattle.rd_base.specs.declared.io.lines.Next.{Next}
 use Rattle.rd_base.specs.declared.io.lines.ReadEnd.{ReadEnd}
 use Rattle.rd_base.specs.declared.io.lines.Next.TheVariants.{End}
@@ -32,13 +32,24 @@ tells_stop old bytes h stop =
 -- the lines ended well, or at a rest
 pub tells_end : (old new : Reader) (bytes : List ℕ) (result : Result Next ReadEnd) → IsShort (with_more old bytes)
     → (old.pending ++ bytes ≡ [] → (result ≡ Ok End) × (new ≡ record {
-        pending = []; room = old.room; limit = old.limit; line = old.line; number = old.number; ended = Some (Ok End) }))
+      pending = [];
+      room = old.room;
+      limit = old.limit;
+      line = old.line;
+      number = old.number;
+      ended = Some (Ok End);
+    }))
     → (old.pending ++ bytes ≢ [] → (result ≡ Err NoFinalNewline) × (new ≡ record {
-        pending = []; room = old.room; limit = old.limit; line = old.pending ++ bytes; number = old.number + 1;
-        ended = Some (Err NoFinalNewline) }))
+      pending = [];
+      room = old.room;
+      limit = old.limit;
+      line = old.pending ++ bytes;
+      number = old.number + 1;
+      ended = Some (Err NoFinalNewline);
+    }))
     → Tells old bytes new result × Moves old new result
 tells_end old new bytes result h well rest = go (old.pending ++ bytes) refl
-    where
+  where
     go : (pending : List ℕ) → old.pending ++ bytes ≡ pending → Tells old bytes new result × Moves old new result
     go [] is =
         let (answer, reader) = well is in

@@ -1,12 +1,10 @@
 -- What is still to come behind bytes of which something is known.
-use Rattle.std.proofs.Common.{◌≡◌, ◌≢◌, ℕ, suc, ◌+◌, ◌-◌, ◌<◌, ◌≤◌, Bool, true, false, cond, List, [], ◌∷◌, ◌++◌, take, drop, length, get_or, eqb, ltb, leb, min, sym, ap, ◌∙◌, subst, refl, arith}
-use Rattle.std.specs.Prelude.{slice_index}
-use Rattle.std.proofs.lemmas.List.{append_assoc, append-nil, length-append, length-take, take-append-le, take_all, take-append-drop}
-use Rattle.std.proofs.lemmas.Bool.Decides.{Decides-eqb, nat_tests}
+use Rattle.std.proofs.Common.{◌≡◌, ◌≢◌, ℕ, suc, ◌+◌, ◌-◌, ◌<◌, ◌≤◌, Bool, true, false, cond, List, [], ◌∷◌, ◌++◌, take, length, eqb, ltb, leb, sym, ap, ◌∙◌, refl, arith}
+use Rattle.std.proofs.lemmas.List.{append_assoc, append-nil, length-append, length-take, take-append-le, take_all}
+use Rattle.std.proofs.lemmas.Bool.Decides.{nat_tests}
 use Rattle.std.proofs.Math.Seq.{take-append-add}
-use Rattle.rd_base.specs.Lines.{Stop, Ending, Reading, Parts, with_byte, parts_of, ending_of, lines_of, reading}
-use Rattle.rd_base.specs.Lines.Stop.{end, fault}
-use Rattle.rd_base.specs.Lines.Ending.{at_end, no_final_newline, line_too_long, bytes_limit, faulted}
+use Rattle.rd_base.specs.Lines.{Stop, Parts, with_byte, parts_of, ending_of, lines_of, reading}
+use Rattle.rd_base.specs.Lines.Ending.{line_too_long, bytes_limit}
 use Rattle.rd_base.specs.Lines.Reading.{stops, line}
 use Rattle.rd_base.specs.Lines.Parts.{rest, part}
 use Rattle.rd_base.specs.LineReader.{HasNoFeed, Reader, left, with_more, GivesLine, IsTooLong, IsPast, IsShort}
@@ -44,7 +42,7 @@ first_long [] more clean = omega arith
 first_long (b ∷ bs) more clean =
     let go = first_long bs more (no_feed_tail b bs clean) in
     let is = ap first_of (ap (λ t. cond t (part [] (parts_of (bs ++ more))) (with_byte b (parts_of (bs ++ more)))) (no_feed_head b bs clean))
-        ∙ first_with b (parts_of (bs ++ more)) in
+    ∙ first_with b (parts_of (bs ++ more)) in
     omega (arith, ap length is)
 
 lines_long : (limit : ℕ) (stop : Stop) (past : Bool) (p : Parts) → limit ≤ length (first_of p)
@@ -108,7 +106,7 @@ left_too_long r h stop more =
     let long = first_long r.pending (take (r.room - length r.pending) more) h.clean in
     ap (λ xs. lines_of r.limit stop past (parts_of xs)) front
     ∙ lines_long r.limit stop past (parts_of (r.pending ++ take (r.room - length r.pending) more)) (omega (arith, h.long, long))
-    where
+  where
     take_past : (xs ys : List ℕ) (n : ℕ) → length xs ≤ n → take n (xs ++ ys) ≡ xs ++ take (n - length xs) ys
     take_past xs ys n l =
         let split : length xs + (n - length xs) ≡ n = omega arith in

@@ -1,9 +1,8 @@
 -- Windows of a buffer: `take n (drop from xs)` is the n elements from a place on.
-use Rattle.std.proofs.Common.{◌≡◌, ℕ, ◌+◌, ◌-◌, ◌*◌, ◌<◌, ◌≤◌, List, [], ◌∷◌, ◌++◌, take, drop, length, get_or, sym, ap, ◌∙◌, subst, refl, arith}
+use Rattle.std.proofs.Common.{◌≡◌, ℕ, ◌+◌, ◌-◌, ◌<◌, ◌≤◌, List, ◌∷◌, ◌++◌, take, drop, length, get_or, sym, ap, ◌∙◌, subst, arith}
 use Rattle.std.specs.List.{copy_within}
 use Rattle.std.proofs.lemmas.List.{drop-take, take-take, drop-drop, length-drop, length-take, take-append-drop, drop_more, get_or-take}
 use Rattle.std.proofs.lemmas.List.Edits.{take-paste}
-use Rattle.std.proofs.Math.Seq.{take-add}
 
 -- what a copy to the front has there
 copied_front : (xs : List ℕ) (low high : ℕ) → low ≤ high → high ≤ length xs
@@ -30,7 +29,7 @@ moved xs low high from n l f h =
 -- the window up to a place, what stands there, and the window behind it
 pub cut_at : (xs : List ℕ) (start held at : ℕ) → at < held → start + held ≤ length xs
     → take held (drop start xs)
-        ≡ take at (drop start xs) ++ get_or (drop start xs) at 0 ∷ take (held - (at + 1)) (drop (start + (at + 1)) xs)
+    ≡ take at (drop start xs) ++ get_or (drop start xs) at 0 ∷ take (held - (at + 1)) (drop (start + (at + 1)) xs)
 cut_at xs start held at l h =
     let ys = drop start xs in
     let p = take held ys in
@@ -41,5 +40,5 @@ cut_at xs start held at l h =
     ∙ ap (λ back. take at ys ++ back) (drop_more p at 0 inside)
     ∙ ap (λ b. take at ys ++ b ∷ drop (at + 1) p) (get_or-take held ys at 0 l)
     ∙ ap (λ back. take at ys ++ get_or ys at 0 ∷ back)
-        (ap (λ n. drop (at + 1) (take n ys)) (sym whole) ∙ drop-take (at + 1) (held - (at + 1)) ys
-            ∙ ap (take (held - (at + 1))) (drop-drop (at + 1) start xs))
+    (ap (λ n. drop (at + 1) (take n ys)) (sym whole) ∙ drop-take (at + 1) (held - (at + 1)) ys
+    ∙ ap (take (held - (at + 1))) (drop-drop (at + 1) start xs))

@@ -1,5 +1,5 @@
 -- The limits of a run: this project's profile.
-use Rattle.std.specs.Prelude.{ℕ, ◌≤◌}
+use Rattle.std.specs.Prelude.{◌≤◌}
 use Rattle.rd_base.specs.declared.limits.Limits.{Limits}
 
 -- what each call that takes limits asks of them

@@ -1,7 +1,6 @@
 -- The reader of lines, as contracts see it.
 use Rattle.std.specs.List.{Contains}
-use Rattle.std.specs.Prelude.{◌≡◌, ◌≢◌, Bool, true, false, ℕ, ◌+◌, ◌-◌, ◌*◌, ◌^◌, ◌<◌, ◌≤◌, List, [], ◌∷◌, ◌++◌, Option, None, Some, take, drop, length, slice_index, EachIndex, MatchOption, Result, Ok, Err}
-use Rattle.rd_base.specs.Inputs.{Source, Takes}
+use Rattle.std.specs.Prelude.{◌≡◌, ◌≢◌, Bool, true, false, ℕ, ◌+◌, ◌-◌, ◌*◌, ◌^◌, ◌<◌, ◌≤◌, List, [], ◌∷◌, ◌++◌, Option, None, Some, take, length, slice_index, EachIndex, MatchOption, Result, Ok, Err}
 use Rattle.rd_base.specs.Lines.{Stop, Reading, reading}
 use Rattle.rd_base.specs.Lines.Stop.{end, fault}
 use Rattle.rd_base.specs.Lines.Ending.{at_end, no_final_newline, line_too_long, bytes_limit, faulted}

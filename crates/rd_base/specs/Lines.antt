@@ -1,5 +1,5 @@
 -- The lines of bytes, and how they end. This project's profile.
-use Rattle.std.specs.Prelude.{◌≡◌, ℕ, Bool, ◌<◌, ◌==◌, nat_lt, nat_le, List, [], ◌∷◌, take, length, if◌then◌else◌}
+use Rattle.std.specs.Prelude.{ℕ, Bool, ◌==◌, nat_lt, nat_le, List, [], ◌∷◌, take, length, if◌then◌else◌}
 
 -- why the bytes go no further: the input ended, or a read of it failed
 pub data Stop : Type 0 where

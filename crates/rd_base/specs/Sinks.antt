@@ -1,6 +1,5 @@
 -- Sinks of bytes. This project's profile.
-use Rattle.std.specs.Prelude.{◌≡◌, ℕ, ◌≤◌, List, Option, Some, ◌++◌, take, length, Result, Ok, Err}
-use Rattle.rd_base.specs.Inputs.{Rose}
+use Rattle.std.specs.Prelude.{◌≡◌, ℕ, List, Option, Some, ◌++◌, take, Result, Ok, Err}
 
 -- where it is told what was written, these bytes are behind it now
 abbrev pub Appends : Option (List ℕ) → Option (List ℕ) → List ℕ → Type 0

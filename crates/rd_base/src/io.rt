@@ -1,9 +1,16 @@
 //! The input and the output of the program: sources of bytes, sinks of bytes, and the lines of a source.
 
+mod calls;
 mod inputs;
 mod lines;
+mod memory_inputs;
+mod memory_sink;
 mod sinks;
+#[cfg(test)]
+mod tests;
 
 pub use inputs::{Failed, Inputs};
 pub use lines::{LineReader, Next, ReadEnd};
+pub use memory_inputs::MemoryInputs;
+pub use memory_sink::MemorySink;
 pub use sinks::{Sink, WriteFault, write_all};

@@ -1,15 +1,16 @@
-//! What every crate of rd2 stands on: names, words, limits, the counter of steps, and the input
-//! and output of the program.
+//! What every crate of rd2 stands on: names, words, values, limits, the counter of steps, and the
+//! input and output of the program.
 #![tactic(auto)]
-
-pub mod io;
 
 mod byte_lists;
 mod counter;
+pub mod io;
 mod limits;
 mod memory;
 mod names;
 mod slots;
+#[cfg(test)]
+mod tests;
 mod values;
 
 pub use byte_lists::{Bytes, Word};

@@ -1,5 +1,5 @@
 //! The lines of an input.
-ghost use Rattle.std.specs.Prelude.{◌≡◌, ◌≢◌, ℕ, ◌++◌, Some, Ok, Err, Result,  ◌+◌, ◌-◌, ◌*◌, ◌^◌, ◌<◌, ◌≤◌, List, [], None, take, drop, length, IfOk, OnErr};
+ghost use Rattle.std.specs.Prelude.{◌≡◌, ◌≢◌, ℕ, ◌++◌, Some, Ok, Err, Result, ◌+◌, ◌-◌, ◌*◌, ◌^◌, ◌<◌, ◌≤◌, List, [], None, take, drop, length, IfOk, OnErr};
 ghost use Rattle.rd_base.specs.Inputs.{Goes, Takes, Reads, HasCause, Rose};
 ghost use Rattle.rd_base.specs.Limits.{AreUsable};
 ghost use Rattle.rd_base.specs.LineReader.{HasNoFeed, FindsFeed, Looks, Finds, HasLine, Tells, Moves, IsAtEnd, IsFault, fresh, last_number, with_more};
@@ -71,13 +71,7 @@ enum Found {
 
 /// Makes room behind the bytes that are held for as many as a line may have, by moving them and the line before them to
 /// the front where they stand too far behind. The answer is by how much they moved.
-fn make_room(
-    buffer: &mut [u8],
-    limit: usize,
-    line_start: usize,
-    start: usize,
-    held: usize,
-) -> usize
+fn make_room(buffer: &mut [u8], limit: usize, line_start: usize, start: usize, held: usize) -> usize
     requires size { length buffer.old ≡ 2 * limit }
     requires small { limit < 2 ^ 32 }
     requires behind { line_start ≤ start }
@@ -136,12 +130,12 @@ impl Model for LineReader {
     ghost Value = { Reader };
 
     ghost view = { λ r. record {
-        pending = take r.held (drop r.start r.buffer.items);
-        room = r.room;
-        limit = r.limit;
-        line = take r.line_len (drop r.line_start r.buffer.items);
-        number = r.number;
-        ended = r.ended;
+      pending = take r.held (drop r.start r.buffer.items);
+      room = r.room;
+      limit = r.limit;
+      line = take r.line_len (drop r.line_start r.buffer.items);
+      number = r.number;
+      ended = r.ended;
     } };
 
     ghost invariant = { λ r.
@@ -279,8 +273,13 @@ impl LineReader {
         requires { self.old.ended ≡ None }
         ensures answer { result ≡ Err refused }
         ensures reader { self.new ≡ record {
-            pending = self.old.pending; room = self.old.room; limit = self.old.limit; line = self.old.line;
-            number = self.old.number + 1; ended = Some (Err refused) } }
+          pending = self.old.pending;
+          room = self.old.room;
+          limit = self.old.limit;
+          line = self.old.line;
+          number = self.old.number + 1;
+          ended = Some (Err refused);
+        } }
     {
         self.number += 1;
         self.ended = Some(Err(refused));
@@ -292,11 +291,21 @@ impl LineReader {
         requires going { self.old.ended ≡ None }
         requires short { length self.old.pending < self.old.limit }
         ensures well { self.old.pending ≡ [] → (result ≡ Ok Next.End) × (self.new ≡ record {
-            pending = []; room = self.old.room; limit = self.old.limit; line = self.old.line;
-            number = self.old.number; ended = Some (Ok Next.End) }) }
+          pending = [];
+          room = self.old.room;
+          limit = self.old.limit;
+          line = self.old.line;
+          number = self.old.number;
+          ended = Some (Ok Next.End);
+        }) }
         ensures rest { self.old.pending ≢ [] → (result ≡ Err ReadEnd.NoFinalNewline) × (self.new ≡ record {
-            pending = []; room = self.old.room; limit = self.old.limit; line = self.old.pending;
-            number = self.old.number + 1; ended = Some (Err ReadEnd.NoFinalNewline) }) }
+          pending = [];
+          room = self.old.room;
+          limit = self.old.limit;
+          line = self.old.pending;
+          number = self.old.number + 1;
+          ended = Some (Err ReadEnd.NoFinalNewline);
+        }) }
     {
         if self.held == 0 {
             self.ended = Some(Ok(Next::End));

@@ -7,7 +7,7 @@ pub returns-in_err-at : goal.returns-in_err-at
 returns-in_err-at c =
     rw c.from_residual.ensures
     (feed_behind c.args.bytes.now c.args.from None c.requires.within c.requires.before
-        (rw (take_rest, c.in_err-at.was) at c.memchr.ensures))
+    (rw (take_rest, c.in_err-at.was) at c.memchr.ensures))
 
 pub returns : goal.returns
 returns c =

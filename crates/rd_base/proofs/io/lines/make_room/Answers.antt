@@ -1,4 +1,4 @@
-use Rattle.std.proofs.Common.{◌≡◌, ℕ, arith}
+use Rattle.std.proofs.Common.{arith}
 use Rattle.rd_base.proofs.WindowLemmas.{moved}
 use Rattle.rd_base.proofs.io.lines.make_room.Goals as goal
 

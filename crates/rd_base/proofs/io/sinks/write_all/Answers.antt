@@ -1,6 +1,5 @@
-use Rattle.std.proofs.Common.{◌≡◌, ℕ, ◌+◌, ◌-◌, take, length, arith, subst}
+use Rattle.std.proofs.Common.{◌≡◌, ℕ, ◌+◌, arith}
 use Rattle.std.proofs.lemmas.List.{length-take, length-drop}
-use Rattle.rd_base.specs.Sinks.{Appends}
 use Rattle.rd_base.proofs.SinkLemmas.{appends_more}
 use Rattle.rd_base.proofs.io.sinks.write_all.Goals as goal
 

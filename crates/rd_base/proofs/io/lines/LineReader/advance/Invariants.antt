@@ -1,6 +1,6 @@
-use Rattle.std.proofs.Common.{◌≡◌, ℕ, ◌+◌, ◌-◌, ◌≤◌, List, ◌++◌, take, length}
+use Rattle.std.proofs.Common.{◌≡◌, ℕ, ◌-◌, List, length}
 use Rattle.rd_base.specs.Inputs.{Goes, Takes}
-use Rattle.rd_base.specs.LineReader.{HasNoFeed, HasLine, with_more}
+use Rattle.rd_base.specs.LineReader.{HasLine}
 use Rattle.rd_base.proofs.AdvanceLemmas.{Searches}
 use Rattle.rd_base.proofs.io.lines.LineReader.advance.Given as goal
 

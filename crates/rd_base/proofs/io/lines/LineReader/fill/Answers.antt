@@ -1,4 +1,4 @@
-use Rattle.std.proofs.Common.{◌≡◌, ℕ, ◌+◌, ◌-◌, ◌<◌, ◌≤◌, List, take, drop, length, arith, ◌∙◌, ap}
+use Rattle.std.proofs.Common.{◌+◌, ◌-◌, ◌<◌, ◌≤◌, take, drop, length, arith, ◌∙◌, ap}
 use Rattle.std.specs.Vec.{with_items}
 use Rattle.std.proofs.lemmas.List.{with_items_is, length-take, length-drop}
 use Rattle.rd_base.proofs.FillLemmas.{same_reader, same_pending, same_line, more_pending, read_takes}
@@ -15,10 +15,9 @@ returns-in_default-clause-err g c =
     let kept = rw c.deref_mut.ensures.value at c.make_room-by.ensures.kept in
     let before = c.read_at.ensures.before ∙ ap (take (r.start - by + r.held)) (c.deref_mut-2.ensures.value ∙ first) in
     let same = same_pending r.buffer.items x y r.start r.held r.line_start r.line_len by c.make_room-by.ensures.low c.self.invariant.behind kept before in
-    let line = same_line r.buffer.items x y r.start r.held r.line_start r.line_len by c.make_room-by.ensures.low c.self.invariant.behind kept before in
-    (
+    let line = same_line r.buffer.items x y r.start r.held r.line_start r.line_len by c.make_room-by.ensures.low c.self.invariant.behind kept before in (
       rw (← c.self.view_is)
-      (same_reader _ _ _ _ r.room r.limit r.number r.ended
+          (same_reader _ _ _ _ r.room r.limit r.number r.ended
           (ap (λ xs. take r.held (drop (r.start - by) xs)) second ∙ same)
           (ap (λ xs. take r.line_len (drop (r.line_start - by) xs)) second ∙ line)),
       c.in_default.ensures.told,
@@ -42,12 +41,11 @@ returns-clause-ok g c =
     let fits : from + asked ≤ length y = omega arith in
     let few : count ≤ asked = c.in-Ok.ensures.bound in
     let short = simp (length-take, length-drop) at (rw (← c.self.view_is) at c.requires.short) in
-    let some : 0 < asked = omega arith in
-    (
+    let some : 0 < asked = omega arith in (
       take count (drop from y),
       simp (length-take, length-drop) (omega arith),
       rw (← c.self.view_is)
-      (same_reader _ _ _ _ r.room r.limit r.number r.ended
+          (same_reader _ _ _ _ r.room r.limit r.number r.ended
           (ap (λ xs. take (r.held + count) (drop (r.start - by) xs)) second ∙ more)
           (ap (λ xs. take r.line_len (drop (r.line_start - by) xs)) second ∙ line)),
       read_takes _ _ y from asked count some few fits c.in-Ok.ensures.told,

@@ -1,5 +1,5 @@
-use Rattle.std.proofs.Common.{◌≡◌, ℕ, ◌+◌, ◌-◌, ◌≤◌, take, drop, length, refl, arith, sym}
-use Rattle.rd_base.proofs.LookLemmas.{gives_line, is_past, is_too_long, is_short}
+use Rattle.std.proofs.Common.{refl, arith}
+use Rattle.rd_base.proofs.LookLemmas.{gives_line, is_past}
 use Rattle.rd_base.proofs.io.lines.LineReader.look.Goals as goal
 
 pub returns-in-Some : goal.returns-in-Some
@@ -7,11 +7,13 @@ returns-in-Some c =
     let r = c.self.inside in
     rw (← c.self.view_is)
     (gives_line r.buffer.items _ r.start r.held c.min-within.result r.room r.limit r.number r.ended c.min-within.ensures (omega arith)
-        c.in-Some.at c.self.invariant.fits (rw c.deref.ensures.value at c.in-Some.ensures))
+    c.in-Some.at c.self.invariant.fits (rw c.deref.ensures.value at c.in-Some.ensures))
 
 pub returns-in-None : goal.returns-in-None
 returns-in-None c =
-    let r = c.self.inside in
-    (refl, rw (← c.self.view_is)
-    (is_past r.buffer.items _ r.start r.held c.min-within.result r.room r.limit r.number r.ended c.min-within.ensures (omega arith)
-        (rw c.deref.ensures.value at c.in-None.ensures) (omega arith) (omega arith) (omega arith)))
+    let r = c.self.inside in (
+      refl,
+      rw (← c.self.view_is)
+          (is_past r.buffer.items _ r.start r.held c.min-within.result r.room r.limit r.number r.ended c.min-within.ensures (omega arith)
+          (rw c.deref.ensures.value at c.in-None.ensures) (omega arith) (omega arith) (omega arith)),
+    )

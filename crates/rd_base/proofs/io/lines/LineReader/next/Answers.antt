@@ -1,15 +1,18 @@
-use Rattle.std.proofs.Common.{◌≡◌, ℕ, ◌+◌, ◌≤◌, List, ◌++◌, length, refl, sym, ap, subst, ◌∙◌}
+use Rattle.std.proofs.Common.{refl, sym, ap, ◌∙◌}
 use Rattle.rd_base.specs.Lines.Stop.{fault}
-use Rattle.rd_base.specs.LineReader.{Reader, Tells, left, with_more}
+use Rattle.rd_base.specs.LineReader.{Reader, left}
 use Rattle.rd_base.proofs.NextLemmas.{tells_line, tells_too_long, tells_past, tells_stop, tells_end}
 use Rattle.rd_base.proofs.ReadingLemmas.{left_more}
 use Rattle.rd_base.proofs.io.lines.LineReader.next.Goals as goal
 
 pub returns-in-Line-clause-tells : goal.returns-in-Line-clause-tells
 returns-in-Line-clause-tells g c = λ going.
-    let f = c.in-Line.ensures.finds in
-    (f.0, tells_line c.args.self.now c.advance.new.self f.0 f.1, f.2,
-        λ old told. let t = f.3 old told in (t.0, t.1, (t.2.0, λ h. absurd h)))
+    let f = c.in-Line.ensures.finds in (
+      f.0,
+      tells_line c.args.self.now c.advance.new.self f.0 f.1,
+      f.2,
+      λ old told. let t = f.3 old told in (t.0, t.1, (t.2.0, λ h. absurd h)),
+    )
 
 pub returns-in-TooLong-clause-tells : goal.returns-in-TooLong-clause-tells
 returns-in-TooLong-clause-tells g c = λ going.
@@ -30,17 +33,21 @@ returns-in-Ended-clause-moves g c = λ going.
 
 pub returns-in-Ended-clause-tells : goal.returns-in-Ended-clause-tells
 returns-in-Ended-clause-tells g c = λ going.
-    let f = c.in-Ended.ensures.finds in
-    (f.0,
-        (tells_end c.args.self.now c.finish.new.self f.0 c.finish.result f.1.1 (rw f.1.0 at c.finish.ensures.well) (rw f.1.0 at c.finish.ensures.rest)).0,
-        f.2, λ old told. let t = f.3 old told in (t.0, t.1, (t.2.0, λ h. t.2.1 refl)))
+    let f = c.in-Ended.ensures.finds in (
+      f.0,
+      (tells_end c.args.self.now c.finish.new.self f.0 c.finish.result f.1.1 (rw f.1.0 at c.finish.ensures.well) (rw f.1.0 at c.finish.ensures.rest)).0,
+      f.2,
+      λ old told. let t = f.3 old told in (t.0, t.1, (t.2.0, λ h. t.2.1 refl)),
+    )
 
 pub returns-in-Faulted-clause-tells : goal.returns-in-Faulted-clause-tells
 returns-in-Faulted-clause-tells g c = λ going.
-    let f = c.in-Faulted.ensures.finds in
-    (f.0,
-        (
-          λ stop more. left_more c.args.self.now f.0 stop more ∙ ap (λ (r : Reader). left r stop more) (sym f.1.0),
-          tells_stop c.args.self.now f.0 f.1.1 fault,
-        ),
-        f.2, λ old told. let t = f.3 old told in (t.0, t.1, (t.2.0, λ h. absurd h)))
+    let f = c.in-Faulted.ensures.finds in (
+      f.0,
+      (
+        λ stop more. left_more c.args.self.now f.0 stop more ∙ ap (λ (r : Reader). left r stop more) (sym f.1.0),
+        tells_stop c.args.self.now f.0 f.1.1 fault,
+      ),
+      f.2,
+      λ old told. let t = f.3 old told in (t.0, t.1, (t.2.0, λ h. absurd h)),
+    )
