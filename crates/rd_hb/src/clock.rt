@@ -122,3 +122,6 @@ pub struct Stamp {
     pub number: u32,
     pub clock: Clock,
 }
+
+#[cfg(test)]
+mod tests;

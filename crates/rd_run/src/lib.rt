@@ -6,6 +6,8 @@ mod endings;
 mod following;
 mod judging;
 mod status;
+#[cfg(test)]
+mod tests;
 mod texts;
 mod top;
 mod walking;

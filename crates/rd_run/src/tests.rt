@@ -1,0 +1,418 @@
+//! Whole runs over inputs and a sink in memory.
+ghost use Rattle.std.specs.Prelude.{◌≡◌, ◌<◌, ◌≤◌};
+ghost use Rattle.rd_base.specs.Limits.{AreUsable};
+
+use crate::{Status, run};
+use rd_base::io::{MemoryInputs, MemorySink};
+use rd_base::{Limits, NoMemory, Steps, Word};
+use std::alloc::Global;
+use std::marker::Brand;
+use std::process::Abort;
+use std::sync::ledger::{Blank, Ledger};
+use std::test::Fail;
+
+/// One register, one fork and one join.
+const FORK_AND_JOIN: &[u8] =
+    b"rdtrace 1\nthread main\nobject r register\nfork main worker\njoin main worker\n";
+
+fn words(alloc: Global, line: &[u8]) -> Result<Vec<Word>, NoMemory> {
+    let mut words = Vec::new(alloc);
+    if !line.is_empty() {
+        for word in line.split(|byte| *byte == b' ') {
+            words.push(Word::from_bytes(alloc, word)?)?;
+        }
+    }
+    Ok(words)
+}
+
+fn run_counted<L: Ledger>(
+    alloc: Global,
+    words: &[Word],
+    inputs: &mut MemoryInputs,
+    out: &mut MemorySink,
+    limits: &Limits,
+    blank: Blank,
+) -> Status
+    requires usable { AreUsable limits.now }
+    requires name { blank.name ≡ L.name }
+    requires parts { blank.parts ≡ L.parts }
+    requires some { 0 < blank.parts }
+{
+    let mut steps = Steps::<L>::new(blank);
+    run(alloc, words, inputs, out, limits, &mut steps)
+}
+
+/// What a run over one file, `t.trace`, answers and writes.
+#[derive(Clone, Copy)]
+struct Row<'a> {
+    words: &'a [u8],
+    trace: &'a [u8],
+    piece: u32,
+    failing_reads: &'a [u32],
+    failing_writes: &'a [u32],
+    limits: Limits,
+}
+
+impl<'a> Row<'a> {
+    fn check(trace: &'a [u8]) -> Row<'a>
+        ensures limits { AreUsable result.limits }
+        ensures piece { 1 ≤ result.piece }
+    {
+        Row {
+            words: b"check t.trace",
+            trace,
+            piece: 4096,
+            failing_reads: &[],
+            failing_writes: &[],
+            limits: Limits::standard(),
+        }
+    }
+
+    fn run(&self, alloc: Global) -> Result<(Status, MemorySink), NoMemory>
+        requires limits { AreUsable self.now.limits }
+        requires piece { 1 ≤ self.now.piece }
+    {
+        let mut inputs = MemoryInputs::new(alloc, self.failing_reads)?;
+        let name = Word::from_bytes(alloc, b"t.trace")?;
+        inputs.add(&name, self.trace, self.piece)?;
+        let mut out = MemorySink::new(alloc, 4096, self.failing_writes)?;
+        let words = words(alloc, self.words)?;
+        let status = run_counted::<Brand>(
+            alloc,
+            words.as_slice(),
+            &mut inputs,
+            &mut out,
+            &self.limits,
+            Blank::new(1),
+        );
+        Ok((status, out))
+    }
+}
+
+#[test]
+fn the_words_of_the_command_line(rt: HostRuntime) -> Result<(), Fail> {
+    let rows = [
+        (
+            b"check t.trace".as_slice(),
+            Status::Clean,
+            b"races 0\n".as_slice(),
+        ),
+        (b"check", Status::Usage, b"refused usage\n"),
+        (b"", Status::Usage, b"refused usage\n"),
+        (b"Check t.trace", Status::Usage, b"refused usage\n"),
+        (
+            b"check t.trace t.trace t.trace",
+            Status::Usage,
+            b"refused usage\n",
+        ),
+        (b"t.trace", Status::Usage, b"refused usage\n"),
+        (b" t.trace", Status::Usage, b"refused usage\n"),
+        (b"check u.trace", Status::InputFault, b""),
+        (b"check ", Status::InputFault, b""),
+    ];
+    for (words, status, text) in rows {
+        let row = Row {
+            words,
+            ..Row::check(FORK_AND_JOIN)
+        };
+        let (answer, out) = row.run(rt.alloc())?;
+        assert_eq!(rt; answer, status);
+        assert_eq!(rt; out.written(), text);
+    }
+    Ok(())
+}
+
+#[test]
+fn traces_are_read_to_their_end_or_refused(rt: HostRuntime) -> Result<(), Fail> {
+    let rows = [
+        (FORK_AND_JOIN, Status::Clean, b"races 0\n".as_slice()),
+        (
+            b"rdtrace 1\nthread p\nacquire p l\n",
+            Status::TraceRefused,
+            b"races 0\nrefused line 3 not-built\n",
+        ),
+        (
+            b"rdtrace 1\nthread p\ncall p o m -\n",
+            Status::TraceRefused,
+            b"races 0\nrefused line 3 not-built\n",
+        ),
+        (
+            b"rdtrace 1\nthread p\nobject d dictionary\n",
+            Status::TraceRefused,
+            b"races 0\nrefused line 3 not-built\n",
+        ),
+        (
+            b"rdtrace 1\nthread p\njoin p p\n",
+            Status::TraceRefused,
+            b"races 0\nrefused line 3 not-well-formed\n",
+        ),
+        (
+            b"rdtrace 1\nthread p\nthread p\n",
+            Status::TraceRefused,
+            b"races 0\nrefused line 3 not-well-formed\n",
+        ),
+        (
+            b"rdtrace 1\nthread p\nfork p  q\nthread p\n",
+            Status::TraceRefused,
+            b"races 0\nrefused line 3 bad-line\n",
+        ),
+        (
+            b"rdtrace 1\r\n",
+            Status::TraceRefused,
+            b"races 0\nrefused line 1 bad-line\n",
+        ),
+        (
+            b"",
+            Status::TraceRefused,
+            b"races 0\nrefused line 1 not-well-formed\n",
+        ),
+        (
+            b"# a\n\n# b\n",
+            Status::TraceRefused,
+            b"races 0\nrefused line 4 not-well-formed\n",
+        ),
+        (
+            b"# a\n\nrdtrace 1\n# acquire \"\n",
+            Status::Clean,
+            b"races 0\n",
+        ),
+        (
+            b"rdtrace 1\nthread p",
+            Status::TraceRefused,
+            b"races 0\nrefused line 2 no-final-newline\n",
+        ),
+        // The first refused line ends the run, though the next would be refused for another cause.
+        (
+            b"rdtrace 1\nthread p\njoin p p\nacquire p l\nthread q",
+            Status::TraceRefused,
+            b"races 0\nrefused line 3 not-well-formed\n",
+        ),
+    ];
+    for (trace, status, text) in rows {
+        for piece in [1, 2, 7, 40] {
+            let row = Row {
+                piece,
+                ..Row::check(trace)
+            };
+            let (answer, out) = row.run(rt.alloc())?;
+            assert_eq!(rt; answer, status);
+            assert_eq!(rt; out.written(), text);
+        }
+    }
+    Ok(())
+}
+
+/// The trace has 74 bytes in five lines, the longest of which has 18 with its line feed.
+#[test]
+fn limits_at_their_edges(rt: HostRuntime) -> Result<(), Fail> {
+    let standard = Limits::standard();
+    let rows = [
+        (
+            Limits {
+                line: 18,
+                bytes: 74,
+                events: 2,
+                threads: 2,
+                objects: 1,
+                ..standard
+            },
+            b"".as_slice(),
+        ),
+        (
+            Limits {
+                line: 17,
+                ..standard
+            },
+            b"refused line 3 limit line 17\n",
+        ),
+        (
+            Limits {
+                line: 1,
+                ..standard
+            },
+            b"refused line 1 limit line 1\n",
+        ),
+        (
+            Limits {
+                bytes: 73,
+                ..standard
+            },
+            b"refused line 5 limit bytes 73\n",
+        ),
+        (
+            Limits {
+                bytes: 0,
+                ..standard
+            },
+            b"refused line 1 limit bytes 0\n",
+        ),
+        (
+            Limits {
+                events: 1,
+                ..standard
+            },
+            b"refused line 5 limit events 1\n",
+        ),
+        (
+            Limits {
+                threads: 1,
+                ..standard
+            },
+            b"refused line 4 limit threads 1\n",
+        ),
+        (
+            Limits {
+                threads: 0,
+                ..standard
+            },
+            b"refused line 2 limit threads 0\n",
+        ),
+        (
+            Limits {
+                objects: 0,
+                ..standard
+            },
+            b"refused line 3 limit objects 0\n",
+        ),
+    ];
+    for (limits, refusal) in rows {
+        assert!(rt; limits.line >= 1 && limits.events <= 4_294_967_294);
+        assert!(rt; limits.bytes < u64::MAX);
+        let row = Row {
+            limits,
+            ..Row::check(FORK_AND_JOIN)
+        };
+        let (answer, out) = row.run(rt.alloc())?;
+        let status = if refusal.is_empty() {
+            Status::Clean
+        } else {
+            Status::LimitReached
+        };
+        assert_eq!(rt; answer, status);
+        assert_eq!(rt;
+            out.written().strip_prefix(b"races 0\n".as_slice()),
+            Some(refusal)
+        );
+    }
+    Ok(())
+}
+
+/// The first call opens the file; the reads take 74 bytes by twenty, and one more finds the end.
+#[test]
+fn a_read_that_fails_writes_nothing(rt: HostRuntime) -> Result<(), Fail> {
+    for failing in 1..10 {
+        let failing_reads = [failing];
+        let row = Row {
+            piece: 20,
+            failing_reads: &failing_reads,
+            ..Row::check(FORK_AND_JOIN)
+        };
+        let (answer, out) = row.run(rt.alloc())?;
+        let fails = failing <= 6;
+        assert_eq!(rt;
+            answer,
+            if fails {
+                Status::InputFault
+            } else {
+                Status::Clean
+            },
+            "{failing}"
+        );
+        assert_eq!(rt;
+            out.written(),
+            if fails { b"".as_slice() } else { b"races 0\n" }
+        );
+    }
+    Ok(())
+}
+
+/// A line that is refused before the read that fails ends the run first.
+#[test]
+fn a_refusal_before_a_read_that_fails(rt: HostRuntime) -> Result<(), Fail> {
+    for failing in 2..6 {
+        let failing_reads = [failing];
+        let row = Row {
+            piece: 10,
+            failing_reads: &failing_reads,
+            ..Row::check(b"rdtrace 1\nthread p \nthread p \n")
+        };
+        let (answer, out) = row.run(rt.alloc())?;
+        let fails = failing <= 3;
+        assert_eq!(rt;
+            answer,
+            if fails {
+                Status::InputFault
+            } else {
+                Status::TraceRefused
+            }
+        );
+        let text = b"races 0\nrefused line 2 bad-line\n".as_slice();
+        assert_eq!(rt; out.written(), if fails { b"".as_slice() } else { text });
+    }
+    Ok(())
+}
+
+/// Each line is handed to the output by itself, and nothing follows one that wasn't written.
+#[test]
+fn a_write_that_fails_is_the_last(rt: HostRuntime) -> Result<(), Fail> {
+    let rows = [
+        (
+            b"check t.trace".as_slice(),
+            1,
+            Status::OutputFault,
+            b"".as_slice(),
+        ),
+        (b"check t.trace", 2, Status::OutputFault, b"races 0\n"),
+        (
+            b"check t.trace",
+            3,
+            Status::TraceRefused,
+            b"races 0\nrefused line 1 bad-line\n",
+        ),
+        (b"check", 1, Status::OutputFault, b""),
+        (b"check", 2, Status::Usage, b"refused usage\n"),
+        (b"check u.trace", 1, Status::InputFault, b""),
+    ];
+    for (words, failing, status, text) in rows {
+        let failing_writes = [failing];
+        let row = Row {
+            words,
+            failing_writes: &failing_writes,
+            ..Row::check(b"rdtrace 2\n")
+        };
+        let (answer, out) = row.run(rt.alloc())?;
+        assert_eq!(rt; answer, status);
+        assert_eq!(rt; out.written(), text);
+    }
+    Ok(())
+}
+
+/// Want of memory is an answer of every call that takes memory; where there is enough of it, none gives that answer.
+#[test]
+fn answers_with_ample_memory(rt: HostRuntime) -> Result<(), Fail> {
+    let traces = [FORK_AND_JOIN, b"rdtrace 1\nthread p\njoin p p\n"];
+    for trace in traces {
+        let (answer, _out) = Row::check(trace).run(rt.alloc())?;
+        assert!(rt; answer != Status::NoMemory);
+    }
+    Ok(())
+}
+
+#[test]
+fn the_numbers_of_statuses(rt: HostRuntime) {
+    let statuses = [
+        Status::Clean,
+        Status::Raced,
+        Status::Usage,
+        Status::SpecRefused,
+        Status::TraceRefused,
+        Status::ReplayDiffers,
+        Status::InputFault,
+        Status::OutputFault,
+        Status::NoMemory,
+        Status::LimitReached,
+    ];
+    for (number, status) in statuses.iter().enumerate() {
+        assert_eq!(rt; usize::from(status.code()), number);
+    }
+}
