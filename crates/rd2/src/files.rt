@@ -3,10 +3,9 @@ ghost use Rattle.std.specs.Prelude.{None};
 
 use rd_base::Word;
 use rd_base::io::{Failed, Inputs};
-use std::fs;
 use std::io::Read;
 use std::rt::Files;
-use std::str;
+use std::{fs, str};
 
 /// The files of the system, which tell nothing of what is in them. Each error counts as a fault, and so does a name that
 /// isn't UTF-8.

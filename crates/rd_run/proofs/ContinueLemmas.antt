@@ -1,25 +1,22 @@
 -- The walk goes on as the reader gives lines.
-use Rattle.std.proofs.Common.{◌≡◌, ◌≢◌, ℕ, ◌+◌, ◌≤◌, Bool, true, false, cond, List, [], ◌∷◌, ◌++◌, Option, Some, None, Result, Ok, Err, sym, ap, ◌∙◌, subst, refl, arith, eqb}
+use Rattle.std.proofs.Common.{◌≡◌, ℕ, ◌+◌, Bool, true, false, cond, List, [], ◌∷◌, ◌++◌, Ok, Err, sym, ap, ◌∙◌, refl, eqb}
 use Rattle.std.proofs.lemmas.List.{append_assoc, append-nil}
-use Rattle.rd_base.specs.Lines.{Stop, Reading, Ending as LinesEnding}
+use Rattle.rd_base.specs.Lines.{Stop, Ending as LinesEnding}
 use Rattle.rd_base.specs.Lines.Stop.{end, fault}
 use Rattle.rd_base.specs.Lines.Ending.{at_end, no_final_newline, line_too_long, bytes_limit, faulted}
 use Rattle.rd_base.specs.Lines.Reading.{stops, line}
 use Rattle.rd_base.specs.LineReader.{Reader, left, fresh, Tells, Moves, IsAtEnd}
 use Rattle.rd_base.specs.declared.limits.Limits.{Limits}
-use Rattle.rd_base.specs.declared.io.lines.Next.{Next}
-use Rattle.rd_base.specs.declared.io.lines.Next.TheVariants.{End as NextEnd}
 use Rattle.rd_base.specs.declared.io.lines.ReadEnd.{ReadEnd}
 use Rattle.rd_base.specs.declared.io.lines.ReadEnd.TheVariants.{ReadFault, LineTooLong, BytesLimit, NoFinalNewline}
 use Rattle.rd_event.specs.declared.items.Line.{Line}
 use Rattle.rd_run.specs.MayFollow.{register_alone, headers}
-use Rattle.rd_run.specs.Walk.{Entry, items, Walked, ends, goes, after, judged, walk, trace_of, ended}
+use Rattle.rd_run.specs.Walk.{Entry, items, ends, after, judged, walk, trace_of, ended}
 use Rattle.rd_run.specs.Walking.{Continues, WalksTo, WalksOn, ending_for}
 use Rattle.rd_run.specs.declared.endings.TraceCause.{TraceCause}
 use Rattle.rd_run.specs.declared.endings.TraceCause.TheVariants.{Wf}
 use Rattle.rd_run.specs.declared.wf.causes.WfCause.TheVariants.{HeaderFirst}
-use Rattle.rd_run.specs.declared.endings.Ending.{Ending}
-use Rattle.rd_run.specs.declared.endings.Ending.TheVariants.{End, Refused, Fault}
+use Rattle.rd_run.specs.declared.endings.Ending.TheVariants.{End, Refused}
 use Rattle.rd_run.proofs.WalkLemmas.{walk_stops, walk_accepts, walk_refuses, items_more, after_more}
 
 pub continues_fresh : (limits : Limits) → Continues limits [] (fresh limits) []

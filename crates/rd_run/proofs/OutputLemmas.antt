@@ -1,8 +1,8 @@
 -- What is written, and the status.
-use Rattle.std.proofs.Common.{◌≡◌, ◌≢◌, ℕ, ◌+◌, ◌≤◌, Bool, true, false, cond, List, [], ◌∷◌, ◌++◌, Option, refl, sym, ap, ◌∙◌, subst, eqb}
+use Rattle.std.proofs.Common.{◌≡◌, ◌≢◌, ℕ, Bool, true, false, cond, List, [], ◌++◌, refl, sym, ap, ◌∙◌, eqb}
 use Rattle.std.proofs.lemmas.List.{append_assoc, append-nil}
 use Rattle.rd_run.specs.Commands.{halted_with}
-use Rattle.rd_run.specs.Output.{Outcome, IsOutput, IsFront, check_status, is_limit}
+use Rattle.rd_run.specs.Output.{Outcome, IsOutput, check_status, is_limit}
 use Rattle.rd_run.specs.declared.following.Halt.{Halt}
 use Rattle.rd_run.specs.declared.following.Halt.TheVariants as halt
 use Rattle.rd_run.specs.declared.endings.Ending.{Ending}

@@ -1,21 +1,18 @@
 -- What a run of `check` leaves.
-use Rattle.std.proofs.Common.{◌≡◌, ◌≢◌, ℕ, ◌+◌, ◌-◌, ◌^◌, ◌<◌, ◌≤◌, min, Bool, true, false, cond, ltb, List, [], ◌∷◌, ◌++◌, length, Option, Some, None, refl, sym, ap, ◌∙◌, subst, arith, inl, inr, ◌⊎◌}
-use Rattle.std.specs.Prelude.{unwrap_or, is_some, is_none, count_by, if◌then◌else◌}
+use Rattle.std.proofs.Common.{◌≡◌, ◌≢◌, ℕ, ◌+◌, ◌^◌, ◌<◌, ◌≤◌, Bool, true, false, cond, ltb, List, [], ◌++◌, Option, Some, None, refl, sym, ap, ◌∙◌, subst, arith, inl, inr}
+use Rattle.std.specs.Prelude.{unwrap_or, is_some, is_none}
 use Rattle.std.proofs.lemmas.List.{append_assoc, append-nil}
 use Rattle.std.proofs.lemmas.Bool.Decides.{nat_tests}
 use Rattle.rd_base.specs.Inputs.{Source, Takes, IsOpened, IsNotOpened, Rose, next_count, file_of}
 use Rattle.rd_base.specs.Lines.Stop.{end, fault}
 use Rattle.rd_base.specs.declared.limits.Limits.{Limits}
-use Rattle.rd_run.specs.Commands.{Checked, halted_with}
+use Rattle.rd_run.specs.Commands.{Checked}
 use Rattle.rd_run.specs.MayFollow.{register_alone}
-use Rattle.rd_run.specs.Output.{Command, Outcome, IsOutput, IsFront, Runs, OpensOnly, race_texts, races_of, ending_text, check_status, check_outcome, outcome_of, walk_of, fault_outcome}
+use Rattle.rd_run.specs.Output.{Outcome, IsOutput, IsFront, Runs, OpensOnly, race_texts, races_of, ending_text, check_status, check_outcome, outcome_of, walk_of, fault_outcome}
 use Rattle.rd_run.specs.Output.Command.{check}
 use Rattle.rd_run.specs.Walk.{Entry, Walked, ends, after, entries_of, ending_of, trace_of, step_bound}
-use Rattle.rd_run.specs.Walking.{WalksTo, WalksOn}
 use Rattle.rd_run.specs.declared.endings.Ending.{Ending}
 use Rattle.rd_run.specs.declared.endings.Ending.TheVariants.{End, Refused, Fault}
-use Rattle.rd_run.specs.declared.following.Halt.{Halt}
-use Rattle.rd_run.specs.declared.following.Halt.TheVariants as halt
 use Rattle.rd_run.specs.declared.status.Status.{Status}
 use Rattle.rd_run.specs.declared.status.Status.TheVariants.{InputFault, NoMemory}
 use Rattle.rd_run.proofs.OutputLemmas.{front_only, halted_no_input}

@@ -1,5 +1,5 @@
 -- The walk over the lines of a trace, one line after another.
-use Rattle.std.proofs.Common.{◌≡◌, ℕ, ◌+◌, ◌*◌, ◌≤◌, Bool, true, false, cond, List, [], ◌∷◌, ◌++◌, map, length, Option, Some, None, Result, Ok, Err, sym, ap, ◌∙◌, refl, arith}
+use Rattle.std.proofs.Common.{◌≡◌, ℕ, ◌+◌, ◌≤◌, false, cond, List, [], ◌∷◌, ◌++◌, Some, Ok, Err, ap, ◌∙◌, refl, arith}
 use Rattle.std.proofs.lemmas.List.{append_assoc, append-nil, map-append}
 use Rattle.rd_base.specs.Lines.{Reading, Ending as LinesEnding}
 use Rattle.rd_base.specs.Lines.Reading.{stops, line}
@@ -10,8 +10,7 @@ use Rattle.rd_run.specs.MayFollow.{first_broken}
 use Rattle.rd_run.specs.Walk.{Entry, items, Walked, ends, goes, after, entries_of, ending_of, judged, judged_item, accepted_or, is_unbuilt, is_unbuilt_item, walk, goes_or_ends, ended, bound_from, line_bound}
 use Rattle.rd_run.specs.declared.wf.causes.WfCause.{WfCause}
 use Rattle.rd_run.specs.declared.endings.TraceCause.{TraceCause}
-use Rattle.rd_run.specs.declared.endings.TraceCause.TheVariants.{NotBuilt, BadLine, Wf}
-use Rattle.rd_run.specs.declared.endings.Ending.{Ending}
+use Rattle.rd_run.specs.declared.endings.TraceCause.TheVariants.{NotBuilt, Wf}
 use Rattle.rd_run.specs.declared.endings.Ending.TheVariants.{Refused}
 
 pub judged_broken : (kinds : List (List ℕ)) (limits : Limits) (before : List Line) (bytes : List ℕ) (item : Line) (cause : WfCause)

@@ -1,5 +1,5 @@
 -- What `check` keeps of the accepted lines.
-use Rattle.std.specs.Prelude.{◌≡◌, ℕ, ◌+◌, List, [], ◌∷◌, ◌++◌}
+use Rattle.std.specs.Prelude.{◌≡◌, ◌+◌, List, [], ◌∷◌, ◌++◌}
 use Rattle.std.proofs.Common.{refl, arith}
 use Rattle.rd_run.specs.Output.{races_of, race_texts, IsFront}
 use Rattle.rd_run.specs.Walk.{Entry}

@@ -1,12 +1,12 @@
 -- What a command does with each accepted line.
-use Rattle.std.specs.Prelude.{◌≡◌, ℕ, ◌+◌, ◌≤◌, List, [], ◌∷◌, ◌++◌, Option}
+use Rattle.std.specs.Prelude.{◌≡◌, ℕ, List, [], ◌∷◌, ◌++◌, Option}
 use Rattle.rd_base.specs.Limits.{AreUsable}
 use Rattle.rd_base.specs.Sinks.{Appends}
 use Rattle.rd_base.specs.declared.limits.Limits.{Limits}
 use Rattle.rd_event.specs.declared.items.Line.{Line}
 use Rattle.rd_run.specs.MayFollow.{Follows, accepted_of, register_alone}
 use Rattle.rd_run.specs.Roster.{StandsFor}
-use Rattle.rd_run.specs.Walk.{Entry, items, line_bound}
+use Rattle.rd_run.specs.Walk.{Entry, items}
 use Rattle.rd_run.specs.declared.wf.causes.Accepted.{Accepted}
 use Rattle.rd_run.specs.declared.wf.Roster.{Roster}
 

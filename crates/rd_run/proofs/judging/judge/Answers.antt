@@ -1,5 +1,4 @@
-use Rattle.std.proofs.Common.{◌≡◌, sym, ◌∙◌, ap, Result, Err}
-use Rattle.rd_run.specs.declared.endings.TraceCause.{TraceCause}
+use Rattle.std.proofs.Common.{◌≡◌, sym, ◌∙◌, ap, Err}
 use Rattle.rd_run.specs.declared.endings.TraceCause.TheVariants.{Wf}
 use Rattle.rd_run.specs.MayFollow.{register_alone}
 use Rattle.rd_run.proofs.WalkLemmas.{judged_broken}

@@ -1,4 +1,4 @@
-use Rattle.std.proofs.Common.{◌≡◌, ◌∙◌, sym, subst}
+use Rattle.std.proofs.Common.{◌∙◌, sym, subst}
 use Rattle.rd_run.specs.Output.{ending_text, check_status, IsOutput, Outcome}
 use Rattle.rd_run.proofs.OutputLemmas.{whole, no_output_fault, only_fault, fault_status, no_usage}
 use Rattle.rd_run.proofs.top.report.Goals as goal

@@ -1,4 +1,4 @@
-use Rattle.std.proofs.Common.{◌≡◌, take, drop, sym}
+use Rattle.std.proofs.Common.{take, drop, sym}
 use Rattle.std.proofs.lemmas.List.{take-append-drop}
 use Rattle.rd_run.proofs.top.write_line.Goals as goal
 

@@ -1,4 +1,4 @@
-use Rattle.std.proofs.Common.{◌≡◌, ℕ, ◌+◌, ◌≤◌, List, [], ◌∷◌, ◌++◌, Option, None, Ok, Err, refl, sym, ap, ◌∙◌, subst, inl, inr, arith}
+use Rattle.std.proofs.Common.{◌≡◌, ◌+◌, [], ◌∷◌, ◌++◌, Ok, Err, refl, sym, ap, ◌∙◌, subst, inl, inr, arith}
 use Rattle.std.proofs.lemmas.List.{append_assoc, append-nil}
 use Rattle.rd_base.specs.Sinks.{Appends}
 use Rattle.rd_base.specs.Inputs.{Source}
@@ -7,8 +7,8 @@ use Rattle.rd_base.specs.Lines.Ending.{at_end}
 use Rattle.rd_base.proofs.SinkLemmas.{appends_none, appends_on}
 use Rattle.rd_base.proofs.AdvanceLemmas.{takes_none, takes_on, takes_then}
 use Rattle.rd_run.specs.Roster.{StandsFor}
-use Rattle.rd_run.specs.Walk.{Entry, items, step_bound, bound_from, ended}
-use Rattle.rd_run.specs.Walking.{Continues, WalksTo, ending_for}
+use Rattle.rd_run.specs.Walk.{Entry, items, bound_from, ended}
+use Rattle.rd_run.specs.Walking.{WalksTo, ending_for}
 use Rattle.rd_run.specs.declared.endings.Ending.TheVariants.{Refused}
 use Rattle.rd_run.proofs.WalkLemmas.{items_more, bound_more}
 use Rattle.rd_run.proofs.ContinueLemmas.{continues_fresh, walks_end, walks_refused, continues_line, walks_to_refusal, walks_on, walks_further}

@@ -1,4 +1,4 @@
-use Rattle.std.proofs.Common.{◌≡◌, ℕ, ◌+◌, ◌≤◌, List, Option, None}
+use Rattle.std.proofs.Common.{◌≡◌, ℕ, ◌+◌, ◌≤◌, List, None}
 use Rattle.rd_base.specs.Inputs.{Goes, Takes}
 use Rattle.rd_base.specs.Sinks.{Appends}
 use Rattle.rd_run.specs.Roster.{StandsFor}

@@ -1,4 +1,4 @@
-use Rattle.std.proofs.Common.{refl, arith, []}
+use Rattle.std.proofs.Common.{refl, []}
 use Rattle.rd_base.proofs.SinkLemmas.{appends_none}
 use Rattle.rd_run.specs.Output.{races_of, race_texts}
 use Rattle.rd_run.proofs.checking.CheckFollower.accept.Goals as goal
