@@ -1,0 +1,7 @@
+pub mod ClockLemmas
+pub mod CountsLemmas
+pub mod EventListLemmas
+pub mod KnowsLemmas
+pub mod OrderLemmas
+pub mod PathLemmas
+pub mod TrackLemmas

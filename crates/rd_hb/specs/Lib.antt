@@ -1,1 +1,6 @@
 pub mod Clock
+pub mod EventClocks
+pub mod EventLists
+pub mod Knows
+pub mod Order
+pub mod OrderTests

@@ -2,5 +2,7 @@
 #![tactic(auto)]
 
 mod clock;
+mod order;
 
 pub use clock::{Clock, Stamp};
+pub use order::{examples_of_order, law_of_clocks, law_of_lists, law_of_reaching};

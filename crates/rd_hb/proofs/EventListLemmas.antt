@@ -1,0 +1,127 @@
+-- Well-formed lists: by their places, with one event more, and what threads carry on from in them.
+use Rattle.std.proofs.Common.{◌≡◌, ◌≢◌, ◌↔◌, inl, inr, ℕ, zero, suc, ◌<◌, Bool, true, cond, List, [], ◌∷◌, ◌++◌, take, Some, IsTrue, refl, sym, subst, arith}
+use Rattle.std.specs.Prelude.{slice_get, count_by}
+use Rattle.std.proofs.lemmas.Bool.{eq-eqb}
+use Rattle.std.proofs.lemmas.List.{append-nil, append_assoc}
+use Rattle.std.proofs.lemmas.List.Sums.{sum_by-cons, sum_by-take-le}
+use Rattle.std.proofs.lemmas.Option.{none-some, same_Some}
+use Rattle.rd_event.specs.declared.events.Call.{Call as CallOf}
+use Rattle.rd_event.specs.declared.events.Event.{Event}
+use Rattle.rd_event.specs.declared.events.Event.TheVariants.{Fork, Join, Call}
+use Rattle.rd_hb.specs.Order.{forked}
+use Rattle.rd_hb.specs.OrderTests.{is_this}
+use Rattle.rd_hb.specs.EventClocks.{IsOf}
+use Rattle.rd_hb.specs.EventLists.{calls, forks, joins, Known, MayFollow, Follow, WellFormed}
+use Rattle.rd_hb.specs.Knows.{Carries}
+
+-- ---- places
+
+-- each event may follow those before it and in front of it
+abbrev EachMay : (ℕ → Bool) → List Event → List Event → Type 0
+EachMay roots before es = (j : ℕ) (e : Event) → slice_get es j ≡ Some e → MayFollow roots (before ++ take j es) e
+
+each_from : (roots : ℕ → Bool) (before es : List Event) → Follow roots before es → EachMay roots before es
+each_from roots before [] f j e at = absurd (none-some e at)
+each_from roots before (x ∷ es) f zero e at = rw append-nil (subst (MayFollow roots before) (same_Some x e at) f.0)
+each_from roots before (x ∷ es) f (suc j) e at = subst (λ l. MayFollow roots l e) (append_assoc before (x ∷ []) (take j es)) (each_from roots (before ++ x ∷ []) es f.1 j e at)
+
+from_each : (roots : ℕ → Bool) (before es : List Event) → EachMay roots before es → Follow roots before es
+from_each roots before [] each = tt
+from_each roots before (x ∷ es) each = (
+  subst (λ l. MayFollow roots l x) (append-nil before) (each 0 x refl),
+  from_each roots (before ++ x ∷ []) es
+      (λ j e at. subst (λ l. MayFollow roots l e) (sym (append_assoc before (x ∷ []) (take j es))) (each (suc j) e at)),
+)
+
+-- a list is well-formed where each event may follow those in front of it
+pub formed_by_places : (roots : ℕ → Bool) (es : List Event) → WellFormed roots es ↔ ((j : ℕ) (e : Event) → slice_get es j ≡ Some e → MayFollow roots (take j es) e)
+formed_by_places roots es = (each_from roots [] es, from_each roots [] es)
+
+follow_more : (roots : ℕ → Bool) (before es : List Event) (e : Event) → Follow roots before (es ++ e ∷ []) ↔ (Follow roots before es × MayFollow roots (before ++ es) e)
+follow_more roots before [] e = (
+  λ f. (tt, rw append-nil f.0),
+  λ f. (subst (λ l. MayFollow roots l e) (append-nil before) f.1, tt),
+)
+follow_more roots before (x ∷ es) e =
+    let rest = follow_more roots (before ++ x ∷ []) es e in (
+      λ f. ((f.0, (rest.0 f.1).0), subst (λ l. MayFollow roots l e) (append_assoc before (x ∷ []) es) (rest.0 f.1).1),
+      λ f. (f.0.0, rest.1 (f.0.1, subst (λ l. MayFollow roots l e) (sym (append_assoc before (x ∷ []) es)) f.1)),
+    )
+
+-- a list with one event more is well-formed where the list is and the event may follow it
+pub formed_more : (roots : ℕ → Bool) (es : List Event) (e : Event) → WellFormed roots (es ++ e ∷ []) ↔ (WellFormed roots es × MayFollow roots es e)
+formed_more roots es e = follow_more roots [] es e
+
+-- ---- threads of well-formed lists
+
+-- where an event passes the test, the count isn't 0
+counted_once : (test : Event → Bool) (es : List Event) (m : ℕ) (e : Event) → slice_get es m ≡ Some e → test e ≡ true → 0 < count_by test es
+counted_once test [] m e at pass = absurd (none-some e at)
+counted_once test (x ∷ es) zero e at pass =
+    let here : 0 < cond (test x) 1 0 = rw (same_Some x e at, pass) (omega arith) in
+    omega (arith, sum_by-cons (λ y. cond (test y) 1 0) x es, here)
+counted_once test (x ∷ es) (suc m) e at pass =
+    let rest : 0 < count_by test es = counted_once test es m e at pass in
+    omega (arith, sum_by-cons (λ y. cond (test y) 1 0) x es)
+
+-- a thread that was known is known
+known_later : (roots : ℕ → Bool) (es : List Event) (j t : ℕ) → Known roots (take j es) t → Known roots es t
+unfolding forks
+known_later roots es j t (inl root) = inl root
+known_later roots es j t (inr forked_before) = inr (omega (arith, sum_by-take-le (λ e. cond (is_this (forked e) t) 1 0) es j, forked_before))
+
+-- a thread that carries on from a place is known
+pub carries_known : (roots : ℕ → Bool) (es : List Event) (t m : ℕ) → WellFormed roots es → Carries es t m → Known roots es t
+unfolding forks
+carries_known roots es t m formed (inl of) =
+    known_later roots es m t (subst (Known roots (take m es)) of.2 ((formed_by_places roots es).0 formed m of.0 of.1).known_actor)
+carries_known roots es t m formed (inr x) =
+    inr (counted_once (λ e. is_this (forked e) t) es m x.0 x.1 (rw x.2 (eq-eqb t t refl)))
+
+-- so a thread that isn't known carries on from no place
+pub unknown_carries_nothing : (roots : ℕ → Bool) (es : List Event) (t : ℕ) → WellFormed roots es → ¬ (Known roots es t) → (m : ℕ) → ¬ (Carries es t m)
+unknown_carries_nothing roots es t formed unknown m carries = unknown (carries_known roots es t m formed carries)
+
+-- nor does a root that hasn't acted
+pub idle_root_carries_nothing : (roots : ℕ → Bool) (es : List Event) (t : ℕ) → WellFormed roots es → IsTrue (roots t) → ((k : ℕ) → ¬ (IsOf es t k)) → (m : ℕ) → ¬ (Carries es t m)
+idle_root_carries_nothing roots es t formed root idle m (inl of) = idle m of
+idle_root_carries_nothing roots es t formed root idle m (inr x) = ((formed_by_places roots es).0 formed m x.0 x.1).fresh t x.2 (inl root)
+
+-- ---- events that take and give back no hold
+
+pub may_fork : (roots : ℕ → Bool) (before : List Event) (t u : ℕ) → ¬ (Known roots before u) → Known roots before t → joins before t ≡ 0 → MayFollow roots before (Fork t u)
+may_fork roots before t u fresh known running = record {
+  fresh = λ v is known_v. fresh (subst (Known roots before) (sym (same_Some u v is)) known_v);
+  known_actor = known;
+  known_joined = λ v is. absurd (none-some v is);
+  running = running;
+  other_joined = λ v is. absurd (none-some v is);
+  free = λ h k is. absurd (none-some h is);
+  held = λ h is. absurd (none-some h is);
+  one_kind = λ call is. absurd (none-some call is);
+}
+
+pub may_join : (roots : ℕ → Bool) (before : List Event) (t u : ℕ) → Known roots before u → u ≢ t → Known roots before t → joins before t ≡ 0 → MayFollow roots before (Join t u)
+may_join roots before t u known_u other known running = record {
+  fresh = λ v is. absurd (none-some v is);
+  known_actor = known;
+  known_joined = λ v is. subst (Known roots before) (same_Some u v is) known_u;
+  running = running;
+  other_joined = λ v is. subst (λ w. w ≢ t) (same_Some u v is) other;
+  free = λ h k is. absurd (none-some h is);
+  held = λ h is. absurd (none-some h is);
+  one_kind = λ call is. absurd (none-some call is);
+}
+
+pub may_call : (roots : ℕ → Bool) (before : List Event) (call : CallOf) → Known roots before call.thread → joins before call.thread ≡ 0
+    → ((kind : ℕ) → kind ≢ call.kind → calls before call.object kind ≡ 0) → MayFollow roots before (Call call)
+may_call roots before call known running one_kind = record {
+  fresh = λ v is. absurd (none-some v is);
+  known_actor = known;
+  known_joined = λ v is. absurd (none-some v is);
+  running = running;
+  other_joined = λ v is. absurd (none-some v is);
+  free = λ h k is. absurd (none-some h is);
+  held = λ h is. absurd (none-some h is);
+  one_kind = λ other is. subst (λ d. (kind : ℕ) → kind ≢ d.kind → calls before d.object kind ≡ 0) (same_Some call other is) one_kind;
+}

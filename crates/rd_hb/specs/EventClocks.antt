@@ -1,0 +1,21 @@
+-- Vector clocks: Fidge 1988 and Mattern 1989.
+use Rattle.std.specs.Prelude.{◌≡◌, ◌⊎◌, ℕ, zero, suc, List, length, Some, slice_get}
+use Rattle.rd_event.specs.declared.events.Event.{Event}
+use Rattle.rd_hb.specs.Order.{thread_of, Reaches}
+
+-- of the numbers below n, c have P
+abbrev pub Counts : (ℕ → Type 0) → ℕ → ℕ → Type 0
+Counts P zero c = c ≡ 0
+Counts P (suc n) c = (P n × ((m : ℕ) × (c ≡ suc m) × Counts P n m)) ⊎ ((¬ (P n)) × Counts P n c)
+
+-- the event at place i is of thread t
+abbrev pub IsOf : List Event → ℕ → ℕ → Type 0
+IsOf es t i = (e : Event) × (slice_get es i ≡ Some e) × (thread_of e ≡ t)
+
+-- the event at place i is the o-th of thread t, counted from 1
+abbrev pub OwnNumber : List Event → ℕ → ℕ → ℕ → Type 0
+OwnNumber es t i o = Counts (IsOf es t) (suc i) o
+
+-- the clock of place j has c at thread t: of the events of t, c are at j or reach it
+abbrev pub IsClock : List Event → ℕ → ℕ → ℕ → Type 0
+IsClock es j t c = Counts (λ k. IsOf es t k × ((k ≡ j) ⊎ Reaches es k j)) (length es) c

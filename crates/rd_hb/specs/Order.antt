@@ -1,0 +1,92 @@
+-- Which events of a list come before which, however the threads run. Places are counted from 0.
+use Rattle.std.specs.Prelude.{◌≡◌, ℕ, ◌<◌, List, [], ◌∷◌, Option, Some, None, slice_get}
+use Rattle.rd_event.specs.declared.events.Call.{Call as CallOf}
+use Rattle.rd_event.specs.declared.events.Event.{Event}
+use Rattle.rd_event.specs.declared.events.Event.TheVariants.{Fork, Join, Call}
+
+-- ---- what an event says
+
+-- the thread that acts
+abbrev pub thread_of : Event → ℕ
+thread_of (Fork thread child) = thread
+thread_of (Join thread child) = thread
+thread_of (Call call) = call.thread
+
+-- the thread that it begins
+abbrev pub forked : Event → Option ℕ
+forked (Fork thread child) = Some child
+forked (Join thread child) = None
+forked (Call call) = None
+
+-- the thread for whose end it waits
+abbrev pub joined : Event → Option ℕ
+joined (Fork thread child) = None
+joined (Join thread child) = Some child
+joined (Call call) = None
+
+-- the call that it is
+abbrev pub called : Event → Option CallOf
+called (Fork thread child) = None
+called (Join thread child) = None
+called (Call call) = Some call
+
+-- what a thread takes, and later gives back: a lock for itself
+pub data Hold : Type 0 where
+  exclusive : ℕ → Hold
+
+-- two holds that two threads can't have at once
+abbrev pub Against : Hold → Hold → Type 0
+Against (exclusive lock) (exclusive other) = lock ≡ other
+
+-- the hold that an event takes
+abbrev pub taken : Event → Option Hold
+taken (Fork thread child) = None
+taken (Join thread child) = None
+taken (Call call) = None
+
+-- the hold that it gives back
+abbrev pub given : Event → Option Hold
+given (Fork thread child) = None
+given (Join thread child) = None
+given (Call call) = None
+
+-- ---- edges
+
+-- an event comes before a later one whatever stands between them (Lamport 1978: the order within a
+-- process, and from a message to its receipt. The five kinds are this project's profile)
+pub data Linked (a b : Event) : Type 0 where
+  -- both are of one thread
+  same_thread : thread_of a ≡ thread_of b → Linked a b
+  -- a forks the thread of b
+  begins : forked a ≡ Some (thread_of b) → Linked a b
+  -- b joins the thread of a
+  ends : joined b ≡ Some (thread_of a) → Linked a b
+  -- a forks a thread and b joins it
+  spans : (thread : ℕ) → forked a ≡ Some thread → joined b ≡ Some thread → Linked a b
+  -- a gives back a hold and b takes one against it
+  hands_over : (hold other : Hold) → given a ≡ Some hold → taken b ≡ Some other → Against hold other
+      → Linked a b
+
+-- there is an edge from place i to place j: i is the earlier one, and its event is linked to that at j
+pub record Edge (es : List Event) (i j : ℕ) : Type 0 where
+  pub rises : i < j
+  pub a : Event
+  pub b : Event
+  pub at_i : slice_get es i ≡ Some a
+  pub at_j : slice_get es j ≡ Some b
+  pub linked : Linked a b
+
+-- ---- reaching
+
+-- from i through these places to j, each step an E
+abbrev pub Leads : (ℕ → ℕ → Type 0) → ℕ → List ℕ → ℕ → Type 0
+Leads E i [] j = E i j
+Leads E i (k ∷ ks) j = E i k × Leads E k ks j
+
+-- place i reaches place j: one edge after another leads from i to j (Lamport 1978: happens before)
+abbrev pub Reaches : List Event → ℕ → ℕ → Type 0
+Reaches es i j = (inner : List ℕ) × Leads (Edge es) i inner j
+
+-- the earlier place doesn't reach the later one (Lamport 1978: concurrent)
+abbrev pub Unordered : List Event → ℕ → ℕ → Type 0
+Unordered es i j = (i < j) × ¬ (Reaches es i j)
