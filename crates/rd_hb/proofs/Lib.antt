@@ -5,3 +5,4 @@ pub mod KnowsLemmas
 pub mod OrderLemmas
 pub mod PathLemmas
 pub mod TrackLemmas
+pub mod TrackerLemmas

@@ -7,6 +7,7 @@ use Rattle.rd_event.specs.declared.events.Event.{Event}
 use Rattle.rd_hb.specs.Order.{thread_of, forked, joined, taken, Reaches}
 use Rattle.rd_hb.specs.EventClocks.{Counts, IsOf, OwnNumber, IsClock}
 use Rattle.rd_hb.specs.Knows.{Carries, Knows, KnownCount}
+use Rattle.rd_hb.specs.Tracker.{met, clock_after, known_after}
 use Rattle.rd_hb.proofs.CountsLemmas.{counts_bound, counts_cut, counts_like, counts_max, counts_more, counts_none, counts_same}
 use Rattle.rd_hb.specs.OrderTests.{is_this}
 use Rattle.rd_hb.specs.EventLists.{Known, MayFollow, WellFormed}
@@ -167,19 +168,6 @@ own_number_new es e c knew =
     ((known_own es (thread_of e) c).0 knew))
 
 -- ---- all threads at once: f t u is the number of events of u that t knows
-
--- what thread t knows, with what the thread that it joins knows
-abbrev pub met : ℕ → Option ℕ → (ℕ → ℕ → ℕ) → ℕ → ℕ
-met t None f u = f t u
-met t (Some w) f u = max (f t u) (f w u)
-
--- the clock of an event, from what the threads know before it
-abbrev pub clock_after : Event → (ℕ → ℕ → ℕ) → ℕ → ℕ
-clock_after e f u = if u == thread_of e then met (thread_of e) (joined e) f u + 1 else met (thread_of e) (joined e) f u
-
--- what the threads know after it: its own thread and the one that it forks know its clock
-abbrev pub known_after : Event → (ℕ → ℕ → ℕ) → ℕ → ℕ → ℕ
-known_after e f t u = if (t == thread_of e) || is_this (forked e) t then clock_after e f u else f t u
 
 clock_met : (es : List Event) (e : Event) (f : ℕ → ℕ → ℕ) → taken e ≡ None → ((t u : ℕ) → KnownCount es t u (f t u)) → (o : Option ℕ) → joined e ≡ o
     → (u : ℕ) → IsClock (es ++ e ∷ []) (length es) u (if u == thread_of e then met (thread_of e) o f u + 1 else met (thread_of e) o f u)

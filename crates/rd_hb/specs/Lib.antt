@@ -4,3 +4,4 @@ pub mod EventLists
 pub mod Knows
 pub mod Order
 pub mod OrderTests
+pub mod Tracker

@@ -3,6 +3,8 @@
 
 mod clock;
 mod order;
+mod tracker;
 
 pub use clock::{Clock, Stamp};
 pub use order::{examples_of_order, law_of_clocks, law_of_lists, law_of_reaching};
+pub use tracker::Tracker;

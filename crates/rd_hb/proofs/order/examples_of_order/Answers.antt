@@ -8,7 +8,8 @@ use Rattle.rd_hb.specs.OrderTests.{is_linked, is_edge, reaches}
 use Rattle.rd_hb.specs.EventLists.{calls, forks, joins, Known, MayFollow}
 use Rattle.rd_hb.specs.Knows.{KnownCount}
 use Rattle.rd_hb.proofs.ClockLemmas.{clock_longer}
-use Rattle.rd_hb.proofs.TrackLemmas.{known_after, clock_step, known_step}
+use Rattle.rd_hb.proofs.TrackLemmas.{clock_step, known_step}
+use Rattle.rd_hb.specs.Tracker.{known_after}
 use Rattle.rd_hb.proofs.OrderLemmas.{edge_decides, reaches_decides}
 use Rattle.rd_hb.proofs.EventListLemmas.{may_call, may_fork, may_join}
 use Rattle.rd_hb.proofs.order.examples_of_order.Goals as goal

@@ -1,0 +1,211 @@
+//! The clocks of the threads of a trace.
+ghost use Rattle.std.specs.Prelude.{◌≡◌, ◌≢◌, ℕ, ◌+◌, ◌*◌, ◌<◌, ◌≤◌, Bool, ◌==◌, ◌||◌, if◌then◌else◌, List, [], ◌∷◌, ◌++◌, length, Some, None, IfOk, OnOk, OnErr};
+ghost use Rattle.rd_event.specs.declared.events.Event.{Event as EventOf};
+ghost use Rattle.rd_event.specs.declared.events.Event.TheVariants as event;
+ghost use Rattle.rd_hb.specs.Order.{thread_of, forked, joined};
+ghost use Rattle.rd_hb.specs.Clock.{component, IsJoin};
+ghost use Rattle.rd_hb.specs.Tracker.{IsBegun, IsCounted, IsLearnt, IsNext, IsStamp, StandsFor, event_bound, known_to, threads_after, tracked};
+ghost use Rattle.rd_hb.specs.declared.tracker.Tracked.{Tracked as TrackedOf};
+
+use crate::clock::{Clock, Stamp};
+use rd_base::{NoMemory, Steps};
+use rd_event::Event;
+use std::alloc::Global;
+use std::marker::Model;
+use std::sync::ledger::Ledger;
+
+/// A thread: the clock that its next event carries on from, how many events it had, and whether it was joined.
+#[derive(Debug, Drop)]
+struct Tracked {
+    clock: Clock,
+    events: u32,
+    joined: bool,
+}
+
+/// The clocks of all threads of a trace, root or forked, by their numbers. Contracts see it as their list.
+#[derive(Debug, Drop)]
+pub struct Tracker {
+    alloc: Global,
+    threads: Vec<Tracked>,
+}
+
+impl Model for Tracker {
+    ghost use Rattle.std.specs.Prelude.{List};
+    ghost use Rattle.rd_hb.specs.Tracker.{AreTracked};
+    ghost use Rattle.rd_hb.specs.declared.tracker.Tracked.{Tracked};
+
+    ghost Value = { List Tracked };
+
+    ghost view = { λ t. t.threads.items };
+
+    ghost invariant = { λ t. AreTracked t.threads.items };
+}
+
+impl Tracker {
+    /// A tracker without a thread. It takes no memory.
+    pub fn new(alloc: Global) -> Tracker
+        ensures { result ≡ [] }
+    {
+        Tracker {
+            alloc,
+            threads: Vec::new(alloc),
+        }
+    }
+
+    /// Makes a root known, whose number is that of the roots so far. After want of memory all is as before.
+    pub fn root(&mut self, thread: u32) -> Result<(), NoMemory>
+        requires numbered { thread ≡ length self.old }
+        requires below { thread < 4294967295 }
+        ensures ok { OnOk result ((roots : ℕ → Bool) → StandsFor self.old roots [] → StandsFor self.new (λ t. roots t || (t == thread)) []) }
+        ensures count { OnOk result (length self.new ≡ length self.old + 1) }
+        ensures err { OnErr result (self.new ≡ self.old) }
+    {
+        let mut clock = Clock::new(self.alloc);
+        clock.reserve(thread + 1)?;
+        self.threads.push(Tracked {
+            clock,
+            events: 0,
+            joined: false,
+        })?;
+        Ok(())
+    }
+
+    /// Takes the next event of a well-formed trace, in which a forked thread has the next number, and says where it
+    /// stands. After want of memory all is as before. It takes at most 2 steps for each thread that is known
+    /// once the event is done where it is a call, and 4 where it is another.
+    pub fn event<L: Ledger>(&mut self, event: &Event, steps: &mut Steps<L>) -> Result<Stamp, NoMemory>
+        requires next { (roots : ℕ → Bool) × (es : List EventOf) × IsNext self.old roots es event.now }
+        ensures stamp { IfOk result (λ stamp. (roots : ℕ → Bool) (es : List EventOf) → IsNext self.old roots es event.now →
+            IsStamp (es ++ event.now ∷ []) (length es) stamp) }
+        ensures stands { OnOk result ((roots : ℕ → Bool) (es : List EventOf) → IsNext self.old roots es event.now →
+            StandsFor self.new roots (es ++ event.now ∷ [])) }
+        ensures count { OnOk result (length self.new ≡ threads_after event.now (length self.old)) }
+        ensures err { OnErr result (self.new ≡ self.old) }
+        ensures cost { steps.new ≤ steps.old + event_bound event.now (threads_after event.now (length self.old)) }
+    {
+        match event {
+            Event::Fork { thread, child } => self.fork(*thread, *child, steps),
+            Event::Join { thread, child } => self.join(*thread, *child, steps),
+            Event::Call(call) => self.alone(call.thread, steps),
+        }
+    }
+
+    /// A copy of a thread's clock.
+    fn clock(&self, thread: u32) -> Result<Clock, NoMemory>
+        requires { thread < length self.now }
+        ensures { IfOk result (λ clock. clock ≡ (tracked self.now thread).clock) }
+    {
+        self.threads[thread as usize].clock.copy(self.alloc)
+    }
+
+    /// A thread counts its next event, in its clock and in a copy of it, which becomes the stamp's.
+    fn count<L: Ledger>(&mut self, thread: u32, mut clock: Clock, steps: &mut Steps<L>) -> Stamp
+        requires known { thread < length self.old }
+        requires below { known_to self.old thread thread < 4294967295 }
+        requires copy { clock ≡ (tracked self.old thread).clock }
+        ensures counted { IsCounted thread self.old self.new result }
+        ensures cost { steps.new ≡ steps.old + 2 }
+    {
+        let own = &mut self.threads[thread as usize];
+        own.clock.tick(thread, steps);
+        own.events += 1;
+        clock.tick(thread, steps);
+        Stamp {
+            thread,
+            number: own.events,
+            clock,
+        }
+    }
+
+    /// Makes the next thread known, with the clock that another has after its next event.
+    fn begin<L: Ledger>(&mut self, thread: u32, child: u32, steps: &mut Steps<L>) -> Result<(), NoMemory>
+        requires known { thread < length self.old }
+        requires numbered { child ≡ length self.old }
+        requires range { child < 4294967295 }
+        requires below { known_to self.old thread thread < 4294967295 }
+        ensures ok { OnOk result (IsBegun thread child self.old self.new) }
+        ensures err { OnErr result (self.new ≡ self.old) }
+        ensures cost { steps.new ≤ steps.old + 1 }
+    {
+        let mut clock = self.clock(thread)?;
+        clock.reserve(child + 1)?;
+        clock.tick(thread, steps);
+        self.threads.push(Tracked {
+            clock,
+            events: 0,
+            joined: false,
+        })?;
+        Ok(())
+    }
+
+    /// The clock that counts what either of two threads knows, with room for all threads.
+    fn meet<L: Ledger>(&self, thread: u32, child: u32, steps: &mut Steps<L>) -> Result<Clock, NoMemory>
+        requires known { thread < length self.now }
+        requires awaited { child < length self.now }
+        ensures joined { IfOk result (IsJoin (tracked self.now thread).clock (tracked self.now child).clock) }
+        ensures room { IfOk result (λ clock. length clock ≡ length self.now) }
+        ensures cost { steps.new ≤ steps.old + 2 * length self.now }
+    {
+        let mut clock = self.clock(thread)?;
+        clock.reserve(self.threads.len() as u32)?;
+        clock.join_reserved(&self.threads[child as usize].clock, steps);
+        Ok(clock)
+    }
+
+    /// A thread begins to know what that clock counts, and another has ended.
+    fn learn(&mut self, thread: u32, child: u32, clock: Clock)
+        requires known { thread < length self.old }
+        requires awaited { child < length self.old }
+        requires room { length clock ≡ length self.old }
+        requires own { component clock thread ≡ known_to self.old thread thread }
+        ensures count { length self.new ≡ length self.old }
+        ensures learnt { (t : ℕ) → (tracked self.new t).clock ≡ (if t == thread then clock else (tracked self.old t).clock) }
+        ensures joined { (t : ℕ) → (tracked self.new t).joined ≡ ((tracked self.old t).joined || (child == t)) }
+    {
+        self.threads[thread as usize].clock = clock;
+        self.threads[child as usize].joined = true;
+    }
+
+    /// An event that begins no thread and waits for none.
+    fn alone<L: Ledger>(&mut self, thread: u32, steps: &mut Steps<L>) -> Result<Stamp, NoMemory>
+        requires known { thread < length self.old }
+        requires below { known_to self.old thread thread < 4294967295 }
+        ensures ok { IfOk result (IsCounted thread self.old self.new) }
+        ensures err { OnErr result (self.new ≡ self.old) }
+        ensures cost { steps.new ≤ steps.old + 2 }
+    {
+        let clock = self.clock(thread)?;
+        Ok(self.count(thread, clock, steps))
+    }
+
+    /// A thread forks the next one, which begins with the clock of the fork.
+    fn fork<L: Ledger>(&mut self, thread: u32, child: u32, steps: &mut Steps<L>) -> Result<Stamp, NoMemory>
+        requires known { thread < length self.old }
+        requires numbered { child ≡ length self.old }
+        requires range { child < 4294967295 }
+        requires below { known_to self.old thread thread < 4294967295 }
+        ensures ok { IfOk result (λ stamp. (middle : List TrackedOf) × IsBegun thread child self.old middle × IsCounted thread middle self.new stamp) }
+        ensures err { OnErr result (self.new ≡ self.old) }
+        ensures cost { steps.new ≤ steps.old + 3 }
+    {
+        let clock = self.clock(thread)?;
+        self.begin(thread, child, steps)?;
+        Ok(self.count(thread, clock, steps))
+    }
+
+    /// A thread waits for the end of another, and from there on knows what that one knew.
+    fn join<L: Ledger>(&mut self, thread: u32, child: u32, steps: &mut Steps<L>) -> Result<Stamp, NoMemory>
+        requires known { thread < length self.old }
+        requires awaited { child < length self.old }
+        requires below { known_to self.old thread thread < 4294967295 }
+        requires own { known_to self.old child thread ≤ known_to self.old thread thread }
+        ensures ok { IfOk result (λ stamp. (middle : List TrackedOf) × IsLearnt thread child self.old middle × IsCounted thread middle self.new stamp) }
+        ensures err { OnErr result (self.new ≡ self.old) }
+        ensures cost { steps.new ≤ steps.old + (2 * length self.old + 2) }
+    {
+        let met = self.meet(thread, child, steps)?;
+        let clock = met.copy(self.alloc)?;
+        self.learn(thread, child, met);
+        Ok(self.count(thread, clock, steps))
+    }
+}
