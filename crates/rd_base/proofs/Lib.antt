@@ -8,3 +8,7 @@ pub mod ReadingLemmas
 pub mod AdvanceLemmas
 pub mod NextLemmas
 pub mod StoredFileLemmas
+pub mod IntegerLemmas
+pub mod TextLemmas
+pub mod FoundLemmas
+pub mod ValueLemmas

@@ -7,3 +7,5 @@ pub mod MemoryInputs
 pub mod MemorySink
 pub mod Names
 pub mod Sinks
+pub mod ReadingValues
+pub mod Spelling

@@ -9,6 +9,7 @@ mod limits;
 mod memory;
 mod names;
 mod slots;
+mod spelling;
 #[cfg(test)]
 mod tests;
 mod values;
@@ -19,4 +20,5 @@ pub use limits::{LimitName, Limits};
 pub use memory::NoMemory;
 pub use names::{BadName, Name};
 pub use slots::Slots;
+pub use spelling::{ValueRefused, append_value, law_of_values, read_value, spell_value};
 pub use values::{Text, TextRefused, Value};

@@ -1,5 +1,5 @@
 //! Values: the arguments and results of calls.
-ghost use Rattle.std.specs.Prelude.{◌≡◌, ◌<◌, ◌↔◌, IfOk, IsErrOf, length};
+ghost use Rattle.std.specs.Prelude.{◌≡◌, ◌<◌, ◌≤◌, ◌↔◌, IfOk, IsErrOf, length};
 
 use crate::memory::NoMemory;
 use std::alloc::{AllocError, Global};
@@ -60,9 +60,10 @@ impl Text {
         })
     }
 
-    /// Its bytes.
+    /// Its bytes, at most 255.
     pub fn items(&self) -> &[u8]
-        ensures { result.now ≡ self.now }
+        ensures value { result.now ≡ self.now }
+        ensures few { length self.now ≤ 255 }
     {
         self.bytes.as_slice()
     }

@@ -1,0 +1,182 @@
+-- Texts and their spellings.
+use Rattle.std.proofs.Common.{◌≡◌, ℕ, zero, suc, ◌-◌, ◌/◌, ◌%◌, ◌<◌, ◌≤◌, false, nat_eq, inl, inr, List, [], ◌∷◌, ◌++◌, length, take, drop, refl, sym, ◌∙◌, ap, subst, Option, Some, None, option_map, arith, length-append, take-append-drop, append_assoc, append-nil, take_at, drop_at, zero-le}
+use Rattle.std.specs.Fmt.{digit_glyph}
+use Rattle.std.specs.List.{AllByRecursion, starts_with}
+use Rattle.std.specs.Cmp.Lexicographic.{bytes_decides}
+use Rattle.std.proofs.lemmas.Bool.{cases_Bool, cases_lt}
+use Rattle.std.proofs.lemmas.Bool.Decides.{eqb_tells, nat_tests}
+use Rattle.std.proofs.lemmas.List.{nil_from_length}
+use Rattle.std.proofs.lemmas.Option.{cond_some, same_Some, none-some, option_and_then_some}
+use Rattle.rd_base.specs.Spelling.{is_plain, escaped, inside}
+use Rattle.rd_base.specs.ReadingValues.{hex_value, first_byte, next_of, inside_of}
+
+-- a hexadecimal digit gives its value back
+hex_back : (digit : ℕ) → digit < 16 → hex_value (digit_glyph false digit) ≡ digit
+hex_back digit small = grind (arith, nat_tests)
+
+hex_small : (byte : ℕ) → hex_value byte < 16
+hex_small byte = grind (arith, nat_tests)
+
+-- the spelling of a byte gives the byte back
+first_found : (byte : ℕ) (after : List ℕ) → byte < 256 → first_byte (escaped byte ++ after) ≡ byte
+unfolding escaped first_byte
+first_found byte after small =
+    elim (eqb_tells byte 34) [
+      | inl quote ↦ rw quote.0 (sym quote.1)
+      | inr no_quote ↦ elim (eqb_tells byte 92) [
+        | inl slash ↦ rw (no_quote.0, slash.0) (sym slash.1)
+        | inr no_slash ↦ elim (cases_Bool (is_plain byte)) [
+          | inl plain ↦ rw (no_quote.0, no_slash.0, plain, no_slash.0) refl
+          | inr special ↦
+              let high = hex_back (byte / 16) (omega arith) in
+              let low = hex_back (byte % 16) (omega arith) in
+              rw (no_quote.0, no_slash.0, special, high, low) (omega arith)
+        ]
+      ]
+    ]
+
+-- the spelling of a byte has one byte or more, and four at most
+pub escaped_length : (byte : ℕ) → (0 < length (escaped byte)) × (length (escaped byte) ≤ 4)
+unfolding escaped
+escaped_length byte = (grind (arith, nat_tests), grind (arith, nat_tests))
+
+next_found : (byte : ℕ) (after : List ℕ) → byte < 256 → next_of (escaped byte ++ after) ≡ Some (byte, after)
+unfolding next_of
+next_found byte after small =
+    rw (
+      first_found byte after small,
+      take_at (escaped byte) after (length (escaped byte)) refl,
+      (bytes_decides (escaped byte) (escaped byte)).1 refl,
+      drop_at (escaped byte) after (length (escaped byte)) refl,
+    ) refl
+
+-- a number that is no byte would be spelled by four bytes
+large : (byte : ℕ) → 256 ≤ byte → escaped byte ≡ 92 ∷ 120 ∷ digit_glyph false (byte / 16) ∷ digit_glyph false (byte % 16) ∷ []
+unfolding escaped
+large byte big = grind (arith, nat_tests)
+
+two_digits_small : (high low : ℕ) (after : List ℕ) → first_byte (92 ∷ 120 ∷ high ∷ low ∷ after) < 256
+unfolding first_byte
+two_digits_small high low after = omega (arith, hex_small high, hex_small low)
+
+first_small : (bytes after : List ℕ) → escaped (first_byte bytes) ++ after ≡ bytes → first_byte bytes < 256
+first_small bytes after is =
+    elim (cases_lt (first_byte bytes) 256) [
+      | inl small ↦ small
+      | inr big ↦
+          let spelled = ap (λ spelled. spelled ++ after) (sym (large (first_byte bytes) big)) ∙ is in
+          subst (λ all. first_byte all < 256) spelled (two_digits_small _ _ after)
+    ]
+
+pub next_said : (bytes : List ℕ) (byte : ℕ) (after : List ℕ) → next_of bytes ≡ Some (byte, after)
+    → (byte < 256) × (escaped byte ++ after ≡ bytes)
+unfolding next_of
+next_said bytes byte after found =
+    let first = first_byte bytes in
+    let rest = drop (length (escaped first)) bytes in
+    let parts = cond_some {A = ℕ × List ℕ} (starts_with nat_eq bytes (escaped first)) (first, rest) (byte, after) found in
+    let front = (bytes_decides (escaped first) (take (length (escaped first)) bytes)).0 parts.0 in
+    let whole = ap (λ front. front ++ rest) front ∙ take-append-drop (length (escaped first)) bytes in
+    let same_byte : first ≡ byte = ap (λ (step : ℕ × List ℕ). step.0) parts.1 in
+    let same_rest : rest ≡ after = ap (λ (step : ℕ × List ℕ). step.1) parts.1 in (
+      subst (λ b. b < 256) same_byte (first_small bytes rest whole),
+      subst (λ b. escaped b ++ after ≡ bytes) same_byte (subst (λ x. escaped first ++ x ≡ bytes) same_rest whole),
+    )
+
+-- one more byte of a text
+next_inside : (room : ℕ) (bytes : List ℕ) (byte : ℕ) (after : List ℕ) → 0 < length bytes → next_of bytes ≡ Some (byte, after)
+    → inside_of (suc room) bytes ≡ option_map (λ text. byte ∷ text) (inside_of room after)
+unfolding inside_of
+next_inside room [] byte after some next = absurd (omega arith)
+next_inside room (b ∷ bytes) byte after some next = rw next refl
+
+-- a text is found in its spelling
+pub inside_found : (text : List ℕ) (room : ℕ) → length text ≤ room → AllByRecursion (λ b. b < 256) text
+    → inside_of room (inside text) ≡ Some text
+unfolding inside_of
+inside_found [] room few each = refl
+inside_found (byte ∷ text) zero few each = absurd (omega arith)
+inside_found (byte ∷ text) (suc room) few each =
+    let some : 0 < length (escaped byte ++ inside text) = omega (arith, length-append (escaped byte) (inside text), (escaped_length byte).0) in
+    let short : length text ≤ room = omega arith in
+    next_inside room (escaped byte ++ inside text) byte (inside text) some (next_found byte (inside text) each.0)
+    ∙ ap (option_map (λ text. byte ∷ text)) (inside_found text room short each.1)
+
+-- what a changed answer came from
+pub option_map_some : {A B : Type 0} (f : A → B) (found : Option A) (y : B) → option_map f found ≡ Some y
+    → (x : A) × (found ≡ Some x) × (f x ≡ y)
+option_map_some f (Some x) y is = (x, refl, same_Some (f x) y is)
+option_map_some f None y is = absurd (none-some y is)
+
+-- and only there
+pub inside_said : (room : ℕ) (bytes text : List ℕ) → inside_of room bytes ≡ Some text
+    → (length text ≤ room) × AllByRecursion (λ b. b < 256) text × (inside text ≡ bytes)
+unfolding inside_of
+inside_said room [] text found =
+    subst (λ text. (length text ≤ room) × AllByRecursion (λ b. b < 256) text × (inside text ≡ [])) (same_Some [] text found)
+    (zero-le, tt, refl)
+inside_said zero (b ∷ bytes) text found = absurd (none-some text found)
+inside_said (suc room) (b ∷ bytes) text found =
+    option_and_then_some _ (next_of (b ∷ bytes)) text found (λ step next more.
+    let rest = option_map_some _ (inside_of room step.1) text more in
+    let first = next_said (b ∷ bytes) step.0 step.1 next in
+    let others = inside_said room step.1 rest.0 rest.1 in
+    subst (λ text. (length text ≤ suc room) × AllByRecursion (λ b. b < 256) text × (inside text ≡ b ∷ bytes)) rest.2
+    (omega (arith, others.0), (first.0, others.1), ap (λ after. escaped step.0 ++ after) others.2 ∙ first.1))
+
+-- Steps of the loop that reads a text.
+map_twice : (text : List ℕ) (byte : ℕ) (found : Option (List ℕ))
+    → option_map (λ more. text ++ more) (option_map (λ more. byte ∷ more) found) ≡ option_map (λ more. (text ++ byte ∷ []) ++ more) found
+map_twice text byte (Some more) = ap (λ all. Some all) (sym (append_assoc text (byte ∷ []) more))
+map_twice text byte None = refl
+
+pub inside_more : (bytes text rest after : List ℕ) (byte : ℕ)
+    → inside_of 255 bytes ≡ option_map (λ more. text ++ more) (inside_of (255 - length text) rest)
+    → length text < 255 → 0 < length rest → next_of rest ≡ Some (byte, after)
+    → inside_of 255 bytes ≡ option_map (λ more. (text ++ byte ∷ []) ++ more) (inside_of (255 - length (text ++ byte ∷ [])) after)
+inside_more bytes text rest after byte so_far room some next =
+    let one_less : 255 - length text ≡ suc (255 - length (text ++ byte ∷ [])) = omega (arith, length-append text (byte ∷ [])) in
+    so_far
+    ∙ ap (λ room. option_map (λ more. text ++ more) (inside_of room rest)) one_less
+    ∙ ap (option_map (λ more. text ++ more)) (next_inside _ rest byte after some next)
+    ∙ map_twice text byte _
+
+no_next : (room : ℕ) (bytes : List ℕ) → 0 < length bytes → next_of bytes ≡ None → inside_of room bytes ≡ None
+unfolding inside_of
+no_next room [] some none = absurd (omega arith)
+no_next zero (b ∷ bytes) some none = refl
+no_next (suc room) (b ∷ bytes) some none = rw none refl
+
+-- a text goes no further where no byte is spelled
+pub inside_stops : (bytes text rest : List ℕ)
+    → inside_of 255 bytes ≡ option_map (λ more. text ++ more) (inside_of (255 - length text) rest)
+    → 0 < length rest → next_of rest ≡ None → None ≡ inside_of 255 bytes
+inside_stops bytes text rest so_far some none =
+    sym (so_far ∙ ap (option_map (λ more. text ++ more)) (no_next (255 - length text) rest some none))
+
+no_room : (bytes : List ℕ) → 0 < length bytes → inside_of 0 bytes ≡ None
+unfolding inside_of
+no_room [] some = absurd (omega arith)
+no_room (b ∷ bytes) some = refl
+
+-- a text has no 256th byte
+pub inside_full : (bytes text rest : List ℕ)
+    → inside_of 255 bytes ≡ option_map (λ more. text ++ more) (inside_of (255 - length text) rest)
+    → 0 < length rest → length text ≡ 255 → None ≡ inside_of 255 bytes
+inside_full bytes text rest so_far some full =
+    let none : 255 - length text ≡ 0 = omega arith in
+    sym (so_far ∙ ap (λ room. option_map (λ more. text ++ more) (inside_of room rest)) none
+    ∙ ap (option_map (λ more. text ++ more)) (no_room rest some))
+
+nothing_inside : (room : ℕ) → inside_of room [] ≡ Some []
+unfolding inside_of
+nothing_inside room = refl
+
+-- the text at the end of its spelling
+pub inside_ends : (bytes text rest : List ℕ)
+    → inside_of 255 bytes ≡ option_map (λ more. text ++ more) (inside_of (255 - length text) rest)
+    → length rest ≡ 0 → Some text ≡ inside_of 255 bytes
+inside_ends bytes text rest so_far end =
+    let none : rest ≡ [] = nil_from_length rest end in
+    sym (so_far ∙ ap (λ rest. option_map (λ more. text ++ more) (inside_of (255 - length text) rest)) none
+    ∙ ap (option_map (λ more. text ++ more)) (nothing_inside (255 - length text)) ∙ ap (λ all. Some all) (append-nil text))

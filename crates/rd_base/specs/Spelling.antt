@@ -1,0 +1,43 @@
+-- The spelling of values: this project's profile.
+use Rattle.std.specs.Prelude.{ℕ, ◌/◌, ◌%◌, ◌<◌, ◌≤◌, ◌==◌, ◌&&◌, Bool, true, false, nat_le, if◌then◌else◌, List, [], ◌∷◌, ◌++◌, length, codes, FitsSigned}
+use Rattle.std.specs.Int.{w64}
+use Rattle.std.specs.Fmt.{digit_glyph, signed_decimal}
+use Rattle.std.specs.List.{All, flat_map}
+use Rattle.rd_base.specs.declared.values.Value.{Value}
+use Rattle.rd_base.specs.declared.values.Value.TheVariants.{Nil, Bool as Truth, Int, Text}
+
+-- a byte from 0x20, the space, to 0x7E, the last visible byte of ASCII
+abbrev pub is_plain : ℕ → Bool
+is_plain b = nat_le 32 b && nat_le b 126
+
+-- the spelling of a byte of a text: `\"`, `\\`, a plain byte itself, or `\x` and two hexadecimal digits in lower case
+unfoldable pub escaped : ℕ → List ℕ
+escaped b =
+    if b == 34 then 92 ∷ 34 ∷ []
+    else if b == 92 then 92 ∷ 92 ∷ []
+    else if is_plain b then b ∷ []
+    else 92 ∷ 120 ∷ digit_glyph false (b / 16) ∷ digit_glyph false (b % 16) ∷ []
+
+-- the bytes of a text, each spelled
+abbrev pub inside : List ℕ → List ℕ
+inside text = flat_map escaped text
+
+-- the one spelling of a value
+abbrev pub spelling : Value → List ℕ
+spelling Nil = codes "nil"
+spelling (Truth true) = codes "true"
+spelling (Truth false) = codes "false"
+spelling (Int z) = signed_decimal z
+spelling (Text text) = 34 ∷ inside text ++ 34 ∷ []
+
+-- the bytes of a text: 0 to 255 of them
+pub record IsText (text : List ℕ) : Type 0 where
+  pub few : length text ≤ 255
+  pub each : All (λ b. b < 256) text
+
+-- a value: an integer has 64 bits, and a text is one
+abbrev pub IsValue : Value → Type 0
+IsValue Nil = Unit {0}
+IsValue (Truth truth) = Unit {0}
+IsValue (Int z) = FitsSigned w64 z
+IsValue (Text text) = IsText text

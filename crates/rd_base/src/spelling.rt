@@ -1,0 +1,284 @@
+//! The spelling of values.
+ghost use Rattle.std.specs.Prelude.{◌≡◌, ◌<◌, ◌≤◌, ◌++◌, ◌↔◌, [], ◌∷◌, ℕ, List, true, false, Option, Some, None, OnOk, OnErr, IfOk, IfErr, IfSome, IfNone, IsTrue, length, slice_index, nat_eq};
+ghost use Rattle.std.specs.List.{starts_with};
+ghost use Rattle.std.specs.Str.{bytes_eq};
+ghost use Rattle.std.specs.Fmt.{digit_glyph, signed_decimal};
+ghost use Rattle.std.specs.Option.{option_map};
+ghost use Rattle.rd_base.specs.declared.values.Value.{Value};
+ghost use Rattle.rd_base.specs.Spelling.{is_plain, escaped, inside, spelling, IsValue};
+ghost use Rattle.rd_base.specs.ReadingValues.{hex_value, first_byte, next_of, inside_of, integer_of, is_quoted, value_of};
+
+use crate::byte_lists::Bytes;
+use crate::memory::NoMemory;
+use crate::values::{Text, Value};
+use arrayvec::ArrayVec;
+use itoa::Buffer;
+use std::alloc::Global;
+use std::str;
+use thiserror::Error;
+
+#[cfg(test)]
+mod tests;
+
+/// Why bytes give no value.
+#[derive(Clone, Copy, Debug, PartialEq, Eq, Error)]
+pub enum ValueRefused {
+    /// the bytes spell no value
+    #[error("not a value")]
+    NotAValue,
+    /// memory ran out
+    #[error("out of memory")]
+    NoMemory,
+}
+
+// How many bytes a text has at most.
+const LONGEST: usize = 255;
+
+// Are the bytes those of the word?
+fn is(bytes: &[u8], word: &str) -> bool
+    ensures { result ≡ bytes_eq bytes.now word.now }
+{
+    bytes == word.as_bytes()
+}
+
+// The byte at the place, or 0 behind the end.
+fn at(bytes: &[u8], place: usize) -> u8
+    ensures { result ≡ slice_index bytes.now place }
+{
+    bytes.get(place).copied().unwrap_or(0)
+}
+
+// Are the bytes the decimal of the number?
+fn is_decimal(bytes: &[u8], number: i64) -> bool
+    ensures { result ≡ bytes_eq (signed_decimal number) bytes.now }
+{
+    let mut buffer = Buffer::new();
+    buffer.format(number).as_bytes() == bytes
+}
+
+// The integer that the bytes spell: what is parsed has to be spelled like the bytes.
+#[tactic(auto, unfolding(crate::specs::ReadingValues::integer_of))]
+fn integer(bytes: &[u8]) -> Option<i64>
+    ensures { result ≡ integer_of bytes.now }
+{
+    let Ok(text) = str::from_utf8(bytes) else {
+        return None;
+    };
+    let Ok(number) = text.parse::<i64>() else {
+        return None;
+    };
+    if is_decimal(bytes, number) {
+        Some(number)
+    } else {
+        None
+    }
+}
+
+// The digit of a value below 16.
+fn hex_digit(value: u8) -> u8
+    requires { value < 16 }
+    ensures { result ≡ digit_glyph false value }
+{
+    if value < 10 {
+        b'0' + value
+    } else {
+        b'a' + (value - 10)
+    }
+}
+
+// The spelling of a byte of a text.
+#[tactic(auto, unfolding(crate::specs::Spelling::escaped))]
+fn escape(byte: u8) -> ArrayVec<u8, 4>
+    ensures { result.items ≡ escaped byte }
+{
+    let mut spelled = ArrayVec::new();
+    if byte == b'"' {
+        spelled.push(b'\\');
+        spelled.push(b'"');
+        return spelled;
+    }
+    if byte == b'\\' {
+        spelled.push(b'\\');
+        spelled.push(b'\\');
+        return spelled;
+    }
+    if is_plain(byte) {
+        spelled.push(byte);
+        return spelled;
+    }
+    spelled.push(b'\\');
+    spelled.push(b'x');
+    spelled.push(hex_digit(byte / 16));
+    spelled.push(hex_digit(byte % 16));
+    spelled
+}
+
+fn is_plain(byte: u8) -> bool
+    ensures { result ≡ is_plain byte }
+{
+    (b' '..=b'~').contains(&byte)
+}
+
+// The value of a hexadecimal digit in lower case, and 0 for every other byte.
+fn hex_value(byte: u8) -> u8
+    ensures value { result ≡ hex_value byte }
+    ensures range { result < 16 }
+{
+    match byte {
+        b'0'..=b'9' => byte - b'0',
+        b'a'..=b'f' => byte - b'a' + 10,
+        _ => 0,
+    }
+}
+
+// If the bytes begin with the spelling of a byte, that byte.
+#[tactic(auto, unfolding(crate::specs::ReadingValues::first_byte))]
+fn first_byte(bytes: &[u8]) -> u8
+    ensures { result ≡ first_byte bytes.now }
+{
+    if at(bytes, 0) != b'\\' {
+        return at(bytes, 0);
+    }
+    if at(bytes, 1) != b'x' {
+        return at(bytes, 1);
+    }
+    hex_value(at(bytes, 2)) * 16 + hex_value(at(bytes, 3))
+}
+
+// The byte whose spelling the bytes begin with, and the bytes behind it.
+#[tactic(auto, using(crate::proofs::TextLemmas::escaped_length), unfolding(crate::specs::ReadingValues::next_of))]
+fn next_byte(bytes: &[u8]) -> Option<(u8, &[u8])>
+    ensures some { IfSome result (λ step. next_of bytes.now ≡ Some (step.0, step.1.now)) }
+    ensures none { IfNone result (next_of bytes.now ≡ None) }
+    ensures less { IfSome result (λ step. length step.1.now < length bytes.now) }
+{
+    let byte = first_byte(bytes);
+    let rest = bytes.strip_prefix(escape(byte).as_slice())?;
+    Some((byte, rest))
+}
+
+// The bytes that stand spelled between the quotes of a text.
+fn read_inside(bytes: &[u8]) -> Option<ArrayVec<u8, LONGEST>>
+    ensures { option_map (λ text. text.items) result ≡ inside_of 255 bytes.now }
+{
+    let mut text = ArrayVec::new();
+    let mut rest = bytes;
+    while !rest.is_empty() {
+        if text.len() == LONGEST {
+            return None;
+        }
+        let Some((byte, after)) = next_byte(rest) else {
+            return None;
+        };
+        text.push(byte);
+        rest = after;
+    }
+    Some(text)
+}
+
+fn is_quoted(bytes: &[u8]) -> bool
+    ensures test { result ≡ is_quoted bytes.now }
+    ensures long { IsTrue result → 2 ≤ length bytes.now }
+{
+    bytes.len() >= 2 && bytes[0] == b'"' && bytes[bytes.len() - 1] == b'"'
+}
+
+// The text with these bytes.
+fn text(alloc: Global, bytes: &[u8]) -> Result<Text, ValueRefused>
+    requires { length bytes.now ≤ 255 }
+    ensures value { IfOk result (λ text. text ≡ bytes.now) }
+    ensures memory { IfErr result (λ e. e ≡ ValueRefused.NoMemory) }
+{
+    let Ok(text) = Text::from_bytes(alloc, bytes) else {
+        return Err(ValueRefused::NoMemory);
+    };
+    Ok(text)
+}
+
+// The value that the bytes spell.
+#[tactic(auto, unfolding(crate::specs::ReadingValues::value_of))]
+fn value(alloc: Global, bytes: &[u8]) -> Result<Value, ValueRefused>
+    ensures found { IfOk result (λ value. value_of bytes.now ≡ Some value) }
+    ensures none { IfErr result (λ e. e ≡ ValueRefused.NotAValue → value_of bytes.now ≡ None) }
+    ensures memory { IfErr result (λ e. e ≡ ValueRefused.NoMemory → IsTrue (is_quoted bytes.now)) }
+{
+    if is(bytes, "nil") {
+        return Ok(Value::Nil);
+    }
+    if is(bytes, "true") {
+        return Ok(Value::Bool(true));
+    }
+    if is(bytes, "false") {
+        return Ok(Value::Bool(false));
+    }
+    if is_quoted(bytes) {
+        let Some(inside) = read_inside(&bytes[1..bytes.len() - 1]) else {
+            return Err(ValueRefused::NotAValue);
+        };
+        return Ok(Value::Text(text(alloc, inside.as_slice())?));
+    }
+    let Some(number) = integer(bytes) else {
+        return Err(ValueRefused::NotAValue);
+    };
+    Ok(Value::Int(number))
+}
+
+/// Reads a value from its spelling. The answer is `NotAValue` exactly if the bytes spell none. Only a
+/// text takes memory, so `NoMemory` comes only for bytes that begin and end with `"`.
+pub fn read_value(alloc: Global, bytes: &[u8]) -> Result<Value, ValueRefused>
+    ensures value { IfOk result (λ value. bytes.now ≡ spelling value) }
+    ensures range { IfOk result IsValue }
+    ensures only { IfErr result (λ e. e ≡ ValueRefused.NotAValue → (value : Value) → IsValue value → ¬ (bytes.now ≡ spelling value)) }
+    ensures found { IfOk result (λ value. value_of bytes.now ≡ Some value) }
+    ensures none { IfErr result (λ e. e ≡ ValueRefused.NotAValue → value_of bytes.now ≡ None) }
+    ensures memory { IfErr result (λ e. e ≡ ValueRefused.NoMemory → IsTrue (is_quoted bytes.now)) }
+{
+    value(alloc, bytes)
+}
+
+// The spelling of a text with these bytes.
+fn quoted(text: &[u8]) -> ArrayVec<u8, 1022>
+    requires { length text.now ≤ 255 }
+    ensures { result.items ≡ 34 ∷ inside text.now ++ 34 ∷ [] }
+{
+    let mut spelled = ArrayVec::new();
+    spelled.push(b'"');
+    for byte in text {
+        let Ok(()) = spelled.try_extend_from_slice(escape(*byte).as_slice()) else {
+            unreachable!();
+        };
+    }
+    spelled.push(b'"');
+    spelled
+}
+
+/// Puts the spelling of a value behind a text. After want of memory the text is as before.
+pub fn append_value(text: &mut Bytes, value: &Value) -> Result<(), NoMemory>
+    ensures ok { OnOk result (text.new ≡ text.old ++ spelling value.now) }
+    ensures err { OnErr result (text.new ≡ text.old) }
+{
+    match value {
+        Value::Nil => text.append(b"nil"),
+        Value::Bool(true) => text.append(b"true"),
+        Value::Bool(false) => text.append(b"false"),
+        Value::Int(number) => text.append(Buffer::new().format(*number).as_bytes()),
+        Value::Text(content) => text.append(quoted(content.items()).as_slice()),
+    }
+}
+
+/// The spelling of a value.
+pub fn spell_value(alloc: Global, value: &Value) -> Result<Bytes, NoMemory>
+    ensures { IfOk result (λ text. text ≡ spelling value.now) }
+{
+    let mut text = Bytes::new(alloc);
+    append_value(&mut text, value)?;
+    Ok(text)
+}
+
+/// The law of the spelling of values: each value has one spelling of its own, `value_of` finds exactly the values that the
+/// bytes spell, and what it finds is in its range.
+pub fn law_of_values()
+    ensures one_spelling { (v w : Value) → IsValue v → IsValue w → spelling v ≡ spelling w → v ≡ w }
+    ensures test { (bytes : List ℕ) (value : Value) → IsValue value → (value_of bytes ≡ Some value ↔ (bytes ≡ spelling value)) }
+    ensures range { (bytes : List ℕ) (value : Value) → value_of bytes ≡ Some value → IsValue value }
+{}
