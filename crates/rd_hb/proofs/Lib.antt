@@ -6,3 +6,4 @@ pub mod OrderLemmas
 pub mod PathLemmas
 pub mod TrackLemmas
 pub mod TrackerLemmas
+pub mod TrackerTestLemmas

@@ -1,8 +1,8 @@
 -- What one event makes of the threads that a tracker holds.
-use Rattle.std.proofs.Common.{◌≡◌, ◌≢◌, ◌≤◌, ◌<◌, ◌↔◌, ◌⊎◌, inl, inr, ℕ, ◌+◌, ◌==◌, max, Bool, true, false, IsTrue, ◌||◌, List, [], ◌∷◌, ◌++◌, length, Option, Some, None, Result, Ok, Err, IfOk, OnOk, refl, sym, ◌∙◌, ap, subst, arith, slice_index_or, slice_set}
+use Rattle.std.proofs.Common.{◌≡◌, ◌≢◌, ◌≤◌, ◌<◌, ◌↔◌, inl, inr, ℕ, ◌+◌, ◌==◌, max, Bool, true, false, IsTrue, ◌||◌, List, [], ◌∷◌, ◌++◌, length, Option, Some, None, Result, Ok, Err, IfOk, OnOk, refl, sym, ◌∙◌, ap, subst, arith, slice_index_or, slice_set}
 use Rattle.std.specs.Prelude.{if◌then◌else◌, is_some, unwrap_or}
 use Rattle.std.proofs.lemmas.Bool.{cases_eq, cases_lt, eq-eqb, ne_eqb}
-use Rattle.std.proofs.lemmas.List.{get_or-set_other, get_or_append_left, get_or_default, get_or_past, length-set, length-append}
+use Rattle.std.proofs.lemmas.List.{get_or-set_other, get_or_append_left, get_or_default, get_or_past, length-append}
 use Rattle.std.proofs.lemmas.Grind.{get_or-set_at}
 use Rattle.std.proofs.Math.Seq.{get_or-append_seam}
 use Rattle.std.proofs.lemmas.List.Sums.{sum_by_push}
@@ -12,13 +12,13 @@ use Rattle.rd_event.specs.declared.events.Event.TheVariants.{Fork, Join, Call}
 use Rattle.rd_hb.proofs.OrderLemmas.{at_end}
 use Rattle.rd_hb.proofs.TrackLemmas.{clock_step, known_step, known_bound, known_own, own_number_new}
 use Rattle.rd_hb.specs.EventClocks.{IsClock, IsOf, OwnNumber}
-use Rattle.rd_hb.specs.EventLists.{forks, joins, Known, WellFormed, MayFollow}
+use Rattle.rd_hb.specs.EventLists.{forks, joins, Known}
 use Rattle.rd_hb.specs.Knows.{Knows, KnownCount}
 use Rattle.rd_hb.proofs.CountsLemmas.{counts_le}
 use Rattle.rd_hb.specs.Order.{thread_of, forked, joined, taken}
 use Rattle.rd_hb.specs.OrderTests.{is_this}
 use Rattle.rd_hb.specs.declared.clock.Stamp.{Stamp}
-use Rattle.rd_hb.specs.Clock.{component, IsTick, IsJoin}
+use Rattle.rd_hb.specs.Clock.{component, IsTick}
 use Rattle.rd_hb.specs.declared.tracker.Tracked.{Tracked}
 use Rattle.rd_hb.specs.Tracker.{tracked, no_thread, known_to, clock_after, known_after, threads_after, AreTracked, IsBegun, IsCounted, IsLearnt, IsNext, IsStamp, IsTracked, StandsFor}
 
@@ -38,9 +38,9 @@ tracked_push threads x t =
     elim (cases_eq t (length threads)) [
       | inl same ↦ rw (eq-eqb t (length threads) same) (subst (λ i. tracked (threads ++ x ∷ []) i ≡ x) (sym same) (get_or-append_seam threads x [] no_thread))
       | inr other ↦ rw (ne_eqb t (length threads) other) (elim (cases_lt t (length threads)) [
-          | inl before ↦ get_or_append_left threads (x ∷ []) no_thread t before
-          | inr past ↦ get_or_past (threads ++ x ∷ []) t no_thread (omega (arith, past, other, length-append threads (x ∷ []))) ∙ sym (get_or_past threads t no_thread past)
-        ])
+        | inl before ↦ get_or_append_left threads (x ∷ []) no_thread t before
+        | inr past ↦ get_or_past (threads ++ x ∷ []) t no_thread (omega (arith, past, other, length-append threads (x ∷ []))) ∙ sym (get_or_past threads t no_thread past)
+      ])
     ]
 
 -- what is read at the place of an older thread
@@ -143,10 +143,10 @@ fork_tracks thread child old middle new stamp inside numbered begun is = record 
     | inl same ↦ rw (eq-eqb t thread same) (ap (λ v. known_to new v u) same
         ∙ ticked (tracked old thread).clock (tracked new thread).clock thread u (subst (λ x. IsTick x.clock (tracked new thread).clock thread) (begun.others thread apart) is.own))
     | inr other ↦ rw (ne_eqb t thread other) (elim (cases_eq child t) [
-        | inl last ↦ rw (eq-eqb child t last) (ap (λ x. component x.clock u) (is.others t other) ∙ ap (λ v. known_to middle v u) (sym last)
-            ∙ ticked (tracked old thread).clock (tracked middle child).clock thread u begun.clock)
-        | inr former ↦ rw (ne_eqb child t former) (ap (λ x. component x.clock u) (is.others t other ∙ begun.others t (λ last. former (sym last))))
-      ])
+      | inl last ↦ rw (eq-eqb child t last) (ap (λ x. component x.clock u) (is.others t other) ∙ ap (λ v. known_to middle v u) (sym last)
+          ∙ ticked (tracked old thread).clock (tracked middle child).clock thread u begun.clock)
+      | inr former ↦ rw (ne_eqb child t former) (ap (λ x. component x.clock u) (is.others t other ∙ begun.others t (λ last. former (sym last))))
+    ])
   ];
   count = is.count ∙ begun.count;
   joined = λ t. joined_at t ∙ or_false (tracked old t).joined;
@@ -197,8 +197,8 @@ pub stamp_after : (threads new : List Tracked) (es : List Event) (e : Event) (st
 stamp_after threads new es e stamp free knew is = record {
   thread = λ f at. is.thread ∙ ap (λ o. thread_of (unwrap_or o e)) (sym (at_end es e) ∙ at);
   number = subst (λ t. OwnNumber (es ++ e ∷ []) t (length es) stamp.number) (sym is.thread)
-    (subst (λ n. OwnNumber (es ++ e ∷ []) (thread_of e) (length es) n) (sym is.number)
-    (own_number_new es e (known_to threads (thread_of e) (thread_of e)) (knew (thread_of e) (thread_of e))));
+      (subst (λ n. OwnNumber (es ++ e ∷ []) (thread_of e) (length es) n) (sym is.number)
+      (own_number_new es e (known_to threads (thread_of e) (thread_of e)) (knew (thread_of e) (thread_of e))));
   clock = λ u. subst (λ n. IsClock (es ++ e ∷ []) (length es) u n) (sym (is.clock u)) (clock_step es e (known_to threads) free knew u);
 }
 
@@ -226,9 +226,9 @@ pub stands_after : (threads new : List Tracked) (roots : ℕ → Bool) (es : Lis
 stands_after threads new roots es e stamp free next is = record {
   known = λ t. (there (forked e) refl t, back (forked e) refl t);
   clocks = λ t u. subst (KnownCount (es ++ e ∷ []) t u) (sym (is.known t u))
-    (known_step roots es e (known_to threads) next.formed next.follows free next.stands.clocks t u);
+      (known_step roots es e (known_to threads) next.formed next.follows free next.stands.clocks t u);
   joined = λ t. subst (λ b. IsTrue b ↔ (0 < joins (es ++ e ∷ []) t)) (sym (is.joined t))
-    (joined_more (tracked threads t).joined (is_this (joined e) t) (joins es t) (joins (es ++ e ∷ []) t) (next.stands.joined t) (joins_more es e t));
+      (joined_more (tracked threads t).joined (is_this (joined e) t) (joins es t) (joins (es ++ e ∷ []) t) (next.stands.joined t) (joins_more es e t));
 }
   where
     more : (t : ℕ) → Known roots es t → Known roots (es ++ e ∷ []) t
@@ -244,13 +244,19 @@ stands_after threads new roots es e stamp free next is = record {
 
     back : (o : Option ℕ) → forked e ≡ o → (t : ℕ) → Known roots (es ++ e ∷ []) t → t < length new
     back None none t (inl root) = omega (arith, (next.stands.known t).1 (inl root), is.count ∙ ap (λ o. weighed o (length threads)) none)
-    back None none t (inr now) = omega (arith, (next.stands.known t).1 (inr (omega (arith, now, forks_more es e t, ap weight (ap (λ o. is_this o t) none)))),
-        is.count ∙ ap (λ o. weighed o (length threads)) none)
+    back None none t (inr now) = omega (
+      arith,
+      (next.stands.known t).1 (inr (omega (arith, now, forks_more es e t, ap weight (ap (λ o. is_this o t) none)))),
+      is.count ∙ ap (λ o. weighed o (length threads)) none,
+    )
     back (Some u) some t (inl root) = omega (arith, (next.stands.known t).1 (inl root), is.count ∙ ap (λ o. weighed o (length threads)) some)
     back (Some u) some t (inr now) = elim (cases_eq u t) [
       | inl same ↦ omega (arith, same, next.numbered u some, is.count ∙ ap (λ o. weighed o (length threads)) some)
-      | inr other ↦ omega (arith, (next.stands.known t).1 (inr (omega (arith, now, forks_more es e t, ap weight (ap (λ o. is_this o t) some ∙ ne_eqb u t other)))),
-          is.count ∙ ap (λ o. weighed o (length threads)) some)
+      | inr other ↦ omega (
+        arith,
+        (next.stands.known t).1 (inr (omega (arith, now, forks_more es e t, ap weight (ap (λ o. is_this o t) some ∙ ne_eqb u t other)))),
+        is.count ∙ ap (λ o. weighed o (length threads)) some,
+      )
     ]
 
 -- ---- what a next event may rely on

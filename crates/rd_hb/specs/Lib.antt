@@ -4,4 +4,5 @@ pub mod EventLists
 pub mod Knows
 pub mod Order
 pub mod OrderTests
+pub mod TestTraces
 pub mod Tracker

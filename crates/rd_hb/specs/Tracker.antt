@@ -1,7 +1,7 @@
 -- What a tracker holds of a list of events: this project's profile.
 use Rattle.std.specs.Prelude.{◌≡◌, ◌≢◌, ◌↔◌, ℕ, ◌+◌, ◌*◌, ◌<◌, ◌≤◌, ◌==◌, max, Bool, false, ◌||◌, IsTrue, if◌then◌else◌, List, [], ◌∷◌, ◌++◌, length, Option, None, Some, is_some, slice_get, slice_index_or}
 use Rattle.rd_event.specs.declared.events.Event.{Event}
-use Rattle.rd_event.specs.declared.events.Event.TheVariants.{Fork, Join, Call}
+use Rattle.rd_event.specs.declared.events.Event.TheVariants.{Call}
 use Rattle.rd_hb.specs.Clock.{component, IsTick, IsJoin}
 use Rattle.rd_hb.specs.EventClocks.{OwnNumber, IsClock}
 use Rattle.rd_hb.specs.EventLists.{Known, MayFollow, WellFormed, InRange, joins}

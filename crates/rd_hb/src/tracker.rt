@@ -1,9 +1,9 @@
 //! The clocks of the threads of a trace.
-ghost use Rattle.std.specs.Prelude.{◌≡◌, ◌≢◌, ℕ, ◌+◌, ◌*◌, ◌<◌, ◌≤◌, Bool, ◌==◌, ◌||◌, if◌then◌else◌, List, [], ◌∷◌, ◌++◌, length, Some, None, IfOk, OnOk, OnErr};
+ghost use Rattle.std.specs.Prelude.{◌≡◌, ◌≢◌, ℕ, ◌+◌, ◌*◌, ◌<◌, ◌≤◌, Bool, ◌==◌, max, ◌||◌, if◌then◌else◌, List, [], ◌∷◌, ◌++◌, length, Some, None, IfOk, OnOk, OnErr};
 ghost use Rattle.rd_event.specs.declared.events.Event.{Event as EventOf};
 ghost use Rattle.rd_event.specs.declared.events.Event.TheVariants as event;
 ghost use Rattle.rd_hb.specs.Order.{thread_of, forked, joined};
-ghost use Rattle.rd_hb.specs.Clock.{component, IsJoin};
+ghost use Rattle.rd_hb.specs.Clock.{component, IsJoin, IsTick};
 ghost use Rattle.rd_hb.specs.Tracker.{IsBegun, IsCounted, IsLearnt, IsNext, IsStamp, StandsFor, event_bound, known_to, threads_after, tracked};
 ghost use Rattle.rd_hb.specs.declared.tracker.Tracked.{Tracked as TrackedOf};
 
@@ -73,7 +73,11 @@ impl Tracker {
     /// Takes the next event of a well-formed trace, in which a forked thread has the next number, and says where it
     /// stands. After want of memory all is as before. It takes at most 2 steps for each thread that is known
     /// once the event is done where it is a call, and 4 where it is another.
-    pub fn event<L: Ledger>(&mut self, event: &Event, steps: &mut Steps<L>) -> Result<Stamp, NoMemory>
+    pub fn event<L: Ledger>(
+        &mut self,
+        event: &Event,
+        steps: &mut Steps<L>,
+    ) -> Result<Stamp, NoMemory>
         requires next { (roots : ℕ → Bool) × (es : List EventOf) × IsNext self.old roots es event.now }
         ensures stamp { IfOk result (λ stamp. (roots : ℕ → Bool) (es : List EventOf) → IsNext self.old roots es event.now →
             IsStamp (es ++ event.now ∷ []) (length es) stamp) }
@@ -99,26 +103,52 @@ impl Tracker {
     }
 
     /// A thread counts its next event, in its clock and in a copy of it, which becomes the stamp's.
-    fn count<L: Ledger>(&mut self, thread: u32, mut clock: Clock, steps: &mut Steps<L>) -> Stamp
+    fn count<L: Ledger>(&mut self, thread: u32, mut copy: Clock, steps: &mut Steps<L>) -> Stamp
         requires known { thread < length self.old }
         requires below { known_to self.old thread thread < 4294967295 }
-        requires copy { clock ≡ (tracked self.old thread).clock }
+        requires equal { copy ≡ (tracked self.old thread).clock }
         ensures counted { IsCounted thread self.old self.new result }
         ensures cost { steps.new ≡ steps.old + 2 }
     {
         let own = &mut self.threads[thread as usize];
         own.clock.tick(thread, steps);
         own.events += 1;
-        clock.tick(thread, steps);
+        copy.tick(thread, steps);
         Stamp {
             thread,
             number: own.events,
-            clock,
+            clock: copy,
         }
     }
 
+    /// The clock that a thread has after its next event, with room for the thread that this event begins.
+    fn first_clock<L: Ledger>(
+        &self,
+        thread: u32,
+        child: u32,
+        steps: &mut Steps<L>,
+    ) -> Result<Clock, NoMemory>
+        requires known { thread < length self.now }
+        requires numbered { child ≡ length self.now }
+        requires range { child < 4294967295 }
+        requires below { known_to self.now thread thread < 4294967295 }
+        ensures ticked { IfOk result (λ clock. IsTick (tracked self.now thread).clock clock thread) }
+        ensures room { IfOk result (λ clock. length clock ≡ max (length (tracked self.now thread).clock) (child + 1)) }
+        ensures cost { steps.new ≤ steps.old + 1 }
+    {
+        let mut first = self.clock(thread)?;
+        first.reserve(child + 1)?;
+        first.tick(thread, steps);
+        Ok(first)
+    }
+
     /// Makes the next thread known, with the clock that another has after its next event.
-    fn begin<L: Ledger>(&mut self, thread: u32, child: u32, steps: &mut Steps<L>) -> Result<(), NoMemory>
+    fn begin<L: Ledger>(
+        &mut self,
+        thread: u32,
+        child: u32,
+        steps: &mut Steps<L>,
+    ) -> Result<(), NoMemory>
         requires known { thread < length self.old }
         requires numbered { child ≡ length self.old }
         requires range { child < 4294967295 }
@@ -127,9 +157,7 @@ impl Tracker {
         ensures err { OnErr result (self.new ≡ self.old) }
         ensures cost { steps.new ≤ steps.old + 1 }
     {
-        let mut clock = self.clock(thread)?;
-        clock.reserve(child + 1)?;
-        clock.tick(thread, steps);
+        let clock = self.first_clock(thread, child, steps)?;
         self.threads.push(Tracked {
             clock,
             events: 0,
@@ -139,7 +167,12 @@ impl Tracker {
     }
 
     /// The clock that counts what either of two threads knows, with room for all threads.
-    fn meet<L: Ledger>(&self, thread: u32, child: u32, steps: &mut Steps<L>) -> Result<Clock, NoMemory>
+    fn meet<L: Ledger>(
+        &self,
+        thread: u32,
+        child: u32,
+        steps: &mut Steps<L>,
+    ) -> Result<Clock, NoMemory>
         requires known { thread < length self.now }
         requires awaited { child < length self.now }
         ensures joined { IfOk result (IsJoin (tracked self.now thread).clock (tracked self.now child).clock) }
@@ -179,7 +212,12 @@ impl Tracker {
     }
 
     /// A thread forks the next one, which begins with the clock of the fork.
-    fn fork<L: Ledger>(&mut self, thread: u32, child: u32, steps: &mut Steps<L>) -> Result<Stamp, NoMemory>
+    fn fork<L: Ledger>(
+        &mut self,
+        thread: u32,
+        child: u32,
+        steps: &mut Steps<L>,
+    ) -> Result<Stamp, NoMemory>
         requires known { thread < length self.old }
         requires numbered { child ≡ length self.old }
         requires range { child < 4294967295 }
@@ -194,7 +232,12 @@ impl Tracker {
     }
 
     /// A thread waits for the end of another, and from there on knows what that one knew.
-    fn join<L: Ledger>(&mut self, thread: u32, child: u32, steps: &mut Steps<L>) -> Result<Stamp, NoMemory>
+    fn join<L: Ledger>(
+        &mut self,
+        thread: u32,
+        child: u32,
+        steps: &mut Steps<L>,
+    ) -> Result<Stamp, NoMemory>
         requires known { thread < length self.old }
         requires awaited { child < length self.old }
         requires below { known_to self.old thread thread < 4294967295 }
@@ -209,3 +252,6 @@ impl Tracker {
         Ok(self.count(thread, clock, steps))
     }
 }
+
+#[cfg(test)]
+mod tests;

@@ -1,0 +1,12 @@
+use Rattle.std.proofs.Common.{◌<◌, length, arith, take}
+use Rattle.rd_hb.proofs.TrackerTestLemmas.{took_more, took_next}
+use Rattle.rd_hb.proofs.tracker.tests.has_rows.Goals as goal
+
+pub loop-i-preserved : goal.loop-i-preserved
+loop-i-preserved g c = λ roots may.
+    let took = c.loop-i.invariant roots may in
+    let inside : c.loop-i.i < length c.args.events.now = omega arith in
+    took_more c.loop-i.tracker c.event.new.self roots c.args.events.now c.loop-i.i c.index-events-i.result may.range inside c.index-events-i.is took
+    (c.in_ok-stamp.ensures.stands roots (take c.loop-i.i c.args.events.now)
+    (took_next c.loop-i.tracker roots c.args.events.now c.loop-i.i c.index-events-i.result may.range inside c.index-events-i.is took))
+    c.in_ok-stamp.ensures.count

@@ -1,0 +1,9 @@
+use Rattle.rd_hb.specs.TestTraces.{two_roots}
+use Rattle.rd_hb.proofs.TrackerTestLemmas.{idle_child_may}
+use Rattle.rd_hb.proofs.tracker.tests.idle_child.Goals as goal
+
+pub has_rows-requires : goal.has_rows-requires
+has_rows-requires g c = (
+  two_roots,
+  rw (c.call.ensures, c.call-2.ensures) (idle_child_may c.in_ok-tracker.tracker c.in_ok-tracker.ensures.stands c.in_ok-tracker.ensures.count),
+)

@@ -1,0 +1,9 @@
+use Rattle.rd_hb.specs.TestTraces.{one_root}
+use Rattle.rd_hb.proofs.TrackerTestLemmas.{family_may}
+use Rattle.rd_hb.proofs.tracker.tests.two_children.Goals as goal
+
+pub has_rows-requires : goal.has_rows-requires
+has_rows-requires g c = (
+  one_root,
+  rw (c.call.ensures, c.call-2.ensures, c.call-3.ensures) (family_may c.in_ok-tracker.tracker c.in_ok-tracker.ensures.stands c.in_ok-tracker.ensures.count),
+)

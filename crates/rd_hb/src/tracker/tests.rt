@@ -1,0 +1,179 @@
+ghost use Rattle.std.specs.Prelude.{◌≡◌, ℕ, ◌<◌, Bool, IfOk, [], length};
+ghost use Rattle.rd_hb.specs.Tracker.{StandsFor};
+ghost use Rattle.rd_hb.specs.TestTraces.{call_of, one_root, two_roots, MayTakeAll};
+
+use super::Tracker;
+use crate::clock::Stamp;
+use rd_base::{NoMemory, Slots, Steps};
+use rd_event::{Call, Event};
+use std::alloc::Global;
+use std::marker::Brand;
+use std::process::Abort;
+use std::sync::ledger::{Blank, Ledger};
+use std::test::Fail;
+
+/// The thread of a stamp, its number, and its clock at the threads from 0 to 2.
+type Row = (u32, u32, [u32; 3]);
+
+fn with_one_root(alloc: Global) -> Result<Tracker, NoMemory>
+    ensures stands { IfOk result (λ tracker. StandsFor tracker one_root []) }
+    ensures count { IfOk result (λ tracker. length tracker ≡ 1) }
+{
+    let mut tracker = Tracker::new(alloc);
+    tracker.root(0)?;
+    Ok(tracker)
+}
+
+fn with_two_roots(alloc: Global) -> Result<Tracker, NoMemory>
+    ensures stands { IfOk result (λ tracker. StandsFor tracker two_roots []) }
+    ensures count { IfOk result (λ tracker. length tracker ≡ 2) }
+{
+    let mut tracker = with_one_root(alloc)?;
+    tracker.root(1)?;
+    Ok(tracker)
+}
+
+/// A call of a thread on an object that has the thread's number.
+fn call(alloc: Global, thread: u32) -> Event
+    ensures { result ≡ call_of thread }
+{
+    Event::Call(Call {
+        thread,
+        object: thread,
+        kind: 0,
+        method: 0,
+        slots: Slots::new(alloc),
+    })
+}
+
+fn has_row<L: Ledger>(rt: &impl Abort, stamp: &Stamp, row: &Row, steps: &mut Steps<L>) {
+    assert_eq!(rt; stamp.thread, row.0);
+    assert_eq!(rt; stamp.number, row.1);
+    for (thread, component) in row.2.iter().enumerate() {
+        let thread = thread as u32;
+        assert_eq!(rt; stamp.clock.get(thread, steps), *component);
+        assert!(rt; stamp.clock.covers(thread, *component, steps));
+        assert!(rt; *component == u32::MAX || !stamp.clock.covers(thread, *component + 1, steps));
+    }
+}
+
+/// The stamps of the events are those of the rows.
+fn has_rows<L: Ledger>(
+    rt: &impl Abort,
+    tracker: &mut Tracker,
+    events: &[Event],
+    rows: &[Row],
+    steps: &mut Steps<L>,
+) -> Result<(), NoMemory>
+    requires { (roots : ℕ → Bool) × MayTakeAll tracker.old roots events.now }
+{
+    assert_eq!(rt; events.len(), rows.len());
+    for (i, event) in events.iter().enumerate() {
+        let stamp = tracker.event(event, steps)?;
+        if let Some(row) = rows.get(i) {
+            has_row(rt, &stamp, row, steps);
+        }
+    }
+    Ok(())
+}
+
+/// A thread forks two, each of which calls, joins both and calls.
+fn two_children<L: Ledger>(rt: &impl Abort, alloc: Global, blank: Blank) -> Result<(), NoMemory>
+    requires name { blank.name ≡ L.name }
+    requires parts { blank.parts ≡ L.parts }
+    requires some { 0 < blank.parts }
+{
+    let mut steps = Steps::<L>::new(blank);
+    let mut tracker = with_one_root(alloc)?;
+    let events = [
+        Event::Fork {
+            thread: 0,
+            child: 1,
+        },
+        Event::Fork {
+            thread: 0,
+            child: 2,
+        },
+        call(alloc, 1),
+        call(alloc, 2),
+        Event::Join {
+            thread: 0,
+            child: 1,
+        },
+        Event::Join {
+            thread: 0,
+            child: 2,
+        },
+        call(alloc, 0),
+    ];
+    let rows = [
+        (0, 1, [1, 0, 0]),
+        (0, 2, [2, 0, 0]),
+        (1, 1, [1, 1, 0]),
+        (2, 1, [2, 0, 1]),
+        (0, 3, [3, 1, 0]),
+        (0, 4, [4, 1, 1]),
+        (0, 5, [5, 1, 1]),
+    ];
+    has_rows(rt, &mut tracker, &events, &rows, &mut steps)
+}
+
+/// A thread joins one that had no event, and that another forked after a call: it knows that call.
+fn idle_child<L: Ledger>(rt: &impl Abort, alloc: Global, blank: Blank) -> Result<(), NoMemory>
+    requires name { blank.name ≡ L.name }
+    requires parts { blank.parts ≡ L.parts }
+    requires some { 0 < blank.parts }
+{
+    let mut steps = Steps::<L>::new(blank);
+    let mut tracker = with_two_roots(alloc)?;
+    let events = [
+        call(alloc, 0),
+        Event::Fork {
+            thread: 0,
+            child: 2,
+        },
+        Event::Join {
+            thread: 1,
+            child: 2,
+        },
+        call(alloc, 1),
+    ];
+    let rows = [
+        (0, 1, [1, 0, 0]),
+        (0, 2, [2, 0, 0]),
+        (1, 1, [2, 1, 0]),
+        (1, 2, [2, 2, 0]),
+    ];
+    has_rows(rt, &mut tracker, &events, &rows, &mut steps)
+}
+
+/// Two roots that never meet know nothing of one another.
+fn strangers<L: Ledger>(rt: &impl Abort, alloc: Global, blank: Blank) -> Result<(), NoMemory>
+    requires name { blank.name ≡ L.name }
+    requires parts { blank.parts ≡ L.parts }
+    requires some { 0 < blank.parts }
+{
+    let mut steps = Steps::<L>::new(blank);
+    let mut tracker = with_two_roots(alloc)?;
+    let events = [call(alloc, 0), call(alloc, 1)];
+    let rows = [(0, 1, [1, 0, 0]), (1, 1, [0, 1, 0])];
+    has_rows(rt, &mut tracker, &events, &rows, &mut steps)
+}
+
+#[test]
+fn joined_children_are_known(rt: HostRuntime) -> Result<(), Fail> {
+    two_children::<Brand>(&rt, rt.alloc(), Blank::new(1))?;
+    Ok(())
+}
+
+#[test]
+fn a_join_of_an_idle_child_knows_its_parent(rt: HostRuntime) -> Result<(), Fail> {
+    idle_child::<Brand>(&rt, rt.alloc(), Blank::new(1))?;
+    Ok(())
+}
+
+#[test]
+fn roots_that_never_meet(rt: HostRuntime) -> Result<(), Fail> {
+    strangers::<Brand>(&rt, rt.alloc(), Blank::new(1))?;
+    Ok(())
+}
