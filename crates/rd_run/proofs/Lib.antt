@@ -4,3 +4,5 @@ pub mod OutputLemmas
 pub mod RunLemmas
 pub mod FollowLemmas
 pub mod RosterLemmas
+pub mod EventsLemmas
+pub mod CheckLemmas

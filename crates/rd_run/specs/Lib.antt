@@ -1,5 +1,6 @@
 pub mod Checking
 pub mod Commands
+pub mod Events
 pub mod Follower
 pub mod MayFollow
 pub mod Output

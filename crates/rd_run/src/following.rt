@@ -22,6 +22,9 @@ pub enum Halt {
 
 /// What a command does with each accepted line of a trace, one after another.
 pub trait Follower {
+    /// It has taken no line yet.
+    ghost begins: { Self → Type 0 };
+
     /// From the first, these accepted lines lead to the second.
     ghost follows: { Self → List Entry → Self → Type 0 };
 
@@ -53,7 +56,7 @@ pub trait Follower {
         ensures cause { IfErr result (λ halt. halt ≡ Halt.OutputFault → Rose (S.faults out.old) (S.faults out.new)) };
 
     /// No line leads anywhere else, and nothing is written for none.
-    ghost starts: { (start : Self) → follows start [] start };
+    ghost starts: { (start : Self) → begins start → follows start [] start };
 
     ghost silent: { (start : Self) → text start [] ≡ [] };
 

@@ -17,4 +17,4 @@ pub use endings::{Ending, TraceCause};
 pub use following::{Follower, Halt};
 pub use status::Status;
 pub use top::run;
-pub use wf::{Accepted, Roster, WfCause, WfRefused, law_of_following};
+pub use wf::{Accepted, Roster, WfCause, WfRefused, law_of_events, law_of_following};

@@ -183,7 +183,7 @@ fn check_opened<I: Inputs, S: Sink, L: Ledger>(
     ensures cause { result ≡ Status.OutputFault → Rose (S.faults out.old) (S.faults out.new) }
     ensures no_usage { result ≢ Status.Usage }
 {
-    let mut follower = Check { races: 0 };
+    let mut follower = Check::new(alloc);
     match walk_lines(
         alloc,
         &mut reader,

@@ -110,6 +110,7 @@ pub fn walk_lines<I: Inputs, S: Sink, F: Follower, L: Ledger>(
     requires usable { AreUsable limits.now }
     requires fresh { reader.old ≡ fresh limits.now }
     requires none { StandsFor roster.old [] }
+    requires begins { F.begins follower.old }
     ensures walked { IfOk result (λ ending. (entries : List Entry) × (taken : List ℕ)
         × StandsFor roster.new (items entries)
         × F.follows follower.old entries follower.new

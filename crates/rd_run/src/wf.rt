@@ -1,8 +1,10 @@
 //! Which line may follow the accepted lines of a trace.
-ghost use Rattle.std.specs.Prelude.{◌≡◌, ◌<◌, ◌^◌, List, ℕ, MatchOption};
+ghost use Rattle.std.specs.Prelude.{◌≡◌, ◌↔◌, ◌<◌, ◌^◌, List, ℕ, MatchOption, length, slice_get, Contains, Some};
 ghost use Rattle.rd_base.specs.declared.limits.Limits.{Limits as LimitsOf};
 ghost use Rattle.rd_event.specs.declared.items.Line.{Line as LineOf};
-ghost use Rattle.rd_run.specs.MayFollow.{Follows, FirstBroken, first_broken};
+ghost use Rattle.rd_hb.specs.EventLists.{InRange, Known, WellFormed, joins};
+ghost use Rattle.rd_run.specs.Events.{AreAccepted, events_of, roots_of};
+ghost use Rattle.rd_run.specs.MayFollow.{Follows, FirstBroken, events, first_broken, joined_of, threads_of};
 ghost use Rattle.indexmap.specs.IndexMap.{index_map_len};
 ghost use Rattle.indexmap.specs.IndexSet.{index_set_len};
 
@@ -237,6 +239,19 @@ pub fn law_of_following()
         Follows kinds limits before line → (cause : WfCause) → ¬ (FirstBroken kinds limits before line cause) }
     ensures only { (kinds : List (List ℕ)) (limits : LimitsOf) (before : List LineOf) (line : LineOf) (cause : WfCause) →
         FirstBroken kinds limits before line cause → first_broken kinds limits before line ≡ Some cause }
+{}
+
+/// The events of accepted lines are a well-formed list for the threads that no event begins, as many as the lines of
+/// events, and their numbers are in range. Its known threads are those of the lines, and its joined ones those
+/// that the lines join.
+pub fn law_of_events()
+    ensures formed { (kinds : List (List ℕ)) (lines : List LineOf) → AreAccepted kinds lines → WellFormed (roots_of lines) (events_of lines) }
+    ensures range { (kinds : List (List ℕ)) (lines : List LineOf) → AreAccepted kinds lines → InRange (events_of lines) }
+    ensures count { (kinds : List (List ℕ)) (lines : List LineOf) → AreAccepted kinds lines → length (events_of lines) ≡ events lines }
+    ensures known { (kinds : List (List ℕ)) (lines : List LineOf) → AreAccepted kinds lines → (t : ℕ) →
+        (Known (roots_of lines) (events_of lines) t ↔ (t < length (threads_of lines))) }
+    ensures ended { (kinds : List (List ℕ)) (lines : List LineOf) → AreAccepted kinds lines → (t : ℕ) →
+        ((0 < joins (events_of lines) t) ↔ ((name : List ℕ) × (slice_get (threads_of lines) t ≡ Some name) × Contains (joined_of lines) name)) }
 {}
 
 #[cfg(test)]

@@ -11,7 +11,7 @@ returns-in-Ok-clause-checked g c =
     let (part, writes, output) = c.report.ensures.output in
     let ending = c.in-Ok.ending in
     let front = race_texts entries in
-    let races : c.walk_lines.new.follower.races ≡ races_of entries = omega (arith, follows) in
+    let races : c.walk_lines.new.follower.races ≡ races_of entries = omega (arith, follows.races) in
     let reported = subst (λ n. IsOutput c.report.result part (let o : Outcome = record { text = ending_text n ending; status = check_status n ending } in o)) races output in (
       entries,
       taken,

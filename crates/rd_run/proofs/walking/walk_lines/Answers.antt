@@ -23,7 +23,7 @@ lines-init g c =
       ap (λ (r : Reader). r.ended) c.requires.fresh,
       rw c.requires.fresh (continues_fresh c.args.limits.now),
       c.requires.none,
-      g.met.F.Follower.starts c.args.follower.now,
+      g.met.F.Follower.starts c.args.follower.now c.requires.begins,
       subst (Appends written written) (sym (g.met.F.Follower.silent c.args.follower.now)) (appends_none written written refl),
       omega arith,
       takes_none (g.I.Inputs.told c.args.inputs.now),
