@@ -6,3 +6,5 @@ pub mod FollowLemmas
 pub mod RosterLemmas
 pub mod EventsLemmas
 pub mod CheckLemmas
+pub mod RegisterLemmas
+pub mod DetectLemmas

@@ -7,3 +7,6 @@ pub mod Output
 pub mod Roster
 pub mod Walk
 pub mod Walking
+pub mod Register
+pub mod Races
+pub mod Detect

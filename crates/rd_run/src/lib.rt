@@ -2,9 +2,11 @@
 #![tactic(auto)]
 
 mod checking;
+mod detect;
 mod endings;
 mod following;
 mod judging;
+mod register;
 mod status;
 #[cfg(test)]
 mod tests;
@@ -13,6 +15,7 @@ mod top;
 mod walking;
 mod wf;
 
+pub use detect::Detector;
 pub use endings::{Ending, TraceCause};
 pub use following::{Follower, Halt};
 pub use status::Status;

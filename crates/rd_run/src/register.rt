@@ -1,0 +1,50 @@
+//! The kind `register`.
+ghost use Rattle.std.specs.Prelude.{◌≡◌, ◌↔◌, IsTrue};
+ghost use Rattle.rd_run.specs.Register.{Commute, Keeps, PairHolds};
+
+use rd_base::Value;
+use rd_event::Call;
+
+/// Whether two values are equal. It takes no memory.
+fn are_equal(a: &Value, b: &Value) -> bool
+    ensures { IsTrue result ↔ (a.now ≡ b.now) }
+{
+    match (a, b) {
+        (Value::Nil, Value::Nil) => true,
+        (Value::Bool(a), Value::Bool(b)) => a == b,
+        (Value::Int(a), Value::Int(b)) => a == b,
+        (Value::Text(a), Value::Text(b)) => a.items() == b.items(),
+        _ => false,
+    }
+}
+
+fn keeps(slots: &[Value]) -> bool
+    ensures { IsTrue result ↔ Keeps slots.now }
+{
+    let [value, previous, ..] = slots else {
+        return false;
+    };
+    are_equal(value, previous)
+}
+
+fn pair_holds(first: u8, second: u8, a: &[Value], b: &[Value]) -> bool
+    ensures { IsTrue result ↔ PairHolds first second a.now b.now }
+{
+    match (first, second) {
+        (0, 0) => true,
+        (0, 2) => keeps(b),
+        (2, 2) => keeps(a) && keeps(b),
+        _ => false,
+    }
+}
+
+/// Whether two calls on registers commute. It takes no memory.
+pub fn commute(a: &Call, b: &Call) -> bool
+    ensures { IsTrue result ↔ Commute a.now b.now }
+{
+    let forth = a.method > b.method
+        || pair_holds(a.method, b.method, a.slots.items(), b.slots.items());
+    let back = b.method > a.method
+        || pair_holds(b.method, a.method, b.slots.items(), a.slots.items());
+    forth && back
+}
