@@ -1,1 +1,6 @@
+pub mod CutLemmas
+pub mod SlotLemmas
+pub mod WordLemmas
+pub mod CallLemmas
 pub mod ReadingLemmas
+pub mod SpellLemmas

@@ -1,15 +1,25 @@
 -- What a line of a trace says, and its spelling: this project's profile.
-use Rattle.std.specs.Prelude.{◌≡◌, ℕ, Bool, true, ◌==◌, List, [], ◌∷◌, ◌++◌, codes}
+use Rattle.std.specs.Prelude.{◌≡◌, ℕ, ◌≤◌, Bool, true, ◌==◌, List, [], ◌∷◌, ◌++◌, length, codes}
+use Rattle.std.specs.List.{All}
+use Rattle.rd_base.specs.declared.values.Value.{Value}
 use Rattle.rd_base.specs.Names.{IsName}
+use Rattle.rd_base.specs.Spelling.{IsValue, spelling as value_spelling}
 use Rattle.rd_event.specs.declared.items.Line.{Line}
 use Rattle.rd_event.specs.declared.items.Line.TheVariants.{Skip, Header, Thread, Object, Event}
 use Rattle.rd_event.specs.declared.items.LineEvent.{LineEvent}
-use Rattle.rd_event.specs.declared.items.LineEvent.TheVariants.{Fork, Join}
+use Rattle.rd_event.specs.declared.items.LineEvent.TheVariants.{Fork, Join, Call}
 
--- an item of a trace: its names are names, and its version is 1
+-- the arguments of a call, at most 6, then its result
+pub record AreSlots (slots : List Value) : Type 0 where
+  pub some : 1 ≤ length slots
+  pub few : length slots ≤ 7
+  pub each : All IsValue slots
+
+-- an item of a trace: its names are names, its values are values, and its version is 1
 abbrev pub IsEvent : LineEvent → Type 0
 IsEvent (Fork thread child) = IsName thread × IsName child
 IsEvent (Join thread child) = IsName thread × IsName child
+IsEvent (Call thread object method slots) = IsName thread × IsName object × IsName method × AreSlots slots
 
 abbrev pub InRange : Line → Type 0
 InRange Skip = Unit {0}
@@ -18,13 +28,21 @@ InRange (Thread thread) = IsName thread
 InRange (Object name kind) = IsName name × IsName kind
 InRange (Event event) = IsEvent event
 
--- two names, one space apart
+-- two names or other words, one space apart
 abbrev pub apart : List ℕ → List ℕ → List ℕ
 apart first second = first ++ 32 ∷ second
+
+-- each argument and a space, then an arrow, a space and the result
+abbrev pub slots_spelling : List Value → List ℕ
+slots_spelling [] = []
+slots_spelling (result ∷ []) = apart (codes "->") (value_spelling result)
+slots_spelling (argument ∷ slot ∷ slots) = apart (value_spelling argument) (slots_spelling (slot ∷ slots))
 
 abbrev pub event_spelling : LineEvent → List ℕ
 event_spelling (Fork thread child) = codes "fork " ++ apart thread child
 event_spelling (Join thread child) = codes "join " ++ apart thread child
+event_spelling (Call thread object method slots) =
+    codes "call " ++ apart thread (apart object (apart method (slots_spelling slots)))
 
 -- the one spelling of each item that isn't skipped
 abbrev pub spelling : Line → List ℕ

@@ -1,14 +1,15 @@
 -- The item that bytes spell, computed: this project's profile.
 use Rattle.std.specs.Prelude.{ℕ, Bool, ◌==◌, ◌&&◌, if◌then◌else◌, List, codes, Option, Some, None}
 use Rattle.std.specs.List.{before_first, after_first}
-use Rattle.std.specs.Option.{option_map}
+use Rattle.std.specs.Option.{option_map, option_and_then}
 use Rattle.std.specs.Str.{bytes_eq}
 use Rattle.rd_base.specs.Names.{is_name}
 use Rattle.rd_event.specs.declared.items.Line.{Line}
 use Rattle.rd_event.specs.declared.items.Line.TheVariants.{Skip, Header, Thread, Object, Event}
 use Rattle.rd_event.specs.declared.items.LineEvent.{LineEvent}
-use Rattle.rd_event.specs.declared.items.LineEvent.TheVariants.{Fork, Join}
+use Rattle.rd_event.specs.declared.items.LineEvent.TheVariants.{Fork, Join, Call}
 use Rattle.rd_event.specs.Items.{is_skipped}
+use Rattle.rd_event.specs.ReadingSlots.{slots_of}
 
 abbrev pub is_space : ℕ → Bool
 is_space byte = byte == 32
@@ -24,11 +25,28 @@ names_of bytes =
     let second = after_first is_space bytes in
     if is_name first && is_name second then Some (first, second) else None
 
+-- the call of a line with these bytes behind its keyword: three names and the slots, a space apart
+unfoldable pub call_of : List ℕ → Option LineEvent
+call_of rest =
+    let names = after_first is_space rest in
+    let words = after_first is_space names in
+    let found_thread = name_of (before_first is_space rest) in
+    let found_object = name_of (before_first is_space names) in
+    let found_method = name_of (before_first is_space words) in
+    let found_slots = slots_of 7 (after_first is_space words) in
+    option_and_then (λ thread. option_and_then (λ object. option_and_then (λ method.
+    option_map (λ slots. Call thread object method slots) found_slots) found_method) found_object) found_thread
+
+-- the keyword of a call
+abbrev pub is_call : List ℕ → Bool
+is_call keyword = bytes_eq keyword (codes "call")
+
 -- the event of a line with this keyword and these bytes after the space behind it
 unfoldable pub event_with : List ℕ → List ℕ → Option LineEvent
 event_with keyword rest =
     if bytes_eq keyword (codes "fork") then option_map (λ names. Fork names.0 names.1) (names_of rest)
     else if bytes_eq keyword (codes "join") then option_map (λ names. Join names.0 names.1) (names_of rest)
+    else if is_call keyword then call_of rest
     else None
 
 -- the item of such a line

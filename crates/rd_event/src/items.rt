@@ -1,14 +1,28 @@
 //! What a line of a trace says.
 
-use rd_base::Name;
+use rd_base::{Name, Slots};
 
 /// An event as a line spells it, by names.
 #[derive(Debug, Drop, PartialEq, Eq)]
 pub enum LineEvent {
     /// `fork T U`: thread T begins thread U
-    Fork { thread: Name, child: Name },
+    Fork {
+        thread: Name,
+        child: Name,
+    },
     /// `join T U`: thread T waits for the end of thread U
-    Join { thread: Name, child: Name },
+    Join {
+        thread: Name,
+        child: Name,
+    },
+    /// `call T O M A -> R`: thread T calls method M of object O with the arguments A, a space behind each, and has the result R
+    Call {
+        thread: Name,
+        object: Name,
+        method: Name,
+        /// the arguments, at most 6, then the result
+        slots: Slots,
+    },
 }
 
 /// What a line of a trace says.

@@ -4,9 +4,12 @@
 mod events;
 mod items;
 mod reading;
+mod slots;
+mod spelling;
 #[cfg(test)]
 mod tests;
 
 pub use events::{Call, Event};
 pub use items::{Line, LineEvent};
 pub use reading::{LineRefused, law_of_spelling, read_line};
+pub use spelling::spell;

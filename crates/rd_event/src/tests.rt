@@ -1,7 +1,8 @@
 //! Lines with what they say.
 
-use crate::{Line, LineEvent, LineRefused, read_line};
-use rd_base::{BadName, Name};
+use crate::{Call, Event, Line, LineEvent, LineRefused, read_line, spell};
+use rd_base::{BadName, Name, NoMemory, Slots, Text, Value};
+use std::alloc::Global;
 use std::test::Fail;
 
 fn name(text: &str) -> Result<Name, BadName> {
@@ -94,5 +95,213 @@ fn reads_names_of_at_most_64_bytes(rt: HostRuntime) -> Result<(), Fail> {
     );
     line.push(b'a')?;
     assert_eq!(rt; read_line(rt.alloc(), &line), Err(LineRefused::BadLine));
+    Ok(())
+}
+
+fn slots(alloc: Global, values: &[Value]) -> Result<Slots, NoMemory> {
+    let mut slots = Slots::new(alloc);
+    for value in values {
+        slots.push(value.copy(alloc)?)?;
+    }
+    Ok(slots)
+}
+
+fn call(thread: &str, object: &str, method: &str, slots: Slots) -> Result<Line, BadName> {
+    Ok(Line::Event(LineEvent::Call {
+        thread: name(thread)?,
+        object: name(object)?,
+        method: name(method)?,
+        slots,
+    }))
+}
+
+#[test]
+fn reads_each_call(rt: HostRuntime) -> Result<(), Fail> {
+    let alloc = rt.alloc();
+    let rows = [
+        (
+            "call a x write 7 -> nil",
+            call(
+                "a",
+                "x",
+                "write",
+                slots(alloc, &[Value::Int(7), Value::Nil])?,
+            )?,
+        ),
+        (
+            "call main x read -> 7",
+            call("main", "x", "read", slots(alloc, &[Value::Int(7)])?)?,
+        ),
+        (
+            "call a d put \"k -> \\\"x\" 1 -> nil",
+            call(
+                "a",
+                "d",
+                "put",
+                slots(
+                    alloc,
+                    &[
+                        Value::Text(Text::from_bytes(alloc, b"k -> \"x")?),
+                        Value::Int(1),
+                        Value::Nil,
+                    ],
+                )?,
+            )?,
+        ),
+        (
+            "call a d get \"\\\\\" -> \" \\x0a -> \"",
+            call(
+                "a",
+                "d",
+                "get",
+                slots(
+                    alloc,
+                    &[
+                        Value::Text(Text::from_bytes(alloc, b"\\")?),
+                        Value::Text(Text::from_bytes(alloc, b" \n -> ")?),
+                    ],
+                )?,
+            )?,
+        ),
+        (
+            "call - - - nil true false 0 -1 \"\" -> \"->\"",
+            call(
+                "-",
+                "-",
+                "-",
+                slots(
+                    alloc,
+                    &[
+                        Value::Nil,
+                        Value::Bool(true),
+                        Value::Bool(false),
+                        Value::Int(0),
+                        Value::Int(-1),
+                        Value::Text(Text::from_bytes(alloc, b"")?),
+                        Value::Text(Text::from_bytes(alloc, b"->")?),
+                    ],
+                )?,
+            )?,
+        ),
+    ];
+    for (text, want) in rows {
+        let line = read_line(alloc, text.as_bytes())?;
+        assert_eq!(rt; line, want, "at {text:?}");
+    }
+    Ok(())
+}
+
+#[test]
+fn refuses_what_is_no_call(rt: HostRuntime) {
+    for text in [
+        "call",
+        "call ",
+        "call p",
+        "call p x",
+        "call p x read",
+        "call p x read ",
+        "call p x write 07 -> nil",
+        "call p x  read -> nil",
+        "call p  x read -> nil",
+        "call  p x read -> nil",
+        "call p x read  -> nil",
+        "call p x read ->  nil",
+        "call p x read ->",
+        "call p x read -> ",
+        "call p x -> nil",
+        "call p x read nil",
+        "call p x read nil->nil",
+        "call p x read - > nil",
+        "call p x read -> nil ",
+        "call p x read -> nil\n",
+        "call p x read -> nil nil",
+        "call p x read -> -> nil",
+        "call p x read 1 -> 2 -> 3",
+        "call p x put 1 2 3 4 5 6 7 -> nil",
+        "call p x write -0 -> nil",
+        "call p x write +1 -> nil",
+        "call p x write 9223372036854775808 -> nil",
+        "call p x write \"a -> nil",
+        "call p x write a\" -> nil",
+        "call p x write \"a\"b -> nil",
+        "call p x write \"a\" \" -> nil",
+        "call p x write \"\\x41\" -> nil",
+        "call p x write \"\\\" -> nil",
+        "call p/ x read -> nil",
+        "call p x/ read -> nil",
+        "call p x read/ -> nil",
+        "Call p x read -> nil",
+        "calls p x read -> nil",
+    ] {
+        let refused = read_line(rt.alloc(), text.as_bytes());
+        assert_eq!(rt; refused, Err(LineRefused::BadLine), "at {text:?}");
+    }
+}
+
+#[test]
+fn spells_each_line_as_it_was(rt: HostRuntime) -> Result<(), Fail> {
+    for text in [
+        "",
+        "rdtrace 1",
+        "thread java.util.HashMap@1f2",
+        "object o register",
+        "fork a b",
+        "join a b",
+        "call a x write 7 -> nil",
+        "call main x read -> 7",
+        "call a d put \"k -> \\\"x\" 1 -> nil",
+        "call a d put -9223372036854775808 -> 9223372036854775807",
+        "call a d put \"\\x00\\xff \\\\\" -> \"\"",
+        "call a d put 1 2 3 4 5 6 -> true",
+    ] {
+        let line = read_line(rt.alloc(), text.as_bytes())?;
+        assert_eq!(rt;
+            spell(rt.alloc(), &line)?.items(),
+            text.as_bytes(),
+            "at {text:?}"
+        );
+    }
+    Ok(())
+}
+
+#[test]
+fn spells_a_skipped_line_as_the_empty_line(rt: HostRuntime) -> Result<(), Fail> {
+    let line = read_line(rt.alloc(), b"# a comment")?;
+    assert_eq!(rt; spell(rt.alloc(), &line)?.items(), b"".as_slice());
+    Ok(())
+}
+
+#[test]
+fn copies_are_equal(rt: HostRuntime) -> Result<(), Fail> {
+    let alloc = rt.alloc();
+    let call = Call {
+        thread: 1,
+        object: 2,
+        kind: 3,
+        method: 4,
+        slots: slots(
+            alloc,
+            &[
+                Value::Text(Text::from_bytes(alloc, b"k")?),
+                Value::Int(-5),
+                Value::Nil,
+            ],
+        )?,
+    };
+    assert_eq!(rt; call.copy(alloc)?, call);
+    let events = [
+        Event::Fork {
+            thread: 0,
+            child: 1,
+        },
+        Event::Join {
+            thread: 0,
+            child: 1,
+        },
+        Event::Call(call),
+    ];
+    for event in events {
+        assert_eq!(rt; event.copy(alloc)?, event);
+    }
     Ok(())
 }

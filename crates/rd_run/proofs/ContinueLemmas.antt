@@ -10,7 +10,8 @@ use Rattle.rd_base.specs.declared.limits.Limits.{Limits}
 use Rattle.rd_base.specs.declared.io.lines.ReadEnd.{ReadEnd}
 use Rattle.rd_base.specs.declared.io.lines.ReadEnd.TheVariants.{ReadFault, LineTooLong, BytesLimit, NoFinalNewline}
 use Rattle.rd_event.specs.declared.items.Line.{Line}
-use Rattle.rd_run.specs.MayFollow.{register_alone, headers}
+use Rattle.rd_run.specs.MayFollow.{headers}
+use Rattle.rd_run.specs.Kinds.{register_alone}
 use Rattle.rd_run.specs.Walk.{Entry, items, ends, after, judged, walk, trace_of, ended}
 use Rattle.rd_run.specs.Walking.{Continues, WalksTo, WalksOn, ending_for}
 use Rattle.rd_run.specs.declared.endings.TraceCause.{TraceCause}

@@ -1,5 +1,5 @@
 -- What a detector's list of calls says of races.
-use Rattle.std.proofs.Common.{◌≡◌, ◌↔◌, ◌⊎◌, inl, inr, ℕ, ◌+◌, ◌<◌, ◌≤◌, List, [], ◌∷◌, ◌++◌, length, Option, Some, None, refl, sym, ap, subst, ◌∙◌, arith, length-append}
+use Rattle.std.proofs.Common.{◌≡◌, ◌↔◌, ◌⊎◌, inl, inr, ℕ, ◌<◌, ◌≤◌, List, [], ◌∷◌, ◌++◌, length, Option, Some, None, refl, sym, ap, subst, ◌∙◌, arith}
 use Rattle.std.specs.Prelude.{slice_get, unwrap_or, option_and_then}
 use Rattle.std.proofs.lemmas.Bool.{cases_eq, cases_lt}
 use Rattle.std.proofs.lemmas.Option.{slice_get_within}
@@ -7,14 +7,14 @@ use Rattle.rd_event.specs.declared.events.Call.{Call as CallOf}
 use Rattle.rd_event.specs.declared.events.Event.{Event}
 use Rattle.rd_event.specs.declared.events.Event.TheVariants.{Call}
 use Rattle.rd_hb.specs.Clock.{component}
-use Rattle.rd_hb.specs.EventClocks.{IsOf, OwnNumber}
+use Rattle.rd_hb.specs.EventClocks.{OwnNumber}
 use Rattle.rd_hb.specs.Order.{called, Reaches}
 use Rattle.rd_hb.specs.Tracker.{IsStamp}
 use Rattle.rd_hb.specs.declared.clock.Stamp.{Stamp}
 use Rattle.rd_hb.proofs.ClockLemmas.{clock_tells, own_number_longer}
 use Rattle.rd_hb.proofs.OrderLemmas.{at_front, at_end, length_more}
-use Rattle.rd_run.specs.Detect.{IsAnswer, IsNewest, IsNext, IsSeen, Meets, StandsFor}
-use Rattle.rd_run.specs.Races.{Racing, Reported, IsLatest}
+use Rattle.rd_run.specs.Detect.{IsAnswer, IsNewest, IsSeen, Meets, StandsFor}
+use Rattle.rd_run.specs.Races.{Racing}
 use Rattle.rd_run.specs.Register.{Commute}
 use Rattle.rd_run.specs.declared.detect.Seen.{Seen}
 
@@ -29,7 +29,7 @@ same_call : (o : Option Event) (a b : CallOf) → o ≡ Some (Call a) → o ≡ 
 same_call o a b is_a is_b = ap (λ o. unwrap_or (option_and_then called o) a) (sym is_a ∙ is_b)
 
 -- what stands in a list with one more is in front, or it is the last
-at_more : {X : Type 0} (xs : List X) (y x : X) (k : ℕ) → slice_get (xs ++ y ∷ []) k ≡ Some x
+pub at_more : {X : Type 0} (xs : List X) (y x : X) (k : ℕ) → slice_get (xs ++ y ∷ []) k ≡ Some x
     → ((k < length xs) × (slice_get xs k ≡ Some x)) ⊎ ((k ≡ length xs) × (x ≡ y))
 at_more xs y x k is =
     let inside = slice_get_within (xs ++ y ∷ []) k x is in

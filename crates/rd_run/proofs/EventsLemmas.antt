@@ -1,5 +1,5 @@
 -- The events of accepted lines are a well-formed list.
-use Rattle.std.proofs.Common.{◌≡◌, ◌≢◌, ◌↔◌, ◌⊎◌, inl, inr, ℕ, zero, suc, ◌+◌, ◌<◌, ◌≤◌, ◌==◌, ◌^◌, Bool, true, false, not, cond, ltb, ◌||◌, List, [], ◌∷◌, ◌++◌, length, Option, Some, None, is_some, Contains, slice_get, refl, sym, ap, subst, ◌∙◌, arith, true≢false}
+use Rattle.std.proofs.Common.{◌≡◌, ◌≢◌, ◌↔◌, ◌⊎◌, inl, inr, ℕ, zero, suc, ◌+◌, ◌<◌, ◌≤◌, ◌==◌, ◌^◌, Bool, true, false, not, cond, ltb, ◌&&◌, ◌||◌, List, [], ◌∷◌, ◌++◌, length, Option, Some, None, is_some, Contains, slice_get, unwrap_or, refl, sym, ap, subst, ◌∙◌, arith, true≢false}
 use Rattle.std.specs.List.{cons_option}
 use Rattle.std.specs.Cmp.Lexicographic.{bytes_decides}
 use Rattle.std.proofs.lemmas.Bool.{cases_eq, cases_lt, eq-eqb, ne_eqb, false_from_ne_true}
@@ -11,19 +11,22 @@ use Rattle.std.proofs.lemmas.List.Sums.{sum_by_push}
 use Rattle.std.proofs.lemmas.Option.{none-some, same_Some, slice_get_within}
 use Rattle.rd_base.specs.Limits.{AreUsable}
 use Rattle.rd_base.specs.declared.limits.Limits.{Limits}
+use Rattle.rd_base.specs.declared.values.Value.{Value}
+use Rattle.rd_event.specs.declared.events.Call.{Call as CallOf}
 use Rattle.rd_event.specs.declared.events.Event.{Event as Numbered}
 use Rattle.rd_event.specs.declared.events.Event.TheVariants as numbered
 use Rattle.rd_event.specs.declared.items.Line.{Line}
 use Rattle.rd_event.specs.declared.items.Line.TheVariants.{Skip, Header, Thread, Object, Event}
-use Rattle.rd_event.specs.declared.items.LineEvent.TheVariants.{Fork, Join}
-use Rattle.rd_hb.proofs.EventListLemmas.{formed_more, may_fork, may_join}
-use Rattle.rd_hb.specs.EventLists.{forks, joins, HasNumbers, InRange, Known, WellFormed, MayFollow as MayCome}
-use Rattle.rd_hb.specs.Order.{forked as begun_by, joined as joined_by}
+use Rattle.rd_event.specs.declared.items.LineEvent.TheVariants.{Fork, Join, Call}
+use Rattle.rd_hb.proofs.EventListLemmas.{formed_more, may_call, may_fork, may_join}
+use Rattle.rd_hb.specs.EventLists.{calls, forks, is_call_on, joins, HasNumbers, InRange, Known, WellFormed, MayFollow as MayCome}
+use Rattle.rd_hb.specs.Order.{called as called_by, forked as begun_by, joined as joined_by}
 use Rattle.rd_hb.specs.OrderTests.{is_this}
 use Rattle.rd_run.proofs.FollowLemmas.{among_decides}
-use Rattle.rd_run.specs.Checking.{told_none}
+use Rattle.rd_run.specs.CheckLaws.{told_none}
 use Rattle.rd_run.specs.Events.{AreAccepted, AreAcceptedFrom, AreTold, IsTold, event_of, events_from, events_of, root_count, roots_of}
-use Rattle.rd_run.specs.MayFollow.{Follows, MayFollow, WithinLimits, begun, events, is_among, is_event, is_root, is_skip, joined, joined_of, place, same_name, threads_of}
+use Rattle.rd_run.specs.Kinds.{Kind, kind_names}
+use Rattle.rd_run.specs.MayFollow.{Follows, MayFollow, WithinLimits, begun, declared_kind, events, is_among, is_event, is_root, is_skip, joined, joined_of, kind_number, method_number, object_kinds, objects_of, place, same_name, threads_of}
 
 -- ---- places of names
 
@@ -78,7 +81,7 @@ module _ (names : List (List ℕ)) (name : List ℕ) where
       ∙ ap (λ b. cond b (length names + cond (same_name name name) 0 1) (place names name)) (eq-eqb (place names name) (length names) (place_new fresh))
       ∙ ap (λ b. length names + cond b 0 1) same ∙ omega arith
 
-got_left : (xs ys : List (List ℕ)) (t : ℕ) (x : List ℕ) → slice_get xs t ≡ Some x → slice_get (xs ++ ys) t ≡ Some x
+got_left : {X : Type 0} (xs ys : List X) (t : ℕ) (x : X) → slice_get xs t ≡ Some x → slice_get (xs ++ ys) t ≡ Some x
 got_left [] ys t x at = absurd (none-some x at)
 got_left (z ∷ zs) ys zero x at = at
 got_left (z ∷ zs) ys (suc t) x at = got_left zs ys t x at
@@ -174,10 +177,11 @@ known_fork roots es n thread known t =
       ],
     )
 
-known_join : (roots : ℕ → Bool) (es : List Numbered) (n thread child : ℕ) → KnownBelow roots es n → KnownBelow roots (es ++ numbered.Join thread child ∷ []) n
+-- an event that begins no thread
+known_same : (roots : ℕ → Bool) (es : List Numbered) (n : ℕ) (e : Numbered) → begun_by e ≡ None → KnownBelow roots es n → KnownBelow roots (es ++ e ∷ []) n
 unfolding forks
-known_join roots es n thread child known t =
-    let more : forks (es ++ numbered.Join thread child ∷ []) t ≡ forks es t + 0 = sum_by_push (λ e. cond (is_this (begun_by e) t) 1 0) es (numbered.Join thread child) in (
+known_same roots es n e none known t =
+    let more : forks (es ++ e ∷ []) t ≡ forks es t + 0 = sum_by_push (λ e. cond (is_this (begun_by e) t) 1 0) es e ∙ ap (λ o. forks es t + cond (is_this o t) 1 0) none in (
       λ k. elim k [ inl root ↦ (known t).0 (inl root) | inr some ↦ (let was : 0 < forks es t = omega arith in (known t).0 (inr was)) ],
       λ below. elim ((known t).1 below) [ inl root ↦ inl root | inr some ↦ inr (omega arith) ],
     )
@@ -190,13 +194,57 @@ joins_join : (es : List Numbered) (thread child t : ℕ) → joins (es ++ number
 unfolding joins
 joins_join es thread child t = sum_by_push (λ e. cond (is_this (joined_by e) t) 1 0) es (numbered.Join thread child)
 
+joins_call : (es : List Numbered) (call : CallOf) (t : ℕ) → joins (es ++ numbered.Call call ∷ []) t ≡ joins es t
+unfolding joins
+joins_call es call t = sum_by_push (λ e. cond (is_this (joined_by e) t) 1 0) es (numbered.Call call) ∙ omega arith
+
+-- the calls on an object are of the kind that these numbers give it
+abbrev OneKind : List Numbered → List ℕ → Type 0
+OneKind es objects = (object kind : ℕ) → 0 < calls es object kind → slice_get objects object ≡ Some kind
+
+one_kind_same : (es : List Numbered) (objects : List ℕ) (e : Numbered) → called_by e ≡ None → OneKind es objects → OneKind (es ++ e ∷ []) objects
+unfolding calls
+one_kind_same es objects e none one object kind some =
+    let more : calls (es ++ e ∷ []) object kind ≡ calls es object kind + 0 =
+    sum_by_push (λ e. cond (is_call_on (called_by e) object kind) 1 0) es e ∙ ap (λ o. calls es object kind + cond (is_call_on o object kind) 1 0) none in
+    one object kind (omega arith)
+
+one_kind_call : (es : List Numbered) (objects : List ℕ) (call : CallOf) → slice_get objects call.object ≡ Some call.kind → OneKind es objects → OneKind (es ++ numbered.Call call ∷ []) objects
+unfolding calls
+one_kind_call es objects call at one object kind some =
+    let more : calls (es ++ numbered.Call call ∷ []) object kind ≡ calls es object kind + cond ((call.object == object) && (call.kind == kind)) 1 0 =
+    sum_by_push (λ e. cond (is_call_on (called_by e) object kind) 1 0) es (numbered.Call call) in
+    elim (cases_eq call.object object) [
+      | inl same ↦ elim (cases_eq call.kind kind) [
+        | inl of ↦ ap (slice_get objects) (sym same) ∙ at ∙ ap Some of
+        | inr other ↦
+            let none : calls (es ++ numbered.Call call ∷ []) object kind ≡ calls es object kind + 0 =
+            more ∙ (λ i. calls es object kind + cond (eq-eqb call.object object same i && ne_eqb call.kind kind other i) 1 0) in
+            one object kind (omega arith)
+      ]
+      | inr apart ↦
+          let none : calls (es ++ numbered.Call call ∷ []) object kind ≡ calls es object kind + 0 =
+          more ∙ ap (λ b. calls es object kind + cond (b && (call.kind == kind)) 1 0) (ne_eqb call.object object apart) in
+          one object kind (omega arith)
+    ]
+
+-- so no call on the object is of another kind
+no_other_kind : (es : List Numbered) (objects : List ℕ) (call : CallOf) → slice_get objects call.object ≡ Some call.kind → OneKind es objects
+    → (kind : ℕ) → kind ≢ call.kind → calls es call.object kind ≡ 0
+no_other_kind es objects call at one kind other = elim (cases_eq (calls es call.object kind) 0) [
+  | inl none ↦ none
+  | inr some ↦
+      let was : 0 < calls es call.object kind = omega arith in
+      absurd (other (same_Some kind call.kind (sym (one call.object kind was) ∙ at)))
+]
+
 range_more : (es : List Numbered) (e : Numbered) → InRange es → HasNumbers e → length es < 4294967294 → InRange (es ++ e ∷ [])
 range_more es e range numbers few = record {
   few_events = omega (arith, length-append es (e ∷ []));
   few_threads = All-push HasNumbers es e range.few_threads numbers;
 }
 
-module _ (roots : ℕ → Bool) (es : List Numbered) (count : ℕ) (threads joined : List (List ℕ)) (told : IsTold roots es count threads joined) where
+module _ (roots : ℕ → Bool) (es : List Numbered) (count : ℕ) (threads joined : List (List ℕ)) (objects : List ℕ) (told : IsTold roots es count threads joined objects) where
   -- a thread with this name is known, and runs where it isn't joined
   known_name : (name : List ℕ) → Contains threads name → Known roots es (place threads name)
   known_name name there = (told.known (place threads name)).1 (place_below threads name there)
@@ -212,7 +260,7 @@ module _ (roots : ℕ → Bool) (es : List Numbered) (count : ℕ) (threads join
   ]
 
   told_fork : (thread child : List ℕ) → Contains threads thread → ¬ (Contains joined thread) → ¬ (Contains threads child) → count < 4294967294 → length threads < 4294967295
-      → IsTold roots (es ++ numbered.Fork (place threads thread) (length threads) ∷ []) (count + 1) (threads ++ child ∷ []) joined
+      → IsTold roots (es ++ numbered.Fork (place threads thread) (length threads) ∷ []) (count + 1) (threads ++ child ∷ []) joined objects
   told_fork thread child there runs fresh few room =
       let event : Numbered = numbered.Fork (place threads thread) (length threads) in
       let below : place threads thread < length threads = place_below threads thread there in
@@ -229,10 +277,11 @@ module _ (roots : ℕ → Bool) (es : List Numbered) (count : ℕ) (threads join
         begun = λ name over. Contains-append_left threads (child ∷ []) name (told.begun name over);
         places = one_place_more threads child told.places fresh;
         few = omega arith;
+        one_kind = one_kind_same es objects event refl told.one_kind;
       }
 
   told_join : (thread child : List ℕ) → Contains threads thread → ¬ (Contains joined thread) → Contains threads child → child ≢ thread → count < 4294967294
-      → IsTold roots (es ++ numbered.Join (place threads thread) (place threads child) ∷ []) (count + 1) threads (joined ++ child ∷ [])
+      → IsTold roots (es ++ numbered.Join (place threads thread) (place threads child) ∷ []) (count + 1) threads (joined ++ child ∷ []) objects
   told_join thread child there runs awaited apart few =
       let event : Numbered = numbered.Join (place threads thread) (place threads child) in
       let below : place threads thread < length threads = place_below threads thread there in
@@ -245,12 +294,46 @@ module _ (roots : ℕ → Bool) (es : List Numbered) (count : ℕ) (threads join
         formed = (formed_more roots es event).1 (told.formed, may);
         range = range_more es event told.range (record { acting = omega arith; child = tt; awaited = omega arith }) (omega arith);
         counted = omega (arith, length-append es (event ∷ []));
-        known = known_join roots es (length threads) (place threads thread) (place threads child) told.known;
+        known = known_same roots es (length threads) event refl told.known;
         ended = marks_more (joins es) (joins (es ++ event ∷ [])) threads joined child told.ended told.places awaited (joins_join es (place threads thread) (place threads child));
         begun = λ name over. elim (Contains-push_cases joined child name over) [ inl before ↦ told.begun name before | inr here ↦ subst (Contains threads) here awaited ];
         places = told.places;
         few = told.few;
+        one_kind = one_kind_same es objects event refl told.one_kind;
       }
+
+  told_call : (thread : List ℕ) (call : CallOf) → Contains threads thread → ¬ (Contains joined thread) → call.thread ≡ place threads thread → slice_get objects call.object ≡ Some call.kind
+      → count < 4294967294 → IsTold roots (es ++ numbered.Call call ∷ []) (count + 1) threads joined objects
+  told_call thread call there runs acts at few =
+      let event : Numbered = numbered.Call call in
+      let below : place threads thread < length threads = place_below threads thread there in
+      let so_many : length es ≡ count = told.counted in
+      let room : length threads ≤ 4294967295 = told.few in
+      let may : MayCome roots es event = may_call roots es call
+      (subst (Known roots es) (sym acts) (known_name thread there)) (subst (λ t. joins es t ≡ 0) (sym acts) (running thread there runs)) (no_other_kind es objects call at told.one_kind) in record {
+        formed = (formed_more roots es event).1 (told.formed, may);
+        range = range_more es event told.range (record { acting = omega arith; child = tt; awaited = tt }) (omega arith);
+        counted = omega (arith, length-append es (event ∷ []));
+        known = known_same roots es (length threads) event refl told.known;
+        ended = λ t. subst (λ n. (0 < n) ↔ ((name : List ℕ) × (slice_get threads t ≡ Some name) × Contains joined name)) (sym (joins_call es call t)) (told.ended t);
+        begun = told.begun;
+        places = told.places;
+        few = told.few;
+        one_kind = one_kind_call es objects call at told.one_kind;
+      }
+
+  told_object : (kind : ℕ) → IsTold roots es count threads joined (objects ++ kind ∷ [])
+  told_object kind = record {
+    formed = told.formed;
+    range = told.range;
+    counted = told.counted;
+    known = told.known;
+    ended = told.ended;
+    begun = told.begun;
+    places = told.places;
+    few = told.few;
+    one_kind = λ object of some. got_left objects (kind ∷ []) object of (told.one_kind object of some);
+  }
 
 -- as many roots as threads, where there is no event
 root_total : (es : List Numbered) (r n : ℕ) → es ≡ [] → KnownBelow (λ t. ltb t r) es n → r ≡ n
@@ -276,9 +359,9 @@ known_roots es r none t =
       λ below. inl ((Decides-ltb t r).1 below),
     )
 
-told_root : (r : ℕ) (es : List Numbered) (count : ℕ) (threads joined : List (List ℕ)) (name : List ℕ) → es ≡ [] → IsTold (λ t. ltb t r) es count threads joined
-    → ¬ (Contains threads name) → length threads < 4294967295 → IsTold (λ t. ltb t (r + 1)) es count (threads ++ name ∷ []) joined
-told_root r es count threads joined name none told fresh room =
+told_root : (r : ℕ) (es : List Numbered) (count : ℕ) (threads joined : List (List ℕ)) (objects : List ℕ) (name : List ℕ) → es ≡ [] → IsTold (λ t. ltb t r) es count threads joined objects
+    → ¬ (Contains threads name) → length threads < 4294967295 → IsTold (λ t. ltb t (r + 1)) es count (threads ++ name ∷ []) joined objects
+told_root r es count threads joined objects name none told fresh room =
     let total : r ≡ length threads = root_total es r (length threads) none told.known in
     let more : length (threads ++ name ∷ []) ≡ r + 1 = length-append threads (name ∷ []) ∙ ap (λ n. n + 1) (sym total) in record {
       formed = subst (WellFormed (λ t. ltb t (r + 1))) (sym none) tt;
@@ -289,6 +372,7 @@ told_root r es count threads joined name none told fresh room =
       begun = λ other over. Contains-append_left threads (name ∷ []) other (told.begun other over);
       places = one_place_more threads name told.places fresh;
       few = omega arith;
+      one_kind = told.one_kind;
     }
 
 -- ---- one line more
@@ -297,22 +381,27 @@ cons_append : (o : Option Numbered) (xs ys : List Numbered) → cons_option o (x
 cons_append None xs ys = refl
 cons_append (Some x) xs ys = refl
 
-events_from_more : (before lines : List Line) (line : Line) → events_from before (lines ++ line ∷ []) ≡ events_from before lines ++ cons_option (event_of (before ++ lines) line) []
-events_from_more before [] line = ap (λ b. cons_option (event_of b line) []) (sym (append-nil before))
-events_from_more before (x ∷ xs) line =
-    ap (cons_option (event_of before x)) (events_from_more (before ++ x ∷ []) xs line)
-    ∙ cons_append (event_of before x) (events_from (before ++ x ∷ []) xs) (cons_option (event_of ((before ++ x ∷ []) ++ xs) line) [])
-    ∙ ap (λ b. cons_option (event_of before x) (events_from (before ++ x ∷ []) xs) ++ cons_option (event_of b line) []) (append_assoc before (x ∷ []) xs)
+events_from_more : (kinds : List Kind) (before lines : List Line) (line : Line)
+    → events_from kinds before (lines ++ line ∷ []) ≡ events_from kinds before lines ++ cons_option (event_of kinds (before ++ lines) line) []
+events_from_more kinds before [] line = ap (λ b. cons_option (event_of kinds b line) []) (sym (append-nil before))
+events_from_more kinds before (x ∷ xs) line =
+    ap (cons_option (event_of kinds before x)) (events_from_more kinds (before ++ x ∷ []) xs line)
+    ∙ cons_append (event_of kinds before x) (events_from kinds (before ++ x ∷ []) xs) (cons_option (event_of kinds ((before ++ x ∷ []) ++ xs) line) [])
+    ∙ ap (λ b. cons_option (event_of kinds before x) (events_from kinds (before ++ x ∷ []) xs) ++ cons_option (event_of kinds b line) []) (append_assoc before (x ∷ []) xs)
 
 none_left : (es : List Numbered) → length es ≡ 0 → es ≡ []
 none_left [] e = refl
 none_left (x ∷ xs) e = absurd (omega arith)
 
-module _ (lines : List Line) (line : Line) where
+module _ (kinds : List Kind) (lines : List Line) (line : Line) where
   -- the events of one line more are those before it, and then its own
-  pub events_more : events_of (lines ++ line ∷ []) ≡ events_of lines ++ cons_option (event_of lines line) []
-  events_more = events_from_more [] lines line
+  pub events_more : events_of kinds (lines ++ line ∷ []) ≡ events_of kinds lines ++ cons_option (event_of kinds lines line) []
+  events_more = events_from_more kinds [] lines line
 
+  objects_more : object_kinds kinds (lines ++ line ∷ []) ≡ object_kinds kinds lines ++ cons_option (declared_kind kinds line) []
+  objects_more = filter_map-append (declared_kind kinds) lines (line ∷ [])
+
+module _ (lines : List Line) (line : Line) where
   pub threads_more : threads_of (lines ++ line ∷ []) ≡ threads_of lines ++ cons_option (begun line) []
   threads_more = filter_map-append begun lines (line ∷ [])
 
@@ -325,100 +414,165 @@ module _ (lines : List Line) (line : Line) where
   pub roots_more : root_count (lines ++ line ∷ []) ≡ root_count lines + cond (is_root line) 1 0
   roots_more = sum_by_push (λ l. cond (is_root l) 1 0) lines line
 
+no_more : {X : Type 0} (xs : List X) (o : Option X) → o ≡ None → xs ++ cons_option o [] ≡ xs
+no_more xs o none = ap (λ p. xs ++ cons_option p []) none ∙ append-nil xs
+
+module _ (kinds : List Kind) (lines : List Line) (line : Line) where
   -- what its event and its names make of the others is told of all of them
-  told_as : (r : ℕ) (es : List Numbered) (count : ℕ) (threads joined : List (List ℕ)) → root_count (lines ++ line ∷ []) ≡ r → events_of (lines ++ line ∷ []) ≡ es
-      → events (lines ++ line ∷ []) ≡ count → threads_of (lines ++ line ∷ []) ≡ threads → joined_of (lines ++ line ∷ []) ≡ joined
-      → IsTold (λ t. ltb t r) es count threads joined → AreTold (lines ++ line ∷ [])
-  told_as r es count threads joined a b c d e told = subst (λ (T : Type 0). T) (λ i. IsTold (λ t. ltb t (sym a i)) (sym b i) (sym c i) (sym d i) (sym e i)) told
+  told_as : (r : ℕ) (es : List Numbered) (count : ℕ) (threads joined : List (List ℕ)) (objects : List ℕ) → root_count (lines ++ line ∷ []) ≡ r → events_of kinds (lines ++ line ∷ []) ≡ es
+      → events (lines ++ line ∷ []) ≡ count → threads_of (lines ++ line ∷ []) ≡ threads → joined_of (lines ++ line ∷ []) ≡ joined → object_kinds kinds (lines ++ line ∷ []) ≡ objects
+      → IsTold (λ t. ltb t r) es count threads joined objects → AreTold kinds (lines ++ line ∷ [])
+  told_as r es count threads joined objects a b c d e f told = subst (λ (T : Type 0). T) (λ i. IsTold (λ t. ltb t (sym a i)) (sym b i) (sym c i) (sym d i) (sym e i) (sym f i)) told
 
-  no_more : {X : Type 0} (xs : List X) (o : Option X) → o ≡ None → xs ++ cons_option o [] ≡ xs
-  no_more xs o none = ap (λ p. xs ++ cons_option p []) none ∙ append-nil xs
-
-  -- so it is with a line that begins no thread and is no event
-  told_quiet : is_root line ≡ false → is_event line ≡ false → begun line ≡ None → joined line ≡ None → event_of lines line ≡ None → AreTold lines → AreTold (lines ++ line ∷ [])
-  told_quiet root event begins joins numbers told = told_as (root_count lines) (events_of lines) (events lines) (threads_of lines) (joined_of lines)
-      (roots_more ∙ ap (λ b. root_count lines + cond b 1 0) root ∙ omega arith)
-      (events_more ∙ no_more (events_of lines) (event_of lines line) numbers)
-      (count_more ∙ ap (λ b. events lines + cond b 1 0) event ∙ omega arith)
-      (threads_more ∙ no_more (threads_of lines) (begun line) begins)
-      (joined_more ∙ no_more (joined_of lines) (joined line) joins)
+  -- so it is with a line that begins no thread and is no event, whatever it makes of the objects
+  told_silent : (objects : List ℕ) → is_root line ≡ false → is_event line ≡ false → begun line ≡ None → joined line ≡ None → event_of kinds lines line ≡ None
+      → object_kinds kinds (lines ++ line ∷ []) ≡ objects
+      → IsTold (roots_of lines) (events_of kinds lines) (events lines) (threads_of lines) (joined_of lines) objects → AreTold kinds (lines ++ line ∷ [])
+  told_silent objects root event begins joins numbers declares told = told_as (root_count lines) (events_of kinds lines) (events lines) (threads_of lines) (joined_of lines) objects
+      (roots_more lines line ∙ ap (λ b. root_count lines + cond b 1 0) root ∙ omega arith)
+      (events_more kinds lines line ∙ no_more (events_of kinds lines) (event_of kinds lines line) numbers)
+      (count_more lines line ∙ ap (λ b. events lines + cond b 1 0) event ∙ omega arith)
+      (threads_more lines line ∙ no_more (threads_of lines) (begun line) begins)
+      (joined_more lines line ∙ no_more (joined_of lines) (joined line) joins)
+      declares
       told
 
+  told_quiet : is_root line ≡ false → is_event line ≡ false → begun line ≡ None → joined line ≡ None → event_of kinds lines line ≡ None → declared_kind kinds line ≡ None
+      → AreTold kinds lines → AreTold kinds (lines ++ line ∷ [])
+  told_quiet root event begins joins numbers declares told = told_silent (object_kinds kinds lines) root event begins joins numbers
+      (objects_more kinds lines line ∙ no_more (object_kinds kinds lines) (declared_kind kinds line) declares) told
+
 -- with a root, which comes before every event
-pub no_events : (lines : List Line) → AreTold lines → events lines ≡ 0 → events_of lines ≡ []
-no_events lines told none = none_left (events_of lines) (told.counted ∙ none)
+pub no_events : (kinds : List Kind) (lines : List Line) → AreTold kinds lines → events lines ≡ 0 → events_of kinds lines ≡ []
+no_events kinds lines told none = none_left (events_of kinds lines) (told.counted ∙ none)
 
 -- as many roots as threads there
-pub all_roots : (lines : List Line) → AreTold lines → events lines ≡ 0 → root_count lines ≡ length (threads_of lines)
-all_roots lines told none = root_total (events_of lines) (root_count lines) (length (threads_of lines)) (no_events lines told none) told.known
+pub all_roots : (kinds : List Kind) (lines : List Line) → AreTold kinds lines → events lines ≡ 0 → root_count lines ≡ length (threads_of lines)
+all_roots kinds lines told none = root_total (events_of kinds lines) (root_count lines) (length (threads_of lines)) (no_events kinds lines told none) told.known
 
 not_skipped : (line : Line) → is_skip line ≡ false → line ≢ Skip
 not_skipped line counted skip = true≢false (sym (ap is_skip skip) ∙ counted)
 
-told_rooted : (kinds : List (List ℕ)) (lines : List Line) (name : List ℕ) → MayFollow kinds lines (Thread name) → length (threads_of (lines ++ Thread name ∷ [])) ≤ 4294967295
-    → AreTold lines → AreTold (lines ++ Thread name ∷ [])
+told_declared : (kinds : List Kind) (lines : List Line) (name kind : List ℕ) → AreTold kinds lines → AreTold kinds (lines ++ Object name kind ∷ [])
+told_declared kinds lines name kind told =
+    let line : Line = Object name kind in
+    told_silent kinds lines line (object_kinds kinds lines ++ place (kind_names kinds) kind ∷ []) refl refl refl refl refl (objects_more kinds lines line)
+    (told_object (roots_of lines) (events_of kinds lines) (events lines) (threads_of lines) (joined_of lines) (object_kinds kinds lines) told (place (kind_names kinds) kind))
+
+told_rooted : (kinds : List Kind) (lines : List Line) (name : List ℕ) → MayFollow kinds lines (Thread name) → length (threads_of (lines ++ Thread name ∷ [])) ≤ 4294967295
+    → AreTold kinds lines → AreTold kinds (lines ++ Thread name ∷ [])
 told_rooted kinds lines name may few told =
     let line : Line = Thread name in
     let more : length (threads_of (lines ++ line ∷ [])) ≡ length (threads_of lines) + 1 = ap length (threads_more lines line) ∙ length-append (threads_of lines) (name ∷ []) in
-    told_as lines line (root_count lines + 1) (events_of lines) (events lines) (threads_of lines ++ name ∷ []) (joined_of lines)
+    told_as kinds lines line (root_count lines + 1) (events_of kinds lines) (events lines) (threads_of lines ++ name ∷ []) (joined_of lines) (object_kinds kinds lines)
     (roots_more lines line)
-    (events_more lines line ∙ append-nil (events_of lines))
+    (events_more kinds lines line ∙ append-nil (events_of kinds lines))
     (count_more lines line ∙ omega arith)
     (threads_more lines line)
     (joined_more lines line ∙ append-nil (joined_of lines))
-    (told_root (root_count lines) (events_of lines) (events lines) (threads_of lines) (joined_of lines) name (no_events lines told (may.early_root refl)) told may.new_thread (omega arith))
+    (objects_more kinds lines line ∙ append-nil (object_kinds kinds lines))
+    (told_root (root_count lines) (events_of kinds lines) (events lines) (threads_of lines) (joined_of lines) (object_kinds kinds lines) name
+    (no_events kinds lines told (may.early_root refl)) told may.new_thread (omega arith))
 
-told_forked : (kinds : List (List ℕ)) (limits : Limits) (lines : List Line) (thread child : List ℕ) → AreUsable limits
+told_forked : (kinds : List Kind) (limits : Limits) (lines : List Line) (thread child : List ℕ) → AreUsable limits
     → MayFollow kinds lines (Event (Fork thread child)) → WithinLimits limits lines (Event (Fork thread child))
-    → length (threads_of (lines ++ Event (Fork thread child) ∷ [])) ≤ 4294967295 → AreTold lines → AreTold (lines ++ Event (Fork thread child) ∷ [])
+    → length (threads_of (lines ++ Event (Fork thread child) ∷ [])) ≤ 4294967295 → AreTold kinds lines → AreTold kinds (lines ++ Event (Fork thread child) ∷ [])
 told_forked kinds limits lines thread child usable may within few told =
     let line : Line = Event (Fork thread child) in
     let more : length (threads_of (lines ++ line ∷ [])) ≡ length (threads_of lines) + 1 = ap length (threads_more lines line) ∙ length-append (threads_of lines) (child ∷ []) in
     let few_events : events lines < limits.events = within.few_events refl in
     let most : limits.events ≤ 4294967294 = usable.events in
-    told_as lines line (root_count lines) (events_of lines ++ numbered.Fork (place (threads_of lines) thread) (length (threads_of lines)) ∷ []) (events lines + 1) (threads_of lines ++ child ∷ []) (joined_of lines)
+    told_as kinds lines line (root_count lines) (events_of kinds lines ++ numbered.Fork (place (threads_of lines) thread) (length (threads_of lines)) ∷ []) (events lines + 1)
+    (threads_of lines ++ child ∷ []) (joined_of lines) (object_kinds kinds lines)
     (roots_more lines line ∙ omega arith)
-    (events_more lines line)
+    (events_more kinds lines line)
     (count_more lines line)
     (threads_more lines line)
     (joined_more lines line ∙ append-nil (joined_of lines))
-    (told_fork (roots_of lines) (events_of lines) (events lines) (threads_of lines) (joined_of lines) told thread child may.known_actor may.running may.new_thread (omega arith) (omega arith))
+    (objects_more kinds lines line ∙ append-nil (object_kinds kinds lines))
+    (told_fork (roots_of lines) (events_of kinds lines) (events lines) (threads_of lines) (joined_of lines) (object_kinds kinds lines) told
+    thread child may.known_actor may.running may.new_thread (omega arith) (omega arith))
 
-told_joined : (kinds : List (List ℕ)) (limits : Limits) (lines : List Line) (thread child : List ℕ) → AreUsable limits
-    → MayFollow kinds lines (Event (Join thread child)) → WithinLimits limits lines (Event (Join thread child)) → AreTold lines → AreTold (lines ++ Event (Join thread child) ∷ [])
+told_joined : (kinds : List Kind) (limits : Limits) (lines : List Line) (thread child : List ℕ) → AreUsable limits
+    → MayFollow kinds lines (Event (Join thread child)) → WithinLimits limits lines (Event (Join thread child)) → AreTold kinds lines → AreTold kinds (lines ++ Event (Join thread child) ∷ [])
 told_joined kinds limits lines thread child usable may within told =
     let line : Line = Event (Join thread child) in
     let few_events : events lines < limits.events = within.few_events refl in
     let most : limits.events ≤ 4294967294 = usable.events in
-    told_as lines line (root_count lines) (events_of lines ++ numbered.Join (place (threads_of lines) thread) (place (threads_of lines) child) ∷ []) (events lines + 1) (threads_of lines) (joined_of lines ++ child ∷ [])
+    told_as kinds lines line (root_count lines) (events_of kinds lines ++ numbered.Join (place (threads_of lines) thread) (place (threads_of lines) child) ∷ []) (events lines + 1)
+    (threads_of lines) (joined_of lines ++ child ∷ []) (object_kinds kinds lines)
     (roots_more lines line ∙ omega arith)
-    (events_more lines line)
+    (events_more kinds lines line)
     (count_more lines line)
     (threads_more lines line ∙ append-nil (threads_of lines))
     (joined_more lines line)
-    (told_join (roots_of lines) (events_of lines) (events lines) (threads_of lines) (joined_of lines) told thread child may.known_actor may.running may.known_joined
-    (λ same. may.other_joined (ap (λ name. Some name) (sym same))) (omega arith))
+    (objects_more kinds lines line ∙ append-nil (object_kinds kinds lines))
+    (told_join (roots_of lines) (events_of kinds lines) (events lines) (threads_of lines) (joined_of lines) (object_kinds kinds lines) told
+    thread child may.known_actor may.running may.known_joined (λ same. may.other_joined (ap (λ name. Some name) (sym same))) (omega arith))
+
+-- each object has a kind, by its place
+kinds_placed : (kinds : List Kind) (lines : List Line) → length (object_kinds kinds lines) ≡ length (objects_of lines)
+kinds_placed kinds [] = refl
+kinds_placed kinds (Skip ∷ lines) = kinds_placed kinds lines
+kinds_placed kinds (Header version ∷ lines) = kinds_placed kinds lines
+kinds_placed kinds (Thread name ∷ lines) = kinds_placed kinds lines
+kinds_placed kinds (Object name kind ∷ lines) = ap suc (kinds_placed kinds lines)
+kinds_placed kinds (Event event ∷ lines) = kinds_placed kinds lines
+
+got_inside : (numbers : List ℕ) (i other : ℕ) → i < length numbers → slice_get numbers i ≡ Some (unwrap_or (slice_get numbers i) other)
+got_inside [] i other below = absurd (omega arith)
+got_inside (x ∷ xs) zero other below = refl
+got_inside (x ∷ xs) (suc i) other below = got_inside xs i other (omega arith)
+
+told_called : (kinds : List Kind) (limits : Limits) (lines : List Line) (thread object method : List ℕ) (slots : List Value) → AreUsable limits
+    → MayFollow kinds lines (Event (Call thread object method slots)) → WithinLimits limits lines (Event (Call thread object method slots))
+    → AreTold kinds lines → AreTold kinds (lines ++ Event (Call thread object method slots) ∷ [])
+told_called kinds limits lines thread object method slots usable may within told =
+    let line : Line = Event (Call thread object method slots) in
+    let call : CallOf = record {
+      thread = place (threads_of lines) thread;
+      object = place (objects_of lines) object;
+      kind = kind_number kinds lines object;
+      method = method_number kinds lines object method;
+      slots = slots;
+    } in
+    let below : place (objects_of lines) object < length (objects_of lines) = place_below (objects_of lines) object may.known_object in
+    let at : slice_get (object_kinds kinds lines) call.object ≡ Some call.kind =
+    got_inside (object_kinds kinds lines) (place (objects_of lines) object) (length kinds) (omega (arith, kinds_placed kinds lines)) in
+    let few_events : events lines < limits.events = within.few_events refl in
+    let most : limits.events ≤ 4294967294 = usable.events in
+    told_as kinds lines line (root_count lines) (events_of kinds lines ++ numbered.Call call ∷ []) (events lines + 1) (threads_of lines) (joined_of lines) (object_kinds kinds lines)
+    (roots_more lines line ∙ omega arith)
+    (events_more kinds lines line)
+    (count_more lines line)
+    (threads_more lines line ∙ append-nil (threads_of lines))
+    (joined_more lines line ∙ append-nil (joined_of lines))
+    (objects_more kinds lines line ∙ append-nil (object_kinds kinds lines))
+    (told_call (roots_of lines) (events_of kinds lines) (events lines) (threads_of lines) (joined_of lines) (object_kinds kinds lines) told
+    thread call may.known_actor may.running refl at (omega arith))
 
 -- what is told of accepted lines is told of them with one line more
-pub told_more : (kinds : List (List ℕ)) (limits : Limits) (lines : List Line) (line : Line) → AreUsable limits → Follows kinds limits lines line
-    → length (threads_of (lines ++ line ∷ [])) ≤ 4294967295 → AreTold lines → AreTold (lines ++ line ∷ [])
-told_more kinds limits lines Skip usable follows few told = told_quiet lines Skip refl refl refl refl refl told
-told_more kinds limits lines (Header version) usable follows few told = told_quiet lines (Header version) refl refl refl refl refl told
-told_more kinds limits lines (Object name kind) usable follows few told = told_quiet lines (Object name kind) refl refl refl refl refl told
+pub told_more : (kinds : List Kind) (limits : Limits) (lines : List Line) (line : Line) → AreUsable limits → Follows kinds limits lines line
+    → length (threads_of (lines ++ line ∷ [])) ≤ 4294967295 → AreTold kinds lines → AreTold kinds (lines ++ line ∷ [])
+told_more kinds limits lines Skip usable follows few told = told_quiet kinds lines Skip refl refl refl refl refl refl told
+told_more kinds limits lines (Header version) usable follows few told = told_quiet kinds lines (Header version) refl refl refl refl refl refl told
+told_more kinds limits lines (Object name kind) usable follows few told = told_declared kinds lines name kind told
 told_more kinds limits lines (Thread name) usable (inl skip) few told = absurd (not_skipped (Thread name) refl skip)
 told_more kinds limits lines (Thread name) usable (inr follows) few told = told_rooted kinds lines name follows.0 few told
 told_more kinds limits lines (Event (Fork thread child)) usable (inl skip) few told = absurd (not_skipped (Event (Fork thread child)) refl skip)
 told_more kinds limits lines (Event (Fork thread child)) usable (inr follows) few told = told_forked kinds limits lines thread child usable follows.0 follows.1 few told
 told_more kinds limits lines (Event (Join thread child)) usable (inl skip) few told = absurd (not_skipped (Event (Join thread child)) refl skip)
 told_more kinds limits lines (Event (Join thread child)) usable (inr follows) few told = told_joined kinds limits lines thread child usable follows.0 follows.1 told
+told_more kinds limits lines (Event (Call thread object method slots)) usable (inl skip) few told = absurd (not_skipped (Event (Call thread object method slots)) refl skip)
+told_more kinds limits lines (Event (Call thread object method slots)) usable (inr follows) few told = told_called kinds limits lines thread object method slots usable follows.0 follows.1 told
 
 -- the threads stay below the limit
-few_more : (kinds : List (List ℕ)) (limits : Limits) (lines : List Line) (line : Line) → limits.threads < 2 ^ 32 → Follows kinds limits lines line
+few_more : (kinds : List Kind) (limits : Limits) (lines : List Line) (line : Line) → limits.threads < 2 ^ 32 → Follows kinds limits lines line
     → length (threads_of lines) ≤ 4294967295 → length (threads_of (lines ++ line ∷ [])) ≤ 4294967295
 few_more kinds limits lines line range follows few = by (begun line) refl
   where
     by : (o : Option (List ℕ)) → begun line ≡ o → length (threads_of (lines ++ line ∷ [])) ≤ 4294967295
-    by None begins = subst (λ names. length names ≤ 4294967295) (sym (threads_more lines line ∙ no_more lines line (threads_of lines) (begun line) begins)) few
+    by None begins = subst (λ names. length names ≤ 4294967295) (sym (threads_more lines line ∙ no_more (threads_of lines) (begun line) begins)) few
     by (Some name) begins =
         let more : length (threads_of (lines ++ line ∷ [])) ≡ length (threads_of lines) + 1 =
         ap length (threads_more lines line ∙ ap (λ o. threads_of lines ++ cons_option o []) begins) ∙ length-append (threads_of lines) (name ∷ []) in
@@ -427,13 +581,13 @@ few_more kinds limits lines line range follows few = by (begun line) refl
           | inr may ↦ (let below : length (threads_of lines) < limits.threads = may.1.few_threads (ap is_some begins) in omega arith)
         ]
 
-told_from : (kinds : List (List ℕ)) (before lines : List Line) → AreTold before → AreAcceptedFrom kinds before lines → AreTold (before ++ lines)
-told_from kinds before [] told accepted = subst AreTold (sym (append-nil before)) told
+told_from : (kinds : List Kind) (before lines : List Line) → AreTold kinds before → AreAcceptedFrom kinds before lines → AreTold kinds (before ++ lines)
+told_from kinds before [] told accepted = subst (AreTold kinds) (sym (append-nil before)) told
 told_from kinds before (line ∷ lines) told accepted =
     let next = accepted.0 in
     let more = told_more kinds next.limits before line next.usable next.follows (few_more kinds next.limits before line next.range next.follows told.few) told in
-    subst AreTold (append_assoc before (line ∷ []) lines) (told_from kinds (before ++ line ∷ []) lines more accepted.1)
+    subst (AreTold kinds) (append_assoc before (line ∷ []) lines) (told_from kinds (before ++ line ∷ []) lines more accepted.1)
 
 -- what is told of accepted lines
-pub accepted_told : (kinds : List (List ℕ)) (lines : List Line) → AreAccepted kinds lines → AreTold lines
-accepted_told kinds lines accepted = told_from kinds [] lines told_none accepted
+pub accepted_told : (kinds : List Kind) (lines : List Line) → AreAccepted kinds lines → AreTold kinds lines
+accepted_told kinds lines accepted = told_from kinds [] lines (told_none kinds) accepted

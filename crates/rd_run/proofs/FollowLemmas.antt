@@ -2,7 +2,7 @@
 use Rattle.std.proofs.Common.{◌≡◌, ◌≢◌, ◌↔◌, ◌⊎◌, inl, inr, ℕ, zero, suc, ◌<◌, ◌≤◌, Bool, true, false, not, cond, ◌==◌, ◌&&◌, ltb, leb, lit<, List, [], ◌∷◌, Option, Some, None, is_some, IfSome, IsSomeAnd, IsTrue, Contains, MatchOption, length, Decides, refl, sym, ap, subst, ◌∙◌, arith, true≢false}
 use Rattle.std.specs.List.{AllByRecursion}
 use Rattle.std.specs.Cmp.Lexicographic.{bytes_decides, nat_list_eq_equiv}
-use Rattle.std.proofs.lemmas.Bool.Decides.{Decides-and, Decides-or, Decides-not, Decides-ltb, Decides-like, not_from_Decides, nat_tests}
+use Rattle.std.proofs.lemmas.Bool.Decides.{Decides-and, Decides-or, Decides-not, Decides-eqb, Decides-ltb, Decides-like, not_from_Decides, nat_tests}
 use Rattle.std.proofs.lemmas.Bool.{cases_order, or_parts, false_from_ne_true, not-false}
 use Rattle.std.proofs.lemmas.Map.Views.{Contains-from_any, list_any-from_Contains}
 use Rattle.rd_base.specs.declared.limits.Limits.{Limits}
@@ -11,8 +11,9 @@ use Rattle.rd_event.specs.declared.items.Line.{Line}
 use Rattle.rd_event.specs.declared.items.Line.TheVariants.{Skip, Thread, Object, Event}
 use Rattle.rd_event.specs.declared.items.LineEvent.TheVariants.{Fork, Join}
 use Rattle.rd_run.specs.declared.wf.causes.WfCause.{WfCause}
-use Rattle.rd_run.specs.declared.wf.causes.WfCause.TheVariants.{HeaderFirst, LateRoot, NameTaken, UnknownThread, ThreadEnded, OwnThread, UnknownKind, Limit}
-use Rattle.rd_run.specs.MayFollow.{is_skip, is_header, is_root, is_event, begun, acting, joined, declared, kind_of, threads_of, joined_of, objects_of, headers, events, MayFollow, WithinLimits, Follows, Breaks, part_number, FirstBroken, same_name, is_among, passes, tests, first_true, first_broken}
+use Rattle.rd_run.specs.declared.wf.causes.WfCause.TheVariants.{HeaderFirst, LateRoot, NameTaken, UnknownThread, ThreadEnded, OwnThread, UnknownKind, UnknownObject, UnknownMethod, WrongCount, Limit}
+use Rattle.rd_run.specs.Kinds.{Kind, kind_names, method_names}
+use Rattle.rd_run.specs.MayFollow.{Called, called, methods_of, slots_of, is_skip, is_header, is_root, is_event, begun, acting, joined, declared, kind_of, threads_of, joined_of, objects_of, headers, events, MayFollow, WithinLimits, Follows, Breaks, part_number, FirstBroken, same_name, is_among, passes, tests, first_true, first_broken}
 
 -- ---- tests of names
 
@@ -25,18 +26,18 @@ among_decides names name = (
 absent_decides : (names : List (List ℕ)) (name : List ℕ) → Decides (not (is_among names name)) (¬ (Contains names name))
 absent_decides names name = Decides-not _ (among_decides names name)
 
-passes_decides : (o : Option (List ℕ)) (test : List ℕ → Bool) (P : List ℕ → Type 0) → ((name : List ℕ) → Decides (test name) (P name)) → Decides (passes o test) (IsSomeAnd o P)
+passes_decides : {X : Type 0} (o : Option X) (test : X → Bool) (P : X → Type 0) → ((x : X) → Decides (test x) (P x)) → Decides (passes o test) (IsSomeAnd o P)
 passes_decides None test P each = (λ h. true≢false (sym h), λ h. absurd h)
-passes_decides (Some name) test P each = each name
+passes_decides (Some x) test P each = each x
 
--- where no name passes, the test fails for the name, if there is one
-none_passes : (o : Option (List ℕ)) (test : List ℕ → Bool) (Q : List ℕ → Type 0) → ((name : List ℕ) → test name ≡ false → Q name) → passes o test ≡ false → IfSome o Q
+-- where none passes, the test fails for the one that there may be
+none_passes : {X : Type 0} (o : Option X) (test : X → Bool) (Q : X → Type 0) → ((x : X) → test x ≡ false → Q x) → passes o test ≡ false → IfSome o Q
 none_passes None test Q each h = tt
-none_passes (Some name) test Q each h = each name h
+none_passes (Some x) test Q each h = each x h
 
-if_some_not : (o : Option (List ℕ)) (P Q : List ℕ → Type 0) → ((name : List ℕ) → Q name → ¬ (P name)) → IfSome o Q → ¬ (IsSomeAnd o P)
+if_some_not : {X : Type 0} (o : Option X) (P Q : X → Type 0) → ((x : X) → Q x → ¬ (P x)) → IfSome o Q → ¬ (IsSomeAnd o P)
 if_some_not None P Q apart h k = k
-if_some_not (Some name) P Q apart h k = apart name h k
+if_some_not (Some x) P Q apart h k = apart x h k
 
 skip_is : (line : Line) → is_skip line ≡ true → line ≡ Skip
 skip_is Skip e = refl
@@ -173,7 +174,19 @@ module _ (names : List (List ℕ)) (o : Option (List ℕ)) where
   is_contained : passes o (λ name. not (is_among names name)) ≡ false → IfSome o (Contains names)
   is_contained = none_passes o _ _ (λ name e. (among_decides names name).0 (not-false _ e))
 
-module _ (kinds : List (List ℕ)) (limits : Limits) (before : List Line) (line : Line) where
+-- ---- calls
+
+module _ (kinds : List Kind) (before : List Line) where
+  object_decides : (call : Called) → Decides (not (is_among (objects_of before) call.object)) (¬ (Contains (objects_of before) call.object))
+  object_decides call = absent_decides (objects_of before) call.object
+
+  method_decides : (call : Called) → Decides (not (is_among (method_names (methods_of kinds before call.object)) call.method)) (¬ (Contains (method_names (methods_of kinds before call.object)) call.method))
+  method_decides call = absent_decides (method_names (methods_of kinds before call.object)) call.method
+
+  count_decides : (call : Called) → Decides (not (length call.slots == slots_of kinds before call)) (length call.slots ≢ slots_of kinds before call)
+  count_decides call = Decides-not _ (Decides-eqb (length call.slots) (slots_of kinds before call))
+
+module _ (kinds : List Kind) (limits : Limits) (before : List Line) (line : Line) where
   told : Told (Breaks kinds limits before line) (tests kinds limits before line)
   told = (
     header_decides (is_header line) (headers before),
@@ -188,12 +201,21 @@ module _ (kinds : List (List ℕ)) (limits : Limits) (before : List Line) (line 
             (
               own_decides line,
               (
-                passes_decides (kind_of line) _ _ (absent_decides kinds),
+                passes_decides (kind_of line) _ _ (absent_decides (kind_names kinds)),
                 (
-                  limit_decides (is_event line) limits.events (events before),
+                  passes_decides (called line) _ _ (object_decides kinds before),
                   (
-                    limit_decides (is_some (begun line)) limits.threads (length (threads_of before)),
-                    (limit_decides (is_some (declared line)) limits.objects (length (objects_of before)), tt),
+                    passes_decides (called line) _ _ (method_decides kinds before),
+                    (
+                      passes_decides (called line) _ _ (count_decides kinds before),
+                      (
+                        limit_decides (is_event line) limits.events (events before),
+                        (
+                          limit_decides (is_some (begun line)) limits.threads (length (threads_of before)),
+                          (limit_decides (is_some (declared line)) limits.objects (length (objects_of before)), tt),
+                        ),
+                      ),
+                    ),
                   ),
                 ),
               ),
@@ -205,7 +227,7 @@ module _ (kinds : List (List ℕ)) (limits : Limits) (before : List Line) (line 
   )
 
   rising : Rising (Breaks kinds limits before line) 0 (tests kinds limits before line)
-  rising = (lit< tt, (lit< tt, (lit< tt, (lit< tt, (lit< tt, (lit< tt, (lit< tt, (lit< tt, (lit< tt, (lit< tt, tt))))))))))
+  rising = (lit< tt, (lit< tt, (lit< tt, (lit< tt, (lit< tt, (lit< tt, (lit< tt, (lit< tt, (lit< tt, (lit< tt, (lit< tt, (lit< tt, (lit< tt, tt)))))))))))))
 
   -- each broken part has a test
   tested : (cause : WfCause) → Breaks kinds limits before line cause → Tested (Breaks kinds limits before line) cause (tests kinds limits before line)
@@ -216,9 +238,12 @@ module _ (kinds : List (List ℕ)) (limits : Limits) (before : List Line) (line 
   tested ThreadEnded b = inr (inr (inr (inr (inl refl))))
   tested OwnThread b = inr (inr (inr (inr (inr (inl refl)))))
   tested UnknownKind b = inr (inr (inr (inr (inr (inr (inl refl))))))
-  tested (Limit Events number) b = inr (inr (inr (inr (inr (inr (inr (inl (ap (λ n. Limit Events n) (sym b.2)))))))))
-  tested (Limit Threads number) b = inr (inr (inr (inr (inr (inr (inr (inr (inl (ap (λ n. Limit Threads n) (sym b.2))))))))))
-  tested (Limit Objects number) b = inr (inr (inr (inr (inr (inr (inr (inr (inr (inl (ap (λ n. Limit Objects n) (sym b.2)))))))))))
+  tested UnknownObject b = inr (inr (inr (inr (inr (inr (inr (inl refl)))))))
+  tested UnknownMethod b = inr (inr (inr (inr (inr (inr (inr (inr (inl refl))))))))
+  tested WrongCount b = inr (inr (inr (inr (inr (inr (inr (inr (inr (inl refl)))))))))
+  tested (Limit Events number) b = inr (inr (inr (inr (inr (inr (inr (inr (inr (inr (inl (ap (λ n. Limit Events n) (sym b.2))))))))))))
+  tested (Limit Threads number) b = inr (inr (inr (inr (inr (inr (inr (inr (inr (inr (inr (inl (ap (λ n. Limit Threads n) (sym b.2)))))))))))))
+  tested (Limit Objects number) b = inr (inr (inr (inr (inr (inr (inr (inr (inr (inr (inr (inr (inl (ap (λ n. Limit Objects n) (sym b.2))))))))))))))
   tested (Limit name number) b = absurd b
 
   -- where all tests fail, the line meets the rules
@@ -235,12 +260,15 @@ module _ (kinds : List (List ℕ)) (limits : Limits) (before : List Line) (line 
           known_joined = is_contained (threads_of before) (joined line) unknown.1;
           running = none_among (joined_of before) (acting line) h.1.1.1.1.0;
           other_joined = none_passes (joined line) _ _ (λ name e. not_from_Decides _ (is_decides (acting line) name) e) h.1.1.1.1.1.0;
-          known_kind = is_contained kinds (kind_of line) h.1.1.1.1.1.1.0;
+          known_kind = is_contained (kind_names kinds) (kind_of line) h.1.1.1.1.1.1.0;
+          known_object = none_passes (called line) _ _ (λ call e. (among_decides (objects_of before) call.object).0 (not-false _ e)) h.1.1.1.1.1.1.1.0;
+          known_method = none_passes (called line) _ _ (λ call e. (among_decides (method_names (methods_of kinds before call.object)) call.method).0 (not-false _ e)) h.1.1.1.1.1.1.1.1.0;
+          right_count = none_passes (called line) _ _ (λ call e. (Decides-eqb (length call.slots) (slots_of kinds before call)).0 (not-false _ e)) h.1.1.1.1.1.1.1.1.1.0;
         },
         record {
-          few_events = below_limit (is_event line) limits.events (events before) h.1.1.1.1.1.1.1.0;
-          few_threads = below_limit (is_some (begun line)) limits.threads (length (threads_of before)) h.1.1.1.1.1.1.1.1.0;
-          few_objects = below_limit (is_some (declared line)) limits.objects (length (objects_of before)) h.1.1.1.1.1.1.1.1.1.0;
+          few_events = below_limit (is_event line) limits.events (events before) h.1.1.1.1.1.1.1.1.1.1.0;
+          few_threads = below_limit (is_some (begun line)) limits.threads (length (threads_of before)) h.1.1.1.1.1.1.1.1.1.1.1.0;
+          few_objects = below_limit (is_some (declared line)) limits.objects (length (objects_of before)) h.1.1.1.1.1.1.1.1.1.1.1.1.0;
         },
       )
 
@@ -259,6 +287,9 @@ module _ (kinds : List (List ℕ)) (limits : Limits) (before : List Line) (line 
   apart may within ThreadEnded b = if_some_not (acting line) _ _ (λ name h. h) may.running b
   apart may within OwnThread b = if_some_not (joined line) _ _ (λ name h. h) may.other_joined b
   apart may within UnknownKind b = if_some_not (kind_of line) _ _ (λ name there lacks. lacks there) may.known_kind b
+  apart may within UnknownObject b = if_some_not (called line) _ _ (λ call there lacks. lacks there) may.known_object b
+  apart may within UnknownMethod b = if_some_not (called line) _ _ (λ call there lacks. lacks there) may.known_method b
+  apart may within WrongCount b = if_some_not (called line) _ _ (λ call same other. other same) may.right_count b
   apart may within (Limit Events number) b = let few : events before < limits.events = within.few_events b.0 in let many : limits.events ≤ events before = b.1 in omega arith
   apart may within (Limit Threads number) b =
       let few : length (threads_of before) < limits.threads = within.few_threads b.0 in let many : limits.threads ≤ length (threads_of before) = b.1 in omega arith
@@ -328,7 +359,7 @@ module _ (kinds : List (List ℕ)) (limits : Limits) (before : List Line) (line 
 
 -- ---- what a line that may follow tells of its names
 
-module _ (kinds : List (List ℕ)) (limits : Limits) (before : List Line) where
+module _ (kinds : List Kind) (limits : Limits) (before : List Line) where
   not_among : (names : List (List ℕ)) (name : List ℕ) → ¬ (Contains names name) → is_among names name ≡ false
   not_among names name lacks = false_from_ne_true _ (λ h. lacks ((among_decides names name).0 h))
 

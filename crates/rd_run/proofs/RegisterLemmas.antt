@@ -1,5 +1,5 @@
 -- Slots of a register's calls.
-use Rattle.std.proofs.Common.{◌≡◌, ◌↔◌, ◌≤◌, ℕ, Bool, IsTrue, List, [], ◌∷◌, length, Option, Some, refl, sym, ap, ◌∙◌, arith, slice_index_or}
+use Rattle.std.proofs.Common.{◌≡◌, ◌↔◌, ◌≤◌, Bool, IsTrue, List, [], ◌∷◌, length, Some, refl, sym, ap, ◌∙◌, arith, slice_index_or}
 use Rattle.std.specs.Prelude.{unwrap_or}
 use Rattle.rd_base.specs.declared.values.Value.{Value}
 use Rattle.rd_run.specs.Register.{Keeps}

@@ -1,5 +1,5 @@
 -- What a roster tells of the accepted lines that it stands for.
-use Rattle.std.proofs.Common.{◌≡◌, inl, inr, ℕ, zero, suc, ◌+◌, Bool, true, false, not, cond, ◌==◌, ◌||◌, ltb, leb, List, [], ◌∷◌, ◌++◌, map, Option, Some, None, is_some, Result, Ok, Err, IfOk, IfErr, OnOk, Contains, filter_map, length, position, slice_get, option_map, if◌then◌else◌, nat_lt, nat_le, refl, sym, ap, subst, ◌∙◌, arith, add-zero, true≢false}
+use Rattle.std.proofs.Common.{◌≡◌, inl, inr, ℕ, zero, suc, ◌+◌, Bool, true, false, not, cond, ◌==◌, ◌||◌, ltb, leb, List, [], ◌∷◌, ◌++◌, map, Option, Some, None, is_some, Result, Ok, Err, IfOk, IfErr, OnOk, Contains, filter_map, length, position, slice_get, option_map, unwrap_or, if◌then◌else◌, nat_lt, nat_le, refl, sym, ap, subst, ◌∙◌, arith, add-zero, true≢false}
 use Rattle.std.specs.List.{list_any, position_or_len, IsDistinct, AllByRecursion}
 use Rattle.std.proofs.lemmas.Map.Keys.{IsDistinct-head, IsDistinct-tail}
 use Rattle.std.specs.Map.{lookup, keys_of}
@@ -15,21 +15,23 @@ use Rattle.indexmap.specs.IndexMap.{get_by, index_of_by, insert_entry}
 use Rattle.indexmap.proofs.CallerLemmas.{insert_entry-new}
 use Rattle.std.proofs.lemmas.Option.{slice_get-map}
 use Rattle.indexmap.specs.Layout.{set_value_at}
-use Rattle.indexmap.specs.IndexSet as set
 use Rattle.rd_base.specs.declared.limits.Limits.{Limits}
+use Rattle.rd_base.specs.declared.values.Value.{Value}
 use Rattle.rd_base.specs.declared.limits.LimitName.TheVariants.{Events, Threads, Objects}
 use Rattle.rd_event.specs.declared.items.Line.{Line}
 use Rattle.rd_event.specs.declared.items.Line.TheVariants.{Skip, Header, Thread, Object, Event}
-use Rattle.rd_event.specs.declared.items.LineEvent.TheVariants.{Fork, Join}
+use Rattle.rd_event.specs.declared.items.LineEvent.TheVariants.{Fork, Join, Call}
 use Rattle.rd_run.specs.declared.wf.causes.WfCause.{WfCause}
-use Rattle.rd_run.specs.declared.wf.causes.WfCause.TheVariants.{HeaderFirst, LateRoot, NameTaken, UnknownThread, ThreadEnded, OwnThread, UnknownKind, Limit}
+use Rattle.rd_run.specs.declared.wf.causes.WfCause.TheVariants.{HeaderFirst, LateRoot, NameTaken, UnknownThread, ThreadEnded, OwnThread, UnknownKind, UnknownObject, UnknownMethod, WrongCount, Limit}
 use Rattle.rd_run.specs.declared.wf.causes.WfRefused.{WfRefused}
 use Rattle.rd_run.specs.declared.wf.causes.WfRefused.TheVariants.{Cause}
 use Rattle.rd_run.specs.declared.wf.causes.Accepted.{Accepted}
 use Rattle.rd_run.specs.declared.wf.Roster.{Roster}
+use Rattle.rd_run.specs.declared.wf.methods.Methods.{Methods}
 use Rattle.rd_run.proofs.FollowLemmas.{among_decides, follows_from_none, broken_from_some}
-use Rattle.rd_run.specs.MayFollow.{begun, joined, is_header, is_event, threads_of, joined_of, objects_of, headers, events, same_name, is_among, place, register_alone, first_broken, Follows, FirstBroken}
-use Rattle.rd_run.specs.Roster.{StandsFor, thread_entry, object_entry, thread_count, object_count, Takes, Refuses}
+use Rattle.rd_run.specs.MayFollow.{begun, joined, is_header, is_event, threads_of, joined_of, objects_of, headers, events, same_name, is_among, place, kind_number, methods_of, object_kinds, slots_of, first_broken, Follows, FirstBroken}
+use Rattle.rd_run.specs.Kinds.{Kind, Method, kind_names, method_names, methods_at, register_alone, slots_at}
+use Rattle.rd_run.specs.Roster.{StandsFor, kind_entry, method_entry, methods_in, thread_entry, object_entry, thread_count, object_count, Takes, Refuses}
 
 -- ---- look-ups
 
@@ -80,13 +82,43 @@ lookup-entries lines name (x ∷ xs) joined e = by (same_name name x) refl (look
     by false other rest =
         rest (sym (ap (λ b. cond b (Some (is_among (joined_of lines) x)) (lookup (same_name name) (map (thread_entry lines) xs))) other) ∙ e)
 
-keys-objects : (kinds : List (List ℕ)) (lines : List Line) → keys_of (filter_map (object_entry kinds) lines) ≡ objects_of lines
+keys-objects : (kinds : List Kind) (lines : List Line) → keys_of (filter_map (object_entry kinds) lines) ≡ objects_of lines
 keys-objects kinds [] = refl
 keys-objects kinds (Skip ∷ lines) = keys-objects kinds lines
 keys-objects kinds (Header version ∷ lines) = keys-objects kinds lines
 keys-objects kinds (Thread name ∷ lines) = keys-objects kinds lines
 keys-objects kinds (Object name kind ∷ lines) = ap (λ names. name ∷ names) (keys-objects kinds lines)
 keys-objects kinds (Event event ∷ lines) = keys-objects kinds lines
+
+kinds-objects : (kinds : List Kind) (lines : List Line) → map (λ (e : List ℕ × ℕ). e.1) (filter_map (object_entry kinds) lines) ≡ object_kinds kinds lines
+kinds-objects kinds [] = refl
+kinds-objects kinds (Skip ∷ lines) = kinds-objects kinds lines
+kinds-objects kinds (Header version ∷ lines) = kinds-objects kinds lines
+kinds-objects kinds (Thread name ∷ lines) = kinds-objects kinds lines
+kinds-objects kinds (Object name kind ∷ lines) = ap (λ numbers. place (kind_names kinds) kind ∷ numbers) (kinds-objects kinds lines)
+kinds-objects kinds (Event event ∷ lines) = kinds-objects kinds lines
+
+names-kinds : (entries : List (List ℕ × Methods)) → keys_of entries ≡ kind_names (map kind_entry entries)
+names-kinds [] = refl
+names-kinds (e ∷ es) = ap (λ names. e.0 ∷ names) (names-kinds es)
+
+names-methods : (entries : List (List ℕ × ℕ)) → keys_of entries ≡ method_names (map method_entry entries)
+names-methods [] = refl
+names-methods (e ∷ es) = ap (λ names. e.0 ∷ names) (names-methods es)
+
+-- ---- methods
+
+module _ (methods : Methods) where
+  pub method_known : (name : List ℕ) → is_some (get_by (same_name name) methods.slots) ≡ is_among (method_names (methods_in methods)) name
+  method_known name = is_some-lookup (same_name name) methods.slots.entries ∙ ap (λ names. is_among names name) (names-methods methods.slots.entries)
+
+  pub method_place : (name : List ℕ) (i : ℕ) → index_of_by (same_name name) methods.slots ≡ Some i → i ≡ place (method_names (methods_in methods)) name
+  method_place name i e = position-place (same_name name) (keys_of methods.slots.entries) i e ∙ ap (λ names. place names name) (names-methods methods.slots.entries)
+
+  pub method_slots : (i : ℕ) (e : List ℕ × ℕ) → slice_get methods.slots.entries i ≡ Some e → slots_at (methods_in methods) i ≡ e.1
+  method_slots i e at =
+      let there : slice_get (methods_in methods) i ≡ Some (method_entry e) = slice_get-map method_entry methods.slots.entries i ∙ ap (option_map method_entry) at in
+      ap (λ o. unwrap_or (option_map (λ (m : Method). m.slots) o) 0) there
 
 none_is : {X : Type 0} (o : Option X) → is_some o ≡ false → o ≡ None
 none_is None e = refl
@@ -113,8 +145,36 @@ module _ (roster : Roster) (lines : List Line) (stands : StandsFor roster lines)
   pub thread_joined : (name : List ℕ) (joined : Bool) → get_by (same_name name) roster.threads ≡ Some joined → joined ≡ is_among (joined_of lines) name
   thread_joined name joined e = lookup-entries lines name (threads_of lines) joined (sym (ap (lookup (same_name name)) stands.thread_entries) ∙ e)
 
-  pub kind_place : (kind : List ℕ) (i : ℕ) → set.index_of_by (same_name kind) roster.kinds ≡ Some i → i ≡ place register_alone kind
-  kind_place kind i e = position-place (same_name kind) roster.kinds.keys i e ∙ ap (λ names. place names kind) stands.kind_names
+  names_are : keys_of roster.kinds.entries ≡ kind_names register_alone
+  names_are = names-kinds roster.kinds.entries ∙ ap kind_names stands.kind_entries
+
+  pub kind_place : (kind : List ℕ) (i : ℕ) → index_of_by (same_name kind) roster.kinds ≡ Some i → i ≡ place (kind_names register_alone) kind
+  kind_place kind i e = position-place (same_name kind) (keys_of roster.kinds.entries) i e ∙ ap (λ names. place names kind) names_are
+
+  kind_known : (kind : List ℕ) → is_some (get_by (same_name kind) roster.kinds) ≡ is_among (kind_names register_alone) kind
+  kind_known kind = is_some-lookup (same_name kind) roster.kinds.entries ∙ ap (λ names. is_among names kind) names_are
+
+  -- the methods of a kind, by its number
+  kind_at : (i : ℕ) → slice_get register_alone i ≡ option_map kind_entry (slice_get roster.kinds.entries i)
+  kind_at i = ap (λ kinds. slice_get kinds i) (sym stands.kind_entries) ∙ slice_get-map kind_entry roster.kinds.entries i
+
+  pub kind_methods : (i : ℕ) (e : List ℕ × Methods) → slice_get roster.kinds.entries i ≡ Some e → methods_in e.1 ≡ methods_at register_alone i
+  kind_methods i e at = sym (ap (λ o. unwrap_or (option_map (λ (kind : Kind). kind.methods) o) []) (kind_at i ∙ ap (option_map kind_entry) at))
+
+  pub no_methods : (i : ℕ) → slice_get roster.kinds.entries i ≡ None → methods_at register_alone i ≡ []
+  no_methods i none = ap (λ o. unwrap_or (option_map (λ (kind : Kind). kind.methods) o) []) (kind_at i ∙ ap (option_map kind_entry) none)
+
+  -- the number of an object, and that of its kind
+  pub object_place : (name : List ℕ) (i : ℕ) → index_of_by (same_name name) roster.objects ≡ Some i → i ≡ place (objects_of lines) name
+  object_place name i e = position-place (same_name name) (keys_of roster.objects.entries) i e ∙ ap (λ names. place names name) object_keys
+
+  pub object_kind : (name : List ℕ) (i : ℕ) (e : List ℕ × ℕ) → i ≡ place (objects_of lines) name → slice_get roster.objects.entries i ≡ Some e → e.1 ≡ kind_number register_alone lines name
+  object_kind name i e number at =
+      let kinds : map (λ (e : List ℕ × ℕ). e.1) roster.objects.entries ≡ object_kinds register_alone lines =
+      ap (map (λ (e : List ℕ × ℕ). e.1)) stands.object_entries ∙ kinds-objects register_alone lines in
+      let there : slice_get (object_kinds register_alone lines) i ≡ Some e.1 =
+      ap (λ ks. slice_get ks i) (sym kinds) ∙ slice_get-map (λ (e : List ℕ × ℕ). e.1) roster.objects.entries i ∙ ap (option_map (λ (e : List ℕ × ℕ). e.1)) at in
+      sym (ap (λ o. unwrap_or o (length register_alone)) (ap (slice_get (object_kinds register_alone lines)) (sym number) ∙ there))
 
   -- the name of an object
   pub object_at : (i : ℕ) (e : List ℕ × ℕ) → slice_get roster.objects.entries i ≡ Some e → slice_get (objects_of lines) i ≡ Some e.0
@@ -154,12 +214,12 @@ module _ (roster : Roster) (lines : List Line) (stands : StandsFor roster lines)
 
   pub object_judged : (limits : Limits) (name kind : List ℕ) → first_broken register_alone limits lines (Object name kind)
       ≡ (if not roster.header then Some HeaderFirst else if is_some (get_by (same_name name) roster.objects) then Some NameTaken
-      else if not (set.contains_by (same_name kind) roster.kinds) then Some UnknownKind
+      else if not (is_some (get_by (same_name kind) roster.kinds)) then Some UnknownKind
       else if nat_le limits.objects (object_count roster) then Some (Limit Objects limits.objects) else None)
   unfolding first_broken
   object_judged limits name kind =
       let taken : is_among (objects_of lines) name ≡ is_some (get_by (same_name name) roster.objects) = sym (object_known name) in
-      let unknown : not (is_among register_alone kind) ≡ not (set.contains_by (same_name kind) roster.kinds) = ap (λ names. not (is_among names kind)) (sym stands.kind_names) in
+      let unknown : not (is_among (kind_names register_alone) kind) ≡ not (is_some (get_by (same_name kind) roster.kinds)) = ap not (sym (kind_known kind)) in
       λ i. cond (no_header i) (Some HeaderFirst) (cond (taken i) (Some NameTaken) (cond (unknown i) (Some UnknownKind)
       (cond (leb limits.objects (sym stands.object_total i)) (Some (Limit Objects limits.objects)) None)))
 
@@ -186,6 +246,22 @@ module _ (roster : Roster) (lines : List Line) (stands : StandsFor roster lines)
       λ i. cond (no_header i) (Some HeaderFirst) (cond (not (is_among (threads_of lines) thread) || not (is_among (threads_of lines) child)) (Some UnknownThread)
       (cond (is_among (joined_of lines) thread) (Some ThreadEnded) (cond (same_name child thread) (Some OwnThread)
       (cond (leb limits.events (sym stands.event_count i)) (Some (Limit Events limits.events)) None))))
+
+  pub call_judged : (limits : Limits) (thread object method : List ℕ) (slots : List Value) → first_broken register_alone limits lines (Event (Call thread object method slots))
+      ≡ (if not roster.header then Some HeaderFirst
+      else if not (is_among (threads_of lines) thread) then Some UnknownThread else if is_among (joined_of lines) thread then Some ThreadEnded
+      else if not (is_among (objects_of lines) object) then Some UnknownObject
+      else if not (is_among (method_names (methods_of register_alone lines object)) method) then Some UnknownMethod
+      else if not (length slots == slots_of register_alone lines (record { object = object; method = method; slots = slots })) then Some WrongCount
+      else if nat_le limits.events roster.events then Some (Limit Events limits.events) else None)
+  unfolding first_broken
+  call_judged limits thread object method slots =
+      let unknown : (not (is_among (threads_of lines) thread) || false) ≡ not (is_among (threads_of lines) thread) = or-false _ in
+      λ i. cond (no_header i) (Some HeaderFirst) (cond (unknown i) (Some UnknownThread)
+      (cond (is_among (joined_of lines) thread) (Some ThreadEnded) (cond (not (is_among (objects_of lines) object)) (Some UnknownObject)
+      (cond (not (is_among (method_names (methods_of register_alone lines object)) method)) (Some UnknownMethod)
+      (cond (not (length slots == slots_of register_alone lines (record { object = object; method = method; slots = slots }))) (Some WrongCount)
+      (cond (leb limits.events (sym stands.event_count i)) (Some (Limit Events limits.events)) None))))))
 
 -- ---- one line more
 
@@ -239,13 +315,13 @@ more_headers (suc n) true = grind (arith, nat_tests)
 more_headers (suc n) false = grind (arith, nat_tests)
 
 module _ (old : Roster) (lines : List Line) (stands : StandsFor old lines) (line : Line) where
-  grown : (new : Roster) → new.kinds.keys ≡ old.kinds.keys → new.header ≡ (old.header || is_header line) → new.events ≡ old.events + cond (is_event line) 1 0
+  grown : (new : Roster) → new.kinds.entries ≡ old.kinds.entries → new.header ≡ (old.header || is_header line) → new.events ≡ old.events + cond (is_event line) 1 0
       → new.threads.entries ≡ map (thread_entry (lines ++ line ∷ [])) (threads_of (lines ++ line ∷ []))
       → new.objects.entries ≡ filter_map (object_entry register_alone) (lines ++ line ∷ [])
       → ((name : List ℕ) → Contains (joined_of (lines ++ line ∷ [])) name → Contains (threads_of (lines ++ line ∷ [])) name)
       → StandsFor new (lines ++ line ∷ [])
   grown new kinds header events threads objects begun = record {
-    kind_names = kinds ∙ stands.kind_names;
+    kind_entries = ap (map kind_entry) kinds ∙ stands.kind_entries;
     has_header = header ∙ ap (λ b. b || is_header line) stands.has_header ∙ sym (more_headers (headers lines) (is_header line)) ∙ ap (nat_lt 0) (sym (sum_by_push _ lines line));
     event_count = events ∙ ap (λ n. n + cond (is_event line) 1 0) stands.event_count ∙ sym (sum_by_push _ lines line);
     thread_entries = threads;
@@ -289,7 +365,7 @@ module _ (old : Roster) (lines : List Line) (stands : StandsFor old lines) (line
       subst (λ names. Contains names other) (sym threads)
       (Contains-append_left (threads_of lines) (name ∷ []) other (stands.joined_begun other (subst (λ names. Contains names other) (same_joined joins) h)))
 
-module _ (old new : Roster) (lines : List Line) (stands : StandsFor old lines) (kinds : new.kinds.keys ≡ old.kinds.keys) where
+module _ (old new : Roster) (lines : List Line) (stands : StandsFor old lines) (kinds : new.kinds.entries ≡ old.kinds.entries) where
   pub after_skip : new.header ≡ old.header → new.events ≡ old.events → new.threads.entries ≡ old.threads.entries → new.objects.entries ≡ old.objects.entries
       → StandsFor new (lines ++ Skip ∷ [])
   after_skip header events threads objects = grown old lines stands Skip new kinds (header ∙ sym (or-false old.header)) (events ∙ sym (add-zero old.events))
@@ -310,11 +386,11 @@ module _ (old new : Roster) (lines : List Line) (stands : StandsFor old lines) (
       (objects ∙ stands.object_entries ∙ sym (same_objects old lines stands (Thread name) refl)) (new_begun old lines stands (Thread name) name refl refl)
 
   pub after_object : (name kind : List ℕ) → new.header ≡ old.header → new.events ≡ old.events → new.threads.entries ≡ old.threads.entries
-      → new.objects.entries ≡ old.objects.entries ++ (name, place register_alone kind) ∷ []
+      → new.objects.entries ≡ old.objects.entries ++ (name, place (kind_names register_alone) kind) ∷ []
       → StandsFor new (lines ++ Object name kind ∷ [])
   after_object name kind header events threads objects = grown old lines stands (Object name kind) new kinds (header ∙ sym (or-false old.header)) (events ∙ sym (add-zero old.events))
       (threads ∙ stands.thread_entries ∙ sym (quiet_entries old lines stands (Object name kind) refl refl))
-      (objects ∙ ap (λ es. es ++ (name, place register_alone kind) ∷ []) stands.object_entries ∙ sym (filter_map-append (object_entry register_alone) lines (Object name kind ∷ [])))
+      (objects ∙ ap (λ es. es ++ (name, place (kind_names register_alone) kind) ∷ []) stands.object_entries ∙ sym (filter_map-append (object_entry register_alone) lines (Object name kind ∷ [])))
       (quiet_begun old lines stands (Object name kind) refl refl)
 
   pub after_fork : (thread child : List ℕ) → is_among (threads_of lines) child ≡ false → new.header ≡ old.header → new.events ≡ old.events + 1
@@ -323,6 +399,14 @@ module _ (old new : Roster) (lines : List Line) (stands : StandsFor old lines) (
   after_fork thread child fresh header events threads objects = grown old lines stands (Event (Fork thread child)) new kinds (header ∙ sym (or-false old.header)) events
       (threads ∙ ap (λ es. es ++ (child, false) ∷ []) stands.thread_entries ∙ sym (new_entries old lines stands (Event (Fork thread child)) child refl refl fresh))
       (objects ∙ stands.object_entries ∙ sym (same_objects old lines stands (Event (Fork thread child)) refl)) (new_begun old lines stands (Event (Fork thread child)) child refl refl)
+
+  pub after_call : (thread object method : List ℕ) (slots : List Value) → new.header ≡ old.header → new.events ≡ old.events + 1
+      → new.threads.entries ≡ old.threads.entries → new.objects.entries ≡ old.objects.entries → StandsFor new (lines ++ Event (Call thread object method slots) ∷ [])
+  after_call thread object method slots header events threads objects =
+      let line : Line = Event (Call thread object method slots) in
+      grown old lines stands line new kinds (header ∙ sym (or-false old.header)) events
+      (threads ∙ stands.thread_entries ∙ sym (quiet_entries old lines stands line refl refl))
+      (objects ∙ stands.object_entries ∙ sym (same_objects old lines stands line refl)) (quiet_begun old lines stands line refl refl)
 
   pub after_join : (thread child : List ℕ) → is_among (threads_of lines) child ≡ true → IsDistinct same_name (keys_of old.threads.entries)
       → new.header ≡ old.header → new.events ≡ old.events + 1

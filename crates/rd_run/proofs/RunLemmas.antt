@@ -7,7 +7,7 @@ use Rattle.rd_base.specs.Inputs.{Source, Takes, IsOpened, IsNotOpened, Rose, nex
 use Rattle.rd_base.specs.Lines.Stop.{end, fault}
 use Rattle.rd_base.specs.declared.limits.Limits.{Limits}
 use Rattle.rd_run.specs.Commands.{Checked}
-use Rattle.rd_run.specs.MayFollow.{register_alone}
+use Rattle.rd_run.specs.Kinds.{register_alone}
 use Rattle.rd_run.specs.Output.{Outcome, IsOutput, IsFront, Runs, OpensOnly, race_texts, races_of, ending_text, check_status, check_outcome, outcome_of, walk_of, fault_outcome}
 use Rattle.rd_run.specs.Output.Command.{check}
 use Rattle.rd_run.specs.Walk.{Entry, Walked, ends, after, entries_of, ending_of, trace_of, step_bound}
@@ -16,6 +16,7 @@ use Rattle.rd_run.specs.declared.endings.Ending.TheVariants.{End, Refused, Fault
 use Rattle.rd_run.specs.declared.status.Status.{Status}
 use Rattle.rd_run.specs.declared.status.Status.TheVariants.{InputFault, NoMemory}
 use Rattle.rd_run.proofs.OutputLemmas.{front_only, halted_no_input}
+use Rattle.rd_run.proofs.ReportLemmas.{texts_front}
 use Rattle.rd_run.proofs.WalkLemmas.{entries_after, ending_after, bound_front}
 
 entries_at : (entries : List Entry) (ending : Ending) → entries_of (after entries (ends ending)) ≡ entries
@@ -40,11 +41,6 @@ outcome_at entries ending =
 
 bound_at : (entries : List Entry) (walked : Walked) → step_bound entries ≤ step_bound (entries_of (after entries walked))
 bound_at entries walked = subst (λ es. step_bound entries ≤ step_bound es) (sym (entries_after entries walked)) (bound_front [] entries (entries_of walked))
-
--- the texts of further races come behind those before
-texts_front : (entries more : List Entry) → IsFront (race_texts entries) (race_texts (entries ++ more))
-unfolding race_texts
-texts_front entries more = ([], refl)
 
 front_outcome : (entries : List Entry) (walked : Walked) (part rest : List ℕ) → race_texts entries ≡ part ++ rest
     → IsFront part (check_outcome (after entries walked)).text

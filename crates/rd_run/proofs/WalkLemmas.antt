@@ -6,6 +6,7 @@ use Rattle.rd_base.specs.Lines.Reading.{stops, line}
 use Rattle.rd_base.specs.declared.limits.Limits.{Limits}
 use Rattle.rd_event.specs.Reading.{item_of}
 use Rattle.rd_event.specs.declared.items.Line.{Line}
+use Rattle.rd_run.specs.Kinds.{Kind}
 use Rattle.rd_run.specs.MayFollow.{first_broken}
 use Rattle.rd_run.specs.Walk.{Entry, items, Walked, ends, goes, after, entries_of, ending_of, judged, judged_item, accepted_or, is_unbuilt, is_unbuilt_item, walk, goes_or_ends, ended, bound_from, line_bound}
 use Rattle.rd_run.specs.declared.wf.causes.WfCause.{WfCause}
@@ -13,7 +14,7 @@ use Rattle.rd_run.specs.declared.endings.TraceCause.{TraceCause}
 use Rattle.rd_run.specs.declared.endings.TraceCause.TheVariants.{NotBuilt, Wf}
 use Rattle.rd_run.specs.declared.endings.Ending.TheVariants.{Refused}
 
-pub judged_broken : (kinds : List (List ℕ)) (limits : Limits) (before : List Line) (bytes : List ℕ) (item : Line) (cause : WfCause)
+pub judged_broken : (kinds : List Kind) (limits : Limits) (before : List Line) (bytes : List ℕ) (item : Line) (cause : WfCause)
     → is_unbuilt bytes ≡ false → item_of bytes ≡ Some item → is_unbuilt_item item ≡ false
     → first_broken kinds limits before item ≡ Some cause → judged kinds limits before bytes ≡ Err (Wf cause)
 unfolding judged
@@ -23,12 +24,12 @@ judged_broken kinds limits before bytes item cause built says built_item broken 
     ∙ ap (λ t. cond t (Err NotBuilt) (accepted_or item (first_broken kinds limits before item))) built_item
     ∙ ap (accepted_or item) broken
 
-pub walk_stops : (kinds : List (List ℕ)) (limits : Limits) (before : List Line) (number : ℕ) (ending : LinesEnding)
+pub walk_stops : (kinds : List Kind) (limits : Limits) (before : List Line) (number : ℕ) (ending : LinesEnding)
     → walk kinds limits before number (stops ending) ≡ ends (ended limits before number ending)
 unfolding walk
 walk_stops kinds limits before number ending = refl
 
-pub walk_accepts : (kinds : List (List ℕ)) (limits : Limits) (before : List Line) (number : ℕ) (bytes : List ℕ) (more : Reading) (item : Line)
+pub walk_accepts : (kinds : List Kind) (limits : Limits) (before : List Line) (number : ℕ) (bytes : List ℕ) (more : Reading) (item : Line)
     → judged kinds limits before bytes ≡ Ok item
     → walk kinds limits before number (line bytes more)
     ≡ goes (record { number = number; item = item }) (walk kinds limits (before ++ item ∷ []) (number + 1) more)
@@ -36,7 +37,7 @@ unfolding walk
 walk_accepts kinds limits before number bytes more item h =
     ap (λ r. goes_or_ends number r (λ item'. walk kinds limits (before ++ item' ∷ []) (number + 1) more)) h
 
-pub walk_refuses : (kinds : List (List ℕ)) (limits : Limits) (before : List Line) (number : ℕ) (bytes : List ℕ) (more : Reading) (cause : TraceCause)
+pub walk_refuses : (kinds : List Kind) (limits : Limits) (before : List Line) (number : ℕ) (bytes : List ℕ) (more : Reading) (cause : TraceCause)
     → judged kinds limits before bytes ≡ Err cause → walk kinds limits before number (line bytes more) ≡ ends (Refused number cause)
 unfolding walk
 walk_refuses kinds limits before number bytes more cause h =

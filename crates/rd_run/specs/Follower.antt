@@ -4,7 +4,8 @@ use Rattle.rd_base.specs.Limits.{AreUsable}
 use Rattle.rd_base.specs.Sinks.{Appends}
 use Rattle.rd_base.specs.declared.limits.Limits.{Limits}
 use Rattle.rd_event.specs.declared.items.Line.{Line}
-use Rattle.rd_run.specs.MayFollow.{Follows, accepted_of, register_alone}
+use Rattle.rd_run.specs.MayFollow.{Follows, accepted_of}
+use Rattle.rd_run.specs.Kinds.{register_alone}
 use Rattle.rd_run.specs.Roster.{StandsFor}
 use Rattle.rd_run.specs.Walk.{Entry, items}
 use Rattle.rd_run.specs.declared.wf.causes.Accepted.{Accepted}

@@ -1,12 +1,16 @@
 -- What a command writes, and its status. This project's profile.
-use Rattle.std.specs.Prelude.{◌≡◌, ℕ, ◌+◌, ◌==◌, nat_lt, ◌≤◌, Bool, true, false, List, [], ◌∷◌, ◌++◌, length, count_by, codes, decimal, Option, Some, None, is_none, unwrap_or, if◌then◌else◌}
+use Rattle.std.specs.Prelude.{◌≡◌, ℕ, zero, suc, ◌+◌, ◌==◌, nat_lt, ◌≤◌, Bool, true, false, List, [], ◌∷◌, ◌++◌, length, count_by, filter_map, slice_get, codes, decimal, Option, Some, None, is_none, is_some, unwrap_or, if◌then◌else◌}
 use Rattle.rd_base.specs.Inputs.{Source, file_of}
 use Rattle.rd_base.specs.Lines.Stop.{end, fault}
 use Rattle.rd_base.specs.declared.limits.Limits.{Limits}
 use Rattle.rd_base.specs.declared.limits.LimitName.{LimitName}
+use Rattle.rd_event.specs.declared.events.Event.{Event}
 use Rattle.rd_base.specs.declared.limits.LimitName.TheVariants.{Bytes, Line, Events, Threads, Locks, Objects, Depth, SpecText, Tokens, Kinds, Methods, Arguments, Nodes, FormulaDepth, Predicates}
-use Rattle.rd_run.specs.MayFollow.{register_alone, same_name}
-use Rattle.rd_run.specs.Walk.{Walked, ends, Entry, entries_of, ending_of, trace_of, step_bound}
+use Rattle.rd_run.specs.Events.{events_of}
+use Rattle.rd_run.specs.MayFollow.{is_event, same_name}
+use Rattle.rd_run.specs.RaceTests.{latest_of}
+use Rattle.rd_run.specs.Kinds.{register_alone}
+use Rattle.rd_run.specs.Walk.{Walked, ends, Entry, entries_of, ending_of, items, trace_of, step_bound}
 use Rattle.rd_run.specs.declared.wf.causes.WfCause.{WfCause}
 use Rattle.rd_run.specs.declared.wf.causes.WfCause.TheVariants as wf
 use Rattle.rd_run.specs.declared.endings.TraceCause.{TraceCause}
@@ -85,13 +89,52 @@ pub record Outcome : Type 0 where
   pub text : List ℕ
   pub status : Status
 
--- how many of the accepted lines are reported: none, since none of them is a call
-unfoldable pub races_of : List Entry → ℕ
-races_of entries = 0
+-- ---- races
 
--- the texts of the reported calls among the accepted lines
+-- the number of the line of an event
+abbrev pub event_number : Entry → Option ℕ
+event_number entry = if is_event entry.item then Some entry.number else None
+
+-- the numbers of the lines of the events, in their order
+abbrev pub event_numbers : List Entry → List ℕ
+event_numbers entries = filter_map event_number entries
+
+-- the number of the line of the event at a place
+abbrev pub number_at : List ℕ → ℕ → ℕ
+number_at numbers place = unwrap_or (slice_get numbers place) 0
+
+-- the line that tells of a race
+abbrev pub race_line : ℕ → ℕ → List ℕ
+race_line later earlier = codes "race line " ++ decimal later ++ codes " with line " ++ decimal earlier ++ codes "\n"
+
+-- what is written for the event at a place, by the latest that races with it: nothing where none does
+abbrev pub text_with : List ℕ → ℕ → Option ℕ → List ℕ
+text_with numbers place None = []
+text_with numbers place (Some earlier) = race_line (number_at numbers place) (number_at numbers earlier)
+
+-- the texts for the events in front of a place, in their order
+unfoldable pub texts_before : List ℕ → List Event → ℕ → List ℕ
+texts_before numbers es zero = []
+texts_before numbers es (suc place) = texts_before numbers es place ++ text_with numbers place (latest_of es place)
+
+-- how many of the events in front of a place are reported
+unfoldable pub races_before : List Event → ℕ → ℕ
+races_before es zero = 0
+races_before es (suc place) = races_before es place + (if is_some (latest_of es place) then 1 else 0)
+
+-- the events of the accepted lines
+abbrev pub entry_events : List Entry → List Event
+entry_events entries = events_of register_alone (items entries)
+
+-- how many calls of the accepted lines are reported
+unfoldable pub races_of : List Entry → ℕ
+races_of entries = races_before (entry_events entries) (length (entry_events entries))
+
+-- the texts of the reported calls of the accepted lines, in their order, each with the latest that races with it
 unfoldable pub race_texts : List Entry → List ℕ
-race_texts entries = []
+race_texts entries = texts_before (event_numbers entries) (entry_events entries) (length (entry_events entries))
+
+-- ---- the status
 
 -- the cause is a limit
 abbrev pub is_wf_limit : WfCause → Bool

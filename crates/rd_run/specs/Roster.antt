@@ -1,5 +1,5 @@
 -- What a roster holds of the accepted lines of a trace: this project's profile.
-use Rattle.std.specs.Prelude.{◌≡◌, ℕ, Bool, nat_lt, List, [], ◌∷◌, ◌++◌, map, length, Contains, filter_map, Option, Some, None}
+use Rattle.std.specs.Prelude.{◌≡◌, ℕ, Bool, nat_lt, List, [], ◌∷◌, ◌++◌, map, length, Contains, filter_map, MatchOption, true, false, Option, Some, None}
 use Rattle.indexmap.specs.IndexMap.{index_map_len}
 use Rattle.rd_base.specs.declared.limits.Limits.{Limits}
 use Rattle.rd_event.specs.declared.items.Line.{Line}
@@ -9,7 +9,11 @@ use Rattle.rd_run.specs.declared.wf.causes.WfCause.{WfCause}
 use Rattle.rd_run.specs.declared.wf.causes.WfRefused.{WfRefused}
 use Rattle.rd_run.specs.declared.wf.causes.WfRefused.TheVariants.{Cause, NoMemory}
 use Rattle.rd_run.specs.declared.wf.Roster.{Roster}
-use Rattle.rd_run.specs.MayFollow.{threads_of, joined_of, objects_of, headers, events, is_among, place, register_alone, first_broken, accepted_of}
+use Rattle.rd_run.specs.declared.wf.judge.Declared.{Declared}
+use Rattle.rd_run.specs.declared.wf.methods.Method.{Method as Found}
+use Rattle.rd_run.specs.declared.wf.methods.Methods.{Methods}
+use Rattle.rd_run.specs.MayFollow.{threads_of, joined_of, objects_of, headers, events, is_among, kind_number, place, first_broken, accepted_of}
+use Rattle.rd_run.specs.Kinds.{Kind, Method, kind_names, method_names, register_alone, slots_at}
 
 -- how many threads and objects the roster numbers
 abbrev pub thread_count : Roster → ℕ
@@ -23,14 +27,36 @@ abbrev pub thread_entry : List Line → List ℕ → List ℕ × Bool
 thread_entry lines name = (name, is_among (joined_of lines) name)
 
 -- a declared object's name, with the number of its kind
-abbrev pub object_entry : List (List ℕ) → Line → Option (List ℕ × ℕ)
-object_entry kinds (Object name kind) = Some (name, place kinds kind)
+abbrev pub object_entry : List Kind → Line → Option (List ℕ × ℕ)
+object_entry kinds (Object name kind) = Some (name, place (kind_names kinds) kind)
 object_entry kinds _ = None
+
+-- the methods that a roster's table says, and the kind that an entry of its kinds says
+abbrev pub method_entry : List ℕ × ℕ → Method
+method_entry entry = record { name = entry.0; slots = entry.1 }
+
+abbrev pub methods_in : Methods → List Method
+methods_in methods = map method_entry methods.slots.entries
+
+abbrev pub kind_entry : List ℕ × Methods → Kind
+kind_entry entry = record { name = entry.0; methods = methods_in entry.1 }
+
+-- the number of the method of that name, with how many slots it has; nothing where none of these has the name
+abbrev pub FindsMethod : List Method → List ℕ → Option Found → Type 0
+FindsMethod methods name found = MatchOption found
+    (is_among (method_names methods) name ≡ false)
+    (λ method. (is_among (method_names methods) name ≡ true) × (method.number ≡ place (method_names methods) name) × (method.slots ≡ slots_at methods method.number))
+
+-- the number of a declared object of that name, with that of its kind; nothing where none has the name
+abbrev pub FindsObject : List Line → List ℕ → Option Declared → Type 0
+FindsObject lines name found = MatchOption found
+    (is_among (objects_of lines) name ≡ false)
+    (λ object. (is_among (objects_of lines) name ≡ true) × (object.object ≡ place (objects_of lines) name) × (object.kind ≡ kind_number register_alone lines name))
 
 -- the roster holds what these accepted lines say
 pub record StandsFor (roster : Roster) (lines : List Line) : Type 0 where
   -- its kinds are the one there is
-  pub kind_names : roster.kinds.keys ≡ register_alone
+  pub kind_entries : map kind_entry roster.kinds.entries ≡ register_alone
   -- whether there is a header, and how many events there are
   pub has_header : roster.header ≡ nat_lt 0 (headers lines)
   pub event_count : roster.events ≡ events lines

@@ -10,7 +10,8 @@ use Rattle.rd_event.specs.Items.{is_skipped}
 use Rattle.rd_event.specs.Reading.{item_of}
 use Rattle.rd_event.specs.declared.items.Line.{Line}
 use Rattle.rd_event.specs.declared.items.Line.TheVariants.{Object}
-use Rattle.rd_run.specs.MayFollow.{first_broken, is_among, headers, is_event, threads_of}
+use Rattle.rd_run.specs.Kinds.{Kind}
+use Rattle.rd_run.specs.MayFollow.{call_count, first_broken, is_among, is_call, headers, is_event, threads_of}
 use Rattle.rd_run.specs.declared.wf.causes.WfCause.{WfCause}
 use Rattle.rd_run.specs.declared.wf.causes.WfCause.TheVariants.{HeaderFirst}
 use Rattle.rd_run.specs.declared.endings.TraceCause.{TraceCause}
@@ -43,7 +44,7 @@ ending_of (goes entry more) = ending_of more
 abbrev pub is_unbuilt : List ℕ → Bool
 is_unbuilt bytes =
     not (is_skipped bytes) && (starts_with nat_eq bytes (codes "acquire ") || (starts_with nat_eq bytes (codes "release ")
-    || (starts_with nat_eq bytes (codes "call ") || list_any (λ byte. byte == 34) bytes)))
+    || list_any (λ byte. byte == 34) bytes))
 
 -- the kinds of objects that aren't built yet
 abbrev pub unbuilt_kinds : List (List ℕ)
@@ -57,14 +58,14 @@ abbrev pub accepted_or : Line → Option WfCause → Result Line TraceCause
 accepted_or item None = Ok item
 accepted_or item (Some cause) = Err (Wf cause)
 
-abbrev pub judged_item : List (List ℕ) → Limits → List Line → Option Line → Result Line TraceCause
+abbrev pub judged_item : List Kind → Limits → List Line → Option Line → Result Line TraceCause
 judged_item kinds limits before None = Err BadLine
 judged_item kinds limits before (Some item) =
     if is_unbuilt_item item then Err NotBuilt else accepted_or item (first_broken kinds limits before item)
 
 -- what the bytes of a line behind the accepted ones say, or the first cause to refuse it: it isn't built yet, it says
 -- no item, or its item may not follow
-unfoldable pub judged : List (List ℕ) → Limits → List Line → List ℕ → Result Line TraceCause
+unfoldable pub judged : List Kind → Limits → List Line → List ℕ → Result Line TraceCause
 judged kinds limits before bytes = if is_unbuilt bytes then Err NotBuilt else judged_item kinds limits before (item_of bytes)
 
 -- how a trace ends where its lines end so behind the accepted ones. The number is that of the next line
@@ -80,13 +81,13 @@ goes_or_ends number (Ok item) more = goes (record { number = number; item = item
 goes_or_ends number (Err cause) more = ends (Refused number cause)
 
 -- the walk over lines that come behind the accepted ones, the first of them with this number
-unfoldable pub walk : List (List ℕ) → Limits → List Line → ℕ → Reading → Walked
+unfoldable pub walk : List Kind → Limits → List Line → ℕ → Reading → Walked
 walk kinds limits before number (stops ending) = ends (ended limits before number ending)
 walk kinds limits before number (line bytes more) =
     goes_or_ends number (judged kinds limits before bytes) (λ item. walk kinds limits (before ++ item ∷ []) (number + 1) more)
 
 -- the walk over the lines of the bytes of a trace
-unfoldable pub trace_of : List (List ℕ) → Limits → Stop → List ℕ → Walked
+unfoldable pub trace_of : List Kind → Limits → Stop → List ℕ → Walked
 trace_of kinds limits stop bytes = walk kinds limits [] 1 (reading limits.line limits.bytes stop bytes)
 
 -- entries before a walk
@@ -94,10 +95,12 @@ unfoldable pub after : List Entry → Walked → Walked
 after [] walked = walked
 after (entry ∷ entries) walked = goes entry (after entries walked)
 
--- The bound on the steps of an accepted line behind others: four for each thread that is known once an event is done, and
--- none for what is no event
+-- The bound on the steps of an accepted line behind others: for a call two for each thread that is known once it is done,
+-- and one for each call before it; for another event four for each such thread; and none for what is no event
 abbrev pub line_bound : List Line → Line → ℕ
-line_bound before item = if is_event item then 4 * length (threads_of (before ++ item ∷ [])) else 0
+line_bound before item =
+    if is_call item then 2 * length (threads_of (before ++ item ∷ [])) + call_count before
+    else if is_event item then 4 * length (threads_of (before ++ item ∷ [])) else 0
 
 unfoldable pub bound_from : List Line → List Entry → ℕ
 bound_from before [] = 0

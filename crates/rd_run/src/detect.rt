@@ -98,6 +98,7 @@ impl Detector {
             IsAnswer lines (es ++ event.Call call.now ∷ []) place answer) }
         ensures stands { OnOk result ((lines : List ℕ) (es : List EventOf) → IsNext self.old lines es place call.now stamp.now →
             StandsFor self.new (lines ++ line ∷ []) (es ++ event.Call call.now ∷ [])) }
+        ensures count { OnOk result (length self.new ≡ length self.old + 1) }
         ensures err { OnErr result (self.new ≡ self.old) }
         ensures cost { steps.new ≤ steps.old + length self.old }
     {

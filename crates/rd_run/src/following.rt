@@ -2,7 +2,6 @@
 ghost use Rattle.std.specs.Prelude.{◌≡◌, ◌+◌, ◌≤◌, ℕ, List, [], ◌∷◌, ◌++◌, IfErr, OnOk, OnErr};
 ghost use Rattle.rd_base.specs.Inputs.{Rose};
 ghost use Rattle.rd_run.specs.Follower.{IsNext, Writes, WritesFront};
-ghost use Rattle.rd_run.specs.Output.{IsFront};
 ghost use Rattle.rd_run.specs.Walk.{Entry, items, line_bound};
 
 use crate::wf::{Accepted, Roster};
@@ -59,7 +58,4 @@ pub trait Follower {
     ghost starts: { (start : Self) → begins start → follows start [] start };
 
     ghost silent: { (start : Self) → text start [] ≡ [] };
-
-    /// Further lines add to the text.
-    ghost grows: { (start : Self) (before : List Entry) (entry : Entry) → IsFront (text start before) (text start (before ++ entry ∷ [])) };
 }

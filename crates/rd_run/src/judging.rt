@@ -2,7 +2,8 @@
 ghost use Rattle.std.specs.Prelude.{◌≡◌, ◌++◌, [], ◌∷◌, List, Ok, Err, IfOk, IfErr};
 ghost use Rattle.rd_base.specs.Limits.{AreUsable};
 ghost use Rattle.rd_event.specs.declared.items.Line.{Line as Item};
-ghost use Rattle.rd_run.specs.MayFollow.{Follows, accepted_of, register_alone};
+ghost use Rattle.rd_run.specs.MayFollow.{Follows, accepted_of};
+ghost use Rattle.rd_run.specs.Kinds.{register_alone};
 ghost use Rattle.rd_run.specs.Roster.{StandsFor};
 ghost use Rattle.rd_run.specs.Walk.{is_unbuilt, is_unbuilt_item, judged};
 
@@ -27,9 +28,8 @@ fn is_unbuilt(bytes: &[u8]) -> bool
     let skipped = bytes.is_empty() || bytes.starts_with(b"#");
     let acquires = bytes.starts_with(b"acquire ");
     let releases = bytes.starts_with(b"release ");
-    let calls = bytes.starts_with(b"call ");
     let quotes = bytes.contains(&b'"');
-    !skipped && (acquires || (releases || (calls || quotes)))
+    !skipped && (acquires || (releases || quotes))
 }
 
 fn is_unbuilt_item(item: &Line) -> bool

@@ -132,14 +132,25 @@ fn traces_are_read_to_their_end_or_refused(rt: HostRuntime) -> Result<(), Fail> 
             b"races 0\nrefused line 3 not-built\n",
         ),
         (
-            b"rdtrace 1\nthread p\ncall p o m -\n",
+            b"rdtrace 1\nthread p\nobject d dictionary\n",
             Status::TraceRefused,
             b"races 0\nrefused line 3 not-built\n",
         ),
         (
-            b"rdtrace 1\nthread p\nobject d dictionary\n",
+            b"rdtrace 1\nthread p\nobject c counter\n",
             Status::TraceRefused,
             b"races 0\nrefused line 3 not-built\n",
+        ),
+        (
+            b"rdtrace 1\nthread p\nrelease p l\n",
+            Status::TraceRefused,
+            b"races 0\nrefused line 3 not-built\n",
+        ),
+        // A form that isn't built is told before all else.
+        (
+            b"acquire p l\n",
+            Status::TraceRefused,
+            b"races 0\nrefused line 1 not-built\n",
         ),
         (
             b"rdtrace 1\nthread p\njoin p p\n",
@@ -352,6 +363,188 @@ fn a_refusal_before_a_read_that_fails(rt: HostRuntime) -> Result<(), Fail> {
     Ok(())
 }
 
+/// One thread writes, is joined, and the other reads.
+const STORED_RUN: &[u8] =
+    b"rdtrace 1\nthread main\nobject x register\nfork main a\ncall a x write 7 -> nil\njoin main a\ncall main x read -> 7\n";
+
+/// Three threads that never meet write four times.
+const FOUR_WRITES: &[u8] =
+    b"rdtrace 1\nthread p\nthread q\nthread r\nobject x register\ncall p x write 1 -> nil\ncall q x write 2 -> nil\ncall p x write 3 -> nil\ncall r x write 4 -> nil\n";
+
+#[test]
+fn races_of_a_register(rt: HostRuntime) -> Result<(), Fail> {
+    let rows = [
+        (STORED_RUN, b"races 0\n".as_slice()),
+        // Each call races with two earlier ones or one; the latest is named.
+        (
+            FOUR_WRITES,
+            b"race line 7 with line 6\nrace line 8 with line 7\nrace line 9 with line 8\nraces 3\n",
+        ),
+        // A fork and its thread's join order what stands before and behind them.
+        (
+            b"rdtrace 1\nthread p\nthread q\nobject x register\ncall p x write 1 -> nil\nfork p u\njoin q u\ncall q x write 2 -> nil\n",
+            b"races 0\n",
+        ),
+        // The last call is ordered behind one write and not behind the one before it.
+        (
+            b"rdtrace 1\nthread a\nthread b\nobject x register\ncall a x write 1 -> nil\ncall b x write 2 -> nil\nfork b c\ncall c x write 3 -> nil\n",
+            b"race line 6 with line 5\nrace line 8 with line 5\nraces 2\n",
+        ),
+        // Calls on two objects don't race.
+        (
+            b"rdtrace 1\nthread p\nthread q\nobject x register\nobject y register\ncall p x write 1 -> nil\ncall q y write 2 -> nil\n",
+            b"races 0\n",
+        ),
+        // What was reported before a refused line stands.
+        (
+            b"rdtrace 1\nthread p\nthread q\nobject x register\ncall p x write 1 -> nil\n\ncall q x write 2 -> nil\ncall s x read -> 2\n",
+            b"race line 7 with line 5\nraces 1\nrefused line 8 not-well-formed\n",
+        ),
+    ];
+    for (trace, text) in rows {
+        for piece in [1, 7, 4096] {
+            let row = Row {
+                piece,
+                ..Row::check(trace)
+            };
+            let (answer, out) = row.run(rt.alloc())?;
+            assert_eq!(rt; out.written(), text);
+            let refused = text.ends_with(b"not-well-formed\n");
+            let status = if refused {
+                Status::TraceRefused
+            } else if text == b"races 0\n".as_slice() {
+                Status::Clean
+            } else {
+                Status::Raced
+            };
+            assert_eq!(rt; answer, status);
+        }
+    }
+    Ok(())
+}
+
+/// Two threads that never meet call one register, one call each.
+#[test]
+fn pairs_of_calls_that_commute(rt: HostRuntime) -> Result<(), Fail> {
+    let rows = [
+        ("read -> 1", "read -> 2", true),
+        ("read -> 1", "write 1 -> nil", false),
+        ("write 1 -> nil", "read -> 1", false),
+        ("write 1 -> nil", "write 1 -> nil", false),
+        ("write 3 -> nil", "swap 3 -> 3", false),
+        ("swap 3 -> 3", "write 3 -> nil", false),
+        ("read -> 3", "swap 3 -> 3", true),
+        ("swap 3 -> 3", "read -> 3", true),
+        ("read -> 3", "swap 4 -> 3", false),
+        ("swap 4 -> 3", "read -> 4", false),
+        ("swap nil -> nil", "swap true -> true", true),
+        ("swap nil -> nil", "swap true -> false", false),
+        ("swap -1 -> 1", "swap 2 -> 2", false),
+        ("swap 0 -> nil", "swap 2 -> 2", false),
+    ];
+    let alloc = rt.alloc();
+    for (first, second, commute) in rows {
+        let trace = format!(in alloc;
+            "rdtrace 1\nthread p\nthread q\nobject x register\ncall p x {first}\ncall q x {second}\n"
+        )?;
+        let (answer, out) = Row::check(trace.as_bytes()).run(alloc)?;
+        let (status, text) = if commute {
+            (Status::Clean, b"races 0\n".as_slice())
+        } else {
+            (
+                Status::Raced,
+                b"race line 6 with line 5\nraces 1\n".as_slice(),
+            )
+        };
+        assert_eq!(rt; answer, status, "{first} and {second}");
+        assert_eq!(rt; out.written(), text);
+    }
+    Ok(())
+}
+
+/// Line 4 of a trace with a thread and a register.
+#[test]
+fn call_lines(rt: HostRuntime) -> Result<(), Fail> {
+    let rows = [
+        ("call p x read -> nil", ""),
+        ("call p x write -9223372036854775808 -> nil", ""),
+        ("call p x write 9223372036854775807 -> nil", ""),
+        ("call p x write 07 -> nil", "bad-line"),
+        ("call p x  read -> nil", "bad-line"),
+        ("call p x write -0 -> nil", "bad-line"),
+        ("call p x write 9223372036854775808 -> nil", "bad-line"),
+        ("call p x write -9223372036854775809 -> nil", "bad-line"),
+        ("call p x write \"a\" -> nil", "not-built"),
+        ("call p x write \"a -> nil", "not-built"),
+        ("call p y read -> nil", "not-well-formed"),
+        ("call q x read -> nil", "not-well-formed"),
+        ("call p x add 1 -> nil", "not-well-formed"),
+        ("call p x write -> nil", "not-well-formed"),
+    ];
+    let alloc = rt.alloc();
+    for (line, cause) in rows {
+        let trace = format!(in alloc; "rdtrace 1\nthread p\nobject x register\n{line}\n")?;
+        let (answer, out) = Row::check(trace.as_bytes()).run(alloc)?;
+        if cause.is_empty() {
+            assert_eq!(rt; answer, Status::Clean, "{line}");
+            assert_eq!(rt; out.written(), b"races 0\n".as_slice());
+        } else {
+            let text = format!(in alloc; "races 0\nrefused line 4 {cause}\n")?;
+            assert_eq!(rt; answer, Status::TraceRefused, "{line}");
+            assert_eq!(rt; out.written(), text.as_bytes());
+        }
+    }
+    Ok(())
+}
+
+/// The first call opens the file; the reads take 151 bytes by sixty, and one more finds the end. The first 60 bytes hold lines 1
+/// to 5, the first 120 lines 1 to 7. The races that were read before a read fails are told, and nothing else is.
+#[test]
+fn a_read_that_fails_behind_a_race(rt: HostRuntime) -> Result<(), Fail> {
+    let whole =
+        b"race line 7 with line 6\nrace line 8 with line 7\nrace line 9 with line 8\nraces 3\n";
+    for (failing, length) in [(1, 0), (2, 0), (3, 0), (4, 24), (5, 72), (6, 80)] {
+        let failing_reads = [failing];
+        let row = Row {
+            piece: 60,
+            failing_reads: &failing_reads,
+            ..Row::check(FOUR_WRITES)
+        };
+        let (answer, out) = row.run(rt.alloc())?;
+        let status = if failing == 6 {
+            Status::Raced
+        } else {
+            Status::InputFault
+        };
+        assert_eq!(rt; answer, status);
+        assert_eq!(rt; out.written(), &whole[..length]);
+    }
+    Ok(())
+}
+
+/// The output ends with the last line that was written whole.
+#[test]
+fn a_write_that_fails_behind_a_race(rt: HostRuntime) -> Result<(), Fail> {
+    let whole =
+        b"race line 7 with line 6\nrace line 8 with line 7\nrace line 9 with line 8\nraces 3\n";
+    for (failing, length) in [(1, 0), (2, 24), (3, 48), (4, 72), (5, 80)] {
+        let failing_writes = [failing];
+        let row = Row {
+            failing_writes: &failing_writes,
+            ..Row::check(FOUR_WRITES)
+        };
+        let (answer, out) = row.run(rt.alloc())?;
+        let status = if failing == 5 {
+            Status::Raced
+        } else {
+            Status::OutputFault
+        };
+        assert_eq!(rt; answer, status);
+        assert_eq!(rt; out.written(), &whole[..length]);
+    }
+    Ok(())
+}
+
 /// Each line is handed to the output by itself, and nothing follows one that wasn't written.
 #[test]
 fn a_write_that_fails_is_the_last(rt: HostRuntime) -> Result<(), Fail> {
@@ -390,7 +583,12 @@ fn a_write_that_fails_is_the_last(rt: HostRuntime) -> Result<(), Fail> {
 /// Want of memory is an answer of every call that takes memory; where there is enough of it, none gives that answer.
 #[test]
 fn answers_with_ample_memory(rt: HostRuntime) -> Result<(), Fail> {
-    let traces = [FORK_AND_JOIN, b"rdtrace 1\nthread p\njoin p p\n"];
+    let traces = [
+        FORK_AND_JOIN,
+        STORED_RUN,
+        FOUR_WRITES,
+        b"rdtrace 1\nthread p\njoin p p\n",
+    ];
     for trace in traces {
         let (answer, _out) = Row::check(trace).run(rt.alloc())?;
         assert!(rt; answer != Status::NoMemory);

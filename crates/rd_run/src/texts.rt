@@ -1,6 +1,6 @@
 //! The lines of the report.
 ghost use Rattle.std.specs.Prelude.{◌≡◌, ◌++◌, codes, decimal, IfOk, OnOk, OnErr};
-ghost use Rattle.rd_run.specs.Output.{limit_text, cause_text, limit_cause_text, wf_text, races_line, refused_line};
+ghost use Rattle.rd_run.specs.Output.{limit_text, cause_text, limit_cause_text, wf_text, race_line, races_line, refused_line};
 
 use crate::endings::TraceCause;
 use crate::wf::WfCause;
@@ -58,6 +58,19 @@ fn append_cause(text: &mut Bytes, cause: TraceCause) -> Result<(), NoMemory>
         TraceCause::Wf(_) => text.append(b"not-well-formed"),
         TraceCause::Limit(name, number) => append_limit(text, name, number),
     }
+}
+
+/// The line that tells of a race, by the numbers of its two lines.
+pub fn race_line(alloc: Global, later: u64, earlier: u64) -> Result<Bytes, NoMemory>
+    ensures { IfOk result (λ text. text ≡ race_line later earlier) }
+{
+    let mut text = Bytes::new(alloc);
+    text.append(b"race line ")?;
+    append_number(&mut text, later)?;
+    text.append(b" with line ")?;
+    append_number(&mut text, earlier)?;
+    text.append(b"\n")?;
+    Ok(text)
 }
 
 /// The line that tells how many calls are reported.

@@ -5,6 +5,7 @@ ghost use Rattle.rd_base.specs.Limits.{AreUsable};
 ghost use Rattle.rd_base.specs.Sinks.{Appends};
 ghost use Rattle.rd_run.specs.Follower.{WritesFront};
 ghost use Rattle.rd_run.specs.Output.{Runs, IsOutput, usage_outcome, command_of, races_line, refused_line, ending_text, check_status, is_limit};
+ghost use Rattle.rd_run.specs.Checking.{IsNew};
 ghost use Rattle.rd_run.specs.Commands.{asked, halted_with, Checked};
 ghost use Rattle.rd_base.specs.LineReader.{fresh};
 ghost use Rattle.rd_run.specs.Roster.{StandsFor};
@@ -18,7 +19,8 @@ use crate::status::Status;
 use crate::texts::{races_line, refused_line};
 use crate::walking::walk_lines;
 use crate::wf::{Roster, WfCause};
-use rd_base::io::{Inputs, LineReader, Sink, write_all};
+use crate::writing::write_line;
+use rd_base::io::{Inputs, LineReader, Sink};
 use rd_base::{Bytes, Limits, Steps, Word};
 use std::alloc::Global;
 use std::sync::ledger::Ledger;
@@ -58,18 +60,6 @@ fn is_limit(cause: TraceCause) -> bool
         cause,
         TraceCause::Limit(_, _) | TraceCause::Wf(WfCause::Limit(_, _))
     )
-}
-
-fn write_line<S: Sink>(out: &mut S, line: &[u8]) -> Result<(), Halt>
-    ensures ok { OnOk result (Appends (S.written out.old) (S.written out.new) line.now) }
-    ensures front { OnErr result (WritesFront (S.written out.old) (S.written out.new) [] line.now) }
-    ensures later { S.faults out.old ≤ S.faults out.new }
-    ensures cause { IfErr result (λ halt. (halt ≡ Halt.OutputFault) × Rose (S.faults out.old) (S.faults out.new)) }
-{
-    match write_all(out, line) {
-        Ok(()) => Ok(()),
-        Err(_) => Err(Halt::OutputFault),
-    }
 }
 
 fn write_races<S: Sink>(alloc: Global, races: u64, out: &mut S) -> Result<(), Halt>
@@ -166,6 +156,7 @@ fn check_opened<I: Inputs, S: Sink, L: Ledger>(
     alloc: Global,
     mut reader: LineReader,
     mut roster: Roster,
+    mut follower: Check,
     inputs: &mut I,
     out: &mut S,
     limits: &Limits,
@@ -174,6 +165,7 @@ fn check_opened<I: Inputs, S: Sink, L: Ledger>(
     requires usable { AreUsable limits.now }
     requires fresh { reader ≡ fresh limits.now }
     requires none { StandsFor roster [] }
+    requires begins { IsNew follower }
     ensures checked { (entries : List Entry) × (taken : List ℕ) × (part : List ℕ)
         × Appends (S.written out.old) (S.written out.new) part
         × (steps.new ≤ steps.old + step_bound entries)
@@ -183,7 +175,6 @@ fn check_opened<I: Inputs, S: Sink, L: Ledger>(
     ensures cause { result ≡ Status.OutputFault → Rose (S.faults out.old) (S.faults out.new) }
     ensures no_usage { result ≢ Status.Usage }
 {
-    let mut follower = Check::new(alloc);
     match walk_lines(
         alloc,
         &mut reader,
@@ -223,10 +214,13 @@ fn check<I: Inputs, S: Sink, L: Ledger>(
     let Ok(reader) = LineReader::new(alloc, limits) else {
         return Status::NoMemory;
     };
+    let Ok(follower) = Check::new(alloc) else {
+        return Status::NoMemory;
+    };
     let Ok(()) = inputs.open(trace) else {
         return Status::InputFault;
     };
-    check_opened(alloc, reader, roster, inputs, out, limits, steps)
+    check_opened(alloc, reader, roster, follower, inputs, out, limits, steps)
 }
 
 /// Says that the words match no command.

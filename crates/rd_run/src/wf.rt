@@ -4,32 +4,35 @@ ghost use Rattle.rd_base.specs.declared.limits.Limits.{Limits as LimitsOf};
 ghost use Rattle.rd_event.specs.declared.items.Line.{Line as LineOf};
 ghost use Rattle.rd_hb.specs.EventLists.{InRange, Known, WellFormed, joins};
 ghost use Rattle.rd_run.specs.Events.{AreAccepted, events_of, roots_of};
+ghost use Rattle.rd_run.specs.Kinds.{Kind};
 ghost use Rattle.rd_run.specs.MayFollow.{Follows, FirstBroken, events, first_broken, joined_of, threads_of};
 ghost use Rattle.indexmap.specs.IndexMap.{index_map_len};
-ghost use Rattle.indexmap.specs.IndexSet.{index_set_len};
 
 mod causes;
 mod judge;
+mod methods;
 
 pub use causes::{Accepted, WfCause, WfRefused};
-use indexmap::{IndexMap, IndexSet};
+use indexmap::IndexMap;
 use judge::Declared;
-use rd_base::{Limits, Name, NoMemory};
-use rd_event::{Event, Line, LineEvent};
+use methods::Methods;
+use rd_base::{Limits, Name, NoMemory, Slots};
+use rd_event::{Call, Event, Line, LineEvent};
 use std::alloc::Global;
 
 /// The accepted lines of a trace, as names with numbers, flags and counts. It says of the next line
 /// whether it may follow.
 #[derive(Debug, Drop)]
 pub struct Roster {
-    kinds: IndexSet<Name>,
+    alloc: Global,
+    kinds: IndexMap<Name, Methods>,
     header: bool,
     events: u32,
     /// each with whether it was joined
     threads: IndexMap<Name, bool>,
     /// each with the number of its kind
     objects: IndexMap<Name, u32>,
-    ghost few_kinds: { index_set_len kinds < 2 ^ 32 },
+    ghost few_kinds: { index_map_len kinds < 2 ^ 32 },
     ghost few_threads: { index_map_len threads < 2 ^ 32 },
     ghost few_objects: { index_map_len objects < 2 ^ 32 },
 }
@@ -38,7 +41,8 @@ impl Roster {
     ghost use Rattle.std.specs.Prelude.{◌≡◌, ◌<◌, List, [], ◌∷◌, ◌++◌, IfOk, IfErr, OnOk, OnErr, length, slice_get};
     ghost use Rattle.rd_base.specs.Limits.{AreUsable};
     ghost use Rattle.rd_event.specs.declared.items.Line.{Line as LineOf};
-    ghost use Rattle.rd_run.specs.MayFollow.{Follows, FirstBroken, first_broken, accepted_of, register_alone, threads_of, objects_of, headers, events};
+    ghost use Rattle.rd_run.specs.MayFollow.{Follows, FirstBroken, first_broken, accepted_of, threads_of, objects_of, headers, events};
+    ghost use Rattle.rd_run.specs.Kinds.{register_alone};
     ghost use Rattle.rd_run.specs.Roster.{StandsFor, Takes, Refuses, thread_count, object_count};
 
     /// The roster of no lines. Its one kind is `register`, with the number 0.
@@ -46,9 +50,11 @@ impl Roster {
         ensures { IfOk result (λ roster. StandsFor roster []) }
     {
         let register = Name::from_bytes(b"register").unwrap();
-        let mut kinds = IndexSet::new(alloc);
-        kinds.insert(register)?;
+        let methods = Methods::of_register(alloc)?;
+        let mut kinds = IndexMap::new(alloc);
+        kinds.insert(register, methods)?;
         Ok(Roster {
+            alloc,
             kinds,
             header: false,
             events: 0,
@@ -143,6 +149,33 @@ impl Roster {
         }
     }
 
+    fn accept_call(
+        &mut self,
+        thread: &Name,
+        object: &Name,
+        method: &Name,
+        slots: &Slots,
+        limits: &Limits,
+    ) -> Result<Accepted, WfRefused>
+        ensures ok { IfOk result (Takes self.old self.new limits.now (Line.Event (LineEvent.Call thread.now object.now method.now slots.now))) }
+        ensures refused { IfErr result (Refuses self.old self.new limits.now (Line.Event (LineEvent.Call thread.now object.now method.now slots.now))) }
+    {
+        match self.judge_call(thread, object, method, slots, limits) {
+            Err(cause) => Err(WfRefused::Cause(cause)),
+            Ok(numbers) => {
+                let slots = slots.copy(self.alloc)?;
+                self.events += 1;
+                Ok(Accepted::Event(Event::Call(Call {
+                    thread: numbers.thread,
+                    object: numbers.object,
+                    kind: numbers.kind,
+                    method: numbers.method,
+                    slots,
+                })))
+            }
+        }
+    }
+
     fn take(&mut self, line: &Line, limits: &Limits) -> Result<Accepted, WfRefused>
         ensures ok { IfOk result (Takes self.old self.new limits.now line.now) }
         ensures refused { IfErr result (Refuses self.old self.new limits.now line.now) }
@@ -158,6 +191,14 @@ impl Roster {
             Line::Event(LineEvent::Join { thread, child }) => self.accept_join(
                 thread, child, limits,
             ),
+            Line::Event(
+                LineEvent::Call {
+                    thread,
+                    object,
+                    method,
+                    slots,
+                },
+            ) => self.accept_call(thread, object, method, slots, limits),
         }
     }
 
@@ -233,11 +274,11 @@ impl Roster {
 /// The rules and their test say the same: the test answers nothing exactly where the line may
 /// follow, and else the one cause whose part the line breaks first.
 pub fn law_of_following()
-    ensures test { (kinds : List (List ℕ)) (limits : LimitsOf) (before : List LineOf) (line : LineOf) →
+    ensures test { (kinds : List Kind) (limits : LimitsOf) (before : List LineOf) (line : LineOf) →
         MatchOption (first_broken kinds limits before line) (Follows kinds limits before line) (FirstBroken kinds limits before line) }
-    ensures apart { (kinds : List (List ℕ)) (limits : LimitsOf) (before : List LineOf) (line : LineOf) →
+    ensures apart { (kinds : List Kind) (limits : LimitsOf) (before : List LineOf) (line : LineOf) →
         Follows kinds limits before line → (cause : WfCause) → ¬ (FirstBroken kinds limits before line cause) }
-    ensures only { (kinds : List (List ℕ)) (limits : LimitsOf) (before : List LineOf) (line : LineOf) (cause : WfCause) →
+    ensures only { (kinds : List Kind) (limits : LimitsOf) (before : List LineOf) (line : LineOf) (cause : WfCause) →
         FirstBroken kinds limits before line cause → first_broken kinds limits before line ≡ Some cause }
 {}
 
@@ -245,13 +286,13 @@ pub fn law_of_following()
 /// events, and their numbers are in range. Its known threads are those of the lines, and its joined ones those
 /// that the lines join.
 pub fn law_of_events()
-    ensures formed { (kinds : List (List ℕ)) (lines : List LineOf) → AreAccepted kinds lines → WellFormed (roots_of lines) (events_of lines) }
-    ensures range { (kinds : List (List ℕ)) (lines : List LineOf) → AreAccepted kinds lines → InRange (events_of lines) }
-    ensures count { (kinds : List (List ℕ)) (lines : List LineOf) → AreAccepted kinds lines → length (events_of lines) ≡ events lines }
-    ensures known { (kinds : List (List ℕ)) (lines : List LineOf) → AreAccepted kinds lines → (t : ℕ) →
-        (Known (roots_of lines) (events_of lines) t ↔ (t < length (threads_of lines))) }
-    ensures ended { (kinds : List (List ℕ)) (lines : List LineOf) → AreAccepted kinds lines → (t : ℕ) →
-        ((0 < joins (events_of lines) t) ↔ ((name : List ℕ) × (slice_get (threads_of lines) t ≡ Some name) × Contains (joined_of lines) name)) }
+    ensures formed { (kinds : List Kind) (lines : List LineOf) → AreAccepted kinds lines → WellFormed (roots_of lines) (events_of kinds lines) }
+    ensures range { (kinds : List Kind) (lines : List LineOf) → AreAccepted kinds lines → InRange (events_of kinds lines) }
+    ensures count { (kinds : List Kind) (lines : List LineOf) → AreAccepted kinds lines → length (events_of kinds lines) ≡ events lines }
+    ensures known { (kinds : List Kind) (lines : List LineOf) → AreAccepted kinds lines → (t : ℕ) →
+        (Known (roots_of lines) (events_of kinds lines) t ↔ (t < length (threads_of lines))) }
+    ensures ended { (kinds : List Kind) (lines : List LineOf) → AreAccepted kinds lines → (t : ℕ) →
+        ((0 < joins (events_of kinds lines) t) ↔ ((name : List ℕ) × (slice_get (threads_of lines) t ≡ Some name) × Contains (joined_of lines) name)) }
 {}
 
 #[cfg(test)]

@@ -1,6 +1,6 @@
 //! What an accepted line is, and why a line is refused.
 
-use rd_base::LimitName;
+use rd_base::{LimitName, NoMemory};
 use rd_event::Event;
 use std::alloc::AllocFailed;
 use thiserror::Error;
@@ -43,6 +43,15 @@ pub enum WfCause {
     /// the object's kind is no kind
     #[error("the kind is unknown")]
     UnknownKind,
+    /// the called object was not declared
+    #[error("the object is unknown")]
+    UnknownObject,
+    /// the object's kind has no such method
+    #[error("the method is unknown")]
+    UnknownMethod,
+    /// the call has another number of slots than its method
+    #[error("the number of arguments is wrong")]
+    WrongCount,
     /// one more would pass this limit, which is the number
     #[error("one more would pass a limit")]
     Limit(LimitName, u32),
@@ -57,6 +66,17 @@ pub enum WfRefused {
     /// memory ran out
     #[error("out of memory")]
     NoMemory,
+}
+
+impl From<NoMemory> for WfRefused {
+    ghost use Rattle.std.specs.Prelude.{◌≡◌};
+    ghost use Rattle.rd_run.specs.declared.wf.causes.WfRefused.TheVariants.{NoMemory as MemoryRefused};
+
+    ghost from_gives = { λ _ e. e ≡ MemoryRefused };
+
+    fn from(_error: NoMemory) -> WfRefused {
+        WfRefused::NoMemory
+    }
 }
 
 impl<T: Drop> From<AllocFailed<T>> for WfRefused {

@@ -3,8 +3,9 @@ ghost use Rattle.std.specs.Prelude.{◌≡◌, ◌+◌, ◌<◌, ◌≤◌, ◌^
 
 use super::Roster;
 use super::causes::{Accepted, WfCause};
-use rd_base::{LimitName, Limits, Name};
-use rd_event::{Event, Line, LineEvent};
+use super::methods::Method;
+use rd_base::{LimitName, Limits, Name, Slots};
+use rd_event::{Call, Event, Line, LineEvent};
 
 /// A thread that was begun: its number, and whether it was joined.
 #[derive(Clone, Copy)]
@@ -27,6 +28,15 @@ pub(super) struct Pair {
     pub(super) child: u32,
 }
 
+/// The numbers of a call.
+#[derive(Clone, Copy)]
+pub(super) struct Numbers {
+    pub(super) thread: u32,
+    pub(super) object: u32,
+    pub(super) kind: u32,
+    pub(super) method: u8,
+}
+
 /// The cause, where one more after so many would pass this limit.
 fn limit_cause(count: u32, name: LimitName, most: u32) -> Option<WfCause>
     ensures room { IfNone result ((count < most) × (count + 1 < 2 ^ 32)) }
@@ -42,8 +52,10 @@ fn limit_cause(count: u32, name: LimitName, most: u32) -> Option<WfCause>
 impl Roster {
     ghost use Rattle.std.specs.Prelude.{◌≡◌, ◌<◌, ◌^◌, ◌+◌, List, IfOk, IfErr, OnOk, MatchOption, IfSome, true, false};
     ghost use Rattle.rd_event.specs.declared.items.Line.{Line as LineOf};
+    ghost use Rattle.rd_event.specs.declared.events.Call.{Call as CallOf};
+    ghost use Rattle.rd_run.specs.Kinds.{methods_at, register_alone};
     ghost use Rattle.rd_run.specs.MayFollow.{threads_of, joined_of, is_among, place};
-    ghost use Rattle.rd_run.specs.Roster.{StandsFor, Permits, Forbids, thread_count, object_count};
+    ghost use Rattle.rd_run.specs.Roster.{StandsFor, FindsMethod, FindsObject, Permits, Forbids, thread_count, object_count};
 
     fn known(&self, name: &Name) -> Option<Known>
         ensures within { IfSome result (λ known. known.thread < thread_count self.now) }
@@ -57,6 +69,23 @@ impl Roster {
             thread: thread as u32,
             joined: *joined,
         })
+    }
+
+    fn declared(&self, name: &Name) -> Option<Declared>
+        ensures { (lines : List LineOf) → StandsFor self.now lines → FindsObject lines name.now result }
+    {
+        let (object, _, kind) = self.objects.get_full(name)?;
+        Some(Declared {
+            object: object as u32,
+            kind: *kind,
+        })
+    }
+
+    fn method(&self, kind: u32, name: &Name) -> Option<Method>
+        ensures { (lines : List LineOf) → StandsFor self.now lines → FindsMethod (methods_at register_alone kind) name.now result }
+    {
+        let (_, methods) = self.kinds.get_index(kind as usize)?;
+        methods.find(name)
     }
 
     pub(super) fn judge_root(&self, name: &Name, limits: &Limits) -> Result<u32, WfCause>
@@ -177,6 +206,48 @@ impl Roster {
         Ok(Pair {
             thread: actor.thread,
             child: awaited.thread,
+        })
+    }
+
+    pub(super) fn judge_call(
+        &self,
+        thread: &Name,
+        object: &Name,
+        method: &Name,
+        slots: &Slots,
+        limits: &Limits,
+    ) -> Result<Numbers, WfCause>
+        ensures ok { IfOk result (λ call. Permits self.now limits.now (Line.Event (LineEvent.Call thread.now object.now method.now slots.now))
+            (Accepted.Event (Event.Call (record { thread = call.thread; object = call.object; kind = call.kind; method = call.method; slots = slots.now })))) }
+        ensures room { OnOk result (self.now.events + 1 < 2 ^ 32) }
+        ensures err { IfErr result (Forbids self.now limits.now (Line.Event (LineEvent.Call thread.now object.now method.now slots.now))) }
+    {
+        if !self.header {
+            return Err(WfCause::HeaderFirst);
+        }
+        let Some(actor) = self.known(thread) else {
+            return Err(WfCause::UnknownThread);
+        };
+        if actor.joined {
+            return Err(WfCause::ThreadEnded);
+        }
+        let Some(declared) = self.declared(object) else {
+            return Err(WfCause::UnknownObject);
+        };
+        let Some(method) = self.method(declared.kind, method) else {
+            return Err(WfCause::UnknownMethod);
+        };
+        if slots.items().len() != usize::from(method.slots) {
+            return Err(WfCause::WrongCount);
+        }
+        if let Some(cause) = limit_cause(self.events, LimitName::Events, limits.events) {
+            return Err(cause);
+        }
+        Ok(Numbers {
+            thread: actor.thread,
+            object: declared.object,
+            kind: declared.kind,
+            method: method.number,
         })
     }
 }

@@ -1,38 +1,14 @@
 ghost use Rattle.rd_base.specs.Limits.{AreUsable};
 
 use super::{Accepted, Roster, WfCause, WfRefused};
-use rd_base::{LimitName, Limits, Name};
-use rd_event::{Event, Line, LineEvent};
+use rd_base::{LimitName, Limits, NoMemory, Slots, Value};
+use rd_event::{Call, Event, Line, read_line};
 use std::alloc::Global;
 use std::process::Abort;
+use std::test::Fail;
 
-fn name(rt: &impl Abort, word: &str) -> Name {
-    Name::from_bytes(word.as_bytes()).expect(rt, "a name")
-}
-
-/// A line by its words, and a skipped one where the first word is none of the five.
-fn line(rt: &impl Abort, text: &str) -> Line {
-    let mut words = text.split(' ');
-    let first = words.next().unwrap_or("");
-    let second = name(rt, words.next().unwrap_or("none"));
-    let third = name(rt, words.next().unwrap_or("none"));
-    match first {
-        "rdtrace" => Line::Header { version: 1 },
-        "thread" => Line::Thread(second),
-        "object" => Line::Object {
-            name: second,
-            kind: third,
-        },
-        "fork" => Line::Event(LineEvent::Fork {
-            thread: second,
-            child: third,
-        }),
-        "join" => Line::Event(LineEvent::Join {
-            thread: second,
-            child: third,
-        }),
-        _ => Line::Skip,
-    }
+fn line(rt: &impl Abort, alloc: Global, text: &str) -> Line {
+    read_line(alloc, text.as_bytes()).expect(rt, "a line")
 }
 
 /// What a roster answers to the last of these lines, with a semicolon between two.
@@ -47,7 +23,7 @@ fn last_answer(
     let mut roster = Roster::new(alloc).expect(rt, "memory");
     let mut answer = Ok(Accepted::Nothing);
     for text in trace.split(';') {
-        answer = roster.accept(&line(rt, text), limits);
+        answer = roster.accept(&line(rt, alloc, text), limits);
     }
     answer
 }
@@ -95,6 +71,64 @@ fn accepted_lines_are_numbered(rt: HostRuntime) {
     }
 }
 
+fn slots(alloc: Global, values: &[Value]) -> Result<Slots, NoMemory> {
+    let mut slots = Slots::new(alloc);
+    for value in values {
+        slots.push(value.copy(alloc)?)?;
+    }
+    Ok(slots)
+}
+
+/// A call has the numbers of its thread, of its object, of that object's kind and of the method, and its values.
+#[test]
+fn accepted_calls_are_numbered(rt: HostRuntime) -> Result<(), Fail> {
+    let alloc = rt.alloc();
+    let limits = Limits::standard();
+    let trace = "rdtrace 1;thread a;fork a b;object x register;object y register";
+    let rows = [
+        (
+            "call b y read -> 7",
+            Call {
+                thread: 1,
+                object: 1,
+                kind: 0,
+                method: 0,
+                slots: slots(alloc, &[Value::Int(7)])?,
+            },
+        ),
+        (
+            "call a x write 7 -> nil",
+            Call {
+                thread: 0,
+                object: 0,
+                kind: 0,
+                method: 1,
+                slots: slots(alloc, &[Value::Int(7), Value::Nil])?,
+            },
+        ),
+        (
+            "call a y swap true -> false",
+            Call {
+                thread: 0,
+                object: 1,
+                kind: 0,
+                method: 2,
+                slots: slots(alloc, &[Value::Bool(true), Value::Bool(false)])?,
+            },
+        ),
+    ];
+    for (text, call) in rows {
+        let mut roster = Roster::new(alloc)?;
+        for before in trace.split(';') {
+            roster.accept(&line(&rt, alloc, before), &limits)?;
+        }
+        let answer = roster.accept(&line(&rt, alloc, text), &limits);
+        assert_eq!(rt; answer, Ok(Accepted::Event(Event::Call(call))), "{text}");
+        assert_eq!(rt; roster.events(), 2);
+    }
+    Ok(())
+}
+
 #[test]
 fn the_first_broken_part_is_the_cause(rt: HostRuntime) {
     let limits = Limits::standard();
@@ -126,6 +160,36 @@ fn the_first_broken_part_is_the_cause(rt: HostRuntime) {
         ),
         ("rdtrace 1;thread p;join p p", WfCause::OwnThread),
         ("rdtrace 1;object a queue", WfCause::UnknownKind),
+        ("call a x add -> 1", WfCause::HeaderFirst),
+        ("rdtrace 1;call a x add -> 1", WfCause::UnknownThread),
+        (
+            "rdtrace 1;thread a;thread b;join a b;call b x add -> 1",
+            WfCause::ThreadEnded,
+        ),
+        (
+            "rdtrace 1;thread a;call a x add -> 1",
+            WfCause::UnknownObject,
+        ),
+        (
+            "rdtrace 1;thread a;object x register;call a y read -> 1",
+            WfCause::UnknownObject,
+        ),
+        (
+            "rdtrace 1;thread a;object x register;call a x add 1 -> nil",
+            WfCause::UnknownMethod,
+        ),
+        (
+            "rdtrace 1;thread a;object x register;call a x write -> nil",
+            WfCause::WrongCount,
+        ),
+        (
+            "rdtrace 1;thread a;object x register;call a x read 1 -> 1",
+            WfCause::WrongCount,
+        ),
+        (
+            "rdtrace 1;thread a;object x register;call a x swap 1 2 -> 1",
+            WfCause::WrongCount,
+        ),
     ];
     for (trace, cause) in rows {
         assert_eq!(rt;
@@ -173,6 +237,10 @@ fn limits_are_met_and_not_passed(rt: HostRuntime) {
             WfCause::Limit(LimitName::Events, 2),
         ),
         (
+            "rdtrace 1;thread a;object x register;call a x read -> 1;call a x read -> 1;call a x read -> 1",
+            WfCause::Limit(LimitName::Events, 2),
+        ),
+        (
             "rdtrace 1;object a register;object b register",
             WfCause::Limit(LimitName::Objects, 1),
         ),
@@ -206,16 +274,21 @@ fn a_refused_line_changes_nothing(rt: HostRuntime) {
         ("join b b", false),
         ("thread c", false),
         ("object r register", true),
+        ("call b s read -> 1", false),
+        ("call b r add -> 1", false),
+        ("call b r read 1 -> 1", false),
+        ("call b r read -> 1", true),
         ("join a b", true),
         ("fork b c", false),
+        ("call b r read -> 1", false),
     ];
     for (text, accepted) in rows {
-        let answer = roster.accept(&line(&rt, text), &limits);
+        let answer = roster.accept(&line(&rt, rt.alloc(), text), &limits);
         assert_eq!(rt; answer.is_ok(), accepted, "{text}");
     }
     assert_eq!(rt; roster.finish(), Ok(()));
     assert_eq!(rt; roster.threads(), 2);
-    assert_eq!(rt; roster.events(), 2);
+    assert_eq!(rt; roster.events(), 3);
     if 1 < roster.threads() {
         assert_eq!(rt; roster.thread_name(1).items(), b"b".as_slice());
     }

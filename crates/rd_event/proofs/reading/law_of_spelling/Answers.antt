@@ -1,4 +1,4 @@
-use Rattle.rd_event.proofs.ReadingLemmas.{found_said, line_found, one_line}
+use Rattle.rd_event.proofs.ReadingLemmas.{found_said, line_found, found_again, one_line}
 use Rattle.rd_event.proofs.reading.law_of_spelling.Goals as goal
 
 pub returns-clause-test : goal.returns-clause-test
@@ -9,3 +9,6 @@ returns-clause-range c = λ bytes item found. (found_said bytes item found).0
 
 pub returns-clause-one_item : goal.returns-clause-one_item
 returns-clause-one_item c = one_line
+
+pub returns-clause-again : goal.returns-clause-again
+returns-clause-again c = found_again

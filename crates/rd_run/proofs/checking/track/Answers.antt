@@ -1,8 +1,6 @@
-use Rattle.std.proofs.Common.{◌≡◌, ◌≤◌, ◌+◌, ℕ, Bool, List, [], ◌∷◌, ◌++◌, length, subst, ◌||◌, ◌==◌}
-use Rattle.rd_event.specs.declared.items.Line.{Line}
-use Rattle.rd_hb.specs.Tracker.{StandsFor}
-use Rattle.rd_run.specs.Checking.{IsNextLine, Tracks}
-use Rattle.rd_run.proofs.CheckLemmas.{both_ok, event_cost, event_next, event_tracks, quiet_tracks, root_below, root_numbered, root_tracks}
+use Rattle.std.proofs.Common.{◌≤◌, ◌+◌, Some, subst, sym}
+use Rattle.rd_run.specs.Checking.{IsNextLine, IsStamped}
+use Rattle.rd_run.proofs.CheckLemmas.{event_cost, event_next, event_stamped, event_tracks, quiet_tracks, root_below, root_numbered, root_tracks}
 use Rattle.rd_run.proofs.checking.track.Goals as goal
 
 pub root-requires-clause-numbered : goal.root-requires-clause-numbered
@@ -15,15 +13,10 @@ root-requires-clause-below g c =
     let (before, line, next) = c.requires in
     root_below c.args.tracker.now before line c.in-Root.thread (subst (IsNextLine c.args.tracker.now before line) c.in-Root.is next)
 
-pub returns-in-Root-clause-tracks : goal.returns-in-Root-clause-tracks
-returns-in-Root-clause-tracks g c =
-    both_ok _ _ ((before : List Line) (line : Line) → IsNextLine c.args.tracker.now before line c.args.accepted.now → Tracks c.root.new.self (before ++ line ∷ []))
-    c.root.result
-    (λ (stands : (roots : ℕ → Bool) → StandsFor c.args.tracker.now roots [] → StandsFor c.root.new.self (λ t. roots t || (t == c.in-Root.thread)) [])
-    (count : length c.root.new.self ≡ length c.args.tracker.now + 1) before line next.
-    root_tracks c.args.tracker.now before line c.in-Root.thread (subst (IsNextLine c.args.tracker.now before line) c.in-Root.is next) c.root.new.self stands count)
-    c.root.ensures.ok
-    c.root.ensures.count
+pub returns-in_ok-root-in-Root-clause-tracks : goal.returns-in_ok-root-in-Root-clause-tracks
+returns-in_ok-root-in-Root-clause-tracks g c = λ before line next.
+    root_tracks c.args.tracker.now before line c.in-Root.thread (subst (IsNextLine c.args.tracker.now before line) c.in-Root.is next) c.root.new.self
+    c.in_ok-root-in-Root.ensures.ok c.in_ok-root-in-Root.ensures.count
 
 pub event-requires : goal.event-requires
 event-requires g c =
@@ -46,8 +39,11 @@ returns-in_ok-event-in-Event-clause-tracks g c = λ before line next.
     event_tracks c.args.tracker.now before line c.in-Event.event (subst (IsNextLine c.args.tracker.now before line) c.in-Event.is next) c.event.new.self
     c.in_ok-event-in-Event.ensures.stands c.in_ok-event-in-Event.ensures.count
 
+pub returns-in_ok-event-in-Event-clause-stamped : goal.returns-in_ok-event-in-Event-clause-stamped
+returns-in_ok-event-in-Event-clause-stamped g c = λ before line next.
+    subst (λ numbers. IsStamped before numbers (Some c.in_ok-event-in-Event.field-0)) (sym c.in-Event.is)
+    (event_stamped c.args.tracker.now before line c.in-Event.event (subst (IsNextLine c.args.tracker.now before line) c.in-Event.is next)
+    c.in_ok-event-in-Event.field-0 c.in_ok-event-in-Event.ensures.stamp)
+
 pub returns-in-Nothing-clause-tracks : goal.returns-in-Nothing-clause-tracks
 returns-in-Nothing-clause-tracks g c = λ before line next. quiet_tracks c.args.tracker.now before line c.args.accepted.now next c.in-Nothing.is
-
-pub returns-in-Nothing-2-clause-tracks : goal.returns-in-Nothing-2-clause-tracks
-returns-in-Nothing-2-clause-tracks g c = λ before line next. quiet_tracks c.args.tracker.now before line c.args.accepted.now next c.in-Nothing.is

@@ -1,5 +1,3 @@
-use Rattle.std.proofs.Common.{◌↔◌, IsTrue}
-use Rattle.rd_run.specs.Register.{Keeps}
 use Rattle.rd_run.proofs.RegisterLemmas.{keeps_by}
 use Rattle.rd_run.proofs.register.keeps.Goals as goal
 

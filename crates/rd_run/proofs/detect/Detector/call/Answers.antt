@@ -1,8 +1,7 @@
-use Rattle.std.proofs.Common.{◌≡◌, ℕ, List, [], ◌∷◌, ◌++◌, length, ap, subst, sym, ◌∙◌}
+use Rattle.std.proofs.Common.{◌≡◌, [], ◌∷◌, ◌++◌, ap, subst, sym, ◌∙◌}
 use Rattle.rd_event.specs.declared.events.Call.{Call as CallOf}
-use Rattle.rd_event.specs.declared.events.Event.{Event as EventOf}
 use Rattle.rd_event.specs.declared.events.Event.TheVariants as event
-use Rattle.rd_run.specs.Detect.{IsAnswer, IsNewest, IsNext, StandsFor}
+use Rattle.rd_run.specs.Detect.{IsAnswer, IsNewest, StandsFor}
 use Rattle.rd_run.specs.declared.detect.Seen.{Seen}
 use Rattle.rd_run.proofs.DetectLemmas.{is_answer, stands_longer}
 use Rattle.rd_run.proofs.detect.Detector.call.Goals as goal

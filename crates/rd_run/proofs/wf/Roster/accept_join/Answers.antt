@@ -1,7 +1,8 @@
 use Rattle.std.proofs.Common.{◌≡◌, true, refl, ap}
 use Rattle.indexmap.specs.Layout.{set_value_at}
 use Rattle.indexmap.proofs.CallerLemmas.{index_map_len-with_value_at}
-use Rattle.rd_run.specs.MayFollow.{register_alone, place, threads_of, accepted_of}
+use Rattle.rd_run.specs.MayFollow.{place, threads_of, accepted_of}
+use Rattle.rd_run.specs.Kinds.{register_alone}
 use Rattle.rd_run.proofs.FollowLemmas.{known_child}
 use Rattle.rd_run.proofs.RosterLemmas.{after_join}
 use Rattle.rd_run.proofs.wf.Roster.accept_join.Goals as goal

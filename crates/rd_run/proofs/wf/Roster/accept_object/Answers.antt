@@ -1,6 +1,7 @@
 use Rattle.std.proofs.Common.{◌≡◌, [], ◌∷◌, ◌++◌, refl, ap, ◌∙◌}
 use Rattle.indexmap.specs.IndexMap.{insert_entry}
-use Rattle.rd_run.specs.MayFollow.{same_name, register_alone, place, accepted_of}
+use Rattle.rd_run.specs.MayFollow.{same_name, place, accepted_of}
+use Rattle.rd_run.specs.Kinds.{kind_names, register_alone}
 use Rattle.rd_run.proofs.FollowLemmas.{fresh_object}
 use Rattle.rd_run.proofs.RosterLemmas.{inserted_object, after_object}
 use Rattle.rd_run.proofs.wf.Roster.accept_object.Goals as goal
@@ -10,7 +11,7 @@ unfolding accepted_of
 returns-in_ok-insert-in-Ok-clause-ok c = λ lines stands.
     let permitted = c.in-Ok.ensures.ok lines stands in
     let fresh = fresh_object register_alone c.args.limits.now lines c.args.name.now c.args.kind.now permitted.0 in
-    let number : c.in-Ok.field-0.kind ≡ place register_alone c.args.kind.now = cc permitted.1 in (
+    let number : c.in-Ok.field-0.kind ≡ place (kind_names register_alone) c.args.kind.now = cc permitted.1 in (
       permitted.0,
       permitted.1,
       after_object c.args.self.now _ lines stands refl c.args.name.now c.args.kind.now refl refl refl

@@ -1,6 +1,7 @@
 use Rattle.std.proofs.Common.{false, refl, ap, ◌∙◌}
 use Rattle.indexmap.specs.IndexMap.{insert_entry}
-use Rattle.rd_run.specs.MayFollow.{same_name, register_alone}
+use Rattle.rd_run.specs.MayFollow.{same_name}
+use Rattle.rd_run.specs.Kinds.{register_alone}
 use Rattle.rd_run.proofs.FollowLemmas.{fresh_root}
 use Rattle.rd_run.proofs.RosterLemmas.{inserted_thread, after_root}
 use Rattle.rd_run.proofs.wf.Roster.accept_root.Goals as goal

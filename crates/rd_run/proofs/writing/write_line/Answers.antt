@@ -1,6 +1,6 @@
 use Rattle.std.proofs.Common.{take, drop, sym}
 use Rattle.std.proofs.lemmas.List.{take-append-drop}
-use Rattle.rd_run.proofs.top.write_line.Goals as goal
+use Rattle.rd_run.proofs.writing.write_line.Goals as goal
 
 pub returns-in-Err-clause-front : goal.returns-in-Err-clause-front
 returns-in-Err-clause-front g c =

@@ -1,0 +1,82 @@
+-- `call_of` finds a call exactly in its spelling.
+use Rattle.std.proofs.Common.{◌≡◌, ℕ, ◌<◌, List, ◌∷◌, ◌++◌, length, refl, sym, ◌∙◌, ap, arith, codes, Some, IfSome, length-append}
+use Rattle.std.specs.Prelude.{⊤}
+use Rattle.std.specs.List.{before_first, after_first}
+use Rattle.std.proofs.lemmas.Option.{MatchOption-at_some}
+use Rattle.rd_base.specs.declared.values.Value.{Value}
+use Rattle.rd_base.specs.Names.{IsName}
+use Rattle.rd_base.proofs.FoundLemmas.{map_found, then_found}
+use Rattle.rd_event.specs.declared.items.LineEvent.{LineEvent}
+use Rattle.rd_event.specs.declared.items.LineEvent.TheVariants.{Call}
+use Rattle.rd_event.specs.Items.{IsEvent, AreSlots, apart, event_spelling, slots_spelling}
+use Rattle.rd_event.specs.Reading.{is_space, name_of, call_of}
+use Rattle.rd_event.specs.ReadingSlots.{slots_of}
+use Rattle.rd_event.proofs.SlotLemmas.{slots_found, slots_said}
+use Rattle.rd_event.proofs.WordLemmas.{NameSaid, cut_joined, before_space, after_space, name_said, name_found}
+
+-- two words, a space apart, are the bytes
+said_apart : (bytes first second : List ℕ) → first ≡ before_first is_space bytes → second ≡ after_first is_space bytes
+    → 0 < length second → (apart first second ≡ bytes) × (0 < length bytes)
+said_apart bytes first second before behind some =
+    let more : 0 < length (after_first is_space bytes) = omega (arith, ap length behind) in
+    let all : apart first second ≡ bytes =
+    ap (λ word. word ++ 32 ∷ second) before ∙ ap (λ rest. before_first is_space bytes ++ 32 ∷ rest) behind
+    ∙ sym (cut_joined bytes more) in
+    (all, omega (arith, length-append first (32 ∷ second), ap length all))
+
+name_is : (bytes name : List ℕ) → name_of bytes ≡ Some name → IsName name × (name ≡ bytes)
+name_is bytes name found = MatchOption-at_some ⊤ (NameSaid bytes) name found (name_said bytes)
+
+-- What is found is said.
+abbrev pub CallSaid : List ℕ → LineEvent → Type 0
+CallSaid rest event = IsEvent event × (codes "call" ++ 32 ∷ rest ≡ event_spelling event) × (0 < length rest)
+
+parts_said : (rest names words thread object method : List ℕ) (slots : List Value)
+    → names ≡ after_first is_space rest → words ≡ after_first is_space names
+    → name_of (before_first is_space rest) ≡ Some thread → name_of (before_first is_space names) ≡ Some object
+    → name_of (before_first is_space words) ≡ Some method → slots_of 7 (after_first is_space words) ≡ Some slots
+    → CallSaid rest (Call thread object method slots)
+parts_said rest names words thread object method slots is_names is_words thread_found object_found method_found slots_are =
+    let first = name_is _ thread thread_found in
+    let second = name_is _ object object_found in
+    let third = name_is _ method method_found in
+    let values = slots_said _ slots slots_are in
+    let some : 0 < length (slots_spelling slots) = omega (arith, values.2, ap length values.1) in
+    let method_on = said_apart words method (slots_spelling slots) third.1 values.1 some in
+    let object_on = said_apart names object words second.1 is_words method_on.1 in
+    let thread_on = said_apart rest thread names first.1 is_names object_on.1 in
+    let whole : apart thread (apart object (apart method (slots_spelling slots))) ≡ rest =
+    ap (λ more. apart thread (apart object more)) method_on.0 ∙ ap (apart thread) object_on.0 ∙ thread_on.0 in
+    ((first.0, second.0, third.0, values.0), ap (λ all. codes "call" ++ 32 ∷ all) (sym whole), thread_on.1)
+
+pub call_said : (rest : List ℕ) → IfSome (call_of rest) (CallSaid rest)
+unfolding call_of
+call_said rest =
+    let Said : LineEvent → Type 0 = CallSaid rest in
+    let names = after_first is_space rest in
+    let words = after_first is_space names in
+    then_found Said _ (name_of (before_first is_space rest)) (λ thread thread_found.
+    then_found Said _ (name_of (before_first is_space names)) (λ object object_found.
+    then_found Said _ (name_of (before_first is_space words)) (λ method method_found.
+    map_found Said _ (slots_of 7 (after_first is_space words)) (λ slots slots_are.
+    parts_said rest names words thread object method slots refl refl thread_found object_found method_found slots_are))))
+
+-- What is said is found.
+pub call_found : (thread object method : List ℕ) (slots : List Value) → IsName thread → IsName object → IsName method → AreSlots slots
+    → call_of (apart thread (apart object (apart method (slots_spelling slots)))) ≡ Some (Call thread object method slots)
+unfolding call_of
+call_found thread object method slots first second third values =
+    let words = apart method (slots_spelling slots) in
+    let names = apart object words in
+    rw (
+      before_space thread names first,
+      after_space thread names first,
+      before_space object words second,
+      after_space object words second,
+      before_space method (slots_spelling slots) third,
+      after_space method (slots_spelling slots) third,
+      name_found thread first,
+      name_found object second,
+      name_found method third,
+      slots_found slots values,
+    ) refl

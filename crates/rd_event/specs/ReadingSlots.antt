@@ -1,0 +1,40 @@
+-- The arguments and the result that bytes spell, computed: this project's profile.
+use Rattle.std.specs.Prelude.{ℕ, zero, suc, ◌+◌, Bool, false, ◌==◌, if◌then◌else◌, List, [], ◌∷◌, take, drop, codes, Option, None}
+use Rattle.std.specs.Option.{option_map, option_and_then}
+use Rattle.std.specs.Str.{bytes_eq}
+use Rattle.rd_base.specs.declared.values.Value.{Value}
+use Rattle.rd_base.specs.ReadingValues.{value_of}
+use Rattle.rd_event.specs.declared.slots.Place.{Place}
+use Rattle.rd_event.specs.declared.slots.Place.TheVariants.{Outside, Quoted, Escaped}
+
+-- a value ends before a space that stands outside its quotes
+abbrev pub ends : Place → ℕ → Bool
+ends Outside b = b == 32
+ends Quoted b = false
+ends Escaped b = false
+
+-- the place behind a byte
+abbrev pub next : Place → ℕ → Place
+next Outside b = if b == 34 then Quoted else Outside
+next Quoted b = if b == 34 then Outside else if b == 92 then Escaped else Quoted
+next Escaped b = Quoted
+
+-- how many bytes stand before the first space outside quotes
+unfoldable pub value_length : Place → List ℕ → ℕ
+value_length place [] = 0
+value_length place (b ∷ bytes) = if ends place b then 0 else suc (value_length (next place b) bytes)
+
+-- the bytes before that space, and those behind it
+abbrev pub first_value : List ℕ → List ℕ
+first_value bytes = take (value_length Outside bytes) bytes
+
+abbrev pub other_values : List ℕ → List ℕ
+other_values bytes = drop (value_length Outside bytes + 1) bytes
+
+-- the arguments, then the result behind an arrow: at most so many values
+unfoldable pub slots_of : ℕ → List ℕ → Option (List Value)
+slots_of zero bytes = None
+slots_of (suc room) bytes =
+    let others = slots_of room (other_values bytes) in
+    if bytes_eq (first_value bytes) (codes "->") then option_map (λ result. result ∷ []) (value_of (other_values bytes))
+    else option_and_then (λ argument. option_map (λ slots. argument ∷ slots) others) (value_of (first_value bytes))

@@ -1,0 +1,107 @@
+//! Spelling a line.
+ghost use Rattle.std.specs.Prelude.{◌≡◌, [], ◌∷◌, ◌++◌, Some, OnOk, IfOk};
+ghost use Rattle.rd_event.specs.Items.{InRange, Says, apart, slots_spelling, event_spelling, spelling};
+ghost use Rattle.rd_event.specs.Reading.{item_of};
+
+use crate::items::{Line, LineEvent};
+use rd_base::{Bytes, Name, NoMemory, Slots, Value, append_value};
+use std::alloc::Global;
+
+// Puts the keyword and two names, a space apart, behind the text.
+fn append_names(
+    text: &mut Bytes,
+    keyword: &[u8],
+    first: &Name,
+    second: &Name,
+) -> Result<(), NoMemory>
+    ensures { OnOk result (text.new ≡ text.old ++ (keyword.now ++ apart first.now second.now)) }
+{
+    text.append(keyword)?;
+    append_word(text, first)?;
+    text.append(second.items())
+}
+
+// Puts the name and a space behind the text.
+fn append_word(text: &mut Bytes, name: &Name) -> Result<(), NoMemory>
+    ensures { OnOk result (text.new ≡ text.old ++ (name.now ++ 32 ∷ [])) }
+{
+    text.append(name.items())?;
+    text.push(b' ')
+}
+
+// Puts each argument and a space, and then the arrow and the result, behind the text.
+fn append_slots(text: &mut Bytes, slots: &[Value]) -> Result<(), NoMemory>
+    ensures { OnOk result (text.new ≡ text.old ++ slots_spelling slots.now) }
+{
+    let [arguments @ .., last] = slots else {
+        return Ok(());
+    };
+    for argument in arguments {
+        append_value(text, argument)?;
+        text.push(b' ')?;
+    }
+    text.append(b"-> ")?;
+    append_value(text, last)
+}
+
+// Puts the spelling of a call behind the text.
+fn append_call(
+    text: &mut Bytes,
+    thread: &Name,
+    object: &Name,
+    method: &Name,
+    slots: &Slots,
+) -> Result<(), NoMemory>
+    ensures { OnOk result (text.new ≡ text.old ++ event_spelling (LineEvent.Call thread.now object.now method.now slots.now)) }
+{
+    text.append(b"call ")?;
+    append_word(text, thread)?;
+    append_word(text, object)?;
+    append_word(text, method)?;
+    append_slots(text, slots.items())
+}
+
+// Puts the spelling of an event behind the text.
+fn append_event(text: &mut Bytes, event: &LineEvent) -> Result<(), NoMemory>
+    ensures { OnOk result (text.new ≡ text.old ++ event_spelling event.now) }
+{
+    match event {
+        LineEvent::Fork { thread, child } => append_names(text, b"fork ", thread, child),
+        LineEvent::Join { thread, child } => append_names(text, b"join ", thread, child),
+        LineEvent::Call {
+            thread,
+            object,
+            method,
+            slots,
+        } => append_call(text, thread, object, method, slots),
+    }
+}
+
+// Puts the spelling of a line behind the text.
+fn append_line(text: &mut Bytes, line: &Line) -> Result<(), NoMemory>
+    ensures { OnOk result (text.new ≡ text.old ++ spelling line.now) }
+{
+    match line {
+        Line::Skip => Ok(()),
+        Line::Header { .. } => text.append(b"rdtrace 1"),
+        Line::Thread(name) => {
+            text.append(b"thread ")?;
+            text.append(name.items())
+        }
+        Line::Object { name, kind } => append_names(text, b"object ", name, kind),
+        Line::Event(event) => append_event(text, event),
+    }
+}
+
+/// The spelling of a line, without a line feed. A skipped line is spelled as the empty line. What is spelled is read as the
+/// line again.
+pub fn spell(alloc: Global, line: &Line) -> Result<Bytes, NoMemory>
+    requires { InRange line.now }
+    ensures value { IfOk result (λ text. text ≡ spelling line.now) }
+    ensures says { IfOk result (λ text. Says text line.now) }
+    ensures again { IfOk result (λ text. item_of text ≡ Some line.now) }
+{
+    let mut text = Bytes::new(alloc);
+    append_line(&mut text, line)?;
+    Ok(text)
+}

@@ -1,0 +1,10 @@
+use Rattle.rd_run.proofs.ReportLemmas.{none_reported, raced_where, texts_report}
+use Rattle.rd_run.specs.Walk.{ending_of, entries_of}
+use Rattle.rd_run.proofs.races.law_of_reports.Goals as goal
+
+pub returns : goal.returns
+returns c = record {
+  report = texts_report;
+  none = none_reported;
+  raced = λ walked. raced_where (entries_of walked) (ending_of walked);
+}

@@ -1,0 +1,66 @@
+-- What a check of no lines keeps and writes: the laws that it has as a follower of accepted lines.
+use Rattle.std.specs.Prelude.{◌≡◌, List, [], length}
+use Rattle.std.proofs.Common.{inl, inr, refl, sym, ap, subst, arith, true≢false}
+use Rattle.std.proofs.lemmas.Bool.Decides.{Decides-ltb}
+use Rattle.std.proofs.lemmas.List.Elements.{All-nil}
+use Rattle.std.proofs.lemmas.Option.{none-some}
+use Rattle.rd_hb.specs.EventLists.{calls, forks, joins, HasNumbers}
+use Rattle.rd_hb.specs.Tracker.{StandsFor}
+use Rattle.rd_run.specs.Checking.{Checks, IsNew}
+use Rattle.rd_run.specs.Detect.{StandsFor as Detects}
+use Rattle.rd_run.specs.Events.{AreTold, events_of, roots_of}
+use Rattle.rd_run.specs.Kinds.{Kind, register_alone}
+use Rattle.rd_run.specs.Output.{races_before, race_texts, races_of, texts_before}
+use Rattle.rd_run.specs.declared.checking.Check.{Check}
+
+-- nothing is told of no lines
+pub told_none : (kinds : List Kind) → AreTold kinds []
+unfolding calls forks joins
+told_none kinds = record {
+  formed = tt;
+  range = record { few_events = omega arith; few_threads = All-nil HasNumbers };
+  counted = refl;
+  known = λ t. (
+    λ known. elim known [ inl root ↦ (Decides-ltb t 0).0 root | inr forked ↦ absurd (omega arith) ],
+    λ below. absurd (omega arith),
+  );
+  ended = λ t. (λ some. absurd (omega arith), λ x. absurd (none-some x.0 x.1));
+  begun = λ name there. there;
+  places = λ t name at. absurd (none-some name at);
+  few = omega arith;
+  one_kind = λ object kind some. absurd (omega arith);
+}
+
+stands_none : StandsFor [] (roots_of []) (events_of register_alone [])
+unfolding forks joins
+stands_none = record {
+  known = λ t. (λ below. absurd (omega arith), λ known. ((told_none register_alone).known t).0 known);
+  clocks = λ t u. refl;
+  joined = λ t. (λ h. absurd (true≢false (sym h)), λ some. absurd (omega arith));
+}
+
+detects_none : Detects [] [] []
+detects_none = record {
+  lengths = refl;
+  sound = λ k seen at. absurd (none-some seen at);
+  whole = λ i call at. absurd (none-some _ at);
+  rising = λ k l seen other before at_k at_l. absurd (none-some seen at_k);
+}
+
+pub checks_none : (start : Check) → IsNew start → Checks start [] start
+unfolding races_of races_before
+checks_none start new = record {
+  starts = new;
+  tracks = record {
+    told = told_none register_alone;
+    stands = subst (λ tracker. StandsFor tracker (roots_of []) (events_of register_alone [])) (sym new.no_thread) stands_none;
+    count = ap length new.no_thread;
+  };
+  detects = subst (λ held. Detects held [] []) (sym new.no_call) detects_none;
+  held = ap length new.no_call;
+  races = new.no_race;
+}
+
+pub no_text : race_texts [] ≡ []
+unfolding race_texts texts_before
+no_text = refl

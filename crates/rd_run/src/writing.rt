@@ -1,0 +1,37 @@
+//! Writing a line of the report.
+ghost use Rattle.std.specs.Prelude.{◌≡◌, ◌≤◌, [], OnOk, OnErr, IfErr};
+ghost use Rattle.rd_base.specs.Inputs.{Rose};
+ghost use Rattle.rd_base.specs.Sinks.{Appends};
+ghost use Rattle.rd_run.specs.Follower.{WritesFront};
+ghost use Rattle.rd_run.specs.Output.{race_line};
+
+use crate::following::Halt;
+use crate::texts::race_line;
+use rd_base::io::{Sink, write_all};
+use std::alloc::Global;
+
+/// Hands a line to the output.
+pub fn write_line<S: Sink>(out: &mut S, line: &[u8]) -> Result<(), Halt>
+    ensures ok { OnOk result (Appends (S.written out.old) (S.written out.new) line.now) }
+    ensures front { OnErr result (WritesFront (S.written out.old) (S.written out.new) [] line.now) }
+    ensures later { S.faults out.old ≤ S.faults out.new }
+    ensures cause { IfErr result (λ halt. (halt ≡ Halt.OutputFault) × Rose (S.faults out.old) (S.faults out.new)) }
+{
+    match write_all(out, line) {
+        Ok(()) => Ok(()),
+        Err(_) => Err(Halt::OutputFault),
+    }
+}
+
+/// Writes that the call on a line races with the one on an earlier line.
+pub fn write_race<S: Sink>(alloc: Global, later: u64, earlier: u64, out: &mut S) -> Result<(), Halt>
+    ensures ok { OnOk result (Appends (S.written out.old) (S.written out.new) (race_line later earlier)) }
+    ensures front { OnErr result (WritesFront (S.written out.old) (S.written out.new) [] (race_line later earlier)) }
+    ensures later { S.faults out.old ≤ S.faults out.new }
+    ensures cause { IfErr result (λ halt. halt ≡ Halt.OutputFault → Rose (S.faults out.old) (S.faults out.new)) }
+{
+    match race_line(alloc, later, earlier) {
+        Ok(line) => write_line(out, line.items()),
+        Err(_) => Err(Halt::NoMemory),
+    }
+}
