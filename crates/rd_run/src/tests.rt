@@ -11,6 +11,8 @@ use std::process::Abort;
 use std::sync::ledger::{Blank, Ledger};
 use std::test::Fail;
 
+mod random;
+
 /// One register, one fork and one join.
 const FORK_AND_JOIN: &[u8] =
     b"rdtrace 1\nthread main\nobject r register\nfork main worker\njoin main worker\n";
