@@ -1,5 +1,5 @@
 //! The kind `register`.
-ghost use Rattle.std.specs.Prelude.{◌≡◌, ◌↔◌, IsTrue};
+ghost use Rattle.std.specs.Prelude.{◌≡◌, ◌≤◌, ◌↔◌, IsTrue};
 ghost use Rattle.rd_run.specs.Register.{Commute, Keeps, PairHolds};
 
 use rd_base::Value;
@@ -38,13 +38,25 @@ fn pair_holds(first: u8, second: u8, a: &[Value], b: &[Value]) -> bool
     }
 }
 
+/// Whether the formula holds with the first call on side 1, if its method isn't declared behind that of the second.
+fn holds_with_first(first: &Call, second: &Call) -> bool
+    ensures { IsTrue result ↔ (first.now.method ≤ second.now.method →
+        PairHolds first.now.method second.now.method first.now.slots second.now.slots) }
+{
+    first.method > second.method
+        || pair_holds(
+            first.method,
+            second.method,
+            first.slots.items(),
+            second.slots.items(),
+        )
+}
+
 /// Whether two calls on registers commute. It takes no memory.
 pub fn commute(a: &Call, b: &Call) -> bool
     ensures { IsTrue result ↔ Commute a.now b.now }
 {
-    let forth = a.method > b.method
-        || pair_holds(a.method, b.method, a.slots.items(), b.slots.items());
-    let back = b.method > a.method
-        || pair_holds(b.method, a.method, b.slots.items(), a.slots.items());
+    let forth = holds_with_first(a, b);
+    let back = holds_with_first(b, a);
     forth && back
 }
