@@ -26,10 +26,13 @@ fn is_unbuilt(bytes: &[u8]) -> bool
     ensures { result ≡ is_unbuilt bytes.now }
 {
     let skipped = bytes.is_empty() || bytes.starts_with(b"#");
+    if skipped {
+        return false;
+    }
     let acquires = bytes.starts_with(b"acquire ");
     let releases = bytes.starts_with(b"release ");
     let quotes = bytes.contains(&b'"');
-    !skipped && (acquires || (releases || quotes))
+    acquires || (releases || quotes)
 }
 
 fn is_unbuilt_item(item: &Line) -> bool
