@@ -1,3 +1,4 @@
+pub mod AcceptedLemmas
 pub mod CheckLemmas
 pub mod ContinueLemmas
 pub mod DetectLemmas

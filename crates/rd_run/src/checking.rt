@@ -1,14 +1,8 @@
 //! What `check` does with each accepted line.
-ghost use Rattle.std.specs.Prelude.{◌≡◌, ◌+◌, ◌<◌, ◌≤◌, ◌^◌, ℕ, List, ◌∷◌, [], ◌++◌, length, IfOk, IfErr, OnOk, OnErr, MatchOption};
-ghost use Rattle.rd_base.specs.Inputs.{Rose};
-ghost use Rattle.rd_base.specs.Sinks.{Appends};
+ghost use Rattle.std.specs.Prelude.{◌≡◌, ◌+◌, ◌≤◌, List, ◌∷◌, [], ◌++◌, IfOk, OnOk, MatchOption};
 ghost use Rattle.rd_event.specs.declared.events.Call.{Call as CallOf};
-ghost use Rattle.rd_event.specs.declared.events.Event.{Event as EventOf};
-ghost use Rattle.rd_event.specs.declared.events.Event.TheVariants as event;
 ghost use Rattle.rd_event.specs.declared.items.Line.{Line as LineOf};
-ghost use Rattle.rd_run.specs.Checking.{IsNew, IsNextLine, IsStamped, Tracks, next_races, next_text, tracker_bound};
-ghost use Rattle.rd_run.specs.Detect.{IsNext, StandsFor};
-ghost use Rattle.rd_run.specs.Follower.{WritesFront};
+ghost use Rattle.rd_run.specs.Checking.{IsNextLine, IsStamped, Tracks, tracker_bound};
 
 use crate::detect::Detector;
 use crate::following::{Follower, Halt};

@@ -2,8 +2,6 @@
 ghost use Rattle.std.specs.Prelude.{◌≡◌, ℕ, ◌+◌, ◌<◌, ◌≤◌, ◌↔◌, List, [], ◌∷◌, ◌++◌, length, Some, IfOk, OnOk, OnErr, IsTrue};
 ghost use Rattle.rd_event.specs.declared.events.Event.{Event as EventOf};
 ghost use Rattle.rd_event.specs.declared.events.Event.TheVariants as event;
-ghost use Rattle.rd_hb.specs.EventLists.{WellFormed};
-ghost use Rattle.rd_hb.specs.Tracker.{IsStamp};
 ghost use Rattle.rd_run.specs.Detect.{IsAnswer, IsNewest, IsNext, Meets, StandsFor};
 
 use crate::register::commute;

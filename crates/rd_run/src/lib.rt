@@ -20,7 +20,7 @@ mod writing;
 pub use detect::Detector;
 pub use endings::{Ending, TraceCause};
 pub use following::{Follower, Halt};
-pub use races::{law_of_races, law_of_reports};
+pub use races::{law_of_races, law_of_reports, law_of_walks};
 pub use status::Status;
 pub use top::run;
 pub use wf::{Accepted, Roster, WfCause, WfRefused, law_of_events, law_of_following};

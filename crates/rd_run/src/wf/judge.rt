@@ -52,7 +52,6 @@ fn limit_cause(count: u32, name: LimitName, most: u32) -> Option<WfCause>
 impl Roster {
     ghost use Rattle.std.specs.Prelude.{◌≡◌, ◌<◌, ◌^◌, ◌+◌, List, IfOk, IfErr, OnOk, MatchOption, IfSome, true, false};
     ghost use Rattle.rd_event.specs.declared.items.Line.{Line as LineOf};
-    ghost use Rattle.rd_event.specs.declared.events.Call.{Call as CallOf};
     ghost use Rattle.rd_run.specs.Kinds.{methods_at, register_alone};
     ghost use Rattle.rd_run.specs.MayFollow.{threads_of, joined_of, is_among, place};
     ghost use Rattle.rd_run.specs.Roster.{StandsFor, FindsMethod, FindsObject, Permits, Forbids, thread_count, object_count};
