@@ -2,7 +2,7 @@
 ghost use Rattle.std.specs.Prelude.{None};
 
 use rd_base::Word;
-use rd_base::io::{Failed, Inputs};
+use rd_io::{Failed, Inputs};
 use std::io::Read;
 use std::rt::Files;
 use std::{fs, str};

@@ -1,7 +1,7 @@
 //! Standard output as a sink.
 ghost use Rattle.std.specs.Prelude.{None};
 
-use rd_base::io::{Failed, Sink};
+use rd_io::{Failed, Sink};
 
 /// Standard output, which tells nothing of what was written. Each error counts as a fault, and so does a write that takes
 /// nothing of a part that isn't empty.

@@ -1,13 +1,4 @@
 pub mod NameLemmas
-pub mod SinkLemmas
-pub mod FeedLemmas
-pub mod WindowLemmas
-pub mod LookLemmas
-pub mod FillLemmas
-pub mod ReadingLemmas
-pub mod AdvanceLemmas
-pub mod NextLemmas
-pub mod StoredFileLemmas
 pub mod IntegerLemmas
 pub mod TextLemmas
 pub mod FoundLemmas

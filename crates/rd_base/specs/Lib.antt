@@ -1,11 +1,4 @@
-pub mod Calls
-pub mod Inputs
 pub mod Limits
-pub mod LineReader
-pub mod Lines
-pub mod MemoryInputs
-pub mod MemorySink
 pub mod Names
-pub mod Sinks
 pub mod ReadingValues
 pub mod Spelling

@@ -1,10 +1,8 @@
-//! What every crate of rd2 stands on: names, words, values, limits, the counter of steps, and the
-//! input and output of the program.
+//! What every crate of rd2 stands on: names, words, values, limits, and the counter of steps.
 #![tactic(auto)]
 
 mod byte_lists;
 mod counter;
-pub mod io;
 mod limits;
 mod memory;
 mod names;

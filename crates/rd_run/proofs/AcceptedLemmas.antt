@@ -1,8 +1,8 @@
 -- The lines that a walk accepts are accepted, each after those in front of it.
 use Rattle.std.proofs.Common.{◌≡◌, ℕ, ◌+◌, ◌<◌, ◌^◌, Bool, true, false, cond, List, [], ◌∷◌, ◌++◌, Option, Some, None, Result, Ok, Err, refl, subst}
 use Rattle.rd_base.specs.Limits.{AreUsable}
-use Rattle.rd_base.specs.Lines.{Stop, Reading, reading}
-use Rattle.rd_base.specs.Lines.Reading.{stops, line}
+use Rattle.rd_io.specs.Lines.{Stop, Reading, reading}
+use Rattle.rd_io.specs.Lines.Reading.{stops, line}
 use Rattle.rd_base.specs.declared.limits.Limits.{Limits}
 use Rattle.rd_event.specs.Reading.{item_of}
 use Rattle.rd_event.specs.declared.items.Line.{Line}

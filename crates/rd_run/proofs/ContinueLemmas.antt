@@ -1,14 +1,14 @@
 -- The walk goes on as the reader gives lines.
 use Rattle.std.proofs.Common.{◌≡◌, ℕ, ◌+◌, Bool, true, false, cond, List, [], ◌∷◌, ◌++◌, Ok, Err, sym, ap, ◌∙◌, refl, eqb}
 use Rattle.std.proofs.lemmas.List.{append_assoc, append-nil}
-use Rattle.rd_base.specs.Lines.{Stop, Ending as LinesEnding}
-use Rattle.rd_base.specs.Lines.Stop.{end, fault}
-use Rattle.rd_base.specs.Lines.Ending.{at_end, no_final_newline, line_too_long, bytes_limit, faulted}
-use Rattle.rd_base.specs.Lines.Reading.{stops, line}
-use Rattle.rd_base.specs.LineReader.{Reader, left, fresh, Tells, Moves, IsAtEnd}
+use Rattle.rd_io.specs.Lines.{Stop, Ending as LinesEnding}
+use Rattle.rd_io.specs.Lines.Stop.{end, fault}
+use Rattle.rd_io.specs.Lines.Ending.{at_end, no_final_newline, line_too_long, bytes_limit, faulted}
+use Rattle.rd_io.specs.Lines.Reading.{stops, line}
+use Rattle.rd_io.specs.LineReader.{Reader, left, fresh, Tells, Moves, IsAtEnd}
 use Rattle.rd_base.specs.declared.limits.Limits.{Limits}
-use Rattle.rd_base.specs.declared.io.lines.ReadEnd.{ReadEnd}
-use Rattle.rd_base.specs.declared.io.lines.ReadEnd.TheVariants.{ReadFault, LineTooLong, BytesLimit, NoFinalNewline}
+use Rattle.rd_io.specs.declared.lines.ReadEnd.{ReadEnd}
+use Rattle.rd_io.specs.declared.lines.ReadEnd.TheVariants.{ReadFault, LineTooLong, BytesLimit, NoFinalNewline}
 use Rattle.rd_event.specs.declared.items.Line.{Line}
 use Rattle.rd_run.specs.MayFollow.{headers}
 use Rattle.rd_run.specs.Kinds.{register_alone}

@@ -3,8 +3,8 @@ use Rattle.std.proofs.Common.{◌≡◌, ◌≢◌, ℕ, ◌+◌, ◌^◌, ◌<�
 use Rattle.std.specs.Prelude.{unwrap_or, is_some, is_none}
 use Rattle.std.proofs.lemmas.List.{append_assoc, append-nil}
 use Rattle.std.proofs.lemmas.Bool.Decides.{nat_tests}
-use Rattle.rd_base.specs.Inputs.{Source, Takes, IsOpened, IsNotOpened, Rose, next_count, file_of}
-use Rattle.rd_base.specs.Lines.Stop.{end, fault}
+use Rattle.rd_io.specs.Inputs.{Source, Takes, IsOpened, IsNotOpened, Rose, next_count, file_of}
+use Rattle.rd_io.specs.Lines.Stop.{end, fault}
 use Rattle.rd_base.specs.declared.limits.Limits.{Limits}
 use Rattle.rd_run.specs.Commands.{Checked}
 use Rattle.rd_run.specs.Kinds.{register_alone}

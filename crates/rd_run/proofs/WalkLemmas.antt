@@ -1,8 +1,8 @@
 -- The walk over the lines of a trace, one line after another.
 use Rattle.std.proofs.Common.{◌≡◌, ℕ, ◌+◌, ◌≤◌, false, cond, List, [], ◌∷◌, ◌++◌, Some, Ok, Err, ap, ◌∙◌, refl, arith}
 use Rattle.std.proofs.lemmas.List.{append_assoc, append-nil, map-append}
-use Rattle.rd_base.specs.Lines.{Reading, Ending as LinesEnding}
-use Rattle.rd_base.specs.Lines.Reading.{stops, line}
+use Rattle.rd_io.specs.Lines.{Reading, Ending as LinesEnding}
+use Rattle.rd_io.specs.Lines.Reading.{stops, line}
 use Rattle.rd_base.specs.declared.limits.Limits.{Limits}
 use Rattle.rd_event.specs.Reading.{item_of}
 use Rattle.rd_event.specs.declared.items.Line.{Line}

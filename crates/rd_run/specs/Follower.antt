@@ -1,7 +1,7 @@
 -- What a command does with each accepted line.
 use Rattle.std.specs.Prelude.{◌≡◌, ℕ, List, [], ◌∷◌, ◌++◌, Option}
 use Rattle.rd_base.specs.Limits.{AreUsable}
-use Rattle.rd_base.specs.Sinks.{Appends}
+use Rattle.rd_io.specs.Sinks.{Appends}
 use Rattle.rd_base.specs.declared.limits.Limits.{Limits}
 use Rattle.rd_event.specs.declared.items.Line.{Line}
 use Rattle.rd_run.specs.MayFollow.{Follows, accepted_of}

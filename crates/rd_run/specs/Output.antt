@@ -1,7 +1,7 @@
 -- What a command writes, and its status. This project's profile.
 use Rattle.std.specs.Prelude.{◌≡◌, ℕ, zero, suc, ◌+◌, ◌==◌, nat_lt, ◌≤◌, Bool, true, false, List, [], ◌∷◌, ◌++◌, length, count_by, filter_map, slice_get, codes, decimal, Option, Some, None, is_none, is_some, unwrap_or, if◌then◌else◌}
-use Rattle.rd_base.specs.Inputs.{Source, file_of}
-use Rattle.rd_base.specs.Lines.Stop.{end, fault}
+use Rattle.rd_io.specs.Inputs.{Source, file_of}
+use Rattle.rd_io.specs.Lines.Stop.{end, fault}
 use Rattle.rd_base.specs.declared.limits.Limits.{Limits}
 use Rattle.rd_base.specs.declared.limits.LimitName.{LimitName}
 use Rattle.rd_event.specs.declared.events.Event.{Event}

@@ -1,9 +1,9 @@
 -- The walk over the lines of a trace: which are accepted, and how they end. This project's profile.
 use Rattle.std.specs.Prelude.{ℕ, ◌+◌, ◌*◌, ◌==◌, Bool, false, not, ◌&&◌, ◌||◌, nat_eq, List, [], ◌∷◌, ◌++◌, map, length, codes, Option, Some, None, Result, Ok, Err, if◌then◌else◌}
 use Rattle.std.specs.List.{list_any, starts_with}
-use Rattle.rd_base.specs.Lines.{Stop, Reading, reading, Ending as LinesEnding}
-use Rattle.rd_base.specs.Lines.Ending.{at_end, no_final_newline, line_too_long, bytes_limit, faulted}
-use Rattle.rd_base.specs.Lines.Reading.{stops, line}
+use Rattle.rd_io.specs.Lines.{Stop, Reading, reading, Ending as LinesEnding}
+use Rattle.rd_io.specs.Lines.Ending.{at_end, no_final_newline, line_too_long, bytes_limit, faulted}
+use Rattle.rd_io.specs.Lines.Reading.{stops, line}
 use Rattle.rd_base.specs.declared.limits.Limits.{Limits}
 use Rattle.rd_base.specs.declared.limits.LimitName.TheVariants.{Bytes, Line as LineBytes}
 use Rattle.rd_event.specs.Items.{is_skipped}

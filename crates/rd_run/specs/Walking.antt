@@ -1,10 +1,10 @@
 -- Where the walk over the lines of an input comes.
 use Rattle.std.specs.Prelude.{◌≡◌, ℕ, ◌+◌, List, ◌++◌}
-use Rattle.rd_base.specs.LineReader.{Reader, left}
-use Rattle.rd_base.specs.Lines.{Stop}
-use Rattle.rd_base.specs.Lines.Stop.{end, fault}
-use Rattle.rd_base.specs.declared.io.lines.ReadEnd.{ReadEnd}
-use Rattle.rd_base.specs.declared.io.lines.ReadEnd.TheVariants.{ReadFault, LineTooLong, BytesLimit, NoFinalNewline as NoLineFeed}
+use Rattle.rd_io.specs.LineReader.{Reader, left}
+use Rattle.rd_io.specs.Lines.{Stop}
+use Rattle.rd_io.specs.Lines.Stop.{end, fault}
+use Rattle.rd_io.specs.declared.lines.ReadEnd.{ReadEnd}
+use Rattle.rd_io.specs.declared.lines.ReadEnd.TheVariants.{ReadFault, LineTooLong, BytesLimit, NoFinalNewline as NoLineFeed}
 use Rattle.rd_base.specs.declared.limits.Limits.{Limits}
 use Rattle.rd_base.specs.declared.limits.LimitName.TheVariants.{Bytes, Line}
 use Rattle.rd_run.specs.Kinds.{register_alone}

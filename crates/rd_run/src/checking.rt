@@ -8,7 +8,7 @@ use crate::detect::Detector;
 use crate::following::{Follower, Halt};
 use crate::wf::{Accepted, Roster};
 use crate::writing::write_race;
-use rd_base::io::Sink;
+use rd_io::Sink;
 use rd_base::{NoMemory, Steps};
 use rd_event::{Call, Event, Line};
 use rd_hb::{Stamp, Tracker};
@@ -26,8 +26,8 @@ pub struct Check {
 
 impl Check {
     ghost use Rattle.std.specs.Prelude.{◌≡◌, ◌+◌, ◌<◌, ◌≤◌, ◌^◌, ℕ, List, ◌∷◌, [], ◌++◌, length, IfOk, IfErr, OnOk, OnErr};
-    ghost use Rattle.rd_base.specs.Inputs.{Rose};
-    ghost use Rattle.rd_base.specs.Sinks.{Appends};
+    ghost use Rattle.rd_io.specs.Inputs.{Rose};
+    ghost use Rattle.rd_io.specs.Sinks.{Appends};
     ghost use Rattle.rd_event.specs.declared.events.Event.{Event as EventOf};
     ghost use Rattle.rd_event.specs.declared.events.Event.TheVariants as event;
     ghost use Rattle.rd_run.specs.Checking.{IsNew, next_races, next_text};

@@ -1,12 +1,12 @@
 //! What a command does with each accepted line of a trace.
 ghost use Rattle.std.specs.Prelude.{◌≡◌, ◌+◌, ◌≤◌, ℕ, List, [], ◌∷◌, ◌++◌, IfErr, OnOk, OnErr};
-ghost use Rattle.rd_base.specs.Inputs.{Rose};
+ghost use Rattle.rd_io.specs.Inputs.{Rose};
 ghost use Rattle.rd_run.specs.Follower.{IsNext, Writes, WritesFront};
 ghost use Rattle.rd_run.specs.Walk.{Entry, items, line_bound};
 
 use crate::wf::{Accepted, Roster};
 use rd_base::Steps;
-use rd_base::io::Sink;
+use rd_io::Sink;
 use rd_event::Line;
 use std::sync::ledger::Ledger;
 

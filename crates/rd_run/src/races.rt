@@ -1,7 +1,7 @@
 //! The laws of races, of walks and of reports: what their definitions say, proved for every list of events.
 ghost use Rattle.std.specs.Prelude.{◌≡◌, ◌↔◌, ℕ, ◌<◌, ◌^◌, List, ◌++◌, length, MatchOption, IsTrue};
 ghost use Rattle.rd_base.specs.Limits.{AreUsable};
-ghost use Rattle.rd_base.specs.Lines.{Stop};
+ghost use Rattle.rd_io.specs.Lines.{Stop};
 ghost use Rattle.rd_base.specs.declared.limits.Limits.{Limits};
 ghost use Rattle.rd_event.specs.declared.events.Call.{Call};
 ghost use Rattle.rd_event.specs.declared.events.Event.{Event};

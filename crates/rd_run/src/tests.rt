@@ -3,7 +3,7 @@ ghost use Rattle.std.specs.Prelude.{◌≡◌, ◌<◌, ◌≤◌};
 ghost use Rattle.rd_base.specs.Limits.{AreUsable};
 
 use crate::{Status, run};
-use rd_base::io::{MemoryInputs, MemorySink};
+use rd_io::{MemoryInputs, MemorySink};
 use rd_base::{Limits, NoMemory, Steps, Word};
 use std::alloc::Global;
 use std::marker::Brand;

@@ -1,13 +1,13 @@
 //! The call that the program makes.
 ghost use Rattle.std.specs.Prelude.{◌≡◌, ◌≢◌, ◌⊎◌, ◌↔◌, ℕ, ◌+◌, ◌<◌, ◌≤◌, ◌^◌, nat_lt, List, [], ◌++◌, Option, Some, None, OnOk, OnErr, IsOk, IfErr, true};
-ghost use Rattle.rd_base.specs.Inputs.{Source, Goes, Takes, Rose};
+ghost use Rattle.rd_io.specs.Inputs.{Source, Goes, Takes, Rose};
 ghost use Rattle.rd_base.specs.Limits.{AreUsable};
-ghost use Rattle.rd_base.specs.Sinks.{Appends};
+ghost use Rattle.rd_io.specs.Sinks.{Appends};
 ghost use Rattle.rd_run.specs.Follower.{WritesFront};
 ghost use Rattle.rd_run.specs.Output.{Runs, IsOutput, usage_outcome, command_of, races_line, refused_line, ending_text, check_status, is_limit};
 ghost use Rattle.rd_run.specs.Checking.{IsNew};
 ghost use Rattle.rd_run.specs.Commands.{asked, halted_with, Checked};
-ghost use Rattle.rd_base.specs.LineReader.{fresh};
+ghost use Rattle.rd_io.specs.LineReader.{fresh};
 ghost use Rattle.rd_run.specs.Roster.{StandsFor};
 ghost use Rattle.rd_run.specs.Walk.{Entry, step_bound};
 ghost use Rattle.rd_run.specs.Output.Command.{check};
@@ -20,7 +20,7 @@ use crate::texts::{races_line, refused_line};
 use crate::walking::walk_lines;
 use crate::wf::{Roster, WfCause};
 use crate::writing::write_line;
-use rd_base::io::{Inputs, LineReader, Sink};
+use rd_io::{Inputs, LineReader, Sink};
 use rd_base::{Bytes, Limits, Steps, Word};
 use std::alloc::Global;
 use std::sync::ledger::Ledger;

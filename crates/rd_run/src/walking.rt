@@ -1,10 +1,10 @@
 //! The walk over the lines of a trace.
 ghost use Rattle.std.specs.Prelude.{◌≡◌, ◌≢◌, ◌⊎◌, ℕ, ◌+◌, ◌-◌, ◌<◌, ◌≤◌, ◌^◌, List, [], ◌∷◌, ◌++◌, Ok, Err, Some, None, Option, IfOk, IfErr, OnOk, OnErr};
-ghost use Rattle.rd_base.specs.Inputs.{Goes, Takes, Rose};
+ghost use Rattle.rd_io.specs.Inputs.{Goes, Takes, Rose};
 ghost use Rattle.rd_base.specs.Limits.{AreUsable};
-ghost use Rattle.rd_base.specs.LineReader.{fresh};
-ghost use Rattle.rd_base.specs.Lines.Ending.{at_end};
-ghost use Rattle.rd_base.specs.Sinks.{Appends};
+ghost use Rattle.rd_io.specs.LineReader.{fresh};
+ghost use Rattle.rd_io.specs.Lines.Ending.{at_end};
+ghost use Rattle.rd_io.specs.Sinks.{Appends};
 ghost use Rattle.rd_event.specs.declared.items.Line.{Line as Item};
 ghost use Rattle.rd_run.specs.Follower.{Writes, WritesFront};
 ghost use Rattle.rd_run.specs.MayFollow.{headers};
@@ -17,7 +17,7 @@ use crate::endings::{Ending, TraceCause};
 use crate::following::{Follower, Halt};
 use crate::judging::{Refusal, judge};
 use crate::wf::Roster;
-use rd_base::io::{Inputs, LineReader, Next, ReadEnd, Sink};
+use rd_io::{Inputs, LineReader, Next, ReadEnd, Sink};
 use rd_base::{LimitName, Limits, Steps};
 use std::alloc::Global;
 use std::sync::ledger::Ledger;

@@ -1,13 +1,13 @@
 //! Writing a line of the report.
 ghost use Rattle.std.specs.Prelude.{◌≡◌, ◌≤◌, [], OnOk, OnErr, IfErr};
-ghost use Rattle.rd_base.specs.Inputs.{Rose};
-ghost use Rattle.rd_base.specs.Sinks.{Appends};
+ghost use Rattle.rd_io.specs.Inputs.{Rose};
+ghost use Rattle.rd_io.specs.Sinks.{Appends};
 ghost use Rattle.rd_run.specs.Follower.{WritesFront};
 ghost use Rattle.rd_run.specs.Output.{race_line};
 
 use crate::following::Halt;
 use crate::texts::race_line;
-use rd_base::io::{Sink, write_all};
+use rd_io::{Sink, write_all};
 use std::alloc::Global;
 
 /// Hands a line to the output.

@@ -1,5 +1,5 @@
 use Rattle.std.proofs.Common.{[], refl, ◌∙◌}
-use Rattle.rd_base.proofs.SinkLemmas.{appends_none}
+use Rattle.rd_io.proofs.SinkLemmas.{appends_none}
 use Rattle.rd_run.proofs.RunLemmas.{runs_before, runs_unopened, runs_opened}
 use Rattle.rd_run.proofs.top.check.Goals as goal
 

@@ -1,5 +1,5 @@
 use Rattle.std.proofs.Common.{◌≡◌, ◌++◌, subst, inl, inr, arith}
-use Rattle.rd_base.proofs.SinkLemmas.{appends_on}
+use Rattle.rd_io.proofs.SinkLemmas.{appends_on}
 use Rattle.rd_run.specs.Output.{ending_text, check_status, races_of, race_texts, IsOutput, Outcome}
 use Rattle.rd_run.specs.declared.endings.Ending.TheVariants.{Fault}
 use Rattle.rd_run.proofs.OutputLemmas.{behind}

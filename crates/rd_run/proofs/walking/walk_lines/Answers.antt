@@ -1,11 +1,11 @@
 use Rattle.std.proofs.Common.{◌≡◌, ◌+◌, [], ◌∷◌, ◌++◌, Ok, Err, refl, sym, ap, ◌∙◌, subst, inl, inr, arith}
 use Rattle.std.proofs.lemmas.List.{append_assoc, append-nil}
-use Rattle.rd_base.specs.Sinks.{Appends}
-use Rattle.rd_base.specs.Inputs.{Source}
-use Rattle.rd_base.specs.LineReader.{Reader, IsAtEnd}
-use Rattle.rd_base.specs.Lines.Ending.{at_end}
-use Rattle.rd_base.proofs.SinkLemmas.{appends_none, appends_on}
-use Rattle.rd_base.proofs.AdvanceLemmas.{takes_none, takes_on, takes_then}
+use Rattle.rd_io.specs.Sinks.{Appends}
+use Rattle.rd_io.specs.Inputs.{Source}
+use Rattle.rd_io.specs.LineReader.{Reader, IsAtEnd}
+use Rattle.rd_io.specs.Lines.Ending.{at_end}
+use Rattle.rd_io.proofs.SinkLemmas.{appends_none, appends_on}
+use Rattle.rd_io.proofs.AdvanceLemmas.{takes_none, takes_on, takes_then}
 use Rattle.rd_run.specs.Roster.{StandsFor}
 use Rattle.rd_run.specs.Walk.{Entry, items, bound_from, ended}
 use Rattle.rd_run.specs.Walking.{WalksTo, ending_for}

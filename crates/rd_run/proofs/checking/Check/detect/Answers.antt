@@ -1,7 +1,7 @@
 use Rattle.std.proofs.Common.{◌≡◌, ℕ, List, [], cond, is_some, ap, refl, subst, sym, ◌∙◌, arith}
 use Rattle.std.proofs.lemmas.Result.{on_ok_weaker, on_err_weaker}
-use Rattle.rd_base.specs.Sinks.{Appends}
-use Rattle.rd_base.proofs.SinkLemmas.{appends_none}
+use Rattle.rd_io.specs.Sinks.{Appends}
+use Rattle.rd_io.proofs.SinkLemmas.{appends_none}
 use Rattle.rd_event.specs.declared.events.Event.{Event as EventOf}
 use Rattle.rd_event.specs.declared.events.Event.TheVariants as event
 use Rattle.rd_run.specs.Checking.{next_races, next_text}

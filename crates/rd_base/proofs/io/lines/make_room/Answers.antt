@@ -1,8 +1,0 @@
-use Rattle.std.proofs.Common.{arith}
-use Rattle.rd_base.proofs.WindowLemmas.{moved}
-use Rattle.rd_base.proofs.io.lines.make_room.Goals as goal
-
-pub returns-clause-kept : goal.returns-clause-kept
-returns-clause-kept c = λ from n low high.
-    rw c.copy_within.ensures.after
-    (moved c.args.buffer.now c.args.line_start _ from n low high (omega arith))

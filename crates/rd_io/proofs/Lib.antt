@@ -1,0 +1,9 @@
+pub mod SinkLemmas
+pub mod FeedLemmas
+pub mod WindowLemmas
+pub mod LookLemmas
+pub mod FillLemmas
+pub mod ReadingLemmas
+pub mod AdvanceLemmas
+pub mod NextLemmas
+pub mod StoredFileLemmas

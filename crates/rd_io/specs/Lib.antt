@@ -1,0 +1,7 @@
+pub mod Calls
+pub mod Inputs
+pub mod LineReader
+pub mod Lines
+pub mod MemoryInputs
+pub mod MemorySink
+pub mod Sinks

@@ -1,0 +1,17 @@
+//! Sources of bytes, sinks of bytes, and the lines of a source.
+#![tactic(auto)]
+
+mod calls;
+mod inputs;
+mod lines;
+mod memory_inputs;
+mod memory_sink;
+mod sinks;
+#[cfg(test)]
+mod tests;
+
+pub use inputs::{Failed, Inputs};
+pub use lines::{LineReader, Next, ReadEnd};
+pub use memory_inputs::MemoryInputs;
+pub use memory_sink::MemorySink;
+pub use sinks::{Sink, WriteFault, write_all};

@@ -1,0 +1,56 @@
+//! Sinks of bytes.
+ghost use Rattle.std.specs.Prelude.{◌≡◌, ℕ, ◌<◌, ◌≤◌, List, Option, take, length, IfOk, IfErr, OnOk, OnErr, Ok};
+ghost use Rattle.rd_io.specs.Inputs.{Rose};
+ghost use Rattle.rd_io.specs.Sinks.{Appends, Writes};
+
+use crate::inputs::Failed;
+use thiserror::Error;
+
+/// A place that bytes are written to.
+pub trait Sink {
+    /// The bytes so far. None where this isn't told.
+    ghost written: { Self → Option (List ℕ) };
+
+    /// How often a write has failed, or taken nothing of a part that wasn't empty: a count of 64 bits that
+    /// stays at its last value.
+    ghost faults: { Self → ℕ };
+
+    /// Writes a front of the part, and answers how many bytes. After an `Err` nothing was written.
+    fn write(&mut self, part: &[u8]) -> Result<usize, Failed>
+        ensures bound { IfOk result (λ count. count ≤ length part.now) }
+        ensures written { Writes (written self.old) (written self.new) part.now result }
+        ensures later { faults self.old ≤ faults self.new }
+        ensures failed { OnErr result (Rose (faults self.old) (faults self.new)) }
+        ensures nothing { result ≡ Ok 0 → 0 < length part.now → Rose (faults self.old) (faults self.new) };
+}
+
+/// A write failed after this many bytes of the part.
+#[derive(Clone, Copy, Debug, PartialEq, Eq, Error)]
+#[error("the output failed after {written} bytes")]
+pub struct WriteFault {
+    pub written: usize,
+}
+
+/// Writes the whole part, in as many writes as it takes. A fault comes only where a write failed or took
+/// nothing; the bytes before it are written. It takes no memory.
+pub fn write_all<S: Sink>(out: &mut S, part: &[u8]) -> Result<(), WriteFault>
+    ensures ok { OnOk result (Appends (S.written out.old) (S.written out.new) part.now) }
+    ensures front { IfErr result (λ fault. (fault.written ≤ length part.now)
+        × Appends (S.written out.old) (S.written out.new) (take fault.written part.now)) }
+    ensures later { S.faults out.old ≤ S.faults out.new }
+    ensures cause { OnErr result (Rose (S.faults out.old) (S.faults out.new)) }
+{
+    let mut written = 0;
+    while written < part.len() {
+        match out.write(&part[written..]) {
+            Ok(count) => {
+                if count == 0 {
+                    return Err(WriteFault { written });
+                }
+                written += count;
+            }
+            Err(Failed) => return Err(WriteFault { written }),
+        }
+    }
+    Ok(())
+}
