@@ -6,14 +6,14 @@ use Rattle.rd_io.specs.Lines.Reading.{stops, line}
 use Rattle.rd_base.specs.declared.limits.Limits.{Limits}
 use Rattle.rd_event.specs.Reading.{item_of}
 use Rattle.rd_event.specs.declared.items.Line.{Line}
-use Rattle.rd_run.proofs.FollowLemmas.{follows_from_none}
-use Rattle.rd_run.specs.Events.{AreAccepted, AreAcceptedFrom}
-use Rattle.rd_run.specs.Kinds.{Kind}
-use Rattle.rd_run.specs.MayFollow.{Follows, first_broken}
+use Rattle.rd_wf.proofs.FollowLemmas.{follows_from_none}
+use Rattle.rd_wf.specs.Events.{AreAccepted, AreAcceptedFrom}
+use Rattle.rd_wf.specs.Kinds.{Kind}
+use Rattle.rd_wf.specs.MayFollow.{Follows, first_broken}
 use Rattle.rd_run.specs.Walk.{accepted_or, entries_of, goes_or_ends, is_unbuilt, is_unbuilt_item, items, judged, judged_item, trace_of, walk}
 use Rattle.rd_run.specs.declared.endings.TraceCause.{TraceCause}
 use Rattle.rd_run.specs.declared.endings.TraceCause.TheVariants.{NotBuilt}
-use Rattle.rd_run.specs.declared.wf.causes.WfCause.{WfCause}
+use Rattle.rd_wf.specs.declared.causes.WfCause.{WfCause}
 
 module _ (kinds : List Kind) (limits : Limits) (before : List Line) (item : Line) where
   abbrev said : Line → Result Line TraceCause

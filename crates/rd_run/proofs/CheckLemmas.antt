@@ -21,26 +21,26 @@ use Rattle.rd_hb.specs.Order.{forked as forked_by}
 use Rattle.rd_hb.specs.Tracker.{IsNext as IsNextEvent, IsStamp, StandsFor, event_bound, threads_after}
 use Rattle.rd_hb.specs.declared.clock.Stamp.{Stamp}
 use Rattle.rd_hb.specs.declared.tracker.Tracked.{Tracked}
-use Rattle.rd_run.proofs.DetectLemmas.{at_more}
-use Rattle.rd_run.proofs.EventsLemmas.{all_roots, events_more, no_events, roots_more, threads_more, told_more}
-use Rattle.rd_run.proofs.RaceLemmas.{not_reported}
+use Rattle.rd_detect.proofs.DetectLemmas.{at_more}
+use Rattle.rd_wf.proofs.EventsLemmas.{all_roots, events_more, no_events, roots_more, threads_more, told_more}
+use Rattle.rd_detect.proofs.RaceLemmas.{not_reported}
 use Rattle.rd_run.proofs.ReportLemmas.{event_numbers_more, events_all, quiet_events, quiet_numbers, quiet_races, quiet_texts, races_more, races_within, texts_more}
 use Rattle.rd_run.proofs.WalkLemmas.{items_more}
 use Rattle.rd_run.specs.Checking.{Checks, IsNextLine, IsStamped, Tracks, next_races, next_text, tracker_bound}
-use Rattle.rd_run.specs.Detect.{IsNext as IsNextCall, StandsFor as Detects}
-use Rattle.rd_run.specs.Events.{AreTold, event_of, events_of, root_count, roots_of}
+use Rattle.rd_detect.specs.Detect.{IsNext as IsNextCall, StandsFor as Detects}
+use Rattle.rd_wf.specs.Events.{AreTold, event_of, events_of, root_count, roots_of}
 use Rattle.rd_run.specs.Follower.{IsNext}
-use Rattle.rd_run.specs.Kinds.{register_alone}
-use Rattle.rd_run.specs.MayFollow.{Follows, accepted_of, begun, call_count, events, is_call, is_event, is_root, is_skip, numbered_event, threads_of}
+use Rattle.rd_wf.specs.Kinds.{register_alone}
+use Rattle.rd_wf.specs.MayFollow.{Follows, accepted_of, begun, call_count, events, is_call, is_event, is_root, is_skip, numbered_event, threads_of}
 use Rattle.rd_run.specs.Output.{entry_events, event_numbers, race_texts, races_of, text_with}
-use Rattle.rd_run.specs.RaceTests.{latest_of}
-use Rattle.rd_run.specs.Roster.{StandsFor as StandsForLines, thread_count}
+use Rattle.rd_detect.specs.RaceTests.{latest_of}
+use Rattle.rd_wf.specs.Roster.{StandsFor as StandsForLines, thread_count}
 use Rattle.rd_run.specs.Walk.{Entry, items, line_bound}
 use Rattle.rd_run.specs.declared.checking.Check.{Check}
-use Rattle.rd_run.specs.declared.detect.Seen.{Seen}
-use Rattle.rd_run.specs.declared.wf.Roster.{Roster}
-use Rattle.rd_run.specs.declared.wf.causes.Accepted.{Accepted}
-use Rattle.rd_run.specs.declared.wf.causes.Accepted.TheVariants as accepted
+use Rattle.rd_detect.specs.declared.detector.Seen.{Seen}
+use Rattle.rd_wf.specs.declared.roster.Roster.{Roster}
+use Rattle.rd_wf.specs.declared.causes.Accepted.{Accepted}
+use Rattle.rd_wf.specs.declared.causes.Accepted.TheVariants as accepted
 
 -- ---- the line that was accepted
 

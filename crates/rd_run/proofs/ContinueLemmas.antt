@@ -10,13 +10,13 @@ use Rattle.rd_base.specs.declared.limits.Limits.{Limits}
 use Rattle.rd_io.specs.declared.lines.ReadEnd.{ReadEnd}
 use Rattle.rd_io.specs.declared.lines.ReadEnd.TheVariants.{ReadFault, LineTooLong, BytesLimit, NoFinalNewline}
 use Rattle.rd_event.specs.declared.items.Line.{Line}
-use Rattle.rd_run.specs.MayFollow.{headers}
-use Rattle.rd_run.specs.Kinds.{register_alone}
+use Rattle.rd_wf.specs.MayFollow.{headers}
+use Rattle.rd_wf.specs.Kinds.{register_alone}
 use Rattle.rd_run.specs.Walk.{Entry, items, ends, after, judged, walk, trace_of, ended}
 use Rattle.rd_run.specs.Walking.{Continues, WalksTo, WalksOn, ending_for}
 use Rattle.rd_run.specs.declared.endings.TraceCause.{TraceCause}
 use Rattle.rd_run.specs.declared.endings.TraceCause.TheVariants.{Wf}
-use Rattle.rd_run.specs.declared.wf.causes.WfCause.TheVariants.{HeaderFirst}
+use Rattle.rd_wf.specs.declared.causes.WfCause.TheVariants.{HeaderFirst}
 use Rattle.rd_run.specs.declared.endings.Ending.TheVariants.{End, Refused}
 use Rattle.rd_run.proofs.WalkLemmas.{walk_stops, walk_accepts, walk_refuses, items_more, after_more}
 

@@ -14,20 +14,20 @@ use Rattle.rd_event.specs.declared.items.Line.TheVariants.{Skip, Header, Thread,
 use Rattle.rd_event.specs.declared.items.LineEvent.{LineEvent}
 use Rattle.rd_hb.proofs.OrderLemmas.{at_end, at_front, length_more}
 use Rattle.rd_hb.specs.declared.clock.Stamp.{Stamp}
-use Rattle.rd_run.proofs.EventsLemmas.{events_more}
-use Rattle.rd_run.proofs.RaceLemmas.{latest_is, latest_longer, latest_none, latest_some}
+use Rattle.rd_wf.proofs.EventsLemmas.{events_more}
+use Rattle.rd_detect.proofs.RaceLemmas.{latest_is, latest_longer, latest_none, latest_some}
 use Rattle.rd_run.proofs.WalkLemmas.{items_more}
 use Rattle.rd_run.specs.Checking.{next_races, next_text}
-use Rattle.rd_run.specs.Detect.{IsAnswer, IsNext as IsNextCall}
-use Rattle.rd_run.specs.Events.{event_of, events_from, events_of}
-use Rattle.rd_run.specs.Kinds.{Kind, register_alone}
-use Rattle.rd_run.specs.MayFollow.{is_event, numbered_event}
+use Rattle.rd_detect.specs.Detect.{IsAnswer, IsNext as IsNextCall}
+use Rattle.rd_wf.specs.Events.{event_of, events_from, events_of}
+use Rattle.rd_wf.specs.Kinds.{Kind, register_alone}
+use Rattle.rd_wf.specs.MayFollow.{is_event, numbered_event}
 use Rattle.rd_run.specs.Output.{IsFront, check_status, entry_events, event_number, event_numbers, number_at, race_line, is_limit, race_texts, races_before, races_of, text_with, texts_before}
-use Rattle.rd_run.specs.RaceTests.{latest_of}
-use Rattle.rd_run.specs.Races.{IsLatest, Reported}
+use Rattle.rd_detect.specs.RaceTests.{latest_of}
+use Rattle.rd_detect.specs.Races.{IsLatest, Reported}
 use Rattle.rd_run.specs.Reports.{IsReport}
 use Rattle.rd_run.specs.Walk.{Entry, items}
-use Rattle.rd_run.specs.declared.detect.Seen.{Seen}
+use Rattle.rd_detect.specs.declared.detector.Seen.{Seen}
 use Rattle.rd_run.specs.declared.endings.Ending.{Ending}
 use Rattle.rd_run.specs.declared.endings.Ending.TheVariants.{End, Refused, Fault}
 use Rattle.rd_run.specs.declared.status.Status.TheVariants.{Clean, Raced, TraceRefused, LimitReached}

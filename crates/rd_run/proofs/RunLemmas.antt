@@ -7,7 +7,7 @@ use Rattle.rd_io.specs.Inputs.{Source, Takes, IsOpened, IsNotOpened, Rose, next_
 use Rattle.rd_io.specs.Lines.Stop.{end, fault}
 use Rattle.rd_base.specs.declared.limits.Limits.{Limits}
 use Rattle.rd_run.specs.Commands.{Checked}
-use Rattle.rd_run.specs.Kinds.{register_alone}
+use Rattle.rd_wf.specs.Kinds.{register_alone}
 use Rattle.rd_run.specs.Output.{Outcome, IsOutput, IsFront, Runs, OpensOnly, race_texts, races_of, ending_text, check_status, check_outcome, outcome_of, walk_of, fault_outcome}
 use Rattle.rd_run.specs.Output.Command.{check}
 use Rattle.rd_run.specs.Walk.{Entry, Walked, ends, after, entries_of, ending_of, trace_of, step_bound}

@@ -6,10 +6,10 @@ use Rattle.rd_io.specs.Lines.Reading.{stops, line}
 use Rattle.rd_base.specs.declared.limits.Limits.{Limits}
 use Rattle.rd_event.specs.Reading.{item_of}
 use Rattle.rd_event.specs.declared.items.Line.{Line}
-use Rattle.rd_run.specs.Kinds.{Kind}
-use Rattle.rd_run.specs.MayFollow.{first_broken}
+use Rattle.rd_wf.specs.Kinds.{Kind}
+use Rattle.rd_wf.specs.MayFollow.{first_broken}
 use Rattle.rd_run.specs.Walk.{Entry, items, Walked, ends, goes, after, entries_of, ending_of, judged, judged_item, accepted_or, is_unbuilt, is_unbuilt_item, walk, goes_or_ends, ended, bound_from, line_bound}
-use Rattle.rd_run.specs.declared.wf.causes.WfCause.{WfCause}
+use Rattle.rd_wf.specs.declared.causes.WfCause.{WfCause}
 use Rattle.rd_run.specs.declared.endings.TraceCause.{TraceCause}
 use Rattle.rd_run.specs.declared.endings.TraceCause.TheVariants.{NotBuilt, Wf}
 use Rattle.rd_run.specs.declared.endings.Ending.TheVariants.{Refused}

@@ -7,9 +7,9 @@ use Rattle.std.proofs.lemmas.Option.{none-some}
 use Rattle.rd_hb.specs.EventLists.{calls, forks, joins, HasNumbers}
 use Rattle.rd_hb.specs.Tracker.{StandsFor}
 use Rattle.rd_run.specs.Checking.{Checks, IsNew}
-use Rattle.rd_run.specs.Detect.{StandsFor as Detects}
-use Rattle.rd_run.specs.Events.{AreTold, events_of, roots_of}
-use Rattle.rd_run.specs.Kinds.{Kind, register_alone}
+use Rattle.rd_detect.specs.Detect.{StandsFor as Detects}
+use Rattle.rd_wf.specs.Events.{AreTold, events_of, roots_of}
+use Rattle.rd_wf.specs.Kinds.{Kind, register_alone}
 use Rattle.rd_run.specs.Output.{races_before, race_texts, races_of, texts_before}
 use Rattle.rd_run.specs.declared.checking.Check.{Check}
 

@@ -7,16 +7,16 @@ use Rattle.rd_event.specs.declared.items.Line.{Line}
 use Rattle.rd_hb.specs.Tracker.{IsStamp, StandsFor}
 use Rattle.rd_hb.specs.declared.clock.Stamp.{Stamp}
 use Rattle.rd_hb.specs.declared.tracker.Tracked.{Tracked}
-use Rattle.rd_run.specs.Detect.{StandsFor as Detects}
-use Rattle.rd_run.specs.Events.{AreTold, events_of, roots_of}
-use Rattle.rd_run.specs.Kinds.{register_alone}
-use Rattle.rd_run.specs.MayFollow.{Follows, accepted_of, call_count, is_call, is_event, threads_of}
+use Rattle.rd_detect.specs.Detect.{StandsFor as Detects}
+use Rattle.rd_wf.specs.Events.{AreTold, events_of, roots_of}
+use Rattle.rd_wf.specs.Kinds.{register_alone}
+use Rattle.rd_wf.specs.MayFollow.{Follows, accepted_of, call_count, is_call, is_event, threads_of}
 use Rattle.rd_run.specs.Output.{entry_events, event_numbers, races_of, text_with}
-use Rattle.rd_run.specs.RaceTests.{latest_of}
+use Rattle.rd_detect.specs.RaceTests.{latest_of}
 use Rattle.rd_run.specs.Walk.{Entry, items}
 use Rattle.rd_run.specs.declared.checking.Check.{Check}
-use Rattle.rd_run.specs.declared.wf.causes.Accepted.{Accepted}
-use Rattle.rd_run.specs.declared.wf.causes.Accepted.TheVariants as accepted
+use Rattle.rd_wf.specs.declared.causes.Accepted.{Accepted}
+use Rattle.rd_wf.specs.declared.causes.Accepted.TheVariants as accepted
 
 -- the tracker stands for the events of these lines, which are a well-formed list, and has their threads
 pub record Tracks (tracker : List Tracked) (lines : List Line) : Type 0 where

@@ -4,12 +4,12 @@ use Rattle.rd_base.specs.Limits.{AreUsable}
 use Rattle.rd_io.specs.Sinks.{Appends}
 use Rattle.rd_base.specs.declared.limits.Limits.{Limits}
 use Rattle.rd_event.specs.declared.items.Line.{Line}
-use Rattle.rd_run.specs.MayFollow.{Follows, accepted_of}
-use Rattle.rd_run.specs.Kinds.{register_alone}
-use Rattle.rd_run.specs.Roster.{StandsFor}
+use Rattle.rd_wf.specs.MayFollow.{Follows, accepted_of}
+use Rattle.rd_wf.specs.Kinds.{register_alone}
+use Rattle.rd_wf.specs.Roster.{StandsFor}
 use Rattle.rd_run.specs.Walk.{Entry, items}
-use Rattle.rd_run.specs.declared.wf.causes.Accepted.{Accepted}
-use Rattle.rd_run.specs.declared.wf.Roster.{Roster}
+use Rattle.rd_wf.specs.declared.causes.Accepted.{Accepted}
+use Rattle.rd_wf.specs.declared.roster.Roster.{Roster}
 
 -- the line may follow the entries, it is this in numbers, and the roster stands for them and it
 pub record IsNext (roster : Roster) (before : List Entry) (item : Line) (accepted : Accepted) : Type 0 where

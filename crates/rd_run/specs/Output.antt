@@ -6,13 +6,13 @@ use Rattle.rd_base.specs.declared.limits.Limits.{Limits}
 use Rattle.rd_base.specs.declared.limits.LimitName.{LimitName}
 use Rattle.rd_event.specs.declared.events.Event.{Event}
 use Rattle.rd_base.specs.declared.limits.LimitName.TheVariants.{Bytes, Line, Events, Threads, Locks, Objects, Depth, SpecText, Tokens, Kinds, Methods, Arguments, Nodes, FormulaDepth, Predicates}
-use Rattle.rd_run.specs.Events.{events_of}
-use Rattle.rd_run.specs.MayFollow.{is_event, same_name}
-use Rattle.rd_run.specs.RaceTests.{latest_of}
-use Rattle.rd_run.specs.Kinds.{register_alone}
+use Rattle.rd_wf.specs.Events.{events_of}
+use Rattle.rd_wf.specs.MayFollow.{is_event, same_name}
+use Rattle.rd_detect.specs.RaceTests.{latest_of}
+use Rattle.rd_wf.specs.Kinds.{register_alone}
 use Rattle.rd_run.specs.Walk.{Walked, ends, Entry, entries_of, ending_of, items, trace_of, step_bound}
-use Rattle.rd_run.specs.declared.wf.causes.WfCause.{WfCause}
-use Rattle.rd_run.specs.declared.wf.causes.WfCause.TheVariants as wf
+use Rattle.rd_wf.specs.declared.causes.WfCause.{WfCause}
+use Rattle.rd_wf.specs.declared.causes.WfCause.TheVariants as wf
 use Rattle.rd_run.specs.declared.endings.TraceCause.{TraceCause}
 use Rattle.rd_run.specs.declared.endings.TraceCause.TheVariants as cause
 use Rattle.rd_run.specs.declared.endings.Ending.{Ending}

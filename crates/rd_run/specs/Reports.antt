@@ -2,7 +2,7 @@
 use Rattle.std.specs.Prelude.{◌≡◌, ◌⊎◌, ℕ, zero, suc, List, [], ◌++◌}
 use Rattle.rd_event.specs.declared.events.Event.{Event}
 use Rattle.rd_run.specs.Output.{number_at, race_line}
-use Rattle.rd_run.specs.Races.{Reported, IsLatest}
+use Rattle.rd_detect.specs.Races.{Reported, IsLatest}
 
 -- The text for the events in front of a place: that for those before the last of them, and then nothing where no earlier call
 -- races with the last, else its line with the line of the latest that does. The numbers are those of the events' lines.

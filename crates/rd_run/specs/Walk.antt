@@ -10,10 +10,10 @@ use Rattle.rd_event.specs.Items.{is_skipped}
 use Rattle.rd_event.specs.Reading.{item_of}
 use Rattle.rd_event.specs.declared.items.Line.{Line}
 use Rattle.rd_event.specs.declared.items.Line.TheVariants.{Object}
-use Rattle.rd_run.specs.Kinds.{Kind}
-use Rattle.rd_run.specs.MayFollow.{call_count, first_broken, is_among, is_call, headers, is_event, threads_of}
-use Rattle.rd_run.specs.declared.wf.causes.WfCause.{WfCause}
-use Rattle.rd_run.specs.declared.wf.causes.WfCause.TheVariants.{HeaderFirst}
+use Rattle.rd_wf.specs.Kinds.{Kind}
+use Rattle.rd_wf.specs.MayFollow.{call_count, first_broken, is_among, is_call, headers, is_event, threads_of}
+use Rattle.rd_wf.specs.declared.causes.WfCause.{WfCause}
+use Rattle.rd_wf.specs.declared.causes.WfCause.TheVariants.{HeaderFirst}
 use Rattle.rd_run.specs.declared.endings.TraceCause.{TraceCause}
 use Rattle.rd_run.specs.declared.endings.TraceCause.TheVariants.{NotBuilt, BadLine, NoFinalNewline, Wf, Limit}
 use Rattle.rd_run.specs.declared.endings.Ending.{Ending}

@@ -4,9 +4,9 @@ ghost use Rattle.rd_event.specs.declared.events.Call.{Call as CallOf};
 ghost use Rattle.rd_event.specs.declared.items.Line.{Line as LineOf};
 ghost use Rattle.rd_run.specs.Checking.{IsNextLine, IsStamped, Tracks, tracker_bound};
 
-use crate::detect::Detector;
+use rd_detect::Detector;
 use crate::following::{Follower, Halt};
-use crate::wf::{Accepted, Roster};
+use rd_wf::{Accepted, Roster};
 use crate::writing::write_race;
 use rd_io::Sink;
 use rd_base::{NoMemory, Steps};
@@ -31,7 +31,7 @@ impl Check {
     ghost use Rattle.rd_event.specs.declared.events.Event.{Event as EventOf};
     ghost use Rattle.rd_event.specs.declared.events.Event.TheVariants as event;
     ghost use Rattle.rd_run.specs.Checking.{IsNew, next_races, next_text};
-    ghost use Rattle.rd_run.specs.Detect.{IsNext, StandsFor};
+    ghost use Rattle.rd_detect.specs.Detect.{IsNext, StandsFor};
     ghost use Rattle.rd_run.specs.Follower.{WritesFront};
 
     /// A check of no lines.

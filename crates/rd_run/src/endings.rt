@@ -1,6 +1,6 @@
 //! How the lines of a trace end.
 
-use crate::wf::WfCause;
+use rd_wf::WfCause;
 use rd_base::LimitName;
 
 /// Why a line is refused.

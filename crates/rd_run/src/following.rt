@@ -4,7 +4,7 @@ ghost use Rattle.rd_io.specs.Inputs.{Rose};
 ghost use Rattle.rd_run.specs.Follower.{IsNext, Writes, WritesFront};
 ghost use Rattle.rd_run.specs.Walk.{Entry, items, line_bound};
 
-use crate::wf::{Accepted, Roster};
+use rd_wf::{Accepted, Roster};
 use rd_base::Steps;
 use rd_io::Sink;
 use rd_event::Line;

@@ -2,13 +2,13 @@
 ghost use Rattle.std.specs.Prelude.{◌≡◌, ◌++◌, [], ◌∷◌, List, Ok, Err, IfOk, IfErr};
 ghost use Rattle.rd_base.specs.Limits.{AreUsable};
 ghost use Rattle.rd_event.specs.declared.items.Line.{Line as Item};
-ghost use Rattle.rd_run.specs.MayFollow.{Follows, accepted_of};
-ghost use Rattle.rd_run.specs.Kinds.{register_alone};
-ghost use Rattle.rd_run.specs.Roster.{StandsFor};
+ghost use Rattle.rd_wf.specs.MayFollow.{Follows, accepted_of};
+ghost use Rattle.rd_wf.specs.Kinds.{register_alone};
+ghost use Rattle.rd_wf.specs.Roster.{StandsFor};
 ghost use Rattle.rd_run.specs.Walk.{is_unbuilt, is_unbuilt_item, judged};
 
 use crate::endings::TraceCause;
-use crate::wf::{Accepted, Roster, WfRefused};
+use rd_wf::{Accepted, Roster, WfRefused};
 use rd_base::Limits;
 use rd_event::{Line, LineRefused, read_line};
 use std::alloc::Global;

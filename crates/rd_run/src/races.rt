@@ -6,12 +6,12 @@ ghost use Rattle.rd_base.specs.declared.limits.Limits.{Limits};
 ghost use Rattle.rd_event.specs.declared.events.Call.{Call};
 ghost use Rattle.rd_event.specs.declared.events.Event.{Event};
 ghost use Rattle.rd_hb.specs.EventLists.{WellFormed};
-ghost use Rattle.rd_run.specs.Events.{AreAccepted, events_of, roots_of};
-ghost use Rattle.rd_run.specs.Kinds.{Kind};
+ghost use Rattle.rd_wf.specs.Events.{AreAccepted, events_of, roots_of};
+ghost use Rattle.rd_wf.specs.Kinds.{Kind};
 ghost use Rattle.rd_run.specs.Output.{check_outcome, entry_events, event_numbers, race_texts, races_of};
-ghost use Rattle.rd_run.specs.RaceTests.{commutes, is_racing, latest_of};
-ghost use Rattle.rd_run.specs.Races.{Racing, Reported, IsLatest};
-ghost use Rattle.rd_run.specs.Register.{Commute};
+ghost use Rattle.rd_detect.specs.RaceTests.{commutes, is_racing, latest_of};
+ghost use Rattle.rd_detect.specs.Races.{Racing, Reported, IsLatest};
+ghost use Rattle.rd_detect.specs.Register.{Commute};
 ghost use Rattle.rd_run.specs.Reports.{IsReport};
 ghost use Rattle.rd_run.specs.Walk.{Entry, Walked, ending_of, entries_of, items, trace_of};
 

@@ -3,7 +3,7 @@ ghost use Rattle.std.specs.Prelude.{◌≡◌, ◌++◌, codes, decimal, IfOk, O
 ghost use Rattle.rd_run.specs.Output.{limit_text, cause_text, limit_cause_text, wf_text, race_line, races_line, refused_line};
 
 use crate::endings::TraceCause;
-use crate::wf::WfCause;
+use rd_wf::WfCause;
 use itoa::Buffer;
 use rd_base::{Bytes, LimitName, NoMemory};
 use std::alloc::Global;

@@ -8,7 +8,7 @@ ghost use Rattle.rd_run.specs.Output.{Runs, IsOutput, usage_outcome, command_of,
 ghost use Rattle.rd_run.specs.Checking.{IsNew};
 ghost use Rattle.rd_run.specs.Commands.{asked, halted_with, Checked};
 ghost use Rattle.rd_io.specs.LineReader.{fresh};
-ghost use Rattle.rd_run.specs.Roster.{StandsFor};
+ghost use Rattle.rd_wf.specs.Roster.{StandsFor};
 ghost use Rattle.rd_run.specs.Walk.{Entry, step_bound};
 ghost use Rattle.rd_run.specs.Output.Command.{check};
 
@@ -18,7 +18,7 @@ use crate::following::Halt;
 use crate::status::Status;
 use crate::texts::{races_line, refused_line};
 use crate::walking::walk_lines;
-use crate::wf::{Roster, WfCause};
+use rd_wf::{Roster, WfCause};
 use crate::writing::write_line;
 use rd_io::{Inputs, LineReader, Sink};
 use rd_base::{Bytes, Limits, Steps, Word};

@@ -1,6 +1,6 @@
 use Rattle.std.proofs.Common.{◌≡◌, sym, ◌∙◌, ap, Err}
 use Rattle.rd_run.specs.declared.endings.TraceCause.TheVariants.{Wf}
-use Rattle.rd_run.specs.Kinds.{register_alone}
+use Rattle.rd_wf.specs.Kinds.{register_alone}
 use Rattle.rd_run.proofs.WalkLemmas.{judged_broken}
 use Rattle.rd_run.proofs.judging.judge.Goals as goal
 

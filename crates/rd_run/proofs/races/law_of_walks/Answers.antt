@@ -1,6 +1,6 @@
 use Rattle.rd_run.specs.Walk.{entries_of, items, trace_of}
 use Rattle.rd_run.proofs.AcceptedLemmas.{trace_accepted}
-use Rattle.rd_run.proofs.EventsLemmas.{accepted_told}
+use Rattle.rd_wf.proofs.EventsLemmas.{accepted_told}
 use Rattle.rd_run.proofs.races.law_of_walks.Goals as goal
 
 pub returns : goal.returns

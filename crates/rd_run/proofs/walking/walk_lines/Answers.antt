@@ -6,7 +6,7 @@ use Rattle.rd_io.specs.LineReader.{Reader, IsAtEnd}
 use Rattle.rd_io.specs.Lines.Ending.{at_end}
 use Rattle.rd_io.proofs.SinkLemmas.{appends_none, appends_on}
 use Rattle.rd_io.proofs.AdvanceLemmas.{takes_none, takes_on, takes_then}
-use Rattle.rd_run.specs.Roster.{StandsFor}
+use Rattle.rd_wf.specs.Roster.{StandsFor}
 use Rattle.rd_run.specs.Walk.{Entry, items, bound_from, ended}
 use Rattle.rd_run.specs.Walking.{WalksTo, ending_for}
 use Rattle.rd_run.specs.declared.endings.Ending.TheVariants.{Refused}

@@ -1,7 +1,7 @@
 use Rattle.std.proofs.Common.{◌≡◌, ℕ, ◌+◌, ◌≤◌, List, None}
 use Rattle.rd_io.specs.Inputs.{Goes, Takes}
 use Rattle.rd_io.specs.Sinks.{Appends}
-use Rattle.rd_run.specs.Roster.{StandsFor}
+use Rattle.rd_wf.specs.Roster.{StandsFor}
 use Rattle.rd_run.specs.Walk.{Entry, items, step_bound}
 use Rattle.rd_run.specs.Walking.{Continues}
 use Rattle.rd_run.proofs.walking.walk_lines.Given as goal

@@ -5,7 +5,7 @@ use Rattle.rd_io.proofs.SinkLemmas.{appends_none}
 use Rattle.rd_event.specs.declared.events.Event.{Event as EventOf}
 use Rattle.rd_event.specs.declared.events.Event.TheVariants as event
 use Rattle.rd_run.specs.Checking.{next_races, next_text}
-use Rattle.rd_run.specs.Detect.{IsNext}
+use Rattle.rd_detect.specs.Detect.{IsNext}
 use Rattle.rd_run.specs.Follower.{WritesFront}
 use Rattle.rd_run.specs.Output.{race_line}
 use Rattle.rd_run.proofs.ReportLemmas.{answer_text, next_races_is, next_text_is}

@@ -6,10 +6,10 @@ use Rattle.rd_io.specs.Sinks.{Appends}
 use Rattle.rd_event.specs.declared.events.Event.{Event as EventOf}
 use Rattle.rd_event.specs.declared.events.Event.TheVariants as event
 use Rattle.rd_run.specs.Checking.{IsNextLine, Tracks, next_races, next_text}
-use Rattle.rd_run.specs.Detect.{IsNext as IsNextCall, StandsFor}
+use Rattle.rd_detect.specs.Detect.{IsNext as IsNextCall, StandsFor}
 use Rattle.rd_run.specs.Follower.{WritesFront}
 use Rattle.rd_run.specs.Output.{entry_events, event_numbers, race_texts}
-use Rattle.rd_run.specs.Roster.{thread_count}
+use Rattle.rd_wf.specs.Roster.{thread_count}
 use Rattle.rd_run.specs.Walk.{Entry, items}
 use Rattle.rd_run.proofs.CheckLemmas.{all_ok, call_cost, call_place, call_races, called_line, called_next, checks_call, checks_quiet, next_line, quiet_cost, texts_call, texts_quiet}
 use Rattle.rd_run.proofs.ReportLemmas.{texts_grow}

@@ -1,0 +1,3 @@
+pub mod DetectLemmas
+pub mod RaceLemmas
+pub mod RegisterLemmas

@@ -1,0 +1,5 @@
+pub mod Detect
+pub mod Races
+pub mod RaceTests
+pub mod Register
+pub mod RegisterTests

@@ -1,0 +1,9 @@
+//! Races: which calls race, and a detector that names the latest call that races with each.
+#![tactic(auto)]
+
+mod detector;
+mod races;
+mod register;
+
+pub use detector::Detector;
+pub use races::{law_of_detectors, law_of_races, law_of_registers};

@@ -1,0 +1,74 @@
+-- The events of accepted lines by numbers, and what lines and events say of one another: this project's profile.
+use Rattle.std.specs.Prelude.{◌≡◌, ◌↔◌, ℕ, ◌<◌, ◌≤◌, ◌^◌, nat_lt, Bool, List, [], ◌∷◌, ◌++◌, length, Option, Some, None, Contains, count_by, slice_get}
+use Rattle.std.specs.List.{cons_option}
+use Rattle.rd_base.specs.Limits.{AreUsable}
+use Rattle.rd_base.specs.declared.limits.Limits.{Limits}
+use Rattle.rd_event.specs.declared.items.Line.{Line}
+use Rattle.rd_event.specs.declared.items.Line.TheVariants.{Event}
+use Rattle.rd_event.specs.declared.events.Event.{Event as Numbered}
+use Rattle.rd_hb.specs.EventLists.{InRange, Known, WellFormed, calls, joins}
+use Rattle.rd_wf.specs.Kinds.{Kind}
+use Rattle.rd_wf.specs.MayFollow.{Follows, events, is_root, joined_of, numbered_event, object_kinds, place, threads_of}
+
+-- ---- roots and events
+
+-- how many threads no event begins
+abbrev pub root_count : List Line → ℕ
+root_count lines = count_by is_root lines
+
+-- whether no event begins the thread. The lines of such threads come before every event, so they have the first numbers
+abbrev pub roots_of : List Line → ℕ → Bool
+roots_of lines t = nat_lt t (root_count lines)
+
+-- the event of a line behind others, by numbers
+abbrev pub event_of : List Kind → List Line → Line → Option Numbered
+event_of kinds before (Event event) = Some (numbered_event kinds before event)
+event_of kinds before _ = None
+
+-- the events of lines behind others, in their order
+abbrev pub events_from : List Kind → List Line → List Line → List Numbered
+events_from kinds before [] = []
+events_from kinds before (line ∷ lines) = cons_option (event_of kinds before line) (events_from kinds (before ++ line ∷ []) lines)
+
+-- the events of lines, in their order
+abbrev pub events_of : List Kind → List Line → List Numbered
+events_of kinds lines = events_from kinds [] lines
+
+-- ---- accepted lines
+
+-- the line may follow those in front of it, within some usable limits of 32 bits
+pub record IsAccepted (kinds : List Kind) (before : List Line) (line : Line) : Type 0 where
+  pub limits : Limits
+  pub usable : AreUsable limits
+  pub range : limits.threads < 2 ^ 32
+  pub follows : Follows kinds limits before line
+
+-- behind other lines, each is accepted after those in front of it
+abbrev pub AreAcceptedFrom : List Kind → List Line → List Line → Type 0
+AreAcceptedFrom kinds before [] = Unit {0}
+AreAcceptedFrom kinds before (line ∷ lines) = IsAccepted kinds before line × AreAcceptedFrom kinds (before ++ line ∷ []) lines
+
+-- each line is accepted after those in front of it
+abbrev pub AreAccepted : List Kind → List Line → Type 0
+AreAccepted kinds lines = AreAcceptedFrom kinds [] lines
+
+-- ---- what the two say of one another
+
+-- the events are a well-formed list for these roots, and there are so many of them; the known threads are those with a
+-- name, by its place; the joined ones are those whose name was joined; and the calls on an object are of its kind
+pub record IsTold (roots : ℕ → Bool) (es : List Numbered) (count : ℕ) (threads joined : List (List ℕ)) (objects : List ℕ) : Type 0 where
+  pub formed : WellFormed roots es
+  pub range : InRange es
+  pub counted : length es ≡ count
+  pub known : (t : ℕ) → Known roots es t ↔ (t < length threads)
+  pub ended : (t : ℕ) → (0 < joins es t) ↔ ((name : List ℕ) × (slice_get threads t ≡ Some name) × Contains joined name)
+  -- each joined thread has a name, each name has one place, and the places fit 32 bits, with one to spare
+  pub begun : (name : List ℕ) → Contains joined name → Contains threads name
+  pub places : (t : ℕ) (name : List ℕ) → slice_get threads t ≡ Some name → place threads name ≡ t
+  pub few : length threads ≤ 4294967295
+  -- the kind of a call's object is that of the call
+  pub one_kind : (object kind : ℕ) → 0 < calls es object kind → slice_get objects object ≡ Some kind
+
+-- so it is with the events of these lines
+abbrev pub AreTold : List Kind → List Line → Type 0
+AreTold kinds lines = IsTold (roots_of lines) (events_of kinds lines) (events lines) (threads_of lines) (joined_of lines) (object_kinds kinds lines)

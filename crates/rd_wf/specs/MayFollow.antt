@@ -1,0 +1,305 @@
+-- Which line may follow the accepted lines of a trace: this project's profile. What was accepted is
+-- told by lists and counts over the lines.
+use Rattle.std.specs.Prelude.{◌≡◌, ◌≢◌, ◌↔◌, ◌⊎◌, ℕ, ◌<◌, ◌≤◌, nat_eq, nat_lt, nat_le, ◌==◌, Bool, true, false, ◌&&◌, ◌||◌, not, if◌then◌else◌, List, [], ◌∷◌, length, Option, Some, None, is_some, IsSome, IfSome, IsSomeAnd, IsTrue, Contains, filter_map, count_by, slice_get, unwrap_or}
+use Rattle.std.specs.List.{list_any, position_or_len}
+use Rattle.std.specs.Cmp.Lexicographic.{pointwise}
+use Rattle.rd_base.specs.declared.limits.Limits.{Limits}
+use Rattle.rd_base.specs.declared.values.Value.{Value}
+use Rattle.rd_base.specs.declared.limits.LimitName.TheVariants.{Events, Threads, Locks, Objects}
+use Rattle.rd_event.specs.declared.items.Line.{Line}
+use Rattle.rd_event.specs.declared.items.Line.TheVariants.{Skip, Header, Thread, Object, Event}
+use Rattle.rd_event.specs.declared.items.LineEvent.{LineEvent}
+use Rattle.rd_event.specs.declared.items.LineEvent.TheVariants.{Fork, Join, Call}
+use Rattle.rd_event.specs.declared.events.Event as event
+use Rattle.rd_event.specs.declared.events.Event.TheVariants as numbered
+use Rattle.rd_wf.specs.Kinds.{Kind, Method, kind_names, method_names, methods_at, slots_at}
+use Rattle.rd_wf.specs.declared.causes.WfCause.{WfCause}
+use Rattle.rd_wf.specs.declared.causes.WfCause.TheVariants.{HeaderFirst, LateRoot, NameTaken, UnknownThread, ThreadEnded, OwnThread, UnknownKind, UnknownObject, UnknownMethod, WrongCount, Limit}
+use Rattle.rd_wf.specs.declared.causes.Accepted.{Accepted}
+use Rattle.rd_wf.specs.declared.causes.Accepted.TheVariants as accepted
+
+-- ---- what a line says
+
+-- the line is skipped
+abbrev pub is_skip : Line → Bool
+is_skip Skip = true
+is_skip _ = false
+
+-- it is the header
+abbrev pub is_header : Line → Bool
+is_header (Header version) = true
+is_header _ = false
+
+-- it names a thread that no other begins
+abbrev pub is_root : Line → Bool
+is_root (Thread thread) = true
+is_root _ = false
+
+-- it is an event
+abbrev pub is_event : Line → Bool
+is_event (Event event) = true
+is_event _ = false
+
+-- the thread that an event begins
+abbrev pub forked : LineEvent → Option (List ℕ)
+forked (Fork thread child) = Some child
+forked _ = None
+
+-- the thread for whose end an event waits
+abbrev pub awaited : LineEvent → Option (List ℕ)
+awaited (Join thread child) = Some child
+awaited _ = None
+
+-- the thread that acts in an event
+abbrev pub actor : LineEvent → List ℕ
+actor (Fork thread child) = thread
+actor (Join thread child) = thread
+actor (Call thread object method slots) = thread
+
+-- a call, by the names of its object and method, and with its arguments and result
+pub record Called : Type 0 where
+  pub object : List ℕ
+  pub method : List ℕ
+  pub slots : List Value
+
+-- the call that an event is
+abbrev pub call_of : LineEvent → Option Called
+call_of (Call thread object method slots) = Some (record { object = object; method = method; slots = slots })
+call_of _ = None
+
+-- the thread that the line begins
+abbrev pub begun : Line → Option (List ℕ)
+begun (Thread thread) = Some thread
+begun (Event event) = forked event
+begun _ = None
+
+-- the thread that acts
+abbrev pub acting : Line → Option (List ℕ)
+acting (Event event) = Some (actor event)
+acting _ = None
+
+-- the thread that the line joins
+abbrev pub joined : Line → Option (List ℕ)
+joined (Event event) = awaited event
+joined _ = None
+
+-- the object that it declares
+abbrev pub declared : Line → Option (List ℕ)
+declared (Object name kind) = Some name
+declared _ = None
+
+-- and that object's kind
+abbrev pub kind_of : Line → Option (List ℕ)
+kind_of (Object name kind) = Some kind
+kind_of _ = None
+
+-- the call that it is
+abbrev pub called : Line → Option Called
+called (Event event) = call_of event
+called _ = None
+
+-- it is a call
+abbrev pub is_call : Line → Bool
+is_call line = is_some (called line)
+
+-- ---- names and their places
+
+-- two names are the same
+abbrev pub same_name : List ℕ → List ℕ → Bool
+same_name = pointwise nat_eq
+
+-- the place of a name, from 0: the number of those before it
+abbrev pub place : List (List ℕ) → List ℕ → ℕ
+place names name = position_or_len (same_name name) names
+
+-- ---- what the accepted lines say
+
+-- the threads, in the order of the lines that began them
+abbrev pub threads_of : List Line → List (List ℕ)
+threads_of before = filter_map begun before
+
+-- the threads that were joined, in the order of the joins
+abbrev pub joined_of : List Line → List (List ℕ)
+joined_of before = filter_map joined before
+
+-- the objects, in the order of their lines
+abbrev pub objects_of : List Line → List (List ℕ)
+objects_of before = filter_map declared before
+
+-- the number of the kind that an object is declared with
+abbrev pub declared_kind : List Kind → Line → Option ℕ
+declared_kind kinds (Object name kind) = Some (place (kind_names kinds) kind)
+declared_kind kinds _ = None
+
+-- so for each object, in the order of their lines
+abbrev pub object_kinds : List Kind → List Line → List ℕ
+object_kinds kinds before = filter_map (declared_kind kinds) before
+
+-- the number of an object's kind; for an object that isn't declared, one that no kind has
+abbrev pub kind_number : List Kind → List Line → List ℕ → ℕ
+kind_number kinds before object = unwrap_or (slice_get (object_kinds kinds before) (place (objects_of before) object)) (length kinds)
+
+-- the methods of its kind
+abbrev pub methods_of : List Kind → List Line → List ℕ → List Method
+methods_of kinds before object = methods_at kinds (kind_number kinds before object)
+
+-- the number of a method of an object
+abbrev pub method_number : List Kind → List Line → List ℕ → List ℕ → ℕ
+method_number kinds before object method = place (method_names (methods_of kinds before object)) method
+
+-- how many slots the method of a call has
+abbrev pub slots_of : List Kind → List Line → Called → ℕ
+slots_of kinds before call = slots_at (methods_of kinds before call.object) (method_number kinds before call.object call.method)
+
+-- how many headers there are
+abbrev pub headers : List Line → ℕ
+headers before = count_by is_header before
+
+-- how many events there are
+abbrev pub events : List Line → ℕ
+events before = count_by is_event before
+
+-- how many calls there are
+abbrev pub call_count : List Line → ℕ
+call_count before = count_by is_call before
+
+-- ---- the rules
+
+-- what each line that isn't skipped has to meet
+pub record MayFollow (kinds : List Kind) (before : List Line) (line : Line) : Type 0 where
+  -- it is a header exactly if none came before
+  pub header_first : IsTrue (is_header line) ↔ (headers before ≡ 0)
+  -- a root comes before every event
+  pub early_root : IsTrue (is_root line) → events before ≡ 0
+  -- no thread has the name of the new thread, and no object that of the new object
+  pub new_thread : IfSome (begun line) (λ name. ¬ (Contains (threads_of before) name))
+  pub new_object : IfSome (declared line) (λ name. ¬ (Contains (objects_of before) name))
+  -- the acting thread was begun, and so was the joined one
+  pub known_actor : IfSome (acting line) (Contains (threads_of before))
+  pub known_joined : IfSome (joined line) (Contains (threads_of before))
+  -- the acting thread was not joined
+  pub running : IfSome (acting line) (λ name. ¬ (Contains (joined_of before) name))
+  -- no thread joins itself
+  pub other_joined : IfSome (joined line) (λ name. acting line ≢ Some name)
+  -- the kind is a kind
+  pub known_kind : IfSome (kind_of line) (Contains (kind_names kinds))
+  -- the called object was declared, its kind has the method, and the call has as many slots as the method
+  pub known_object : IfSome (called line) (λ call. Contains (objects_of before) call.object)
+  pub known_method : IfSome (called line) (λ call. Contains (method_names (methods_of kinds before call.object)) call.method)
+  pub right_count : IfSome (called line) (λ call. length call.slots ≡ slots_of kinds before call)
+
+-- no count that the line raises passes its limit
+pub record WithinLimits (limits : Limits) (before : List Line) (line : Line) : Type 0 where
+  pub few_events : IsTrue (is_event line) → events before < limits.events
+  pub few_threads : IsSome (begun line) → length (threads_of before) < limits.threads
+  pub few_objects : IsSome (declared line) → length (objects_of before) < limits.objects
+
+-- the line may follow: it is skipped, or it meets the rules within the limits
+abbrev pub Follows : List Kind → Limits → List Line → Line → Type 0
+Follows kinds limits before line = (line ≡ Skip) ⊎ (MayFollow kinds before line × WithinLimits limits before line)
+
+-- ---- what a line breaks
+
+-- the part of the rules that each cause names is broken
+abbrev pub Breaks : List Kind → Limits → List Line → Line → WfCause → Type 0
+Breaks kinds limits before line HeaderFirst = IsTrue (is_header line) ↔ (0 < headers before)
+Breaks kinds limits before line LateRoot = IsTrue (is_root line) × (0 < events before)
+Breaks kinds limits before line NameTaken =
+    IsSomeAnd (begun line) (Contains (threads_of before)) ⊎ IsSomeAnd (declared line) (Contains (objects_of before))
+Breaks kinds limits before line UnknownThread =
+    IsSomeAnd (acting line) (λ name. ¬ (Contains (threads_of before) name)) ⊎ IsSomeAnd (joined line) (λ name. ¬ (Contains (threads_of before) name))
+Breaks kinds limits before line ThreadEnded = IsSomeAnd (acting line) (Contains (joined_of before))
+Breaks kinds limits before line OwnThread = IsSomeAnd (joined line) (λ name. acting line ≡ Some name)
+Breaks kinds limits before line UnknownKind = IsSomeAnd (kind_of line) (λ kind. ¬ (Contains (kind_names kinds) kind))
+Breaks kinds limits before line UnknownObject = IsSomeAnd (called line) (λ call. ¬ (Contains (objects_of before) call.object))
+Breaks kinds limits before line UnknownMethod = IsSomeAnd (called line) (λ call. ¬ (Contains (method_names (methods_of kinds before call.object)) call.method))
+Breaks kinds limits before line WrongCount = IsSomeAnd (called line) (λ call. length call.slots ≢ slots_of kinds before call)
+Breaks kinds limits before line (Limit Events number) = IsTrue (is_event line) × (limits.events ≤ events before) × (number ≡ limits.events)
+Breaks kinds limits before line (Limit Threads number) = IsSome (begun line) × (limits.threads ≤ length (threads_of before)) × (number ≡ limits.threads)
+Breaks kinds limits before line (Limit Objects number) = IsSome (declared line) × (limits.objects ≤ length (objects_of before)) × (number ≡ limits.objects)
+Breaks kinds limits before line (Limit name number) = ⊥
+
+-- the number of the part that a cause names. Those of the limits come last, in the order in which they are asked
+abbrev pub part_number : WfCause → ℕ
+part_number HeaderFirst = 1
+part_number LateRoot = 2
+part_number NameTaken = 3
+part_number UnknownThread = 4
+part_number ThreadEnded = 5
+part_number OwnThread = 6
+part_number UnknownKind = 7
+part_number UnknownObject = 8
+part_number UnknownMethod = 9
+part_number WrongCount = 10
+part_number (Limit Events number) = 13
+part_number (Limit Threads number) = 14
+part_number (Limit Locks number) = 15
+part_number (Limit Objects number) = 16
+part_number (Limit name number) = 17
+
+-- the line isn't skipped, it breaks the part of the cause, and it breaks no part of a lower number
+pub record FirstBroken (kinds : List Kind) (limits : Limits) (before : List Line) (line : Line) (cause : WfCause) : Type 0 where
+  pub counted : line ≢ Skip
+  pub broken : Breaks kinds limits before line cause
+  pub first : (other : WfCause) → part_number other < part_number cause → ¬ (Breaks kinds limits before line other)
+
+-- ---- the same by tests, for what has to be computed
+
+-- the name is among these
+abbrev pub is_among : List (List ℕ) → List ℕ → Bool
+is_among names name = list_any (same_name name) names
+
+-- there is one, and it passes the test
+abbrev pub passes : {X : Type 0} → Option X → (X → Bool) → Bool
+passes None test = false
+passes (Some x) test = test x
+
+-- each cause with the test of its part, in the order of the parts
+abbrev pub tests : List Kind → Limits → List Line → Line → List (Bool × WfCause)
+tests kinds limits before line =
+    (if is_header line then nat_lt 0 (headers before) else headers before == 0, HeaderFirst)
+    ∷ (is_root line && nat_lt 0 (events before), LateRoot)
+    ∷ (passes (begun line) (is_among (threads_of before)) || passes (declared line) (is_among (objects_of before)), NameTaken)
+    ∷ (passes (acting line) (λ name. not (is_among (threads_of before) name)) || passes (joined line) (λ name. not (is_among (threads_of before) name)), UnknownThread)
+    ∷ (passes (acting line) (is_among (joined_of before)), ThreadEnded)
+    ∷ (passes (joined line) (λ name. passes (acting line) (same_name name)), OwnThread)
+    ∷ (passes (kind_of line) (λ kind. not (is_among (kind_names kinds) kind)), UnknownKind)
+    ∷ (passes (called line) (λ call. not (is_among (objects_of before) call.object)), UnknownObject)
+    ∷ (passes (called line) (λ call. not (is_among (method_names (methods_of kinds before call.object)) call.method)), UnknownMethod)
+    ∷ (passes (called line) (λ call. not (length call.slots == slots_of kinds before call)), WrongCount)
+    ∷ (is_event line && nat_le limits.events (events before), Limit Events limits.events)
+    ∷ (is_some (begun line) && nat_le limits.threads (length (threads_of before)), Limit Threads limits.threads)
+    ∷ (is_some (declared line) && nat_le limits.objects (length (objects_of before)), Limit Objects limits.objects)
+    ∷ []
+
+-- the cause of the first test that holds
+abbrev pub first_true : List (Bool × WfCause) → Option WfCause
+first_true [] = None
+first_true (test ∷ more) = if test.0 then Some test.1 else first_true more
+
+-- the cause that names the first part that the line breaks, if it breaks any
+unfoldable pub first_broken : List Kind → Limits → List Line → Line → Option WfCause
+first_broken kinds limits before line = if is_skip line then None else first_true (tests kinds limits before line)
+
+-- ---- numbers
+
+-- an event by numbers. The thread that it begins has the next one
+abbrev pub numbered_event : List Kind → List Line → LineEvent → event.Event
+numbered_event kinds before (Fork thread child) = numbered.Fork (place (threads_of before) thread) (length (threads_of before))
+numbered_event kinds before (Join thread child) = numbered.Join (place (threads_of before) thread) (place (threads_of before) child)
+numbered_event kinds before (Call thread object method slots) =
+    numbered.Call (record {
+      thread = place (threads_of before) thread;
+      object = place (objects_of before) object;
+      kind = kind_number kinds before object;
+      method = method_number kinds before object method;
+      slots = slots;
+    })
+
+-- what an accepted line is in numbers. The thread or object that it begins has the next one
+unfoldable pub accepted_of : List Kind → List Line → Line → Accepted
+accepted_of kinds before Skip = accepted.Nothing
+accepted_of kinds before (Header version) = accepted.Nothing
+accepted_of kinds before (Thread thread) = accepted.Root (length (threads_of before))
+accepted_of kinds before (Object name kind) = accepted.Object (length (objects_of before)) (place (kind_names kinds) kind)
+accepted_of kinds before (Event event) = accepted.Event (numbered_event kinds before event)

@@ -1,0 +1,299 @@
+//! Which line may follow the accepted lines of a trace.
+ghost use Rattle.std.specs.Prelude.{◌≡◌, ◌↔◌, ◌<◌, ◌^◌, List, ℕ, MatchOption, length, slice_get, Contains, Some};
+ghost use Rattle.rd_base.specs.declared.limits.Limits.{Limits as LimitsOf};
+ghost use Rattle.rd_event.specs.declared.items.Line.{Line as LineOf};
+ghost use Rattle.rd_hb.specs.EventLists.{InRange, Known, WellFormed, joins};
+ghost use Rattle.rd_wf.specs.Events.{AreAccepted, events_of, roots_of};
+ghost use Rattle.rd_wf.specs.Kinds.{Kind};
+ghost use Rattle.rd_wf.specs.MayFollow.{Follows, FirstBroken, events, first_broken, joined_of, threads_of};
+ghost use Rattle.indexmap.specs.IndexMap.{index_map_len};
+
+mod causes;
+mod judge;
+mod methods;
+
+pub use causes::{Accepted, WfCause, WfRefused};
+use indexmap::IndexMap;
+use judge::Declared;
+use methods::Methods;
+use rd_base::{Limits, Name, NoMemory, Slots};
+use rd_event::{Call, Event, Line, LineEvent};
+use std::alloc::Global;
+
+/// The accepted lines of a trace, as names with numbers, flags and counts. It says of the next line
+/// whether it may follow.
+#[derive(Debug, Drop)]
+pub struct Roster {
+    alloc: Global,
+    kinds: IndexMap<Name, Methods>,
+    header: bool,
+    events: u32,
+    /// each with whether it was joined
+    threads: IndexMap<Name, bool>,
+    /// each with the number of its kind
+    objects: IndexMap<Name, u32>,
+    ghost few_kinds: { index_map_len kinds < 2 ^ 32 },
+    ghost few_threads: { index_map_len threads < 2 ^ 32 },
+    ghost few_objects: { index_map_len objects < 2 ^ 32 },
+}
+
+impl Roster {
+    ghost use Rattle.std.specs.Prelude.{◌≡◌, ◌<◌, List, [], ◌∷◌, ◌++◌, IfOk, IfErr, OnOk, OnErr, length, slice_get};
+    ghost use Rattle.rd_base.specs.Limits.{AreUsable};
+    ghost use Rattle.rd_event.specs.declared.items.Line.{Line as LineOf};
+    ghost use Rattle.rd_wf.specs.MayFollow.{Follows, FirstBroken, first_broken, accepted_of, threads_of, objects_of, headers, events};
+    ghost use Rattle.rd_wf.specs.Kinds.{register_alone};
+    ghost use Rattle.rd_wf.specs.Roster.{StandsFor, Takes, Refuses, thread_count, object_count};
+
+    /// The roster of no lines. Its one kind is `register`, with the number 0.
+    pub fn new(alloc: Global) -> Result<Roster, NoMemory>
+        ensures { IfOk result (λ roster. StandsFor roster []) }
+    {
+        let register = Name::from_bytes(b"register").unwrap();
+        let methods = Methods::of_register(alloc)?;
+        let mut kinds = IndexMap::new(alloc);
+        kinds.insert(register, methods)?;
+        Ok(Roster {
+            alloc,
+            kinds,
+            header: false,
+            events: 0,
+            threads: IndexMap::new(alloc),
+            objects: IndexMap::new(alloc),
+        })
+    }
+
+    fn accept_header(&mut self, version: u8, limits: &Limits) -> Result<Accepted, WfRefused>
+        ensures ok { IfOk result (Takes self.old self.new limits.now (Line.Header version)) }
+        ensures refused { IfErr result (Refuses self.old self.new limits.now (Line.Header version)) }
+    {
+        if self.header {
+            return Err(WfRefused::Cause(WfCause::HeaderFirst));
+        }
+        self.header = true;
+        Ok(Accepted::Nothing)
+    }
+
+    fn accept_root(&mut self, name: &Name, limits: &Limits) -> Result<Accepted, WfRefused>
+        ensures ok { IfOk result (Takes self.old self.new limits.now (Line.Thread name.now)) }
+        ensures refused { IfErr result (Refuses self.old self.new limits.now (Line.Thread name.now)) }
+    {
+        match self.judge_root(name, limits) {
+            Err(cause) => Err(WfRefused::Cause(cause)),
+            Ok(thread) => {
+                self.threads.insert(name.copy(), false)?;
+                Ok(Accepted::Root(thread))
+            }
+        }
+    }
+
+    fn accept_object(
+        &mut self,
+        name: &Name,
+        kind: &Name,
+        limits: &Limits,
+    ) -> Result<Accepted, WfRefused>
+        ensures ok { IfOk result (Takes self.old self.new limits.now (Line.Object name.now kind.now)) }
+        ensures refused { IfErr result (Refuses self.old self.new limits.now (Line.Object name.now kind.now)) }
+    {
+        match self.judge_object(name, kind, limits) {
+            Err(cause) => Err(WfRefused::Cause(cause)),
+            Ok(Declared { object, kind }) => {
+                self.objects.insert(name.copy(), kind)?;
+                Ok(Accepted::Object { object, kind })
+            }
+        }
+    }
+
+    fn accept_fork(
+        &mut self,
+        thread: &Name,
+        child: &Name,
+        limits: &Limits,
+    ) -> Result<Accepted, WfRefused>
+        ensures ok { IfOk result (Takes self.old self.new limits.now (Line.Event (LineEvent.Fork thread.now child.now))) }
+        ensures refused { IfErr result (Refuses self.old self.new limits.now (Line.Event (LineEvent.Fork thread.now child.now))) }
+    {
+        match self.judge_fork(thread, child, limits) {
+            Err(cause) => Err(WfRefused::Cause(cause)),
+            Ok(pair) => {
+                self.threads.insert(child.copy(), false)?;
+                self.events += 1;
+                Ok(Accepted::Event(Event::Fork {
+                    thread: pair.thread,
+                    child: pair.child,
+                }))
+            }
+        }
+    }
+
+    fn accept_join(
+        &mut self,
+        thread: &Name,
+        child: &Name,
+        limits: &Limits,
+    ) -> Result<Accepted, WfRefused>
+        ensures ok { IfOk result (Takes self.old self.new limits.now (Line.Event (LineEvent.Join thread.now child.now))) }
+        ensures refused { IfErr result (Refuses self.old self.new limits.now (Line.Event (LineEvent.Join thread.now child.now))) }
+    {
+        match self.judge_join(thread, child, limits) {
+            Err(cause) => Err(WfRefused::Cause(cause)),
+            Ok(pair) => {
+                *self.threads.get_index_mut(pair.child as usize).unwrap() = true;
+                self.events += 1;
+                Ok(Accepted::Event(Event::Join {
+                    thread: pair.thread,
+                    child: pair.child,
+                }))
+            }
+        }
+    }
+
+    fn accept_call(
+        &mut self,
+        thread: &Name,
+        object: &Name,
+        method: &Name,
+        slots: &Slots,
+        limits: &Limits,
+    ) -> Result<Accepted, WfRefused>
+        ensures ok { IfOk result (Takes self.old self.new limits.now (Line.Event (LineEvent.Call thread.now object.now method.now slots.now))) }
+        ensures refused { IfErr result (Refuses self.old self.new limits.now (Line.Event (LineEvent.Call thread.now object.now method.now slots.now))) }
+    {
+        match self.judge_call(thread, object, method, slots, limits) {
+            Err(cause) => Err(WfRefused::Cause(cause)),
+            Ok(numbers) => {
+                let slots = slots.copy(self.alloc)?;
+                self.events += 1;
+                Ok(Accepted::Event(Event::Call(Call {
+                    thread: numbers.thread,
+                    object: numbers.object,
+                    kind: numbers.kind,
+                    method: numbers.method,
+                    slots,
+                })))
+            }
+        }
+    }
+
+    fn take(&mut self, line: &Line, limits: &Limits) -> Result<Accepted, WfRefused>
+        ensures ok { IfOk result (Takes self.old self.new limits.now line.now) }
+        ensures refused { IfErr result (Refuses self.old self.new limits.now line.now) }
+    {
+        match line {
+            Line::Skip => Ok(Accepted::Nothing),
+            Line::Header { version } => self.accept_header(*version, limits),
+            Line::Thread(name) => self.accept_root(name, limits),
+            Line::Object { name, kind } => self.accept_object(name, kind, limits),
+            Line::Event(LineEvent::Fork { thread, child }) => self.accept_fork(
+                thread, child, limits,
+            ),
+            Line::Event(LineEvent::Join { thread, child }) => self.accept_join(
+                thread, child, limits,
+            ),
+            Line::Event(
+                LineEvent::Call {
+                    thread,
+                    object,
+                    method,
+                    slots,
+                },
+            ) => self.accept_call(thread, object, method, slots, limits),
+        }
+    }
+
+    /// Takes the next line, if it may follow the accepted ones, and says what it is in numbers. Else it
+    /// refuses the line, by the cause that names the first part of the rules that the line breaks, and
+    /// nothing changes. After want of memory the roster stands for the same lines as before.
+    pub fn accept(&mut self, line: &Line, limits: &Limits) -> Result<Accepted, WfRefused>
+        requires { AreUsable limits.now }
+        ensures ok { IfOk result (λ accepted. (lines : List LineOf) → StandsFor self.old lines →
+            (first_broken register_alone limits.now lines line.now ≡ None) × (accepted ≡ accepted_of register_alone lines line.now)
+            × StandsFor self.new (lines ++ line.now ∷ [])) }
+        ensures follows { OnOk result ((lines : List LineOf) → StandsFor self.old lines → Follows register_alone limits.now lines line.now) }
+        ensures refused { IfErr result (λ e. (lines : List LineOf) → StandsFor self.old lines → (cause : WfCause) → e ≡ WfRefused.Cause cause →
+            (first_broken register_alone limits.now lines line.now ≡ Some cause) × FirstBroken register_alone limits.now lines line.now cause) }
+        ensures same { IfErr result (λ e. (cause : WfCause) → e ≡ WfRefused.Cause cause → self.new ≡ self.old) }
+        ensures err { OnErr result ((lines : List LineOf) → StandsFor self.old lines → StandsFor self.new lines) }
+    {
+        self.take(line, limits)
+    }
+
+    /// Whether the lines may end here: a trace has a header. It takes no memory.
+    pub fn finish(&self) -> Result<(), WfCause>
+        ensures ok { OnOk result ((lines : List LineOf) → StandsFor self.now lines → 0 < headers lines) }
+        ensures err { IfErr result (λ e. (e ≡ WfCause.HeaderFirst) × ((lines : List LineOf) → StandsFor self.now lines → headers lines ≡ 0)) }
+    {
+        if self.header {
+            Ok(())
+        } else {
+            Err(WfCause::HeaderFirst)
+        }
+    }
+
+    /// The name of the thread with this number, which is below `threads()`. It takes no memory.
+    pub fn thread_name(&self, thread: u32) -> &Name
+        requires { thread < thread_count self.now }
+        ensures { (lines : List LineOf) → StandsFor self.now lines → slice_get (threads_of lines) thread ≡ Some result.now }
+    {
+        self.threads.get_index(thread as usize).unwrap().0
+    }
+
+    /// The name of the object with this number, which is below `objects()`. It takes no memory.
+    pub fn object_name(&self, object: u32) -> &Name
+        requires { object < object_count self.now }
+        ensures { (lines : List LineOf) → StandsFor self.now lines → slice_get (objects_of lines) object ≡ Some result.now }
+    {
+        self.objects.get_index(object as usize).unwrap().0
+    }
+
+    /// How many threads were begun. It takes no memory.
+    pub fn threads(&self) -> u32
+        ensures count { result ≡ thread_count self.now }
+        ensures history { (lines : List LineOf) → StandsFor self.now lines → result ≡ length (threads_of lines) }
+    {
+        self.threads.len() as u32
+    }
+
+    /// How many objects were declared. It takes no memory.
+    pub fn objects(&self) -> u32
+        ensures count { result ≡ object_count self.now }
+        ensures history { (lines : List LineOf) → StandsFor self.now lines → result ≡ length (objects_of lines) }
+    {
+        self.objects.len() as u32
+    }
+
+    /// How many events were accepted. It takes no memory.
+    pub fn events(&self) -> u32
+        ensures { (lines : List LineOf) → StandsFor self.now lines → result ≡ events lines }
+    {
+        self.events
+    }
+}
+
+/// The rules and their test say the same: the test answers nothing exactly where the line may
+/// follow, and else the one cause whose part the line breaks first.
+pub fn law_of_following()
+    ensures test { (kinds : List Kind) (limits : LimitsOf) (before : List LineOf) (line : LineOf) →
+        MatchOption (first_broken kinds limits before line) (Follows kinds limits before line) (FirstBroken kinds limits before line) }
+    ensures apart { (kinds : List Kind) (limits : LimitsOf) (before : List LineOf) (line : LineOf) →
+        Follows kinds limits before line → (cause : WfCause) → ¬ (FirstBroken kinds limits before line cause) }
+    ensures only { (kinds : List Kind) (limits : LimitsOf) (before : List LineOf) (line : LineOf) (cause : WfCause) →
+        FirstBroken kinds limits before line cause → first_broken kinds limits before line ≡ Some cause }
+{}
+
+/// The events of accepted lines are a well-formed list for the threads that no event begins, as many as the lines of
+/// events, and their numbers are in range. Its known threads are those of the lines, and its joined ones those
+/// that the lines join.
+pub fn law_of_events()
+    ensures formed { (kinds : List Kind) (lines : List LineOf) → AreAccepted kinds lines → WellFormed (roots_of lines) (events_of kinds lines) }
+    ensures range { (kinds : List Kind) (lines : List LineOf) → AreAccepted kinds lines → InRange (events_of kinds lines) }
+    ensures count { (kinds : List Kind) (lines : List LineOf) → AreAccepted kinds lines → length (events_of kinds lines) ≡ events lines }
+    ensures known { (kinds : List Kind) (lines : List LineOf) → AreAccepted kinds lines → (t : ℕ) →
+        (Known (roots_of lines) (events_of kinds lines) t ↔ (t < length (threads_of lines))) }
+    ensures ended { (kinds : List Kind) (lines : List LineOf) → AreAccepted kinds lines → (t : ℕ) →
+        ((0 < joins (events_of kinds lines) t) ↔ ((name : List ℕ) × (slice_get (threads_of lines) t ≡ Some name) × Contains (joined_of lines) name)) }
+{}
+
+#[cfg(test)]
+mod tests;
