@@ -13,24 +13,6 @@ use Rattle.rd_wf.specs.Kinds.{Kind, register_alone}
 use Rattle.rd_run.specs.Output.{races_before, race_texts, races_of, texts_before}
 use Rattle.rd_run.specs.declared.checking.Check.{Check}
 
--- nothing is told of no lines
-pub told_none : (kinds : List Kind) → AreTold kinds []
-unfolding calls forks joins
-told_none kinds = record {
-  formed = tt;
-  range = record { few_events = omega arith; few_threads = All-nil HasNumbers };
-  counted = refl;
-  known = λ t. (
-    λ known. elim known [ inl root ↦ (Decides-ltb t 0).0 root | inr forked ↦ absurd (omega arith) ],
-    λ below. absurd (omega arith),
-  );
-  ended = λ t. (λ some. absurd (omega arith), λ x. absurd (none-some x.0 x.1));
-  begun = λ name there. there;
-  places = λ t name at. absurd (none-some name at);
-  few = omega arith;
-  one_kind = λ object kind some. absurd (omega arith);
-}
-
 stands_none : StandsFor [] (roots_of []) (events_of register_alone [])
 unfolding forks joins
 stands_none = record {

@@ -22,11 +22,11 @@ use Rattle.rd_hb.proofs.EventListLemmas.{formed_more, may_call, may_fork, may_jo
 use Rattle.rd_hb.specs.EventLists.{calls, forks, is_call_on, joins, HasNumbers, InRange, Known, WellFormed, MayFollow as MayCome}
 use Rattle.rd_hb.specs.Order.{called as called_by, forked as begun_by, joined as joined_by}
 use Rattle.rd_hb.specs.OrderTests.{is_this}
-use Rattle.rd_wf.proofs.FollowLemmas.{among_decides}
-use Rattle.rd_run.specs.CheckLaws.{told_none}
+use Rattle.rd_wf.proofs.FollowLemmas.{Meets, among_decides, met}
+use Rattle.rd_wf.specs.NoLines.{told_none}
 use Rattle.rd_wf.specs.Events.{AreAccepted, AreAcceptedFrom, AreTold, IsTold, event_of, events_from, events_of, root_count, roots_of}
 use Rattle.rd_wf.specs.Kinds.{Kind, kind_names}
-use Rattle.rd_wf.specs.MayFollow.{Follows, MayFollow, WithinLimits, begun, declared_kind, events, is_among, is_event, is_root, is_skip, joined, joined_of, kind_number, method_number, object_kinds, objects_of, place, same_name, threads_of}
+use Rattle.rd_wf.specs.MayFollow.{MayFollow, begun, declared_kind, events, is_among, is_event, is_root, is_skip, joined, joined_of, kind_number, method_number, object_kinds, objects_of, place, same_name, threads_of}
 
 -- ---- places of names
 
@@ -459,9 +459,9 @@ told_declared kinds lines name kind told =
     told_silent kinds lines line (object_kinds kinds lines ++ place (kind_names kinds) kind ∷ []) refl refl refl refl refl (objects_more kinds lines line)
     (told_object (roots_of lines) (events_of kinds lines) (events lines) (threads_of lines) (joined_of lines) (object_kinds kinds lines) told (place (kind_names kinds) kind))
 
-told_rooted : (kinds : List Kind) (lines : List Line) (name : List ℕ) → MayFollow kinds lines (Thread name) → length (threads_of (lines ++ Thread name ∷ [])) ≤ 4294967295
+told_rooted : (kinds : List Kind) (limits : Limits) (lines : List Line) (name : List ℕ) → Meets kinds limits lines (Thread name) → length (threads_of (lines ++ Thread name ∷ [])) ≤ 4294967295
     → AreTold kinds lines → AreTold kinds (lines ++ Thread name ∷ [])
-told_rooted kinds lines name may few told =
+told_rooted kinds limits lines name may few told =
     let line : Line = Thread name in
     let more : length (threads_of (lines ++ line ∷ [])) ≡ length (threads_of lines) + 1 = ap length (threads_more lines line) ∙ length-append (threads_of lines) (name ∷ []) in
     told_as kinds lines line (root_count lines + 1) (events_of kinds lines) (events lines) (threads_of lines ++ name ∷ []) (joined_of lines) (object_kinds kinds lines)
@@ -475,12 +475,12 @@ told_rooted kinds lines name may few told =
     (no_events kinds lines told (may.early_root refl)) told may.new_thread (omega arith))
 
 told_forked : (kinds : List Kind) (limits : Limits) (lines : List Line) (thread child : List ℕ) → AreUsable limits
-    → MayFollow kinds lines (Event (Fork thread child)) → WithinLimits limits lines (Event (Fork thread child))
+    → Meets kinds limits lines (Event (Fork thread child))
     → length (threads_of (lines ++ Event (Fork thread child) ∷ [])) ≤ 4294967295 → AreTold kinds lines → AreTold kinds (lines ++ Event (Fork thread child) ∷ [])
-told_forked kinds limits lines thread child usable may within few told =
+told_forked kinds limits lines thread child usable may few told =
     let line : Line = Event (Fork thread child) in
     let more : length (threads_of (lines ++ line ∷ [])) ≡ length (threads_of lines) + 1 = ap length (threads_more lines line) ∙ length-append (threads_of lines) (child ∷ []) in
-    let few_events : events lines < limits.events = within.few_events refl in
+    let few_events : events lines < limits.events = may.few_events refl in
     let most : limits.events ≤ 4294967294 = usable.events in
     told_as kinds lines line (root_count lines) (events_of kinds lines ++ numbered.Fork (place (threads_of lines) thread) (length (threads_of lines)) ∷ []) (events lines + 1)
     (threads_of lines ++ child ∷ []) (joined_of lines) (object_kinds kinds lines)
@@ -494,10 +494,10 @@ told_forked kinds limits lines thread child usable may within few told =
     thread child may.known_actor may.running may.new_thread (omega arith) (omega arith))
 
 told_joined : (kinds : List Kind) (limits : Limits) (lines : List Line) (thread child : List ℕ) → AreUsable limits
-    → MayFollow kinds lines (Event (Join thread child)) → WithinLimits limits lines (Event (Join thread child)) → AreTold kinds lines → AreTold kinds (lines ++ Event (Join thread child) ∷ [])
-told_joined kinds limits lines thread child usable may within told =
+    → Meets kinds limits lines (Event (Join thread child)) → AreTold kinds lines → AreTold kinds (lines ++ Event (Join thread child) ∷ [])
+told_joined kinds limits lines thread child usable may told =
     let line : Line = Event (Join thread child) in
-    let few_events : events lines < limits.events = within.few_events refl in
+    let few_events : events lines < limits.events = may.few_events refl in
     let most : limits.events ≤ 4294967294 = usable.events in
     told_as kinds lines line (root_count lines) (events_of kinds lines ++ numbered.Join (place (threads_of lines) thread) (place (threads_of lines) child) ∷ []) (events lines + 1)
     (threads_of lines) (joined_of lines ++ child ∷ []) (object_kinds kinds lines)
@@ -525,9 +525,9 @@ got_inside (x ∷ xs) zero other below = refl
 got_inside (x ∷ xs) (suc i) other below = got_inside xs i other (omega arith)
 
 told_called : (kinds : List Kind) (limits : Limits) (lines : List Line) (thread object method : List ℕ) (slots : List Value) → AreUsable limits
-    → MayFollow kinds lines (Event (Call thread object method slots)) → WithinLimits limits lines (Event (Call thread object method slots))
+    → Meets kinds limits lines (Event (Call thread object method slots))
     → AreTold kinds lines → AreTold kinds (lines ++ Event (Call thread object method slots) ∷ [])
-told_called kinds limits lines thread object method slots usable may within told =
+told_called kinds limits lines thread object method slots usable may told =
     let line : Line = Event (Call thread object method slots) in
     let call : CallOf = record {
       thread = place (threads_of lines) thread;
@@ -539,7 +539,7 @@ told_called kinds limits lines thread object method slots usable may within told
     let below : place (objects_of lines) object < length (objects_of lines) = place_below (objects_of lines) object may.known_object in
     let at : slice_get (object_kinds kinds lines) call.object ≡ Some call.kind =
     got_inside (object_kinds kinds lines) (place (objects_of lines) object) (length kinds) (omega (arith, kinds_placed kinds lines)) in
-    let few_events : events lines < limits.events = within.few_events refl in
+    let few_events : events lines < limits.events = may.few_events refl in
     let most : limits.events ≤ 4294967294 = usable.events in
     told_as kinds lines line (root_count lines) (events_of kinds lines ++ numbered.Call call ∷ []) (events lines + 1) (threads_of lines) (joined_of lines) (object_kinds kinds lines)
     (roots_more lines line ∙ omega arith)
@@ -552,22 +552,22 @@ told_called kinds limits lines thread object method slots usable may within told
     thread call may.known_actor may.running refl at (omega arith))
 
 -- what is told of accepted lines is told of them with one line more
-pub told_more : (kinds : List Kind) (limits : Limits) (lines : List Line) (line : Line) → AreUsable limits → Follows kinds limits lines line
+pub told_more : (kinds : List Kind) (limits : Limits) (lines : List Line) (line : Line) → AreUsable limits → MayFollow kinds limits lines line
     → length (threads_of (lines ++ line ∷ [])) ≤ 4294967295 → AreTold kinds lines → AreTold kinds (lines ++ line ∷ [])
 told_more kinds limits lines Skip usable follows few told = told_quiet kinds lines Skip refl refl refl refl refl refl told
 told_more kinds limits lines (Header version) usable follows few told = told_quiet kinds lines (Header version) refl refl refl refl refl refl told
 told_more kinds limits lines (Object name kind) usable follows few told = told_declared kinds lines name kind told
 told_more kinds limits lines (Thread name) usable (inl skip) few told = absurd (not_skipped (Thread name) refl skip)
-told_more kinds limits lines (Thread name) usable (inr follows) few told = told_rooted kinds lines name follows.0 few told
+told_more kinds limits lines (Thread name) usable (inr follows) few told = told_rooted kinds limits lines name (met kinds limits lines (Thread name) (λ h. cc) (inr follows)) few told
 told_more kinds limits lines (Event (Fork thread child)) usable (inl skip) few told = absurd (not_skipped (Event (Fork thread child)) refl skip)
-told_more kinds limits lines (Event (Fork thread child)) usable (inr follows) few told = told_forked kinds limits lines thread child usable follows.0 follows.1 few told
+told_more kinds limits lines (Event (Fork thread child)) usable (inr follows) few told = told_forked kinds limits lines thread child usable (met kinds limits lines (Event (Fork thread child)) (λ h. cc) (inr follows)) few told
 told_more kinds limits lines (Event (Join thread child)) usable (inl skip) few told = absurd (not_skipped (Event (Join thread child)) refl skip)
-told_more kinds limits lines (Event (Join thread child)) usable (inr follows) few told = told_joined kinds limits lines thread child usable follows.0 follows.1 told
+told_more kinds limits lines (Event (Join thread child)) usable (inr follows) few told = told_joined kinds limits lines thread child usable (met kinds limits lines (Event (Join thread child)) (λ h. cc) (inr follows)) told
 told_more kinds limits lines (Event (Call thread object method slots)) usable (inl skip) few told = absurd (not_skipped (Event (Call thread object method slots)) refl skip)
-told_more kinds limits lines (Event (Call thread object method slots)) usable (inr follows) few told = told_called kinds limits lines thread object method slots usable follows.0 follows.1 told
+told_more kinds limits lines (Event (Call thread object method slots)) usable (inr follows) few told = told_called kinds limits lines thread object method slots usable (met kinds limits lines (Event (Call thread object method slots)) (λ h. cc) (inr follows)) told
 
 -- the threads stay below the limit
-few_more : (kinds : List Kind) (limits : Limits) (lines : List Line) (line : Line) → limits.threads < 2 ^ 32 → Follows kinds limits lines line
+few_more : (kinds : List Kind) (limits : Limits) (lines : List Line) (line : Line) → limits.threads < 2 ^ 32 → MayFollow kinds limits lines line
     → length (threads_of lines) ≤ 4294967295 → length (threads_of (lines ++ line ∷ [])) ≤ 4294967295
 few_more kinds limits lines line range follows few = by (begun line) refl
   where
@@ -578,7 +578,7 @@ few_more kinds limits lines line range follows few = by (begun line) refl
         ap length (threads_more lines line ∙ ap (λ o. threads_of lines ++ cons_option o []) begins) ∙ length-append (threads_of lines) (name ∷ []) in
         elim follows [
           | inl skip ↦ absurd (none-some name (sym (ap begun skip) ∙ begins))
-          | inr may ↦ (let below : length (threads_of lines) < limits.threads = may.1.few_threads (ap is_some begins) in omega arith)
+          | inr may ↦ (let below : length (threads_of lines) < limits.threads = (met kinds limits lines line (λ skip. none-some name (sym (ap begun skip) ∙ begins)) (inr may)).few_threads (ap is_some begins) in omega arith)
         ]
 
 told_from : (kinds : List Kind) (before lines : List Line) → AreTold kinds before → AreAcceptedFrom kinds before lines → AreTold kinds (before ++ lines)

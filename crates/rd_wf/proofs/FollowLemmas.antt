@@ -1,10 +1,12 @@
--- The tests of the rules tell which part a line breaks first.
-use Rattle.std.proofs.Common.{◌≡◌, ◌≢◌, ◌↔◌, ◌⊎◌, inl, inr, ℕ, zero, suc, ◌<◌, ◌≤◌, Bool, true, false, not, cond, ◌==◌, ◌&&◌, ltb, leb, lit<, List, [], ◌∷◌, Option, Some, None, is_some, IfSome, IsSomeAnd, IsTrue, Contains, MatchOption, length, Decides, refl, sym, ap, subst, ◌∙◌, arith, true≢false}
-use Rattle.std.specs.List.{AllByRecursion}
+-- The tests of the rules tell which rule a line breaks first.
+use Rattle.std.proofs.Common.{◌≡◌, ◌≢◌, ◌↔◌, ◌⊎◌, inl, inr, ℕ, zero, suc, ◌<◌, ◌≤◌, Bool, true, false, not, cond, ◌==◌, ◌&&◌, ltb, leb, List, [], ◌∷◌, take, Option, Some, None, is_some, IsSome, IfSome, IsSomeAnd, IsTrue, Contains, MatchOption, length, Decides, refl, sym, ap, subst, ◌∙◌, arith, true≢false}
+use Rattle.std.specs.Prelude.{All, find, slice_get}
 use Rattle.std.specs.Cmp.Lexicographic.{bytes_decides, nat_list_eq_equiv}
 use Rattle.std.proofs.lemmas.Bool.Decides.{Decides-and, Decides-or, Decides-not, Decides-eqb, Decides-ltb, Decides-like, not_from_Decides, nat_tests}
-use Rattle.std.proofs.lemmas.Bool.{cases_order, or_parts, false_from_ne_true, not-false}
+use Rattle.std.proofs.lemmas.Bool.{or_parts, false_from_ne_true, not-false}
+use Rattle.std.proofs.lemmas.List.Elements.{All-nil, All-cons, All-head, All-tail}
 use Rattle.std.proofs.lemmas.Map.Views.{Contains-from_any, list_any-from_Contains}
+use Rattle.std.proofs.lemmas.Option.{none-some, same_Some}
 use Rattle.rd_base.specs.declared.limits.Limits.{Limits}
 use Rattle.rd_base.specs.declared.limits.LimitName.TheVariants.{Events, Threads, Objects}
 use Rattle.rd_event.specs.declared.items.Line.{Line}
@@ -13,7 +15,7 @@ use Rattle.rd_event.specs.declared.items.LineEvent.TheVariants.{Fork, Join}
 use Rattle.rd_wf.specs.declared.causes.WfCause.{WfCause}
 use Rattle.rd_wf.specs.declared.causes.WfCause.TheVariants.{HeaderFirst, LateRoot, NameTaken, UnknownThread, ThreadEnded, OwnThread, UnknownKind, UnknownObject, UnknownMethod, WrongCount, Limit}
 use Rattle.rd_wf.specs.Kinds.{Kind, kind_names, method_names}
-use Rattle.rd_wf.specs.MayFollow.{Called, called, methods_of, slots_of, is_skip, is_header, is_root, is_event, begun, acting, joined, declared, kind_of, threads_of, joined_of, objects_of, headers, events, MayFollow, WithinLimits, Follows, Breaks, part_number, FirstBroken, same_name, is_among, passes, tests, first_true, first_broken}
+use Rattle.rd_wf.specs.MayFollow.{Called, called, methods_of, slots_of, is_skip, is_header, is_root, is_event, begun, acting, joined, declared, kind_of, threads_of, joined_of, objects_of, headers, events, Rule, causes, MayFollow, IsBrokenFirst, same_name, is_among, passes, is_broken, first_broken}
 
 -- ---- tests of names
 
@@ -48,90 +50,59 @@ header_apart true n may broken = let none : n ≡ 0 = may.0 refl in let some : 0
 header_apart false zero may broken = true≢false (sym (may.1 refl))
 header_apart false (suc n) may broken = true≢false (sym (broken.1 (omega arith)))
 
--- ---- the first test that holds
+-- ---- the first that fails
 
-module _ (B : WfCause → Type 0) where
-  -- the cause has a test here
-  abbrev Tested : WfCause → List (Bool × WfCause) → Type 0
-  Tested cause [] = ⊥
-  Tested cause (t ∷ ts) = (t.1 ≡ cause) ⊎ Tested cause ts
-
-  -- the numbers of the causes rise, and the first is above n
-  abbrev Rising : ℕ → List (Bool × WfCause) → Type 0
-  Rising n [] = Unit {0}
-  Rising n (t ∷ ts) = (n < part_number t.1) × Rising (part_number t.1) ts
-
-  -- each test tells whether the cause's part is broken
-  abbrev Told : List (Bool × WfCause) → Type 0
-  Told ts = AllByRecursion (λ t. Decides t.0 (B t.1)) ts
-
-  -- the cause's part is broken, and none of a lower number that has a test
-  abbrev Lowest : List (Bool × WfCause) → WfCause → Type 0
-  Lowest ts cause = B cause × ((other : WfCause) → Tested other ts → part_number other < part_number cause → ¬ (B other))
-
-  above : (n : ℕ) (ts : List (Bool × WfCause)) (cause : WfCause) → Rising n ts → Tested cause ts → n < part_number cause
-  above n [] cause rising there = absurd there
-  above n (t ∷ ts) cause rising (inl e) = subst (λ c. n < part_number c) e rising.0
-  above n (t ∷ ts) cause rising (inr there) =
-      let higher : part_number t.1 < part_number cause = above (part_number t.1) ts cause rising.1 there in
-      let first : n < part_number t.1 = rising.0 in
-      omega arith
-
-  -- the tested causes differ in their numbers
-  one_of_a_number : (n : ℕ) (ts : List (Bool × WfCause)) → Rising n ts → (c d : WfCause) → Tested c ts → Tested d ts → part_number c ≡ part_number d → c ≡ d
-  one_of_a_number n [] rising c d here there same = absurd here
-  one_of_a_number n (t ∷ ts) rising c d (inl e) (inl f) same = sym e ∙ f
-  one_of_a_number n (t ∷ ts) rising c d (inl e) (inr later) same =
-      let higher : part_number t.1 < part_number d = above (part_number t.1) ts d rising.1 later in
-      let first : part_number t.1 ≡ part_number c = ap part_number e in
-      absurd (omega arith)
-  one_of_a_number n (t ∷ ts) rising c d (inr later) (inl f) same =
-      let higher : part_number t.1 < part_number c = above (part_number t.1) ts c rising.1 later in
-      let first : part_number t.1 ≡ part_number d = ap part_number f in
-      absurd (omega arith)
-  one_of_a_number n (t ∷ ts) rising c d (inr here) (inr there) same = one_of_a_number (part_number t.1) ts rising.1 c d here there same
-
-  some_is : {c d : WfCause} → Some c ≡ Some d → c ≡ d
-  some_is h = cc
-
-  found_here : (n : ℕ) (t : Bool × WfCause) (ts : List (Bool × WfCause)) → Rising n (t ∷ ts) → Told (t ∷ ts) → t.0 ≡ true → Lowest (t ∷ ts) t.1
-  found_here n t ts rising told holds = (
-    told.0.0 holds,
-    λ other there lower. elim there [
-      | inl e ↦ (let same : part_number other ≡ part_number t.1 = ap part_number (sym e) in absurd (omega arith))
-      | inr later ↦ (let higher : part_number t.1 < part_number other = above (part_number t.1) ts other rising.1 later in absurd (omega arith))
-    ],
-  )
-
-  found_later : (t : Bool × WfCause) (ts : List (Bool × WfCause)) (cause : WfCause) → Told (t ∷ ts) → t.0 ≡ false → Lowest ts cause → Lowest (t ∷ ts) cause
-  found_later t ts cause told fails rest = (
-    rest.0,
-    λ other there lower. elim there [
-      | inl e ↦ subst (λ c. ¬ (B c)) e (not_from_Decides t.0 told.0 fails)
-      | inr later ↦ rest.1 other later lower
-    ],
-  )
-
-  found : (n : ℕ) (ts : List (Bool × WfCause)) → Rising n ts → Told ts → (cause : WfCause) → first_true ts ≡ Some cause → Lowest ts cause
-  found n [] rising told cause e = cc
-  found n (t ∷ ts) rising told cause e = by t.0 refl (found (part_number t.1) ts rising.1 told.1 cause)
+module _ {X : Type 0} (P : X → Type 0) (test : X → Bool) (holds : (x : X) → test x ≡ false → P x) (fails : (x : X) → test x ≡ true → ¬ (P x)) where
+  -- none is found: each holds
+  all_hold : (xs : List X) → find test xs ≡ None → All P xs
+  all_hold [] e = All-nil P
+  all_hold (x ∷ xs) e = by (test x) refl (all_hold xs)
     where
-      by : (b : Bool) → t.0 ≡ b → (first_true ts ≡ Some cause → Lowest ts cause) → Lowest (t ∷ ts) cause
-      by true holds rest =
-          subst (Lowest (t ∷ ts)) (some_is (sym (ap (λ b. cond b (Some t.1) (first_true ts)) holds) ∙ e)) (found_here n t ts rising told holds)
-      by false fails rest =
-          found_later t ts cause told fails (rest (sym (ap (λ b. cond b (Some t.1) (first_true ts)) fails) ∙ e))
+      by : (b : Bool) → test x ≡ b → (find test xs ≡ None → All P xs) → All P (x ∷ xs)
+      by true is rest = absurd (none-some x (sym e ∙ ap (λ b. cond b (Some x) (find test xs)) is))
+      by false is rest = All-cons P x xs (holds x is) (rest (sym (ap (λ b. cond b (Some x) (find test xs)) is) ∙ e))
 
-all_fail : (ts : List (Bool × WfCause)) → first_true ts ≡ None → AllByRecursion (λ t. t.0 ≡ false) ts
-all_fail [] e = tt
-all_fail (t ∷ ts) e = by t.0 refl (all_fail ts)
-  where
-    by : (b : Bool) → t.0 ≡ b → (first_true ts ≡ None → AllByRecursion (λ t. t.0 ≡ false) ts) → AllByRecursion (λ t. t.0 ≡ false) (t ∷ ts)
-    by true holds rest = absurd (some_none (sym (ap (λ b. cond b (Some t.1) (first_true ts)) holds) ∙ e))
-      where
-        some_none : Some t.1 ≡ None → ⊥
-        some_none h = cc
-    by false fails rest = (fails, rest (sym (ap (λ b. cond b (Some t.1) (first_true ts)) fails) ∙ e))
+  -- one stands at this place, fails, and each in front of it holds
+  record IsFirst (xs : List X) (x : X) : Type 0 where
+    place : ℕ
+    listed : slice_get xs place ≡ Some x
+    broken : ¬ (P x)
+    others : All P (take place xs)
+
+  found : (xs : List X) (x : X) → find test xs ≡ Some x → IsFirst xs x
+  found [] x e = absurd (none-some x e)
+  found (y ∷ ys) x e = by (test y) refl (found ys x)
+    where
+      by : (b : Bool) → test y ≡ b → (find test ys ≡ Some x → IsFirst ys x) → IsFirst (y ∷ ys) x
+      by true is rest =
+          let same : Some y ≡ Some x = sym (ap (λ b. cond b (Some y) (find test ys)) is) ∙ e in
+          record { place = 0; listed = same; broken = subst (λ z. ¬ (P z)) (same_Some y x same) (fails y is); others = All-nil P }
+      by false is rest =
+          let later = rest (sym (ap (λ b. cond b (Some y) (find test ys)) is) ∙ e) in
+          record { place = suc later.place; listed = later.listed; broken = later.broken; others = All-cons P y (take later.place ys) (holds y is) later.others }
+
+  -- so it is the one that is found
+  found_is : (xs : List X) (x : X) (place : ℕ) → slice_get xs place ≡ Some x → ¬ (P x) → All P (take place xs) → find test xs ≡ Some x
+  found_is [] x place listed broken others = absurd (none-some x listed)
+  found_is (y ∷ ys) x zero listed broken others = by (test y) refl
+    where
+      same : y ≡ x
+      same = same_Some y x listed
+
+      by : (b : Bool) → test y ≡ b → find test (y ∷ ys) ≡ Some x
+      by true is = ap (λ b. cond b (Some y) (find test ys)) is ∙ ap Some same
+      by false is = absurd (broken (subst P same (holds y is)))
+  found_is (y ∷ ys) x (suc place) listed broken others = by (test y) refl (found_is ys x place listed broken (All-tail P y (take place ys) others))
+    where
+      by : (b : Bool) → test y ≡ b → find test ys ≡ Some x → find test (y ∷ ys) ≡ Some x
+      by true is rest = absurd (fails y is (All-head P y (take place ys) others))
+      by false is rest = ap (λ b. cond b (Some y) (find test ys)) is ∙ rest
+
+  -- where each holds, none at a place fails
+  each_holds : (xs : List X) (x : X) (place : ℕ) → All P xs → slice_get xs place ≡ Some x → P x
+  each_holds [] x place all listed = absurd (none-some x listed)
+  each_holds (y ∷ ys) x zero all listed = subst P (same_Some y x listed) (All-head P y ys all)
+  each_holds (y ∷ ys) x (suc place) all listed = each_holds ys x place (All-tail P y ys all) listed
 
 -- ---- each test tells whether its part is broken
 
@@ -186,176 +157,142 @@ module _ (kinds : List Kind) (before : List Line) where
   count_decides : (call : Called) → Decides (not (length call.slots == slots_of kinds before call)) (length call.slots ≢ slots_of kinds before call)
   count_decides call = Decides-not _ (Decides-eqb (length call.slots) (slots_of kinds before call))
 
+module _ (kinds : List Kind) (before : List Line) (line : Line) where
+  -- where the test fails, the line meets the rule
+  rule_holds : (cause : WfCause) → is_broken kinds before line cause ≡ false → Rule kinds before line cause
+  rule_holds HeaderFirst h = header_first_from (is_header line) (headers before) h
+  rule_holds LateRoot h = none_before (is_root line) (events before) h
+  rule_holds NameTaken h = let taken = or_parts _ _ h in (none_among (threads_of before) (begun line) taken.0, none_among (objects_of before) (declared line) taken.1)
+  rule_holds UnknownThread h = let unknown = or_parts _ _ h in (is_contained (threads_of before) (acting line) unknown.0, is_contained (threads_of before) (joined line) unknown.1)
+  rule_holds ThreadEnded h = none_among (joined_of before) (acting line) h
+  rule_holds OwnThread h = none_passes (joined line) _ _ (λ name e. not_from_Decides _ (is_decides (acting line) name) e) h
+  rule_holds UnknownKind h = is_contained (kind_names kinds) (kind_of line) h
+  rule_holds UnknownObject h = none_passes (called line) _ _ (λ call e. (among_decides (objects_of before) call.object).0 (not-false _ e)) h
+  rule_holds UnknownMethod h = none_passes (called line) _ _ (λ call e. (among_decides (method_names (methods_of kinds before call.object)) call.method).0 (not-false _ e)) h
+  rule_holds WrongCount h = none_passes (called line) _ _ (λ call e. (Decides-eqb (length call.slots) (slots_of kinds before call)).0 (not-false _ e)) h
+  rule_holds (Limit Events most) h = below_limit (is_event line) most (events before) h
+  rule_holds (Limit Threads most) h = below_limit (is_some (begun line)) most (length (threads_of before)) h
+  rule_holds (Limit Objects most) h = below_limit (is_some (declared line)) most (length (objects_of before)) h
+  rule_holds (Limit name most) h = tt
+
+  -- and where it passes, the line breaks it
+  rule_fails : (cause : WfCause) → is_broken kinds before line cause ≡ true → ¬ (Rule kinds before line cause)
+  rule_fails HeaderFirst h rule = header_apart (is_header line) (headers before) rule ((header_decides (is_header line) (headers before)).0 h)
+  rule_fails LateRoot h rule =
+      let both = (Decides-and _ _ (true_decides (is_root line)) (Decides-ltb 0 (events before))).0 h in
+      let none : events before ≡ 0 = rule both.0 in let some : 0 < events before = both.1 in omega arith
+  rule_fails NameTaken h rule =
+      elim ((Decides-or _ _ (passes_decides (begun line) _ _ (among_decides (threads_of before))) (passes_decides (declared line) _ _ (among_decides (objects_of before)))).0 h) [
+        | inl thread ↦ if_some_not (begun line) _ _ (λ name h. h) rule.0 thread
+        | inr object ↦ if_some_not (declared line) _ _ (λ name h. h) rule.1 object
+      ]
+  rule_fails UnknownThread h rule =
+      elim ((Decides-or _ _ (passes_decides (acting line) _ _ (absent_decides (threads_of before))) (passes_decides (joined line) _ _ (absent_decides (threads_of before)))).0 h) [
+        | inl thread ↦ if_some_not (acting line) _ _ (λ name there lacks. lacks there) rule.0 thread
+        | inr thread ↦ if_some_not (joined line) _ _ (λ name there lacks. lacks there) rule.1 thread
+      ]
+  rule_fails ThreadEnded h rule = if_some_not (acting line) _ _ (λ name h. h) rule ((passes_decides (acting line) _ _ (among_decides (joined_of before))).0 h)
+  rule_fails OwnThread h rule = if_some_not (joined line) _ _ (λ name h. h) rule ((own_decides line).0 h)
+  rule_fails UnknownKind h rule = if_some_not (kind_of line) _ _ (λ name there lacks. lacks there) rule ((passes_decides (kind_of line) _ _ (absent_decides (kind_names kinds))).0 h)
+  rule_fails UnknownObject h rule = if_some_not (called line) _ _ (λ call there lacks. lacks there) rule ((passes_decides (called line) _ _ (object_decides kinds before)).0 h)
+  rule_fails UnknownMethod h rule = if_some_not (called line) _ _ (λ call there lacks. lacks there) rule ((passes_decides (called line) _ _ (method_decides kinds before)).0 h)
+  rule_fails WrongCount h rule = if_some_not (called line) _ _ (λ call same other. other same) rule ((passes_decides (called line) _ _ (count_decides kinds before)).0 h)
+  rule_fails (Limit Events most) h rule =
+      let both = (limit_decides (is_event line) most (events before)).0 h in
+      let few : events before < most = rule both.0 in let many : most ≤ events before = both.1 in omega arith
+  rule_fails (Limit Threads most) h rule =
+      let both = (limit_decides (is_some (begun line)) most (length (threads_of before))).0 h in
+      let few : length (threads_of before) < most = rule both.0 in let many : most ≤ length (threads_of before) = both.1 in omega arith
+  rule_fails (Limit Objects most) h rule =
+      let both = (limit_decides (is_some (declared line)) most (length (objects_of before))).0 h in
+      let few : length (objects_of before) < most = rule both.0 in let many : most ≤ length (objects_of before) = both.1 in omega arith
+  rule_fails (Limit name most) h rule = true≢false (sym h)
+
 module _ (kinds : List Kind) (limits : Limits) (before : List Line) (line : Line) where
-  told : Told (Breaks kinds limits before line) (tests kinds limits before line)
-  told = (
-    header_decides (is_header line) (headers before),
-    (
-      Decides-and _ _ (true_decides (is_root line)) (Decides-ltb 0 (events before)),
-      (
-        Decides-or _ _ (passes_decides (begun line) _ _ (among_decides (threads_of before))) (passes_decides (declared line) _ _ (among_decides (objects_of before))),
-        (
-          Decides-or _ _ (passes_decides (acting line) _ _ (absent_decides (threads_of before))) (passes_decides (joined line) _ _ (absent_decides (threads_of before))),
-          (
-            passes_decides (acting line) _ _ (among_decides (joined_of before)),
-            (
-              own_decides line,
-              (
-                passes_decides (kind_of line) _ _ (absent_decides (kind_names kinds)),
-                (
-                  passes_decides (called line) _ _ (object_decides kinds before),
-                  (
-                    passes_decides (called line) _ _ (method_decides kinds before),
-                    (
-                      passes_decides (called line) _ _ (count_decides kinds before),
-                      (
-                        limit_decides (is_event line) limits.events (events before),
-                        (
-                          limit_decides (is_some (begun line)) limits.threads (length (threads_of before)),
-                          (limit_decides (is_some (declared line)) limits.objects (length (objects_of before)), tt),
-                        ),
-                      ),
-                    ),
-                  ),
-                ),
-              ),
-            ),
-          ),
-        ),
-      ),
-    ),
-  )
-
-  rising : Rising (Breaks kinds limits before line) 0 (tests kinds limits before line)
-  rising = (lit< tt, (lit< tt, (lit< tt, (lit< tt, (lit< tt, (lit< tt, (lit< tt, (lit< tt, (lit< tt, (lit< tt, (lit< tt, (lit< tt, (lit< tt, tt)))))))))))))
-
-  -- each broken part has a test
-  tested : (cause : WfCause) → Breaks kinds limits before line cause → Tested (Breaks kinds limits before line) cause (tests kinds limits before line)
-  tested HeaderFirst b = inl refl
-  tested LateRoot b = inr (inl refl)
-  tested NameTaken b = inr (inr (inl refl))
-  tested UnknownThread b = inr (inr (inr (inl refl)))
-  tested ThreadEnded b = inr (inr (inr (inr (inl refl))))
-  tested OwnThread b = inr (inr (inr (inr (inr (inl refl)))))
-  tested UnknownKind b = inr (inr (inr (inr (inr (inr (inl refl))))))
-  tested UnknownObject b = inr (inr (inr (inr (inr (inr (inr (inl refl)))))))
-  tested UnknownMethod b = inr (inr (inr (inr (inr (inr (inr (inr (inl refl))))))))
-  tested WrongCount b = inr (inr (inr (inr (inr (inr (inr (inr (inr (inl refl)))))))))
-  tested (Limit Events number) b = inr (inr (inr (inr (inr (inr (inr (inr (inr (inr (inl (ap (λ n. Limit Events n) (sym b.2))))))))))))
-  tested (Limit Threads number) b = inr (inr (inr (inr (inr (inr (inr (inr (inr (inr (inr (inl (ap (λ n. Limit Threads n) (sym b.2)))))))))))))
-  tested (Limit Objects number) b = inr (inr (inr (inr (inr (inr (inr (inr (inr (inr (inr (inr (inl (ap (λ n. Limit Objects n) (sym b.2))))))))))))))
-  tested (Limit name number) b = absurd b
-
-  -- where all tests fail, the line meets the rules
-  meets : AllByRecursion (λ t. t.0 ≡ false) (tests kinds limits before line) → MayFollow kinds before line × WithinLimits limits before line
-  meets h =
-      let taken = or_parts _ _ h.1.1.0 in
-      let unknown = or_parts _ _ h.1.1.1.0 in (
-        record {
-          header_first = header_first_from (is_header line) (headers before) h.0;
-          early_root = none_before (is_root line) (events before) h.1.0;
-          new_thread = none_among (threads_of before) (begun line) taken.0;
-          new_object = none_among (objects_of before) (declared line) taken.1;
-          known_actor = is_contained (threads_of before) (acting line) unknown.0;
-          known_joined = is_contained (threads_of before) (joined line) unknown.1;
-          running = none_among (joined_of before) (acting line) h.1.1.1.1.0;
-          other_joined = none_passes (joined line) _ _ (λ name e. not_from_Decides _ (is_decides (acting line) name) e) h.1.1.1.1.1.0;
-          known_kind = is_contained (kind_names kinds) (kind_of line) h.1.1.1.1.1.1.0;
-          known_object = none_passes (called line) _ _ (λ call e. (among_decides (objects_of before) call.object).0 (not-false _ e)) h.1.1.1.1.1.1.1.0;
-          known_method = none_passes (called line) _ _ (λ call e. (among_decides (method_names (methods_of kinds before call.object)) call.method).0 (not-false _ e)) h.1.1.1.1.1.1.1.1.0;
-          right_count = none_passes (called line) _ _ (λ call e. (Decides-eqb (length call.slots) (slots_of kinds before call)).0 (not-false _ e)) h.1.1.1.1.1.1.1.1.1.0;
-        },
-        record {
-          few_events = below_limit (is_event line) limits.events (events before) h.1.1.1.1.1.1.1.1.1.1.0;
-          few_threads = below_limit (is_some (begun line)) limits.threads (length (threads_of before)) h.1.1.1.1.1.1.1.1.1.1.1.0;
-          few_objects = below_limit (is_some (declared line)) limits.objects (length (objects_of before)) h.1.1.1.1.1.1.1.1.1.1.1.1.0;
-        },
-      )
-
-  -- a line that meets the rules breaks no part
-  apart : MayFollow kinds before line → WithinLimits limits before line → (cause : WfCause) → ¬ (Breaks kinds limits before line cause)
-  apart may within HeaderFirst b = header_apart (is_header line) (headers before) may.header_first b
-  apart may within LateRoot b = let none : events before ≡ 0 = may.early_root b.0 in let some : 0 < events before = b.1 in omega arith
-  apart may within NameTaken b = elim b [
-    | inl thread ↦ if_some_not (begun line) _ _ (λ name h. h) may.new_thread thread
-    | inr object ↦ if_some_not (declared line) _ _ (λ name h. h) may.new_object object
-  ]
-  apart may within UnknownThread b = elim b [
-    | inl thread ↦ if_some_not (acting line) _ _ (λ name there lacks. lacks there) may.known_actor thread
-    | inr thread ↦ if_some_not (joined line) _ _ (λ name there lacks. lacks there) may.known_joined thread
-  ]
-  apart may within ThreadEnded b = if_some_not (acting line) _ _ (λ name h. h) may.running b
-  apart may within OwnThread b = if_some_not (joined line) _ _ (λ name h. h) may.other_joined b
-  apart may within UnknownKind b = if_some_not (kind_of line) _ _ (λ name there lacks. lacks there) may.known_kind b
-  apart may within UnknownObject b = if_some_not (called line) _ _ (λ call there lacks. lacks there) may.known_object b
-  apart may within UnknownMethod b = if_some_not (called line) _ _ (λ call there lacks. lacks there) may.known_method b
-  apart may within WrongCount b = if_some_not (called line) _ _ (λ call same other. other same) may.right_count b
-  apart may within (Limit Events number) b = let few : events before < limits.events = within.few_events b.0 in let many : limits.events ≤ events before = b.1 in omega arith
-  apart may within (Limit Threads number) b =
-      let few : length (threads_of before) < limits.threads = within.few_threads b.0 in let many : limits.threads ≤ length (threads_of before) = b.1 in omega arith
-  apart may within (Limit Objects number) b =
-      let few : length (objects_of before) < limits.objects = within.few_objects b.0 in let many : limits.objects ≤ length (objects_of before) = b.1 in omega arith
-  apart may within (Limit name number) b = b
-
-  -- the first broken part is what the tests tell, and where they tell none the line follows
-  pub judged : MatchOption (first_broken kinds limits before line) (Follows kinds limits before line) (FirstBroken kinds limits before line)
+  -- the first broken rule is what the tests tell, and where they tell none the line may follow
+  pub judged : MatchOption (first_broken kinds limits before line) (MayFollow kinds limits before line) (IsBrokenFirst kinds limits before line)
   unfolding first_broken
   judged = by_skip (is_skip line) refl
     where
       Judged : Option WfCause → Type 0
-      Judged r = MatchOption r (Follows kinds limits before line) (FirstBroken kinds limits before line)
+      Judged r = MatchOption r (MayFollow kinds limits before line) (IsBrokenFirst kinds limits before line)
 
-      by_test : is_skip line ≡ false → (r : Option WfCause) → first_true (tests kinds limits before line) ≡ r → MatchOption r (Follows kinds limits before line) (FirstBroken kinds limits before line)
-      by_test counts None e = inr (meets (all_fail (tests kinds limits before line) e))
+      by_test : is_skip line ≡ false → (r : Option WfCause) → find (is_broken kinds before line) (causes limits) ≡ r
+          → MatchOption r (MayFollow kinds limits before line) (IsBrokenFirst kinds limits before line)
+      by_test counts None e = inr (all_hold (Rule kinds before line) (is_broken kinds before line) (rule_holds kinds before line) (rule_fails kinds before line) (causes limits) e)
       by_test counts (Some cause) e =
-          let lowest = found (Breaks kinds limits before line) 0 (tests kinds limits before line) rising told cause e in
+          let first = found (Rule kinds before line) (is_broken kinds before line) (rule_holds kinds before line) (rule_fails kinds before line) (causes limits) cause e in
           record {
             counted = λ skipped. true≢false (sym (ap is_skip skipped) ∙ counts);
-            broken = lowest.0;
-            first = λ other lower breaks. lowest.1 other (tested other breaks) lower breaks;
+            place = first.place;
+            listed = first.listed;
+            broken = first.broken;
+            others = first.others;
           }
 
-      by_skip : (b : Bool) → is_skip line ≡ b → MatchOption (cond (is_skip line) None (first_true (tests kinds limits before line))) (Follows kinds limits before line) (FirstBroken kinds limits before line)
-      by_skip true skipped = subst (λ b. Judged (cond b None (first_true (tests kinds limits before line)))) (sym skipped) (inl (skip_is line skipped))
-      by_skip false counts = subst (λ b. Judged (cond b None (first_true (tests kinds limits before line)))) (sym counts) (by_test counts _ refl)
+      by_skip : (b : Bool) → is_skip line ≡ b → MatchOption (cond (is_skip line) None (find (is_broken kinds before line) (causes limits))) (MayFollow kinds limits before line) (IsBrokenFirst kinds limits before line)
+      by_skip true skipped = subst (λ b. Judged (cond b None (find (is_broken kinds before line) (causes limits)))) (sym skipped) (inl (skip_is line skipped))
+      by_skip false counts = subst (λ b. Judged (cond b None (find (is_broken kinds before line) (causes limits)))) (sym counts) (by_test counts _ refl)
 
-  pub follows_apart : Follows kinds limits before line → (cause : WfCause) → ¬ (FirstBroken kinds limits before line cause)
-  follows_apart follows cause broken = elim follows [
-    | inl skipped ↦ broken.counted skipped
-    | inr may ↦ apart may.0 may.1 cause broken.broken
+  pub follows_apart : MayFollow kinds limits before line → (cause : WfCause) → ¬ (IsBrokenFirst kinds limits before line cause)
+  follows_apart follows cause first = elim follows [
+    | inl skipped ↦ first.counted skipped
+    | inr all ↦ first.broken (each_holds (Rule kinds before line) (is_broken kinds before line) (rule_holds kinds before line) (rule_fails kinds before line) (causes limits) cause first.place all first.listed)
   ]
 
   -- what an answer of the test says
-  pub follows_from_none : first_broken kinds limits before line ≡ None → Follows kinds limits before line
-  follows_from_none e = subst (λ r. MatchOption r (Follows kinds limits before line) (FirstBroken kinds limits before line)) e judged
+  pub follows_from_none : first_broken kinds limits before line ≡ None → MayFollow kinds limits before line
+  follows_from_none e = subst (λ r. MatchOption r (MayFollow kinds limits before line) (IsBrokenFirst kinds limits before line)) e judged
 
-  pub broken_from_some : (cause : WfCause) → first_broken kinds limits before line ≡ Some cause → FirstBroken kinds limits before line cause
-  broken_from_some cause e = subst (λ r. MatchOption r (Follows kinds limits before line) (FirstBroken kinds limits before line)) e judged
+  pub broken_from_some : (cause : WfCause) → first_broken kinds limits before line ≡ Some cause → IsBrokenFirst kinds limits before line cause
+  broken_from_some cause e = subst (λ r. MatchOption r (MayFollow kinds limits before line) (IsBrokenFirst kinds limits before line)) e judged
 
-  pub may_follow : line ≢ Skip → first_broken kinds limits before line ≡ None → MayFollow kinds before line
-  may_follow counted e = elim (follows_from_none e) [
+  -- a line that isn't skipped and may follow meets each rule
+  pub meets : line ≢ Skip → MayFollow kinds limits before line → (place : ℕ) (cause : WfCause) → slice_get (causes limits) place ≡ Some cause → Rule kinds before line cause
+  meets counted follows place cause listed = elim follows [
     | inl skipped ↦ absurd (counted skipped)
-    | inr may ↦ may.0
+    | inr all ↦ each_holds (Rule kinds before line) (is_broken kinds before line) (rule_holds kinds before line) (rule_fails kinds before line) (causes limits) cause place all listed
   ]
 
-  -- no two causes are broken first
-  one_first : (c d : WfCause) → FirstBroken kinds limits before line c → FirstBroken kinds limits before line d → c ≡ d
-  one_first c d one other =
-      let same : part_number c ≡ part_number d = elim (cases_order (part_number c) (part_number d)) [
-        | inl equal ↦ equal
-        | inr apart ↦ elim apart [
-          | inl lower ↦ absurd (other.first c lower one.broken)
-          | inr higher ↦ absurd (one.first d higher other.broken)
-        ]
-      ] in
-      one_of_a_number (Breaks kinds limits before line) 0 (tests kinds limits before line) rising c d (tested c one.broken) (tested d other.broken) same
-
-  pub some_from_broken : (cause : WfCause) → FirstBroken kinds limits before line cause → first_broken kinds limits before line ≡ Some cause
-  some_from_broken cause broken = by (first_broken kinds limits before line) refl
+  pub some_from_broken : (cause : WfCause) → IsBrokenFirst kinds limits before line cause → first_broken kinds limits before line ≡ Some cause
+  unfolding first_broken
+  some_from_broken cause first = by_skip (is_skip line) refl
     where
-      by : (r : Option WfCause) → first_broken kinds limits before line ≡ r → r ≡ Some cause
-      by None e = absurd (follows_apart (follows_from_none e) cause broken)
-      by (Some other) e = ap Some (one_first other cause (broken_from_some other e) broken)
+      by_skip : (b : Bool) → is_skip line ≡ b → cond (is_skip line) None (find (is_broken kinds before line) (causes limits)) ≡ Some cause
+      by_skip true skipped = absurd (first.counted (skip_is line skipped))
+      by_skip false counts =
+          ap (λ b. cond b None (find (is_broken kinds before line) (causes limits))) counts
+          ∙ found_is (Rule kinds before line) (is_broken kinds before line) (rule_holds kinds before line) (rule_fails kinds before line) (causes limits) cause first.place first.listed first.broken first.others
+
+-- what a line that isn't skipped and may follow meets, rule by rule
+pub record Meets (kinds : List Kind) (limits : Limits) (before : List Line) (line : Line) : Type 0 where
+  pub early_root : IsTrue (is_root line) → events before ≡ 0
+  pub new_thread : IfSome (begun line) (λ name. ¬ (Contains (threads_of before) name))
+  pub new_object : IfSome (declared line) (λ name. ¬ (Contains (objects_of before) name))
+  pub known_actor : IfSome (acting line) (Contains (threads_of before))
+  pub known_joined : IfSome (joined line) (Contains (threads_of before))
+  pub running : IfSome (acting line) (λ name. ¬ (Contains (joined_of before) name))
+  pub other_joined : IfSome (joined line) (λ name. acting line ≢ Some name)
+  pub known_object : IfSome (called line) (λ call. Contains (objects_of before) call.object)
+  pub few_events : IsTrue (is_event line) → events before < limits.events
+  pub few_threads : IsSome (begun line) → length (threads_of before) < limits.threads
+
+pub met : (kinds : List Kind) (limits : Limits) (before : List Line) (line : Line) → line ≢ Skip → MayFollow kinds limits before line → Meets kinds limits before line
+met kinds limits before line counted follows =
+    let taken : Rule kinds before line NameTaken = meets kinds limits before line counted follows 2 NameTaken refl in
+    let known : Rule kinds before line UnknownThread = meets kinds limits before line counted follows 3 UnknownThread refl in
+    record {
+      early_root = meets kinds limits before line counted follows 1 LateRoot refl;
+      new_thread = taken.0;
+      new_object = taken.1;
+      known_actor = known.0;
+      known_joined = known.1;
+      running = meets kinds limits before line counted follows 4 ThreadEnded refl;
+      other_joined = meets kinds limits before line counted follows 5 OwnThread refl;
+      known_object = meets kinds limits before line counted follows 7 UnknownObject refl;
+      few_events = meets kinds limits before line counted follows 10 (Limit Events limits.events) refl;
+      few_threads = meets kinds limits before line counted follows 11 (Limit Threads limits.threads) refl;
+    }
 
 -- ---- what a line that may follow tells of its names
 
@@ -364,13 +301,13 @@ module _ (kinds : List Kind) (limits : Limits) (before : List Line) where
   not_among names name lacks = false_from_ne_true _ (λ h. lacks ((among_decides names name).0 h))
 
   pub fresh_root : (name : List ℕ) → first_broken kinds limits before (Thread name) ≡ None → is_among (threads_of before) name ≡ false
-  fresh_root name e = not_among (threads_of before) name (may_follow kinds limits before (Thread name) (λ h. cc) e).new_thread
+  fresh_root name e = not_among (threads_of before) name (met kinds limits before (Thread name) (λ h. cc) (follows_from_none kinds limits before (Thread name) e)).new_thread
 
   pub fresh_object : (name kind : List ℕ) → first_broken kinds limits before (Object name kind) ≡ None → is_among (objects_of before) name ≡ false
-  fresh_object name kind e = not_among (objects_of before) name (may_follow kinds limits before (Object name kind) (λ h. cc) e).new_object
+  fresh_object name kind e = not_among (objects_of before) name (met kinds limits before (Object name kind) (λ h. cc) (follows_from_none kinds limits before (Object name kind) e)).new_object
 
   pub fresh_child : (thread child : List ℕ) → first_broken kinds limits before (Event (Fork thread child)) ≡ None → is_among (threads_of before) child ≡ false
-  fresh_child thread child e = not_among (threads_of before) child (may_follow kinds limits before (Event (Fork thread child)) (λ h. cc) e).new_thread
+  fresh_child thread child e = not_among (threads_of before) child (met kinds limits before (Event (Fork thread child)) (λ h. cc) (follows_from_none kinds limits before (Event (Fork thread child)) e)).new_thread
 
   pub known_child : (thread child : List ℕ) → first_broken kinds limits before (Event (Join thread child)) ≡ None → is_among (threads_of before) child ≡ true
-  known_child thread child e = (among_decides (threads_of before) child).1 (may_follow kinds limits before (Event (Join thread child)) (λ h. cc) e).known_joined
+  known_child thread child e = (among_decides (threads_of before) child).1 (met kinds limits before (Event (Join thread child)) (λ h. cc) (follows_from_none kinds limits before (Event (Join thread child)) e)).known_joined

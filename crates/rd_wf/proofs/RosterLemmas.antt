@@ -29,8 +29,8 @@ use Rattle.rd_wf.specs.declared.causes.Accepted.{Accepted}
 use Rattle.rd_wf.specs.declared.roster.Roster.{Roster}
 use Rattle.rd_wf.specs.declared.methods.Methods.{Methods}
 use Rattle.rd_wf.proofs.FollowLemmas.{among_decides, follows_from_none, broken_from_some}
-use Rattle.rd_wf.specs.MayFollow.{begun, joined, is_header, is_event, threads_of, joined_of, objects_of, headers, events, same_name, is_among, place, kind_number, methods_of, object_kinds, slots_of, first_broken, Follows, FirstBroken}
-use Rattle.rd_wf.specs.Kinds.{Kind, Method, kind_names, method_names, methods_at, register_alone, slots_at}
+use Rattle.rd_wf.specs.MayFollow.{begun, joined, is_header, is_event, threads_of, joined_of, objects_of, headers, events, same_name, is_among, place, kind_number, methods_of, object_kinds, slots_of, first_broken, MayFollow, IsBrokenFirst}
+use Rattle.rd_wf.specs.Kinds.{Kind, Method, kind_names, method_names, methods_at, slots_at}
 use Rattle.rd_wf.specs.Roster.{StandsFor, kind_entry, method_entry, methods_in, thread_entry, object_entry, thread_count, object_count, Takes, Refuses}
 
 -- ---- look-ups
@@ -124,12 +124,12 @@ none_is : {X : Type 0} (o : Option X) → is_some o ≡ false → o ≡ None
 none_is None e = refl
 none_is (Some x) e = absurd (true≢false e)
 
-module _ (roster : Roster) (lines : List Line) (stands : StandsFor roster lines) where
+module _ (kinds : List Kind) (roster : Roster) (lines : List Line) (stands : StandsFor kinds roster lines) where
   thread_keys : keys_of roster.threads.entries ≡ threads_of lines
   thread_keys = ap keys_of stands.thread_entries ∙ keys-entries (thread_entry lines) (λ name. refl) (threads_of lines)
 
   object_keys : keys_of roster.objects.entries ≡ objects_of lines
-  object_keys = ap keys_of stands.object_entries ∙ keys-objects register_alone lines
+  object_keys = ap keys_of stands.object_entries ∙ keys-objects kinds lines
 
   -- whether a thread's name is known
   pub thread_known : (name : List ℕ) → is_some (get_by (same_name name) roster.threads) ≡ is_among (threads_of lines) name
@@ -145,36 +145,36 @@ module _ (roster : Roster) (lines : List Line) (stands : StandsFor roster lines)
   pub thread_joined : (name : List ℕ) (joined : Bool) → get_by (same_name name) roster.threads ≡ Some joined → joined ≡ is_among (joined_of lines) name
   thread_joined name joined e = lookup-entries lines name (threads_of lines) joined (sym (ap (lookup (same_name name)) stands.thread_entries) ∙ e)
 
-  names_are : keys_of roster.kinds.entries ≡ kind_names register_alone
+  names_are : keys_of roster.kinds.entries ≡ kind_names kinds
   names_are = names-kinds roster.kinds.entries ∙ ap kind_names stands.kind_entries
 
-  pub kind_place : (kind : List ℕ) (i : ℕ) → index_of_by (same_name kind) roster.kinds ≡ Some i → i ≡ place (kind_names register_alone) kind
+  pub kind_place : (kind : List ℕ) (i : ℕ) → index_of_by (same_name kind) roster.kinds ≡ Some i → i ≡ place (kind_names kinds) kind
   kind_place kind i e = position-place (same_name kind) (keys_of roster.kinds.entries) i e ∙ ap (λ names. place names kind) names_are
 
-  kind_known : (kind : List ℕ) → is_some (get_by (same_name kind) roster.kinds) ≡ is_among (kind_names register_alone) kind
+  kind_known : (kind : List ℕ) → is_some (get_by (same_name kind) roster.kinds) ≡ is_among (kind_names kinds) kind
   kind_known kind = is_some-lookup (same_name kind) roster.kinds.entries ∙ ap (λ names. is_among names kind) names_are
 
   -- the methods of a kind, by its number
-  kind_at : (i : ℕ) → slice_get register_alone i ≡ option_map kind_entry (slice_get roster.kinds.entries i)
-  kind_at i = ap (λ kinds. slice_get kinds i) (sym stands.kind_entries) ∙ slice_get-map kind_entry roster.kinds.entries i
+  kind_at : (i : ℕ) → slice_get kinds i ≡ option_map kind_entry (slice_get roster.kinds.entries i)
+  kind_at i = ap (λ ks. slice_get ks i) (sym stands.kind_entries) ∙ slice_get-map kind_entry roster.kinds.entries i
 
-  pub kind_methods : (i : ℕ) (e : List ℕ × Methods) → slice_get roster.kinds.entries i ≡ Some e → methods_in e.1 ≡ methods_at register_alone i
+  pub kind_methods : (i : ℕ) (e : List ℕ × Methods) → slice_get roster.kinds.entries i ≡ Some e → methods_in e.1 ≡ methods_at kinds i
   kind_methods i e at = sym (ap (λ o. unwrap_or (option_map (λ (kind : Kind). kind.methods) o) []) (kind_at i ∙ ap (option_map kind_entry) at))
 
-  pub no_methods : (i : ℕ) → slice_get roster.kinds.entries i ≡ None → methods_at register_alone i ≡ []
+  pub no_methods : (i : ℕ) → slice_get roster.kinds.entries i ≡ None → methods_at kinds i ≡ []
   no_methods i none = ap (λ o. unwrap_or (option_map (λ (kind : Kind). kind.methods) o) []) (kind_at i ∙ ap (option_map kind_entry) none)
 
   -- the number of an object, and that of its kind
   pub object_place : (name : List ℕ) (i : ℕ) → index_of_by (same_name name) roster.objects ≡ Some i → i ≡ place (objects_of lines) name
   object_place name i e = position-place (same_name name) (keys_of roster.objects.entries) i e ∙ ap (λ names. place names name) object_keys
 
-  pub object_kind : (name : List ℕ) (i : ℕ) (e : List ℕ × ℕ) → i ≡ place (objects_of lines) name → slice_get roster.objects.entries i ≡ Some e → e.1 ≡ kind_number register_alone lines name
+  pub object_kind : (name : List ℕ) (i : ℕ) (e : List ℕ × ℕ) → i ≡ place (objects_of lines) name → slice_get roster.objects.entries i ≡ Some e → e.1 ≡ kind_number kinds lines name
   object_kind name i e number at =
-      let kinds : map (λ (e : List ℕ × ℕ). e.1) roster.objects.entries ≡ object_kinds register_alone lines =
-      ap (map (λ (e : List ℕ × ℕ). e.1)) stands.object_entries ∙ kinds-objects register_alone lines in
-      let there : slice_get (object_kinds register_alone lines) i ≡ Some e.1 =
-      ap (λ ks. slice_get ks i) (sym kinds) ∙ slice_get-map (λ (e : List ℕ × ℕ). e.1) roster.objects.entries i ∙ ap (option_map (λ (e : List ℕ × ℕ). e.1)) at in
-      sym (ap (λ o. unwrap_or o (length register_alone)) (ap (slice_get (object_kinds register_alone lines)) (sym number) ∙ there))
+      let declared : map (λ (e : List ℕ × ℕ). e.1) roster.objects.entries ≡ object_kinds kinds lines =
+      ap (map (λ (e : List ℕ × ℕ). e.1)) stands.object_entries ∙ kinds-objects kinds lines in
+      let there : slice_get (object_kinds kinds lines) i ≡ Some e.1 =
+      ap (λ ks. slice_get ks i) (sym declared) ∙ slice_get-map (λ (e : List ℕ × ℕ). e.1) roster.objects.entries i ∙ ap (option_map (λ (e : List ℕ × ℕ). e.1)) at in
+      sym (ap (λ o. unwrap_or o (length kinds)) (ap (slice_get (object_kinds kinds lines)) (sym number) ∙ there))
 
   -- the name of an object
   pub object_at : (i : ℕ) (e : List ℕ × ℕ) → slice_get roster.objects.entries i ≡ Some e → slice_get (objects_of lines) i ≡ Some e.0
@@ -198,11 +198,11 @@ module _ (roster : Roster) (lines : List Line) (stands : StandsFor roster lines)
       by zero = refl
       by (suc n) = grind (arith, nat_tests)
 
-  pub header_judged : (limits : Limits) (version : ℕ) → first_broken register_alone limits lines (Header version) ≡ (if roster.header then Some HeaderFirst else None)
+  pub header_judged : (limits : Limits) (version : ℕ) → first_broken kinds limits lines (Header version) ≡ (if roster.header then Some HeaderFirst else None)
   unfolding first_broken
   header_judged limits version = ap (λ b. cond b (Some HeaderFirst) None) (sym stands.has_header)
 
-  pub root_judged : (limits : Limits) (name : List ℕ) → first_broken register_alone limits lines (Thread name)
+  pub root_judged : (limits : Limits) (name : List ℕ) → first_broken kinds limits lines (Thread name)
       ≡ (if not roster.header then Some HeaderFirst else if nat_lt 0 roster.events then Some LateRoot
       else if is_some (get_by (same_name name) roster.threads) then Some NameTaken
       else if nat_le limits.threads (thread_count roster) then Some (Limit Threads limits.threads) else None)
@@ -212,18 +212,18 @@ module _ (roster : Roster) (lines : List Line) (stands : StandsFor roster lines)
       λ i. cond (no_header i) (Some HeaderFirst) (cond (ltb 0 (sym stands.event_count i)) (Some LateRoot)
       (cond (taken i) (Some NameTaken) (cond (leb limits.threads (sym stands.thread_total i)) (Some (Limit Threads limits.threads)) None)))
 
-  pub object_judged : (limits : Limits) (name kind : List ℕ) → first_broken register_alone limits lines (Object name kind)
+  pub object_judged : (limits : Limits) (name kind : List ℕ) → first_broken kinds limits lines (Object name kind)
       ≡ (if not roster.header then Some HeaderFirst else if is_some (get_by (same_name name) roster.objects) then Some NameTaken
       else if not (is_some (get_by (same_name kind) roster.kinds)) then Some UnknownKind
       else if nat_le limits.objects (object_count roster) then Some (Limit Objects limits.objects) else None)
   unfolding first_broken
   object_judged limits name kind =
       let taken : is_among (objects_of lines) name ≡ is_some (get_by (same_name name) roster.objects) = sym (object_known name) in
-      let unknown : not (is_among (kind_names register_alone) kind) ≡ not (is_some (get_by (same_name kind) roster.kinds)) = ap not (sym (kind_known kind)) in
+      let unknown : not (is_among (kind_names kinds) kind) ≡ not (is_some (get_by (same_name kind) roster.kinds)) = ap not (sym (kind_known kind)) in
       λ i. cond (no_header i) (Some HeaderFirst) (cond (taken i) (Some NameTaken) (cond (unknown i) (Some UnknownKind)
       (cond (leb limits.objects (sym stands.object_total i)) (Some (Limit Objects limits.objects)) None)))
 
-  pub fork_judged : (limits : Limits) (thread child : List ℕ) → first_broken register_alone limits lines (Event (Fork thread child))
+  pub fork_judged : (limits : Limits) (thread child : List ℕ) → first_broken kinds limits lines (Event (Fork thread child))
       ≡ (if not roster.header then Some HeaderFirst else if is_some (get_by (same_name child) roster.threads) then Some NameTaken
       else if not (is_among (threads_of lines) thread) then Some UnknownThread else if is_among (joined_of lines) thread then Some ThreadEnded
       else if nat_le limits.events roster.events then Some (Limit Events limits.events)
@@ -236,7 +236,7 @@ module _ (roster : Roster) (lines : List Line) (stands : StandsFor roster lines)
       (cond (is_among (joined_of lines) thread) (Some ThreadEnded) (cond (leb limits.events (sym stands.event_count i)) (Some (Limit Events limits.events))
       (cond (leb limits.threads (sym stands.thread_total i)) (Some (Limit Threads limits.threads)) None)))))
 
-  pub join_judged : (limits : Limits) (thread child : List ℕ) → first_broken register_alone limits lines (Event (Join thread child))
+  pub join_judged : (limits : Limits) (thread child : List ℕ) → first_broken kinds limits lines (Event (Join thread child))
       ≡ (if not roster.header then Some HeaderFirst
       else if not (is_among (threads_of lines) thread) || not (is_among (threads_of lines) child) then Some UnknownThread
       else if is_among (joined_of lines) thread then Some ThreadEnded else if same_name child thread then Some OwnThread
@@ -247,20 +247,20 @@ module _ (roster : Roster) (lines : List Line) (stands : StandsFor roster lines)
       (cond (is_among (joined_of lines) thread) (Some ThreadEnded) (cond (same_name child thread) (Some OwnThread)
       (cond (leb limits.events (sym stands.event_count i)) (Some (Limit Events limits.events)) None))))
 
-  pub call_judged : (limits : Limits) (thread object method : List ℕ) (slots : List Value) → first_broken register_alone limits lines (Event (Call thread object method slots))
+  pub call_judged : (limits : Limits) (thread object method : List ℕ) (slots : List Value) → first_broken kinds limits lines (Event (Call thread object method slots))
       ≡ (if not roster.header then Some HeaderFirst
       else if not (is_among (threads_of lines) thread) then Some UnknownThread else if is_among (joined_of lines) thread then Some ThreadEnded
       else if not (is_among (objects_of lines) object) then Some UnknownObject
-      else if not (is_among (method_names (methods_of register_alone lines object)) method) then Some UnknownMethod
-      else if not (length slots == slots_of register_alone lines (record { object = object; method = method; slots = slots })) then Some WrongCount
+      else if not (is_among (method_names (methods_of kinds lines object)) method) then Some UnknownMethod
+      else if not (length slots == slots_of kinds lines (record { object = object; method = method; slots = slots })) then Some WrongCount
       else if nat_le limits.events roster.events then Some (Limit Events limits.events) else None)
   unfolding first_broken
   call_judged limits thread object method slots =
       let unknown : (not (is_among (threads_of lines) thread) || false) ≡ not (is_among (threads_of lines) thread) = or-false _ in
       λ i. cond (no_header i) (Some HeaderFirst) (cond (unknown i) (Some UnknownThread)
       (cond (is_among (joined_of lines) thread) (Some ThreadEnded) (cond (not (is_among (objects_of lines) object)) (Some UnknownObject)
-      (cond (not (is_among (method_names (methods_of register_alone lines object)) method)) (Some UnknownMethod)
-      (cond (not (length slots == slots_of register_alone lines (record { object = object; method = method; slots = slots }))) (Some WrongCount)
+      (cond (not (is_among (method_names (methods_of kinds lines object)) method)) (Some UnknownMethod)
+      (cond (not (length slots == slots_of kinds lines (record { object = object; method = method; slots = slots }))) (Some WrongCount)
       (cond (leb limits.events (sym stands.event_count i)) (Some (Limit Events limits.events)) None))))))
 
 -- ---- one line more
@@ -304,8 +304,8 @@ module _ (flag : List ℕ → Bool) (child : List ℕ) where
           (subst Flagged (sym next) (λ i. (x, unmarked_flag x other i) ∷ rest later i))
 
 -- where a name is taken by none before, it is not joined
-not_joined : (roster : Roster) (lines : List Line) → StandsFor roster lines → (name : List ℕ) → is_among (threads_of lines) name ≡ false → is_among (joined_of lines) name ≡ false
-not_joined roster lines stands name fresh = false_from_ne_true _ (λ joined.
+not_joined : (kinds : List Kind) (roster : Roster) (lines : List Line) → StandsFor kinds roster lines → (name : List ℕ) → is_among (threads_of lines) name ≡ false → is_among (joined_of lines) name ≡ false
+not_joined kinds roster lines stands name fresh = false_from_ne_true _ (λ joined.
     true≢false (sym ((among_decides (threads_of lines) name).1 (stands.joined_begun name ((among_decides (joined_of lines) name).0 joined))) ∙ fresh))
 
 more_headers : (n : ℕ) (is : Bool) → nat_lt 0 (n + cond is 1 0) ≡ (nat_lt 0 n || is)
@@ -314,21 +314,21 @@ more_headers zero false = refl
 more_headers (suc n) true = grind (arith, nat_tests)
 more_headers (suc n) false = grind (arith, nat_tests)
 
-module _ (old : Roster) (lines : List Line) (stands : StandsFor old lines) (line : Line) where
+module _ (kinds : List Kind) (old : Roster) (lines : List Line) (stands : StandsFor kinds old lines) (line : Line) where
   grown : (new : Roster) → new.kinds.entries ≡ old.kinds.entries → new.header ≡ (old.header || is_header line) → new.events ≡ old.events + cond (is_event line) 1 0
       → new.threads.entries ≡ map (thread_entry (lines ++ line ∷ [])) (threads_of (lines ++ line ∷ []))
-      → new.objects.entries ≡ filter_map (object_entry register_alone) (lines ++ line ∷ [])
+      → new.objects.entries ≡ filter_map (object_entry kinds) (lines ++ line ∷ [])
       → ((name : List ℕ) → Contains (joined_of (lines ++ line ∷ [])) name → Contains (threads_of (lines ++ line ∷ [])) name)
-      → StandsFor new (lines ++ line ∷ [])
-  grown new kinds header events threads objects begun = record {
-    kind_entries = ap (map kind_entry) kinds ∙ stands.kind_entries;
+      → StandsFor kinds new (lines ++ line ∷ [])
+  grown new same_kinds header events threads objects begun = record {
+    kind_entries = ap (map kind_entry) same_kinds ∙ stands.kind_entries;
     has_header = header ∙ ap (λ b. b || is_header line) stands.has_header ∙ sym (more_headers (headers lines) (is_header line)) ∙ ap (nat_lt 0) (sym (sum_by_push _ lines line));
     event_count = events ∙ ap (λ n. n + cond (is_event line) 1 0) stands.event_count ∙ sym (sum_by_push _ lines line);
     thread_entries = threads;
     object_entries = objects;
     joined_begun = begun;
     thread_total = ap length threads ∙ length-map (threads_of (lines ++ line ∷ [])) (thread_entry (lines ++ line ∷ []));
-    object_total = sym (length-map new.objects.entries (λ e. e.0)) ∙ ap length (ap keys_of objects ∙ keys-objects register_alone (lines ++ line ∷ []));
+    object_total = sym (length-map new.objects.entries (λ e. e.0)) ∙ ap length (ap keys_of objects ∙ keys-objects kinds (lines ++ line ∷ []));
   }
 
   -- a line that neither begins nor joins a thread leaves them
@@ -338,8 +338,8 @@ module _ (old : Roster) (lines : List Line) (stands : StandsFor old lines) (line
   same_joined : joined line ≡ None → joined_of (lines ++ line ∷ []) ≡ joined_of lines
   same_joined e = filter_map-append joined lines (line ∷ []) ∙ ap (λ o. joined_of lines ++ cons_option o []) e ∙ append-nil (joined_of lines)
 
-  same_objects : object_entry register_alone line ≡ None → filter_map (object_entry register_alone) (lines ++ line ∷ []) ≡ filter_map (object_entry register_alone) lines
-  same_objects e = filter_map-append (object_entry register_alone) lines (line ∷ []) ∙ ap (λ o. filter_map (object_entry register_alone) lines ++ cons_option o []) e ∙ append-nil _
+  same_objects : object_entry kinds line ≡ None → filter_map (object_entry kinds) (lines ++ line ∷ []) ≡ filter_map (object_entry kinds) lines
+  same_objects e = filter_map-append (object_entry kinds) lines (line ∷ []) ∙ ap (λ o. filter_map (object_entry kinds) lines ++ cons_option o []) e ∙ append-nil _
 
   quiet_entries : begun line ≡ None → joined line ≡ None → map (thread_entry (lines ++ line ∷ [])) (threads_of (lines ++ line ∷ [])) ≡ map (thread_entry lines) (threads_of lines)
   quiet_entries begins joins = λ i. flagged (is_among (same_joined joins i)) (same_threads begins i)
@@ -356,7 +356,7 @@ module _ (old : Roster) (lines : List Line) (stands : StandsFor old lines) (line
       filter_map-append begun lines (line ∷ []) ∙ ap (λ o. threads_of lines ++ cons_option o []) begins in
       (λ i. flagged (is_among (same_joined joins i)) (threads i))
       ∙ map-append (thread_entry lines) (threads_of lines) (name ∷ [])
-      ∙ ap (λ b. map (thread_entry lines) (threads_of lines) ++ (name, b) ∷ []) (not_joined old lines stands name fresh)
+      ∙ ap (λ b. map (thread_entry lines) (threads_of lines) ++ (name, b) ∷ []) (not_joined kinds old lines stands name fresh)
 
   new_begun : (name : List ℕ) → begun line ≡ Some name → joined line ≡ None → (other : List ℕ) → Contains (joined_of (lines ++ line ∷ [])) other → Contains (threads_of (lines ++ line ∷ [])) other
   new_begun name begins joins other h =
@@ -365,63 +365,63 @@ module _ (old : Roster) (lines : List Line) (stands : StandsFor old lines) (line
       subst (λ names. Contains names other) (sym threads)
       (Contains-append_left (threads_of lines) (name ∷ []) other (stands.joined_begun other (subst (λ names. Contains names other) (same_joined joins) h)))
 
-module _ (old new : Roster) (lines : List Line) (stands : StandsFor old lines) (kinds : new.kinds.entries ≡ old.kinds.entries) where
+module _ (kinds : List Kind) (old new : Roster) (lines : List Line) (stands : StandsFor kinds old lines) (same_kinds : new.kinds.entries ≡ old.kinds.entries) where
   pub after_skip : new.header ≡ old.header → new.events ≡ old.events → new.threads.entries ≡ old.threads.entries → new.objects.entries ≡ old.objects.entries
-      → StandsFor new (lines ++ Skip ∷ [])
-  after_skip header events threads objects = grown old lines stands Skip new kinds (header ∙ sym (or-false old.header)) (events ∙ sym (add-zero old.events))
-      (threads ∙ stands.thread_entries ∙ sym (quiet_entries old lines stands Skip refl refl))
-      (objects ∙ stands.object_entries ∙ sym (same_objects old lines stands Skip refl)) (quiet_begun old lines stands Skip refl refl)
+      → StandsFor kinds new (lines ++ Skip ∷ [])
+  after_skip header events threads objects = grown kinds old lines stands Skip new same_kinds (header ∙ sym (or-false old.header)) (events ∙ sym (add-zero old.events))
+      (threads ∙ stands.thread_entries ∙ sym (quiet_entries kinds old lines stands Skip refl refl))
+      (objects ∙ stands.object_entries ∙ sym (same_objects kinds old lines stands Skip refl)) (quiet_begun kinds old lines stands Skip refl refl)
 
   pub after_header : (version : ℕ) → new.header ≡ true → new.events ≡ old.events → new.threads.entries ≡ old.threads.entries → new.objects.entries ≡ old.objects.entries
-      → StandsFor new (lines ++ Header version ∷ [])
-  after_header version header events threads objects = grown old lines stands (Header version) new kinds (header ∙ or-true old.header) (events ∙ sym (add-zero old.events))
-      (threads ∙ stands.thread_entries ∙ sym (quiet_entries old lines stands (Header version) refl refl))
-      (objects ∙ stands.object_entries ∙ sym (same_objects old lines stands (Header version) refl)) (quiet_begun old lines stands (Header version) refl refl)
+      → StandsFor kinds new (lines ++ Header version ∷ [])
+  after_header version header events threads objects = grown kinds old lines stands (Header version) new same_kinds (header ∙ or-true old.header) (events ∙ sym (add-zero old.events))
+      (threads ∙ stands.thread_entries ∙ sym (quiet_entries kinds old lines stands (Header version) refl refl))
+      (objects ∙ stands.object_entries ∙ sym (same_objects kinds old lines stands (Header version) refl)) (quiet_begun kinds old lines stands (Header version) refl refl)
 
   pub after_root : (name : List ℕ) → is_among (threads_of lines) name ≡ false → new.header ≡ old.header → new.events ≡ old.events
       → new.threads.entries ≡ old.threads.entries ++ (name, false) ∷ [] → new.objects.entries ≡ old.objects.entries
-      → StandsFor new (lines ++ Thread name ∷ [])
-  after_root name fresh header events threads objects = grown old lines stands (Thread name) new kinds (header ∙ sym (or-false old.header)) (events ∙ sym (add-zero old.events))
-      (threads ∙ ap (λ es. es ++ (name, false) ∷ []) stands.thread_entries ∙ sym (new_entries old lines stands (Thread name) name refl refl fresh))
-      (objects ∙ stands.object_entries ∙ sym (same_objects old lines stands (Thread name) refl)) (new_begun old lines stands (Thread name) name refl refl)
+      → StandsFor kinds new (lines ++ Thread name ∷ [])
+  after_root name fresh header events threads objects = grown kinds old lines stands (Thread name) new same_kinds (header ∙ sym (or-false old.header)) (events ∙ sym (add-zero old.events))
+      (threads ∙ ap (λ es. es ++ (name, false) ∷ []) stands.thread_entries ∙ sym (new_entries kinds old lines stands (Thread name) name refl refl fresh))
+      (objects ∙ stands.object_entries ∙ sym (same_objects kinds old lines stands (Thread name) refl)) (new_begun kinds old lines stands (Thread name) name refl refl)
 
   pub after_object : (name kind : List ℕ) → new.header ≡ old.header → new.events ≡ old.events → new.threads.entries ≡ old.threads.entries
-      → new.objects.entries ≡ old.objects.entries ++ (name, place (kind_names register_alone) kind) ∷ []
-      → StandsFor new (lines ++ Object name kind ∷ [])
-  after_object name kind header events threads objects = grown old lines stands (Object name kind) new kinds (header ∙ sym (or-false old.header)) (events ∙ sym (add-zero old.events))
-      (threads ∙ stands.thread_entries ∙ sym (quiet_entries old lines stands (Object name kind) refl refl))
-      (objects ∙ ap (λ es. es ++ (name, place (kind_names register_alone) kind) ∷ []) stands.object_entries ∙ sym (filter_map-append (object_entry register_alone) lines (Object name kind ∷ [])))
-      (quiet_begun old lines stands (Object name kind) refl refl)
+      → new.objects.entries ≡ old.objects.entries ++ (name, place (kind_names kinds) kind) ∷ []
+      → StandsFor kinds new (lines ++ Object name kind ∷ [])
+  after_object name kind header events threads objects = grown kinds old lines stands (Object name kind) new same_kinds (header ∙ sym (or-false old.header)) (events ∙ sym (add-zero old.events))
+      (threads ∙ stands.thread_entries ∙ sym (quiet_entries kinds old lines stands (Object name kind) refl refl))
+      (objects ∙ ap (λ es. es ++ (name, place (kind_names kinds) kind) ∷ []) stands.object_entries ∙ sym (filter_map-append (object_entry kinds) lines (Object name kind ∷ [])))
+      (quiet_begun kinds old lines stands (Object name kind) refl refl)
 
   pub after_fork : (thread child : List ℕ) → is_among (threads_of lines) child ≡ false → new.header ≡ old.header → new.events ≡ old.events + 1
       → new.threads.entries ≡ old.threads.entries ++ (child, false) ∷ [] → new.objects.entries ≡ old.objects.entries
-      → StandsFor new (lines ++ Event (Fork thread child) ∷ [])
-  after_fork thread child fresh header events threads objects = grown old lines stands (Event (Fork thread child)) new kinds (header ∙ sym (or-false old.header)) events
-      (threads ∙ ap (λ es. es ++ (child, false) ∷ []) stands.thread_entries ∙ sym (new_entries old lines stands (Event (Fork thread child)) child refl refl fresh))
-      (objects ∙ stands.object_entries ∙ sym (same_objects old lines stands (Event (Fork thread child)) refl)) (new_begun old lines stands (Event (Fork thread child)) child refl refl)
+      → StandsFor kinds new (lines ++ Event (Fork thread child) ∷ [])
+  after_fork thread child fresh header events threads objects = grown kinds old lines stands (Event (Fork thread child)) new same_kinds (header ∙ sym (or-false old.header)) events
+      (threads ∙ ap (λ es. es ++ (child, false) ∷ []) stands.thread_entries ∙ sym (new_entries kinds old lines stands (Event (Fork thread child)) child refl refl fresh))
+      (objects ∙ stands.object_entries ∙ sym (same_objects kinds old lines stands (Event (Fork thread child)) refl)) (new_begun kinds old lines stands (Event (Fork thread child)) child refl refl)
 
   pub after_call : (thread object method : List ℕ) (slots : List Value) → new.header ≡ old.header → new.events ≡ old.events + 1
-      → new.threads.entries ≡ old.threads.entries → new.objects.entries ≡ old.objects.entries → StandsFor new (lines ++ Event (Call thread object method slots) ∷ [])
+      → new.threads.entries ≡ old.threads.entries → new.objects.entries ≡ old.objects.entries → StandsFor kinds new (lines ++ Event (Call thread object method slots) ∷ [])
   after_call thread object method slots header events threads objects =
       let line : Line = Event (Call thread object method slots) in
-      grown old lines stands line new kinds (header ∙ sym (or-false old.header)) events
-      (threads ∙ stands.thread_entries ∙ sym (quiet_entries old lines stands line refl refl))
-      (objects ∙ stands.object_entries ∙ sym (same_objects old lines stands line refl)) (quiet_begun old lines stands line refl refl)
+      grown kinds old lines stands line new same_kinds (header ∙ sym (or-false old.header)) events
+      (threads ∙ stands.thread_entries ∙ sym (quiet_entries kinds old lines stands line refl refl))
+      (objects ∙ stands.object_entries ∙ sym (same_objects kinds old lines stands line refl)) (quiet_begun kinds old lines stands line refl refl)
 
   pub after_join : (thread child : List ℕ) → is_among (threads_of lines) child ≡ true → IsDistinct same_name (keys_of old.threads.entries)
       → new.header ≡ old.header → new.events ≡ old.events + 1
       → new.threads.entries ≡ set_value_at old.threads.entries (place (threads_of lines) child) true → new.objects.entries ≡ old.objects.entries
-      → StandsFor new (lines ++ Event (Join thread child) ∷ [])
+      → StandsFor kinds new (lines ++ Event (Join thread child) ∷ [])
   after_join thread child known distinct header events threads objects =
       let line : Line = Event (Join thread child) in
       let more : joined_of (lines ++ line ∷ []) ≡ joined_of lines ++ child ∷ [] = filter_map-append joined lines (line ∷ []) in
-      let same : threads_of (lines ++ line ∷ []) ≡ threads_of lines = same_threads old lines stands line refl in
-      let apart : IsDistinct same_name (threads_of lines) = subst (IsDistinct same_name) (thread_keys old lines stands) distinct in
+      let same : threads_of (lines ++ line ∷ []) ≡ threads_of lines = same_threads kinds old lines stands line refl in
+      let apart : IsDistinct same_name (threads_of lines) = subst (IsDistinct same_name) (thread_keys kinds old lines stands) distinct in
       let entries : map (thread_entry (lines ++ line ∷ [])) (threads_of (lines ++ line ∷ [])) ≡ flagged (λ n. is_among (joined_of lines) n || (same_name n child || false)) (threads_of lines) =
       (λ i. flagged (is_among (more i)) (same i)) ∙ (λ i. flagged (λ n. list_any-append (same_name n) (joined_of lines) (child ∷ []) i) (threads_of lines)) in
-      grown old lines stands line new kinds (header ∙ sym (or-false old.header)) events
+      grown kinds old lines stands line new same_kinds (header ∙ sym (or-false old.header)) events
       (threads ∙ ap (λ es. set_value_at es (place (threads_of lines) child) true) stands.thread_entries ∙ marked (is_among (joined_of lines)) child (threads_of lines) apart known ∙ sym entries)
-      (objects ∙ stands.object_entries ∙ sym (same_objects old lines stands line refl))
+      (objects ∙ stands.object_entries ∙ sym (same_objects kinds old lines stands line refl))
       (λ name there. subst (λ names. Contains names name) (sym same)
       (elim (Contains-push_cases (joined_of lines) child name (subst (λ names. Contains names name) more there)) [
         | inl before ↦ stands.joined_begun name before
@@ -431,14 +431,14 @@ module _ (old new : Roster) (lines : List Line) (stands : StandsFor old lines) (
 -- ---- what the public call says by the law
 
 pub ok_follows : (old new : Roster) (limits : Limits) (line : Line) (r : Result Accepted WfRefused) → IfOk r (Takes old new limits line)
-    → OnOk r ((lines : List Line) → StandsFor old lines → Follows register_alone limits lines line)
-ok_follows old new limits line (Ok accepted) takes = λ lines stands. follows_from_none register_alone limits lines line (takes lines stands).0
+    → OnOk r ((kinds : List Kind) (lines : List Line) → StandsFor kinds old lines → MayFollow kinds limits lines line)
+ok_follows old new limits line (Ok accepted) takes = λ kinds lines stands. follows_from_none kinds limits lines line (takes kinds lines stands).0
 ok_follows old new limits line (Err e) takes = tt
 
 pub err_broken : (old new : Roster) (limits : Limits) (line : Line) (r : Result Accepted WfRefused) → IfErr r (Refuses old new limits line)
-    → IfErr r (λ e. (lines : List Line) → StandsFor old lines → (cause : WfCause) → e ≡ Cause cause →
-    (first_broken register_alone limits lines line ≡ Some cause) × FirstBroken register_alone limits lines line cause)
+    → IfErr r (λ e. (kinds : List Kind) (lines : List Line) → StandsFor kinds old lines → (cause : WfCause) → e ≡ Cause cause →
+    (first_broken kinds limits lines line ≡ Some cause) × IsBrokenFirst kinds limits lines line cause)
 err_broken old new limits line (Ok accepted) refuses = tt
-err_broken old new limits line (Err e) refuses = λ lines stands cause same.
+err_broken old new limits line (Err e) refuses = λ kinds lines stands cause same.
     let refused : Refuses old new limits line (Cause cause) = subst (Refuses old new limits line) same refuses in
-    (refused.0 lines stands, broken_from_some register_alone limits lines line cause (refused.0 lines stands))
+    (refused.0 kinds lines stands, broken_from_some kinds limits lines line cause (refused.0 kinds lines stands))

@@ -8,7 +8,7 @@ use Rattle.rd_event.specs.declared.items.Line.TheVariants.{Event}
 use Rattle.rd_event.specs.declared.events.Event.{Event as Numbered}
 use Rattle.rd_hb.specs.EventLists.{InRange, Known, WellFormed, calls, joins}
 use Rattle.rd_wf.specs.Kinds.{Kind}
-use Rattle.rd_wf.specs.MayFollow.{Follows, events, is_root, joined_of, numbered_event, object_kinds, place, threads_of}
+use Rattle.rd_wf.specs.MayFollow.{MayFollow, events, is_root, joined_of, numbered_event, object_kinds, place, threads_of}
 
 -- ---- roots and events
 
@@ -41,7 +41,7 @@ pub record IsAccepted (kinds : List Kind) (before : List Line) (line : Line) : T
   pub limits : Limits
   pub usable : AreUsable limits
   pub range : limits.threads < 2 ^ 32
-  pub follows : Follows kinds limits before line
+  pub follows : MayFollow kinds limits before line
 
 -- behind other lines, each is accepted after those in front of it
 abbrev pub AreAcceptedFrom : List Kind → List Line → List Line → Type 0

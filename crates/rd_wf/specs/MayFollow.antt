@@ -1,11 +1,11 @@
 -- Which line may follow the accepted lines of a trace: this project's profile. What was accepted is
 -- told by lists and counts over the lines.
-use Rattle.std.specs.Prelude.{◌≡◌, ◌≢◌, ◌↔◌, ◌⊎◌, ℕ, ◌<◌, ◌≤◌, nat_eq, nat_lt, nat_le, ◌==◌, Bool, true, false, ◌&&◌, ◌||◌, not, if◌then◌else◌, List, [], ◌∷◌, length, Option, Some, None, is_some, IsSome, IfSome, IsSomeAnd, IsTrue, Contains, filter_map, count_by, slice_get, unwrap_or}
+use Rattle.std.specs.Prelude.{◌≡◌, ◌≢◌, ◌↔◌, ◌⊎◌, ℕ, ◌<◌, nat_eq, nat_lt, nat_le, ◌==◌, Bool, true, false, ◌&&◌, ◌||◌, not, if◌then◌else◌, List, [], ◌∷◌, take, find, All, length, Option, Some, None, is_some, IsSome, IfSome, IsTrue, Contains, filter_map, count_by, slice_get, unwrap_or}
 use Rattle.std.specs.List.{list_any, position_or_len}
 use Rattle.std.specs.Cmp.Lexicographic.{pointwise}
 use Rattle.rd_base.specs.declared.limits.Limits.{Limits}
 use Rattle.rd_base.specs.declared.values.Value.{Value}
-use Rattle.rd_base.specs.declared.limits.LimitName.TheVariants.{Events, Threads, Locks, Objects}
+use Rattle.rd_base.specs.declared.limits.LimitName.TheVariants.{Events, Threads, Objects}
 use Rattle.rd_event.specs.declared.items.Line.{Line}
 use Rattle.rd_event.specs.declared.items.Line.TheVariants.{Skip, Header, Thread, Object, Event}
 use Rattle.rd_event.specs.declared.items.LineEvent.{LineEvent}
@@ -165,83 +165,51 @@ call_count before = count_by is_call before
 
 -- ---- the rules
 
--- what each line that isn't skipped has to meet
-pub record MayFollow (kinds : List Kind) (before : List Line) (line : Line) : Type 0 where
-  -- it is a header exactly if none came before
-  pub header_first : IsTrue (is_header line) ↔ (headers before ≡ 0)
-  -- a root comes before every event
-  pub early_root : IsTrue (is_root line) → events before ≡ 0
-  -- no thread has the name of the new thread, and no object that of the new object
-  pub new_thread : IfSome (begun line) (λ name. ¬ (Contains (threads_of before) name))
-  pub new_object : IfSome (declared line) (λ name. ¬ (Contains (objects_of before) name))
-  -- the acting thread was begun, and so was the joined one
-  pub known_actor : IfSome (acting line) (Contains (threads_of before))
-  pub known_joined : IfSome (joined line) (Contains (threads_of before))
-  -- the acting thread was not joined
-  pub running : IfSome (acting line) (λ name. ¬ (Contains (joined_of before) name))
-  -- no thread joins itself
-  pub other_joined : IfSome (joined line) (λ name. acting line ≢ Some name)
-  -- the kind is a kind
-  pub known_kind : IfSome (kind_of line) (Contains (kind_names kinds))
-  -- the called object was declared, its kind has the method, and the call has as many slots as the method
-  pub known_object : IfSome (called line) (λ call. Contains (objects_of before) call.object)
-  pub known_method : IfSome (called line) (λ call. Contains (method_names (methods_of kinds before call.object)) call.method)
-  pub right_count : IfSome (called line) (λ call. length call.slots ≡ slots_of kinds before call)
-
+-- What each cause names: a rule that a line has to meet behind the accepted lines, if it isn't skipped. A limit's cause has the
+-- number that a count may not pass.
+abbrev pub Rule : List Kind → List Line → Line → WfCause → Type 0
+-- it is a header exactly if none came before
+Rule kinds before line HeaderFirst = IsTrue (is_header line) ↔ (headers before ≡ 0)
+-- a root comes before every event
+Rule kinds before line LateRoot = IsTrue (is_root line) → events before ≡ 0
+-- no thread has the name of the new thread, and no object that of the new object
+Rule kinds before line NameTaken =
+    IfSome (begun line) (λ name. ¬ (Contains (threads_of before) name)) × IfSome (declared line) (λ name. ¬ (Contains (objects_of before) name))
+-- the acting thread was begun, and so was the joined one
+Rule kinds before line UnknownThread = IfSome (acting line) (Contains (threads_of before)) × IfSome (joined line) (Contains (threads_of before))
+-- the acting thread was not joined
+Rule kinds before line ThreadEnded = IfSome (acting line) (λ name. ¬ (Contains (joined_of before) name))
+-- no thread joins itself
+Rule kinds before line OwnThread = IfSome (joined line) (λ name. acting line ≢ Some name)
+-- the kind is a kind
+Rule kinds before line UnknownKind = IfSome (kind_of line) (Contains (kind_names kinds))
+-- the called object was declared, its kind has the method, and the call has as many slots as the method
+Rule kinds before line UnknownObject = IfSome (called line) (λ call. Contains (objects_of before) call.object)
+Rule kinds before line UnknownMethod = IfSome (called line) (λ call. Contains (method_names (methods_of kinds before call.object)) call.method)
+Rule kinds before line WrongCount = IfSome (called line) (λ call. length call.slots ≡ slots_of kinds before call)
 -- no count that the line raises passes its limit
-pub record WithinLimits (limits : Limits) (before : List Line) (line : Line) : Type 0 where
-  pub few_events : IsTrue (is_event line) → events before < limits.events
-  pub few_threads : IsSome (begun line) → length (threads_of before) < limits.threads
-  pub few_objects : IsSome (declared line) → length (objects_of before) < limits.objects
+Rule kinds before line (Limit Events most) = IsTrue (is_event line) → events before < most
+Rule kinds before line (Limit Threads most) = IsSome (begun line) → length (threads_of before) < most
+Rule kinds before line (Limit Objects most) = IsSome (declared line) → length (objects_of before) < most
+Rule kinds before line (Limit name most) = Unit {0}
 
--- the line may follow: it is skipped, or it meets the rules within the limits
-abbrev pub Follows : List Kind → Limits → List Line → Line → Type 0
-Follows kinds limits before line = (line ≡ Skip) ⊎ (MayFollow kinds before line × WithinLimits limits before line)
+-- the causes in the order in which they are told
+abbrev pub causes : Limits → List WfCause
+causes limits =
+    HeaderFirst ∷ LateRoot ∷ NameTaken ∷ UnknownThread ∷ ThreadEnded ∷ OwnThread ∷ UnknownKind ∷ UnknownObject ∷ UnknownMethod ∷ WrongCount
+    ∷ Limit Events limits.events ∷ Limit Threads limits.threads ∷ Limit Objects limits.objects ∷ []
 
--- ---- what a line breaks
+-- the line may follow: it is skipped, or it meets the rule of each cause
+abbrev pub MayFollow : List Kind → Limits → List Line → Line → Type 0
+MayFollow kinds limits before line = (line ≡ Skip) ⊎ All (Rule kinds before line) (causes limits)
 
--- the part of the rules that each cause names is broken
-abbrev pub Breaks : List Kind → Limits → List Line → Line → WfCause → Type 0
-Breaks kinds limits before line HeaderFirst = IsTrue (is_header line) ↔ (0 < headers before)
-Breaks kinds limits before line LateRoot = IsTrue (is_root line) × (0 < events before)
-Breaks kinds limits before line NameTaken =
-    IsSomeAnd (begun line) (Contains (threads_of before)) ⊎ IsSomeAnd (declared line) (Contains (objects_of before))
-Breaks kinds limits before line UnknownThread =
-    IsSomeAnd (acting line) (λ name. ¬ (Contains (threads_of before) name)) ⊎ IsSomeAnd (joined line) (λ name. ¬ (Contains (threads_of before) name))
-Breaks kinds limits before line ThreadEnded = IsSomeAnd (acting line) (Contains (joined_of before))
-Breaks kinds limits before line OwnThread = IsSomeAnd (joined line) (λ name. acting line ≡ Some name)
-Breaks kinds limits before line UnknownKind = IsSomeAnd (kind_of line) (λ kind. ¬ (Contains (kind_names kinds) kind))
-Breaks kinds limits before line UnknownObject = IsSomeAnd (called line) (λ call. ¬ (Contains (objects_of before) call.object))
-Breaks kinds limits before line UnknownMethod = IsSomeAnd (called line) (λ call. ¬ (Contains (method_names (methods_of kinds before call.object)) call.method))
-Breaks kinds limits before line WrongCount = IsSomeAnd (called line) (λ call. length call.slots ≢ slots_of kinds before call)
-Breaks kinds limits before line (Limit Events number) = IsTrue (is_event line) × (limits.events ≤ events before) × (number ≡ limits.events)
-Breaks kinds limits before line (Limit Threads number) = IsSome (begun line) × (limits.threads ≤ length (threads_of before)) × (number ≡ limits.threads)
-Breaks kinds limits before line (Limit Objects number) = IsSome (declared line) × (limits.objects ≤ length (objects_of before)) × (number ≡ limits.objects)
-Breaks kinds limits before line (Limit name number) = ⊥
-
--- the number of the part that a cause names. Those of the limits come last, in the order in which they are asked
-abbrev pub part_number : WfCause → ℕ
-part_number HeaderFirst = 1
-part_number LateRoot = 2
-part_number NameTaken = 3
-part_number UnknownThread = 4
-part_number ThreadEnded = 5
-part_number OwnThread = 6
-part_number UnknownKind = 7
-part_number UnknownObject = 8
-part_number UnknownMethod = 9
-part_number WrongCount = 10
-part_number (Limit Events number) = 13
-part_number (Limit Threads number) = 14
-part_number (Limit Locks number) = 15
-part_number (Limit Objects number) = 16
-part_number (Limit name number) = 17
-
--- the line isn't skipped, it breaks the part of the cause, and it breaks no part of a lower number
-pub record FirstBroken (kinds : List Kind) (limits : Limits) (before : List Line) (line : Line) (cause : WfCause) : Type 0 where
+-- the line isn't skipped, it breaks the rule of this cause, and it meets those of the causes in front of it
+pub record IsBrokenFirst (kinds : List Kind) (limits : Limits) (before : List Line) (line : Line) (cause : WfCause) : Type 0 where
   pub counted : line ≢ Skip
-  pub broken : Breaks kinds limits before line cause
-  pub first : (other : WfCause) → part_number other < part_number cause → ¬ (Breaks kinds limits before line other)
+  pub place : ℕ
+  pub listed : slice_get (causes limits) place ≡ Some cause
+  pub broken : ¬ (Rule kinds before line cause)
+  pub others : All (Rule kinds before line) (take place (causes limits))
 
 -- ---- the same by tests, for what has to be computed
 
@@ -254,32 +222,27 @@ abbrev pub passes : {X : Type 0} → Option X → (X → Bool) → Bool
 passes None test = false
 passes (Some x) test = test x
 
--- each cause with the test of its part, in the order of the parts
-abbrev pub tests : List Kind → Limits → List Line → Line → List (Bool × WfCause)
-tests kinds limits before line =
-    (if is_header line then nat_lt 0 (headers before) else headers before == 0, HeaderFirst)
-    ∷ (is_root line && nat_lt 0 (events before), LateRoot)
-    ∷ (passes (begun line) (is_among (threads_of before)) || passes (declared line) (is_among (objects_of before)), NameTaken)
-    ∷ (passes (acting line) (λ name. not (is_among (threads_of before) name)) || passes (joined line) (λ name. not (is_among (threads_of before) name)), UnknownThread)
-    ∷ (passes (acting line) (is_among (joined_of before)), ThreadEnded)
-    ∷ (passes (joined line) (λ name. passes (acting line) (same_name name)), OwnThread)
-    ∷ (passes (kind_of line) (λ kind. not (is_among (kind_names kinds) kind)), UnknownKind)
-    ∷ (passes (called line) (λ call. not (is_among (objects_of before) call.object)), UnknownObject)
-    ∷ (passes (called line) (λ call. not (is_among (method_names (methods_of kinds before call.object)) call.method)), UnknownMethod)
-    ∷ (passes (called line) (λ call. not (length call.slots == slots_of kinds before call)), WrongCount)
-    ∷ (is_event line && nat_le limits.events (events before), Limit Events limits.events)
-    ∷ (is_some (begun line) && nat_le limits.threads (length (threads_of before)), Limit Threads limits.threads)
-    ∷ (is_some (declared line) && nat_le limits.objects (length (objects_of before)), Limit Objects limits.objects)
-    ∷ []
+-- the line breaks the rule of the cause
+abbrev pub is_broken : List Kind → List Line → Line → WfCause → Bool
+is_broken kinds before line HeaderFirst = if is_header line then nat_lt 0 (headers before) else headers before == 0
+is_broken kinds before line LateRoot = is_root line && nat_lt 0 (events before)
+is_broken kinds before line NameTaken = passes (begun line) (is_among (threads_of before)) || passes (declared line) (is_among (objects_of before))
+is_broken kinds before line UnknownThread =
+    passes (acting line) (λ name. not (is_among (threads_of before) name)) || passes (joined line) (λ name. not (is_among (threads_of before) name))
+is_broken kinds before line ThreadEnded = passes (acting line) (is_among (joined_of before))
+is_broken kinds before line OwnThread = passes (joined line) (λ name. passes (acting line) (same_name name))
+is_broken kinds before line UnknownKind = passes (kind_of line) (λ kind. not (is_among (kind_names kinds) kind))
+is_broken kinds before line UnknownObject = passes (called line) (λ call. not (is_among (objects_of before) call.object))
+is_broken kinds before line UnknownMethod = passes (called line) (λ call. not (is_among (method_names (methods_of kinds before call.object)) call.method))
+is_broken kinds before line WrongCount = passes (called line) (λ call. not (length call.slots == slots_of kinds before call))
+is_broken kinds before line (Limit Events most) = is_event line && nat_le most (events before)
+is_broken kinds before line (Limit Threads most) = is_some (begun line) && nat_le most (length (threads_of before))
+is_broken kinds before line (Limit Objects most) = is_some (declared line) && nat_le most (length (objects_of before))
+is_broken kinds before line (Limit name most) = false
 
--- the cause of the first test that holds
-abbrev pub first_true : List (Bool × WfCause) → Option WfCause
-first_true [] = None
-first_true (test ∷ more) = if test.0 then Some test.1 else first_true more
-
--- the cause that names the first part that the line breaks, if it breaks any
+-- the first cause whose rule the line breaks, if it breaks any
 unfoldable pub first_broken : List Kind → Limits → List Line → Line → Option WfCause
-first_broken kinds limits before line = if is_skip line then None else first_true (tests kinds limits before line)
+first_broken kinds limits before line = if is_skip line then None else find (is_broken kinds before line) (causes limits)
 
 -- ---- numbers
 

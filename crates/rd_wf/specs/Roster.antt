@@ -9,11 +9,11 @@ use Rattle.rd_wf.specs.declared.causes.WfCause.{WfCause}
 use Rattle.rd_wf.specs.declared.causes.WfRefused.{WfRefused}
 use Rattle.rd_wf.specs.declared.causes.WfRefused.TheVariants.{Cause, NoMemory}
 use Rattle.rd_wf.specs.declared.roster.Roster.{Roster}
-use Rattle.rd_wf.specs.declared.judge.Declared.{Declared}
+use Rattle.rd_wf.specs.declared.roster.judge.Declared.{Declared}
 use Rattle.rd_wf.specs.declared.methods.Method.{Method as Found}
 use Rattle.rd_wf.specs.declared.methods.Methods.{Methods}
 use Rattle.rd_wf.specs.MayFollow.{threads_of, joined_of, objects_of, headers, events, is_among, kind_number, place, first_broken, accepted_of}
-use Rattle.rd_wf.specs.Kinds.{Kind, Method, kind_names, method_names, register_alone, slots_at}
+use Rattle.rd_wf.specs.Kinds.{Kind, Method, kind_names, method_names, slots_at}
 
 -- how many threads and objects the roster numbers
 abbrev pub thread_count : Roster → ℕ
@@ -48,21 +48,21 @@ FindsMethod methods name found = MatchOption found
     (λ method. (is_among (method_names methods) name ≡ true) × (method.number ≡ place (method_names methods) name) × (method.slots ≡ slots_at methods method.number))
 
 -- the number of a declared object of that name, with that of its kind; nothing where none has the name
-abbrev pub FindsObject : List Line → List ℕ → Option Declared → Type 0
-FindsObject lines name found = MatchOption found
+abbrev pub FindsObject : List Kind → List Line → List ℕ → Option Declared → Type 0
+FindsObject kinds lines name found = MatchOption found
     (is_among (objects_of lines) name ≡ false)
-    (λ object. (is_among (objects_of lines) name ≡ true) × (object.object ≡ place (objects_of lines) name) × (object.kind ≡ kind_number register_alone lines name))
+    (λ object. (is_among (objects_of lines) name ≡ true) × (object.object ≡ place (objects_of lines) name) × (object.kind ≡ kind_number kinds lines name))
 
--- the roster holds what these accepted lines say
-pub record StandsFor (roster : Roster) (lines : List Line) : Type 0 where
-  -- its kinds are the one there is
-  pub kind_entries : map kind_entry roster.kinds.entries ≡ register_alone
+-- the roster holds these kinds, and what these accepted lines say
+pub record StandsFor (kinds : List Kind) (roster : Roster) (lines : List Line) : Type 0 where
+  -- its kinds, each with its methods
+  pub kind_entries : map kind_entry roster.kinds.entries ≡ kinds
   -- whether there is a header, and how many events there are
   pub has_header : roster.header ≡ nat_lt 0 (headers lines)
   pub event_count : roster.events ≡ events lines
   -- the threads in their order, each with whether it is joined, and the objects in theirs, each with its kind
   pub thread_entries : roster.threads.entries ≡ map (thread_entry lines) (threads_of lines)
-  pub object_entries : roster.objects.entries ≡ filter_map (object_entry register_alone) lines
+  pub object_entries : roster.objects.entries ≡ filter_map (object_entry kinds) lines
   -- each joined thread was begun
   pub joined_begun : (name : List ℕ) → Contains (joined_of lines) name → Contains (threads_of lines) name
   -- so the numbers go up to these counts
@@ -71,20 +71,20 @@ pub record StandsFor (roster : Roster) (lines : List Line) : Type 0 where
 
 -- after any lines that the roster stands for, this line may follow, and is this in numbers
 abbrev pub Permits : Roster → Limits → Line → Accepted → Type 0
-Permits roster limits line accepted = (lines : List Line) → StandsFor roster lines →
-    (first_broken register_alone limits lines line ≡ None) × (accepted ≡ accepted_of register_alone lines line)
+Permits roster limits line accepted = (kinds : List Kind) (lines : List Line) → StandsFor kinds roster lines →
+    (first_broken kinds limits lines line ≡ None) × (accepted ≡ accepted_of kinds lines line)
 
 -- after any lines that it stands for, this line may not follow, for this cause
 abbrev pub Forbids : Roster → Limits → Line → WfCause → Type 0
-Forbids roster limits line cause = (lines : List Line) → StandsFor roster lines →
-    first_broken register_alone limits lines line ≡ Some cause
+Forbids roster limits line cause = (kinds : List Kind) (lines : List Line) → StandsFor kinds roster lines →
+    first_broken kinds limits lines line ≡ Some cause
 
 -- the old roster permits the line, and the new one stands for one line more
 abbrev pub Takes : Roster → Roster → Limits → Line → Accepted → Type 0
-Takes old new limits line accepted = (lines : List Line) → StandsFor old lines →
-    (first_broken register_alone limits lines line ≡ None) × (accepted ≡ accepted_of register_alone lines line) × StandsFor new (lines ++ line ∷ [])
+Takes old new limits line accepted = (kinds : List Kind) (lines : List Line) → StandsFor kinds old lines →
+    (first_broken kinds limits lines line ≡ None) × (accepted ≡ accepted_of kinds lines line) × StandsFor kinds new (lines ++ line ∷ [])
 
 -- a refusal by a cause changes nothing, and after want of memory the roster stands for the same lines
 abbrev pub Refuses : Roster → Roster → Limits → Line → WfRefused → Type 0
 Refuses old new limits line (Cause cause) = Forbids old limits line cause × (new ≡ old)
-Refuses old new limits line NoMemory = (lines : List Line) → StandsFor old lines → StandsFor new lines
+Refuses old new limits line NoMemory = (kinds : List Kind) (lines : List Line) → StandsFor kinds old lines → StandsFor kinds new lines

@@ -1,21 +1,19 @@
-//! Which line may follow the accepted lines of a trace.
+//! A roster of the accepted lines of a trace.
 ghost use Rattle.std.specs.Prelude.{◌≡◌, ◌↔◌, ◌<◌, ◌^◌, List, ℕ, MatchOption, length, slice_get, Contains, Some};
 ghost use Rattle.rd_base.specs.declared.limits.Limits.{Limits as LimitsOf};
 ghost use Rattle.rd_event.specs.declared.items.Line.{Line as LineOf};
 ghost use Rattle.rd_hb.specs.EventLists.{InRange, Known, WellFormed, joins};
 ghost use Rattle.rd_wf.specs.Events.{AreAccepted, events_of, roots_of};
 ghost use Rattle.rd_wf.specs.Kinds.{Kind};
-ghost use Rattle.rd_wf.specs.MayFollow.{Follows, FirstBroken, events, first_broken, joined_of, threads_of};
+ghost use Rattle.rd_wf.specs.MayFollow.{IsBrokenFirst, MayFollow, events, first_broken, joined_of, threads_of};
 ghost use Rattle.indexmap.specs.IndexMap.{index_map_len};
 
-mod causes;
 mod judge;
-mod methods;
 
-pub use causes::{Accepted, WfCause, WfRefused};
+use crate::causes::{Accepted, WfCause, WfRefused};
+use crate::methods::Methods;
 use indexmap::IndexMap;
 use judge::Declared;
-use methods::Methods;
 use rd_base::{Limits, Name, NoMemory, Slots};
 use rd_event::{Call, Event, Line, LineEvent};
 use std::alloc::Global;
@@ -41,13 +39,13 @@ impl Roster {
     ghost use Rattle.std.specs.Prelude.{◌≡◌, ◌<◌, List, [], ◌∷◌, ◌++◌, IfOk, IfErr, OnOk, OnErr, length, slice_get};
     ghost use Rattle.rd_base.specs.Limits.{AreUsable};
     ghost use Rattle.rd_event.specs.declared.items.Line.{Line as LineOf};
-    ghost use Rattle.rd_wf.specs.MayFollow.{Follows, FirstBroken, first_broken, accepted_of, threads_of, objects_of, headers, events};
-    ghost use Rattle.rd_wf.specs.Kinds.{register_alone};
+    ghost use Rattle.rd_wf.specs.MayFollow.{IsBrokenFirst, MayFollow, first_broken, accepted_of, threads_of, objects_of, headers, events};
+    ghost use Rattle.rd_wf.specs.Kinds.{Kind, register_alone};
     ghost use Rattle.rd_wf.specs.Roster.{StandsFor, Takes, Refuses, thread_count, object_count};
 
     /// The roster of no lines. Its one kind is `register`, with the number 0.
     pub fn new(alloc: Global) -> Result<Roster, NoMemory>
-        ensures { IfOk result (λ roster. StandsFor roster []) }
+        ensures { IfOk result (λ roster. StandsFor register_alone roster []) }
     {
         let register = Name::from_bytes(b"register").unwrap();
         let methods = Methods::of_register(alloc)?;
@@ -207,22 +205,22 @@ impl Roster {
     /// nothing changes. After want of memory the roster stands for the same lines as before.
     pub fn accept(&mut self, line: &Line, limits: &Limits) -> Result<Accepted, WfRefused>
         requires { AreUsable limits.now }
-        ensures ok { IfOk result (λ accepted. (lines : List LineOf) → StandsFor self.old lines →
-            (first_broken register_alone limits.now lines line.now ≡ None) × (accepted ≡ accepted_of register_alone lines line.now)
-            × StandsFor self.new (lines ++ line.now ∷ [])) }
-        ensures follows { OnOk result ((lines : List LineOf) → StandsFor self.old lines → Follows register_alone limits.now lines line.now) }
-        ensures refused { IfErr result (λ e. (lines : List LineOf) → StandsFor self.old lines → (cause : WfCause) → e ≡ WfRefused.Cause cause →
-            (first_broken register_alone limits.now lines line.now ≡ Some cause) × FirstBroken register_alone limits.now lines line.now cause) }
+        ensures ok { IfOk result (λ accepted. (kinds : List Kind) (lines : List LineOf) → StandsFor kinds self.old lines →
+            (first_broken kinds limits.now lines line.now ≡ None) × (accepted ≡ accepted_of kinds lines line.now)
+            × StandsFor kinds self.new (lines ++ line.now ∷ [])) }
+        ensures follows { OnOk result ((kinds : List Kind) (lines : List LineOf) → StandsFor kinds self.old lines → MayFollow kinds limits.now lines line.now) }
+        ensures refused { IfErr result (λ e. (kinds : List Kind) (lines : List LineOf) → StandsFor kinds self.old lines → (cause : WfCause) → e ≡ WfRefused.Cause cause →
+            (first_broken kinds limits.now lines line.now ≡ Some cause) × IsBrokenFirst kinds limits.now lines line.now cause) }
         ensures same { IfErr result (λ e. (cause : WfCause) → e ≡ WfRefused.Cause cause → self.new ≡ self.old) }
-        ensures err { OnErr result ((lines : List LineOf) → StandsFor self.old lines → StandsFor self.new lines) }
+        ensures err { OnErr result ((kinds : List Kind) (lines : List LineOf) → StandsFor kinds self.old lines → StandsFor kinds self.new lines) }
     {
         self.take(line, limits)
     }
 
     /// Whether the lines may end here: a trace has a header. It takes no memory.
     pub fn finish(&self) -> Result<(), WfCause>
-        ensures ok { OnOk result ((lines : List LineOf) → StandsFor self.now lines → 0 < headers lines) }
-        ensures err { IfErr result (λ e. (e ≡ WfCause.HeaderFirst) × ((lines : List LineOf) → StandsFor self.now lines → headers lines ≡ 0)) }
+        ensures ok { OnOk result ((kinds : List Kind) (lines : List LineOf) → StandsFor kinds self.now lines → 0 < headers lines) }
+        ensures err { IfErr result (λ e. (e ≡ WfCause.HeaderFirst) × ((kinds : List Kind) (lines : List LineOf) → StandsFor kinds self.now lines → headers lines ≡ 0)) }
     {
         if self.header {
             Ok(())
@@ -234,7 +232,7 @@ impl Roster {
     /// The name of the thread with this number, which is below `threads()`. It takes no memory.
     pub fn thread_name(&self, thread: u32) -> &Name
         requires { thread < thread_count self.now }
-        ensures { (lines : List LineOf) → StandsFor self.now lines → slice_get (threads_of lines) thread ≡ Some result.now }
+        ensures { (kinds : List Kind) (lines : List LineOf) → StandsFor kinds self.now lines → slice_get (threads_of lines) thread ≡ Some result.now }
     {
         self.threads.get_index(thread as usize).unwrap().0
     }
@@ -242,7 +240,7 @@ impl Roster {
     /// The name of the object with this number, which is below `objects()`. It takes no memory.
     pub fn object_name(&self, object: u32) -> &Name
         requires { object < object_count self.now }
-        ensures { (lines : List LineOf) → StandsFor self.now lines → slice_get (objects_of lines) object ≡ Some result.now }
+        ensures { (kinds : List Kind) (lines : List LineOf) → StandsFor kinds self.now lines → slice_get (objects_of lines) object ≡ Some result.now }
     {
         self.objects.get_index(object as usize).unwrap().0
     }
@@ -250,7 +248,7 @@ impl Roster {
     /// How many threads were begun. It takes no memory.
     pub fn threads(&self) -> u32
         ensures count { result ≡ thread_count self.now }
-        ensures history { (lines : List LineOf) → StandsFor self.now lines → result ≡ length (threads_of lines) }
+        ensures history { (kinds : List Kind) (lines : List LineOf) → StandsFor kinds self.now lines → result ≡ length (threads_of lines) }
     {
         self.threads.len() as u32
     }
@@ -258,42 +256,15 @@ impl Roster {
     /// How many objects were declared. It takes no memory.
     pub fn objects(&self) -> u32
         ensures count { result ≡ object_count self.now }
-        ensures history { (lines : List LineOf) → StandsFor self.now lines → result ≡ length (objects_of lines) }
+        ensures history { (kinds : List Kind) (lines : List LineOf) → StandsFor kinds self.now lines → result ≡ length (objects_of lines) }
     {
         self.objects.len() as u32
     }
 
     /// How many events were accepted. It takes no memory.
     pub fn events(&self) -> u32
-        ensures { (lines : List LineOf) → StandsFor self.now lines → result ≡ events lines }
+        ensures { (kinds : List Kind) (lines : List LineOf) → StandsFor kinds self.now lines → result ≡ events lines }
     {
         self.events
     }
 }
-
-/// The rules and their test say the same: the test answers nothing exactly where the line may
-/// follow, and else the one cause whose part the line breaks first.
-pub fn law_of_following()
-    ensures test { (kinds : List Kind) (limits : LimitsOf) (before : List LineOf) (line : LineOf) →
-        MatchOption (first_broken kinds limits before line) (Follows kinds limits before line) (FirstBroken kinds limits before line) }
-    ensures apart { (kinds : List Kind) (limits : LimitsOf) (before : List LineOf) (line : LineOf) →
-        Follows kinds limits before line → (cause : WfCause) → ¬ (FirstBroken kinds limits before line cause) }
-    ensures only { (kinds : List Kind) (limits : LimitsOf) (before : List LineOf) (line : LineOf) (cause : WfCause) →
-        FirstBroken kinds limits before line cause → first_broken kinds limits before line ≡ Some cause }
-{}
-
-/// The events of accepted lines are a well-formed list for the threads that no event begins, as many as the lines of
-/// events, and their numbers are in range. Its known threads are those of the lines, and its joined ones those
-/// that the lines join.
-pub fn law_of_events()
-    ensures formed { (kinds : List Kind) (lines : List LineOf) → AreAccepted kinds lines → WellFormed (roots_of lines) (events_of kinds lines) }
-    ensures range { (kinds : List Kind) (lines : List LineOf) → AreAccepted kinds lines → InRange (events_of kinds lines) }
-    ensures count { (kinds : List Kind) (lines : List LineOf) → AreAccepted kinds lines → length (events_of kinds lines) ≡ events lines }
-    ensures known { (kinds : List Kind) (lines : List LineOf) → AreAccepted kinds lines → (t : ℕ) →
-        (Known (roots_of lines) (events_of kinds lines) t ↔ (t < length (threads_of lines))) }
-    ensures ended { (kinds : List Kind) (lines : List LineOf) → AreAccepted kinds lines → (t : ℕ) →
-        ((0 < joins (events_of kinds lines) t) ↔ ((name : List ℕ) × (slice_get (threads_of lines) t ≡ Some name) × Contains (joined_of lines) name)) }
-{}
-
-#[cfg(test)]
-mod tests;

@@ -8,4 +8,5 @@ returns c = record {
   count = λ kinds lines accepted. (accepted_told kinds lines accepted).counted;
   known = λ kinds lines accepted. (accepted_told kinds lines accepted).known;
   ended = λ kinds lines accepted. (accepted_told kinds lines accepted).ended;
+  one_kind = λ kinds lines accepted. (accepted_told kinds lines accepted).one_kind;
 }

@@ -6,8 +6,8 @@ use Rattle.rd_wf.proofs.RosterLemmas.{after_call}
 use Rattle.rd_wf.proofs.roster.Roster.accept_call.Goals as goal
 
 pub returns-in_ok-slots-in-Ok-clause-ok : goal.returns-in_ok-slots-in-Ok-clause-ok
-returns-in_ok-slots-in-Ok-clause-ok c = λ lines stands.
-    let permitted = c.in-Ok.ensures.ok lines stands in
+returns-in_ok-slots-in-Ok-clause-ok c = λ kinds lines stands.
+    let permitted = c.in-Ok.ensures.ok kinds lines stands in
     let numbers = c.in-Ok.numbers in (
       permitted.0,
       (λ i. accepted.Event (numbered.Call (let call : CallOf = record {
@@ -17,5 +17,5 @@ returns-in_ok-slots-in-Ok-clause-ok c = λ lines stands.
         method = numbers.method;
         slots = c.in_ok-slots-in-Ok.ensures i;
       } in call))) ∙ permitted.1,
-      after_call c.args.self.now _ lines stands refl c.args.thread.now c.args.object.now c.args.method.now c.args.slots.now refl refl refl refl,
+      after_call kinds c.args.self.now _ lines stands refl c.args.thread.now c.args.object.now c.args.method.now c.args.slots.now refl refl refl refl,
     )

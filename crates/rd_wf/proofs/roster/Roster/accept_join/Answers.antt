@@ -2,7 +2,6 @@ use Rattle.std.proofs.Common.{◌≡◌, true, refl, ap}
 use Rattle.indexmap.specs.Layout.{set_value_at}
 use Rattle.indexmap.proofs.CallerLemmas.{index_map_len-with_value_at}
 use Rattle.rd_wf.specs.MayFollow.{place, threads_of, accepted_of}
-use Rattle.rd_wf.specs.Kinds.{register_alone}
 use Rattle.rd_wf.proofs.FollowLemmas.{known_child}
 use Rattle.rd_wf.proofs.RosterLemmas.{after_join}
 use Rattle.rd_wf.proofs.roster.Roster.accept_join.Goals as goal
@@ -13,12 +12,12 @@ invariant_of-self-clause-few_threads c =
 
 pub returns-in-Ok-clause-ok : goal.returns-in-Ok-clause-ok
 unfolding accepted_of
-returns-in-Ok-clause-ok c = λ lines stands.
-    let permitted = c.in-Ok.ensures.ok lines stands in
-    let known = known_child register_alone c.args.limits.now lines c.args.thread.now c.args.child.now permitted.0 in
+returns-in-Ok-clause-ok c = λ kinds lines stands.
+    let permitted = c.in-Ok.ensures.ok kinds lines stands in
+    let known = known_child kinds c.args.limits.now lines c.args.thread.now c.args.child.now permitted.0 in
     let number : c.in-Ok.pair.child ≡ place (threads_of lines) c.args.child.now = cc permitted.1 in (
       permitted.0,
       permitted.1,
-      after_join c.args.self.now _ lines stands refl c.args.thread.now c.args.child.now known c.get_index_mut.ensures.unique refl refl
+      after_join kinds c.args.self.now _ lines stands refl c.args.thread.now c.args.child.now known c.get_index_mut.ensures.unique refl refl
           (ap (λ i. set_value_at c.args.self.now.threads.entries i true) number) refl,
     )

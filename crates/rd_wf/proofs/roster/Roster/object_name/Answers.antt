@@ -4,5 +4,5 @@ use Rattle.rd_wf.proofs.RosterLemmas.{object_at}
 use Rattle.rd_wf.proofs.roster.Roster.object_name.Goals as goal
 
 pub returns : goal.returns
-returns c = λ lines stands.
-    object_at c.args.self.now lines stands c.args.object _ (sym c.get_index.ensures.entry ∙ ap (option_map deref_pair) c.unwrap.ensures)
+returns c = λ kinds lines stands.
+    object_at kinds c.args.self.now lines stands c.args.object _ (sym c.get_index.ensures.entry ∙ ap (option_map deref_pair) c.unwrap.ensures)

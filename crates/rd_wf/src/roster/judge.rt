@@ -2,8 +2,8 @@
 ghost use Rattle.std.specs.Prelude.{◌≡◌, ◌+◌, ◌<◌, ◌≤◌, ◌^◌, IfNone, IfSome};
 
 use super::Roster;
-use super::causes::{Accepted, WfCause};
-use super::methods::Method;
+use crate::causes::{Accepted, WfCause};
+use crate::methods::Method;
 use rd_base::{LimitName, Limits, Name, Slots};
 use rd_event::{Call, Event, Line, LineEvent};
 
@@ -52,13 +52,13 @@ fn limit_cause(count: u32, name: LimitName, most: u32) -> Option<WfCause>
 impl Roster {
     ghost use Rattle.std.specs.Prelude.{◌≡◌, ◌<◌, ◌^◌, ◌+◌, List, IfOk, IfErr, OnOk, MatchOption, IfSome, true, false};
     ghost use Rattle.rd_event.specs.declared.items.Line.{Line as LineOf};
-    ghost use Rattle.rd_wf.specs.Kinds.{methods_at, register_alone};
+    ghost use Rattle.rd_wf.specs.Kinds.{Kind, methods_at};
     ghost use Rattle.rd_wf.specs.MayFollow.{threads_of, joined_of, is_among, place};
     ghost use Rattle.rd_wf.specs.Roster.{StandsFor, FindsMethod, FindsObject, Permits, Forbids, thread_count, object_count};
 
     fn known(&self, name: &Name) -> Option<Known>
         ensures within { IfSome result (λ known. known.thread < thread_count self.now) }
-        ensures value { (lines : List LineOf) → StandsFor self.now lines → MatchOption result
+        ensures value { (kinds : List Kind) (lines : List LineOf) → StandsFor kinds self.now lines → MatchOption result
             (is_among (threads_of lines) name.now ≡ false)
             (λ known. (is_among (threads_of lines) name.now ≡ true) × (known.thread ≡ place (threads_of lines) name.now)
             × (known.joined ≡ is_among (joined_of lines) name.now)) }
@@ -71,7 +71,7 @@ impl Roster {
     }
 
     fn declared(&self, name: &Name) -> Option<Declared>
-        ensures { (lines : List LineOf) → StandsFor self.now lines → FindsObject lines name.now result }
+        ensures { (kinds : List Kind) (lines : List LineOf) → StandsFor kinds self.now lines → FindsObject kinds lines name.now result }
     {
         let (object, _, kind) = self.objects.get_full(name)?;
         Some(Declared {
@@ -81,7 +81,7 @@ impl Roster {
     }
 
     fn method(&self, kind: u32, name: &Name) -> Option<Method>
-        ensures { (lines : List LineOf) → StandsFor self.now lines → FindsMethod (methods_at register_alone kind) name.now result }
+        ensures { (kinds : List Kind) (lines : List LineOf) → StandsFor kinds self.now lines → FindsMethod (methods_at kinds kind) name.now result }
     {
         let (_, methods) = self.kinds.get_index(kind as usize)?;
         methods.find(name)

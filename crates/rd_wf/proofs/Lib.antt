@@ -1,0 +1,3 @@
+pub mod EventsLemmas
+pub mod FollowLemmas
+pub mod RosterLemmas

@@ -1,0 +1,36 @@
+//! The laws of the rules: what their definitions say, proved for every list of lines.
+ghost use Rattle.std.specs.Prelude.{◌≡◌, ◌↔◌, ◌<◌, List, ℕ, MatchOption, length, slice_get, Contains, Some};
+ghost use Rattle.rd_base.specs.declared.limits.Limits.{Limits as LimitsOf};
+ghost use Rattle.rd_event.specs.declared.items.Line.{Line as LineOf};
+ghost use Rattle.rd_hb.specs.EventLists.{InRange, Known, WellFormed, calls, joins};
+ghost use Rattle.rd_wf.specs.Events.{AreAccepted, events_of, roots_of};
+ghost use Rattle.rd_wf.specs.Kinds.{Kind};
+ghost use Rattle.rd_wf.specs.MayFollow.{IsBrokenFirst, MayFollow, events, first_broken, joined_of, object_kinds, threads_of};
+
+use crate::causes::WfCause;
+
+/// The rules and their test say the same: the test answers nothing exactly where the line may
+/// follow, and else the one cause whose part the line breaks first.
+pub fn law_of_following()
+    ensures test { (kinds : List Kind) (limits : LimitsOf) (before : List LineOf) (line : LineOf) →
+        MatchOption (first_broken kinds limits before line) (MayFollow kinds limits before line) (IsBrokenFirst kinds limits before line) }
+    ensures apart { (kinds : List Kind) (limits : LimitsOf) (before : List LineOf) (line : LineOf) →
+        MayFollow kinds limits before line → (cause : WfCause) → ¬ (IsBrokenFirst kinds limits before line cause) }
+    ensures only { (kinds : List Kind) (limits : LimitsOf) (before : List LineOf) (line : LineOf) (cause : WfCause) →
+        IsBrokenFirst kinds limits before line cause → first_broken kinds limits before line ≡ Some cause }
+{}
+
+/// The events of accepted lines are a well-formed list for the threads that no event begins, as many as the lines of
+/// events, and their numbers are in range. Its known threads are those of the lines, and its joined ones those
+/// that the lines join. All calls on an object are of the kind that its line declares.
+pub fn law_of_events()
+    ensures formed { (kinds : List Kind) (lines : List LineOf) → AreAccepted kinds lines → WellFormed (roots_of lines) (events_of kinds lines) }
+    ensures range { (kinds : List Kind) (lines : List LineOf) → AreAccepted kinds lines → InRange (events_of kinds lines) }
+    ensures count { (kinds : List Kind) (lines : List LineOf) → AreAccepted kinds lines → length (events_of kinds lines) ≡ events lines }
+    ensures known { (kinds : List Kind) (lines : List LineOf) → AreAccepted kinds lines → (t : ℕ) →
+        (Known (roots_of lines) (events_of kinds lines) t ↔ (t < length (threads_of lines))) }
+    ensures ended { (kinds : List Kind) (lines : List LineOf) → AreAccepted kinds lines → (t : ℕ) →
+        ((0 < joins (events_of kinds lines) t) ↔ ((name : List ℕ) × (slice_get (threads_of lines) t ≡ Some name) × Contains (joined_of lines) name)) }
+    ensures one_kind { (kinds : List Kind) (lines : List LineOf) → AreAccepted kinds lines → (object kind : ℕ) →
+        0 < calls (events_of kinds lines) object kind → slice_get (object_kinds kinds lines) object ≡ Some kind }
+{}

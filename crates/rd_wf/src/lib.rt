@@ -1,0 +1,13 @@
+//! Which line may follow the accepted lines of a trace, and the events of these lines by numbers.
+#![tactic(auto)]
+
+mod causes;
+mod laws;
+mod methods;
+mod roster;
+#[cfg(test)]
+mod tests;
+
+pub use causes::{Accepted, WfCause, WfRefused};
+pub use laws::{law_of_events, law_of_following};
+pub use roster::Roster;
