@@ -8,7 +8,7 @@ use Rattle.rd_event.specs.declared.events.Event.{Event}
 use Rattle.rd_event.specs.declared.events.Event.TheVariants.{Call}
 use Rattle.rd_hb.specs.Clock.{component}
 use Rattle.rd_hb.specs.EventClocks.{OwnNumber}
-use Rattle.rd_hb.specs.Order.{called, Reaches}
+use Rattle.rd_hb.specs.Order.{call_in, Reaches}
 use Rattle.rd_hb.specs.Tracker.{IsStamp}
 use Rattle.rd_hb.specs.declared.clock.Stamp.{Stamp}
 use Rattle.rd_hb.proofs.ClockLemmas.{clock_tells, own_number_longer}
@@ -25,7 +25,7 @@ same_at o a b is_a is_b = ap (λ o. unwrap_or o a) (sym is_a ∙ is_b)
 
 -- one call stands at a place
 same_call : (o : Option Event) (a b : CallOf) → o ≡ Some (Call a) → o ≡ Some (Call b) → a ≡ b
-same_call o a b is_a is_b = ap (λ o. unwrap_or (option_and_then called o) a) (sym is_a ∙ is_b)
+same_call o a b is_a is_b = ap (λ o. unwrap_or (option_and_then call_in o) a) (sym is_a ∙ is_b)
 
 -- what stands in a list with one more is in front, or it is the last
 pub at_more : {X : Type 0} (xs : List X) (y x : X) (k : ℕ) → slice_get (xs ++ y ∷ []) k ≡ Some x

@@ -1,7 +1,7 @@
 -- Counts of the numbers that have P.
 use Rattle.std.proofs.Common.{◌≡◌, ◌↔◌, ◌⊎◌, inl, inr, ℕ, zero, suc, ◌+◌, ◌<◌, ◌≤◌, max, sym, ◌∙◌, ap, subst, refl, arith}
 use Rattle.std.proofs.lemmas.Bool.{cases_lt}
-use Rattle.rd_hb.specs.EventClocks.{Counts}
+use Rattle.rd_hb.specs.Counts.{Counts}
 
 -- ---- one count
 
@@ -153,3 +153,22 @@ pub counts_bound : (P : ℕ → Type 0) (n c : ℕ) → Counts P n c → c ≤ n
 counts_bound P zero c a = omega arith
 counts_bound P (suc n) c (inl x) = let rest : x.1.0 ≤ n = counts_bound P n x.1.0 x.1.2 in omega (arith, x.1.1)
 counts_bound P (suc n) c (inr x) = let rest : c ≤ n = counts_bound P n c x.1 in omega arith
+
+-- nor a number below which all are that have P
+pub counts_below : (P : ℕ → Type 0) (m n c : ℕ) → ((k : ℕ) → P k → k < m) → Counts P n c → c ≤ m
+counts_below P m n c below a = elim (cases_lt n m) [
+  | inl less ↦ omega (arith, less, counts_bound P n c a)
+  | inr most ↦ counts_bound P m c ((counts_cut P m n c most (λ k from to has. absurd (omega (arith, from, below k has)))).0 a)
+]
+
+-- where each number has P all are counted
+pub counts_all : (P : ℕ → Type 0) (n : ℕ) → ((k : ℕ) → k < n → P k) → Counts P n n
+counts_all P zero has = refl
+counts_all P (suc n) has = inl (has n (omega arith), (n, refl, counts_all P n (λ k l. has k (omega arith))))
+
+-- what bounds the counts of Q, where Q can be told, bounds those of what Q has
+pub counts_within : (P Q : ℕ → Type 0) (n c most : ℕ) → ((k : ℕ) → Q k ⊎ ¬ (Q k)) → ((k : ℕ) → P k → Q k)
+    → ((d : ℕ) → Counts Q n d → d ≤ most) → Counts P n c → c ≤ most
+counts_within P Q n c most told up bound a =
+    let d = counted Q told n in
+    omega (arith, counts_le P Q n c d.0 (λ k l. up k) a d.1, bound d.0 d.1)

@@ -4,7 +4,7 @@ use Rattle.std.specs.Prelude.{slice_get}
 use Rattle.std.proofs.lemmas.Bool.{cases_lt}
 use Rattle.std.proofs.lemmas.Option.{slice_get_within, same_Some, none-some}
 use Rattle.rd_event.specs.declared.events.Event.{Event}
-use Rattle.rd_hb.specs.Order.{thread_of, forked, joined, taken, Linked, same_thread, begins, ends, spans, hands_over, Reaches}
+use Rattle.rd_hb.specs.Order.{thread_of, forked_thread, joined_thread, hold_taken, Linked, same_thread, begins, ends, spans, hands_over, Reaches}
 use Rattle.rd_hb.specs.EventClocks.{IsOf}
 use Rattle.rd_hb.specs.Knows.{Carries, Knows}
 use Rattle.rd_hb.proofs.CountsLemmas.{Front}
@@ -26,9 +26,9 @@ carries_shorter es fs t m inside (inl of) = inl (is_of_shorter es fs t m inside 
 carries_shorter es fs t m inside (inr x) = inr (x.0, sym (at_front es fs m inside) ∙ x.1, x.2)
 
 -- whoever carries on from an appended event acts in it or is forked by it
-pub carries_last : (es : List Event) (e : Event) (t : ℕ) → Carries (es ++ e ∷ []) t (length es) → (thread_of e ≡ t) ⊎ (forked e ≡ Some t)
+pub carries_last : (es : List Event) (e : Event) (t : ℕ) → Carries (es ++ e ∷ []) t (length es) → (thread_of e ≡ t) ⊎ (forked_thread e ≡ Some t)
 carries_last es e t (inl of) = inl (ap thread_of (same_Some e of.0 (sym (at_end es e) ∙ of.1)) ∙ of.2)
-carries_last es e t (inr x) = inr (ap forked (same_Some e x.0 (sym (at_end es e) ∙ x.1)) ∙ x.2)
+carries_last es e t (inr x) = inr (ap forked_thread (same_Some e x.0 (sym (at_end es e) ∙ x.1)) ∙ x.2)
 
 -- knowing is to carry on from the place itself or from one that it reaches
 pub known_by : (es : List Event) (t k : ℕ) → Knows es t k → (m : ℕ) × Carries es t m × ((k ≡ m) ⊎ Reaches es k m)
@@ -102,13 +102,13 @@ carried_links es e m (inl of) = (of.0, of.1, same_thread of.2)
 carried_links es e m (inr x) = (x.0, x.1, begins x.2)
 
 -- and, where it joins a thread, to those from which that thread carries on
-pub joined_links : (es : List Event) (e : Event) (w m : ℕ) → joined e ≡ Some w → Carries es w m → LinksTo es e m
+pub joined_links : (es : List Event) (e : Event) (w m : ℕ) → joined_thread e ≡ Some w → Carries es w m → LinksTo es e m
 joined_links es e w m join (inl of) = (of.0, of.1, ends (join ∙ ap Some (sym of.2)))
 joined_links es e w m join (inr x) = (x.0, x.1, spans w x.2 join)
 
 -- where it takes no hold, to no others
-pub links_carry : (es : List Event) (e : Event) (m : ℕ) → taken e ≡ None → LinksTo es e m
-    → Carries es (thread_of e) m ⊎ ((w : ℕ) × (joined e ≡ Some w) × Carries es w m)
+pub links_carry : (es : List Event) (e : Event) (m : ℕ) → hold_taken e ≡ None → LinksTo es e m
+    → Carries es (thread_of e) m ⊎ ((w : ℕ) × (joined_thread e ≡ Some w) × Carries es w m)
 links_carry es e m free (a, at, same_thread same) = inl (inl (a, at, same))
 links_carry es e m free (a, at, begins fork) = inl (inr (a, at, fork))
 links_carry es e m free (a, at, ends join) = inr (thread_of a, join, inl (a, at, refl))
@@ -116,7 +116,7 @@ links_carry es e m free (a, at, spans w fork join) = inr (w, join, inr (a, at, f
 links_carry es e m free (a, at, hands_over h k back taking against) = absurd (none-some k (sym free ∙ taking))
 
 -- an event that joins nothing and takes no hold is reached by what its thread knows
-pub alone_reached : (es : List Event) (e : Event) → joined e ≡ None → taken e ≡ None → (k : ℕ) → Reaches (es ++ e ∷ []) k (length es) ↔ Knows es (thread_of e) k
+pub alone_reached : (es : List Event) (e : Event) → joined_thread e ≡ None → hold_taken e ≡ None → (k : ℕ) → Reaches (es ++ e ∷ []) k (length es) ↔ Knows es (thread_of e) k
 alone_reached es e alone free k = (
   λ r. (let x = reaches_new es e k r in elim (links_carry es e x.0 free x.1) [
     | inl carries ↦ known_from es (thread_of e) k x.0 carries x.2
@@ -126,7 +126,7 @@ alone_reached es e alone free k = (
 )
 
 -- one that joins a thread, and takes no hold, is also reached by what that thread knows
-pub join_reached : (es : List Event) (e : Event) (w : ℕ) → joined e ≡ Some w → taken e ≡ None → (k : ℕ)
+pub join_reached : (es : List Event) (e : Event) (w : ℕ) → joined_thread e ≡ Some w → hold_taken e ≡ None → (k : ℕ)
     → Reaches (es ++ e ∷ []) k (length es) ↔ (Knows es (thread_of e) k ⊎ Knows es w k)
 join_reached es e w join free k = (
   λ r. (let x = reaches_new es e k r in elim (links_carry es e x.0 free x.1) [
@@ -171,7 +171,7 @@ actor_knows es e k = (
 )
 
 -- a forked thread that carried on from nothing knows just the same
-pub child_knows : (es : List Event) (e : Event) (w k : ℕ) → forked e ≡ Some w → ((m : ℕ) → ¬ (Carries es w m))
+pub child_knows : (es : List Event) (e : Event) (w k : ℕ) → forked_thread e ≡ Some w → ((m : ℕ) → ¬ (Carries es w m))
     → ((k ≡ length es) ⊎ Reaches (es ++ e ∷ []) k (length es)) ↔ Knows (es ++ e ∷ []) w k
 child_knows es e w k fork fresh = (
   λ way. known_from (es ++ e ∷ []) w k (length es) (inr (e, at_end es e, fork)) way,
@@ -187,7 +187,7 @@ child_knows es e w k fork fresh = (
 )
 
 -- every other thread carries on from what it did, and knows what it did
-pub other_carries : (es : List Event) (e : Event) (w : ℕ) → w ≢ thread_of e → forked e ≢ Some w → (m : ℕ) → Carries (es ++ e ∷ []) w m → (m < length es) × Carries es w m
+pub other_carries : (es : List Event) (e : Event) (w : ℕ) → w ≢ thread_of e → forked_thread e ≢ Some w → (m : ℕ) → Carries (es ++ e ∷ []) w m → (m < length es) × Carries es w m
 other_carries es e w other unforked m carries =
     let inside : m < length (es ++ e ∷ []) = carries_within (es ++ e ∷ []) w m carries in
     let most : m < suc (length es) = subst (λ n. m < n) (length_more es e) inside in
@@ -198,7 +198,7 @@ other_carries es e w other unforked m carries =
           elim (carries_last es e w (subst (Carries (es ++ e ∷ []) w) last carries)) [ inl acts ↦ absurd (other (sym acts)) | inr fork ↦ absurd (unforked fork) ])
     ]
 
-pub other_knows : (es : List Event) (e : Event) (w : ℕ) → w ≢ thread_of e → forked e ≢ Some w → (k : ℕ) → Knows (es ++ e ∷ []) w k → (k < length es) × Knows es w k
+pub other_knows : (es : List Event) (e : Event) (w : ℕ) → w ≢ thread_of e → forked_thread e ≢ Some w → (k : ℕ) → Knows (es ++ e ∷ []) w k → (k < length es) × Knows es w k
 other_knows es e w other unforked k knows =
     let x = known_by (es ++ e ∷ []) w k knows in
     let carries = other_carries es e w other unforked x.0 x.1 in

@@ -1,6 +1,8 @@
 pub mod ClockLemmas
+pub mod ClockTestLemmas
 pub mod CountsLemmas
 pub mod EventListLemmas
+pub mod ImpliedLemmas
 pub mod KnowsLemmas
 pub mod OrderLemmas
 pub mod PathLemmas

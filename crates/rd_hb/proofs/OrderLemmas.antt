@@ -5,7 +5,7 @@ use Rattle.std.proofs.lemmas.Bool.{cases_lt}
 use Rattle.std.proofs.lemmas.Bool.Decides.{Decides-and, Decides-or, Decides-eqb, Decides-ltb, Decides-like}
 use Rattle.std.proofs.lemmas.Option.{slice_get_within, same_Some, none-some}
 use Rattle.rd_event.specs.declared.events.Event.{Event}
-use Rattle.rd_hb.specs.Order.{thread_of, forked, joined, Hold, exclusive, Against, taken, given, Linked, same_thread, begins, ends, spans, hands_over, Edge, Reaches}
+use Rattle.rd_hb.specs.Order.{thread_of, forked_thread, joined_thread, Hold, exclusive, Against, hold_taken, hold_given, Linked, same_thread, begins, ends, spans, hands_over, Edge, Reaches}
 use Rattle.rd_hb.specs.OrderTests.{is_this, is_same, is_against, is_handed, is_linked, are_linked, is_edge, any_below, reaches_within, reaches}
 use Rattle.rd_hb.proofs.PathLemmas.{leads_joined, leads_in, leads_rises, last_edge, leads_like}
 
@@ -119,9 +119,9 @@ handed_decides (Some h) (Some k) =
 abbrev Link : Event → Event → Type 0
 Link a b =
     (thread_of a ≡ thread_of b)
-    ⊎ ((forked a ≡ Some (thread_of b))
-    ⊎ ((joined b ≡ Some (thread_of a))
-    ⊎ (((u : ℕ) × (forked a ≡ Some u) × (joined b ≡ Some u)) ⊎ Handed (given a) (taken b))))
+    ⊎ ((forked_thread a ≡ Some (thread_of b))
+    ⊎ ((joined_thread b ≡ Some (thread_of a))
+    ⊎ (((u : ℕ) × (forked_thread a ≡ Some u) × (joined_thread b ≡ Some u)) ⊎ Handed (hold_given a) (hold_taken b))))
 
 linked_from : (a b : Event) → Link a b → Linked a b
 linked_from a b (inl same) = same_thread same
@@ -142,9 +142,9 @@ unfolding is_linked
 linked_decides a b =
     Decides-like (is_linked a b) (linked_from a b) (link_from a b)
     (Decides-or _ _ (Decides-eqb (thread_of a) (thread_of b))
-    (Decides-or _ _ (this_decides (forked a) (thread_of b))
-    (Decides-or _ _ (this_decides (joined b) (thread_of a))
-    (Decides-or _ _ (same_decides (forked a) (joined b)) (handed_decides (given a) (taken b))))))
+    (Decides-or _ _ (this_decides (forked_thread a) (thread_of b))
+    (Decides-or _ _ (this_decides (joined_thread b) (thread_of a))
+    (Decides-or _ _ (same_decides (forked_thread a) (joined_thread b)) (handed_decides (hold_given a) (hold_taken b))))))
 
 abbrev AreLinked : Option Event → Option Event → Type 0
 AreLinked o p = (a : Event) × (b : Event) × (o ≡ Some a) × (p ≡ Some b) × Linked a b

@@ -4,13 +4,14 @@ use Rattle.std.specs.Prelude.{if◌then◌else◌}
 use Rattle.std.proofs.lemmas.Bool.{cases_eq, eq-eqb, ne_eqb}
 use Rattle.std.proofs.lemmas.Bool.Decides.{not_from_Decides}
 use Rattle.rd_event.specs.declared.events.Event.{Event}
-use Rattle.rd_hb.specs.Order.{thread_of, forked, joined, taken, Reaches}
-use Rattle.rd_hb.specs.EventClocks.{Counts, IsOf, OwnNumber, IsClock}
+use Rattle.rd_hb.specs.Order.{thread_of, forked_thread, joined_thread, hold_taken, Reaches}
+use Rattle.rd_hb.specs.Counts.{Counts}
+use Rattle.rd_hb.specs.EventClocks.{IsOf, OwnNumber, IsClock}
 use Rattle.rd_hb.specs.Knows.{Carries, Knows, KnownCount}
 use Rattle.rd_hb.specs.Tracker.{met, clock_after, known_after}
 use Rattle.rd_hb.proofs.CountsLemmas.{counts_bound, counts_cut, counts_like, counts_max, counts_more, counts_none, counts_same}
 use Rattle.rd_hb.specs.OrderTests.{is_this}
-use Rattle.rd_hb.specs.EventLists.{Known, MayFollow, WellFormed}
+use Rattle.rd_hb.specs.EventLists.{Known, MayHappen, WellFormed}
 use Rattle.rd_hb.proofs.EventListLemmas.{idle_root_carries_nothing, unknown_carries_nothing}
 use Rattle.rd_hb.proofs.OrderLemmas.{length_more, this_decides}
 use Rattle.rd_hb.proofs.ClockLemmas.{is_of_longer, is_of_shorter}
@@ -77,12 +78,12 @@ new_clock es e K reached u c counts =
     counts
 
 -- an event that joins nothing and takes no hold has at each thread what its own thread knew, and itself
-pub clock_alone : (es : List Event) (e : Event) (f : ℕ → ℕ) → joined e ≡ None → taken e ≡ None → ((u : ℕ) → KnownCount es (thread_of e) u (f u))
+pub clock_alone : (es : List Event) (e : Event) (f : ℕ → ℕ) → joined_thread e ≡ None → hold_taken e ≡ None → ((u : ℕ) → KnownCount es (thread_of e) u (f u))
     → (u : ℕ) → IsClock (es ++ e ∷ []) (length es) u (if u == thread_of e then f u + 1 else f u)
 clock_alone es e f alone free knew u = new_clock es e (Knows es (thread_of e)) (alone_reached es e alone free) u (f u) (knew u)
 
 -- one that joins a thread has the greater of what both threads knew
-pub clock_join : (es : List Event) (e : Event) (w : ℕ) (f g : ℕ → ℕ) → joined e ≡ Some w → taken e ≡ None
+pub clock_join : (es : List Event) (e : Event) (w : ℕ) (f g : ℕ → ℕ) → joined_thread e ≡ Some w → hold_taken e ≡ None
     → ((u : ℕ) → KnownCount es (thread_of e) u (f u)) → ((u : ℕ) → KnownCount es w u (g u))
     → (u : ℕ) → IsClock (es ++ e ∷ []) (length es) u (if u == thread_of e then max (f u) (g u) + 1 else max (f u) (g u))
 clock_join es e w f g join free knew other u =
@@ -111,12 +112,12 @@ pub known_actor : (es : List Event) (e : Event) (u c : ℕ) → IsClock (es ++ e
 known_actor es e u c = known_as_clock es e (thread_of e) u c (actor_knows es e)
 
 -- so does a thread that the event forks, if it carried on from no place
-pub known_child : (es : List Event) (e : Event) (w : ℕ) → forked e ≡ Some w → ((m : ℕ) → ¬ (Carries es w m))
+pub known_child : (es : List Event) (e : Event) (w : ℕ) → forked_thread e ≡ Some w → ((m : ℕ) → ¬ (Carries es w m))
     → (u c : ℕ) → IsClock (es ++ e ∷ []) (length es) u c ↔ KnownCount (es ++ e ∷ []) w u c
 known_child es e w fork fresh u c = known_as_clock es e w u c (λ k. child_knows es e w k fork fresh)
 
 -- every other thread knows what it knew
-pub known_other : (es : List Event) (e : Event) (w : ℕ) → w ≢ thread_of e → forked e ≢ Some w → (u c : ℕ) → KnownCount es w u c ↔ KnownCount (es ++ e ∷ []) w u c
+pub known_other : (es : List Event) (e : Event) (w : ℕ) → w ≢ thread_of e → forked_thread e ≢ Some w → (u c : ℕ) → KnownCount es w u c ↔ KnownCount (es ++ e ∷ []) w u c
 known_other es e w other unforked u c =
     let cut = counts_cut Now (length es) (length (es ++ e ∷ [])) c (omega (arith, length_more es e)) (λ k from to x. let inside = (other_knows es e w other unforked k x.1).0 in absurd (omega (arith, inside))) in (
       λ counts. cut.1 (counts_like Before Now (length es) c (λ k l. (up k, down k l)) counts),
@@ -136,24 +137,24 @@ known_other es e w other unforked u c =
     down k l x = (is_of_shorter es (e ∷ []) u k l x.0, (other_knows es e w other unforked k x.1).1)
 
 -- and carries on from no place if it did from none
-pub still_nothing : (es : List Event) (e : Event) (w : ℕ) → w ≢ thread_of e → forked e ≢ Some w → ((m : ℕ) → ¬ (Carries es w m)) → (m : ℕ) → ¬ (Carries (es ++ e ∷ []) w m)
+pub still_nothing : (es : List Event) (e : Event) (w : ℕ) → w ≢ thread_of e → forked_thread e ≢ Some w → ((m : ℕ) → ¬ (Carries es w m)) → (m : ℕ) → ¬ (Carries (es ++ e ∷ []) w m)
 still_nothing es e w other unforked none m carries = none m (other_carries es e w other unforked m carries).1
 
 -- ---- the steps of a tracker of clocks
 
 -- after an event that joins nothing and takes no hold its thread knows its clock
-pub known_alone : (es : List Event) (e : Event) (f : ℕ → ℕ) → joined e ≡ None → taken e ≡ None → ((u : ℕ) → KnownCount es (thread_of e) u (f u))
+pub known_alone : (es : List Event) (e : Event) (f : ℕ → ℕ) → joined_thread e ≡ None → hold_taken e ≡ None → ((u : ℕ) → KnownCount es (thread_of e) u (f u))
     → (u : ℕ) → KnownCount (es ++ e ∷ []) (thread_of e) u (if u == thread_of e then f u + 1 else f u)
 known_alone es e f alone free knew u = (known_actor es e u (if u == thread_of e then f u + 1 else f u)).0 (clock_alone es e f alone free knew u)
 
 -- after a fork the child knows it too
-pub known_forked : (es : List Event) (e : Event) (w : ℕ) (f : ℕ → ℕ) → forked e ≡ Some w → ((m : ℕ) → ¬ (Carries es w m)) → joined e ≡ None → taken e ≡ None
+pub known_forked : (es : List Event) (e : Event) (w : ℕ) (f : ℕ → ℕ) → forked_thread e ≡ Some w → ((m : ℕ) → ¬ (Carries es w m)) → joined_thread e ≡ None → hold_taken e ≡ None
     → ((u : ℕ) → KnownCount es (thread_of e) u (f u)) → (u : ℕ) → KnownCount (es ++ e ∷ []) w u (if u == thread_of e then f u + 1 else f u)
 known_forked es e w f fork fresh alone free knew u =
     (known_child es e w fork fresh u (if u == thread_of e then f u + 1 else f u)).0 (clock_alone es e f alone free knew u)
 
 -- after a join its thread knows the clock of the join
-pub known_join : (es : List Event) (e : Event) (w : ℕ) (f g : ℕ → ℕ) → joined e ≡ Some w → taken e ≡ None
+pub known_join : (es : List Event) (e : Event) (w : ℕ) (f g : ℕ → ℕ) → joined_thread e ≡ Some w → hold_taken e ≡ None
     → ((u : ℕ) → KnownCount es (thread_of e) u (f u)) → ((u : ℕ) → KnownCount es w u (g u))
     → (u : ℕ) → KnownCount (es ++ e ∷ []) (thread_of e) u (if u == thread_of e then max (f u) (g u) + 1 else max (f u) (g u))
 known_join es e w f g join free knew other u =
@@ -169,27 +170,27 @@ own_number_new es e c knew =
 
 -- ---- all threads at once: f t u is the number of events of u that t knows
 
-clock_met : (es : List Event) (e : Event) (f : ℕ → ℕ → ℕ) → taken e ≡ None → ((t u : ℕ) → KnownCount es t u (f t u)) → (o : Option ℕ) → joined e ≡ o
+clock_met : (es : List Event) (e : Event) (f : ℕ → ℕ → ℕ) → hold_taken e ≡ None → ((t u : ℕ) → KnownCount es t u (f t u)) → (o : Option ℕ) → joined_thread e ≡ o
     → (u : ℕ) → IsClock (es ++ e ∷ []) (length es) u (if u == thread_of e then met (thread_of e) o f u + 1 else met (thread_of e) o f u)
 clock_met es e f free knew None alone = clock_alone es e (f (thread_of e)) alone free (knew (thread_of e))
 clock_met es e f free knew (Some w) join = clock_join es e w (f (thread_of e)) (f w) join free (knew (thread_of e)) (knew w)
 
-pub clock_step : (es : List Event) (e : Event) (f : ℕ → ℕ → ℕ) → taken e ≡ None → ((t u : ℕ) → KnownCount es t u (f t u))
+pub clock_step : (es : List Event) (e : Event) (f : ℕ → ℕ → ℕ) → hold_taken e ≡ None → ((t u : ℕ) → KnownCount es t u (f t u))
     → (u : ℕ) → IsClock (es ++ e ∷ []) (length es) u (clock_after e f u)
-clock_step es e f free knew u = clock_met es e f free knew (joined e) refl u
+clock_step es e f free knew u = clock_met es e f free knew (joined_thread e) refl u
 
-pub known_step : (roots : ℕ → Bool) (es : List Event) (e : Event) (f : ℕ → ℕ → ℕ) → WellFormed roots es → MayFollow roots es e → taken e ≡ None
+pub known_step : (roots : ℕ → Bool) (es : List Event) (e : Event) (f : ℕ → ℕ → ℕ) → WellFormed roots es → MayHappen roots es e → hold_taken e ≡ None
     → ((t u : ℕ) → KnownCount es t u (f t u)) → (t u : ℕ) → KnownCount (es ++ e ∷ []) t u (known_after e f t u)
 known_step roots es e f formed may free knew t u =
     elim (cases_eq t (thread_of e)) [
       | inl own ↦ rw (eq-eqb t (thread_of e) own)
           (subst (λ v. KnownCount (es ++ e ∷ []) v u (clock_after e f u)) (sym own) ((known_actor es e u (clock_after e f u)).0 (clock_step es e f free knew u)))
-      | inr other ↦ rw (ne_eqb t (thread_of e) other) (by (is_this (forked e) t) refl other)
+      | inr other ↦ rw (ne_eqb t (thread_of e) other) (by (is_this (forked_thread e) t) refl other)
     ]
   where
-    by : (b : Bool) → is_this (forked e) t ≡ b → t ≢ thread_of e → KnownCount (es ++ e ∷ []) t u (if b then clock_after e f u else f t u)
+    by : (b : Bool) → is_this (forked_thread e) t ≡ b → t ≢ thread_of e → KnownCount (es ++ e ∷ []) t u (if b then clock_after e f u else f t u)
     by true holds other =
-        let fork = (this_decides (forked e) t).0 holds in
+        let fork = (this_decides (forked_thread e) t).0 holds in
         (known_child es e t fork (unknown_carries_nothing roots es t formed (may.fresh t fork)) u (clock_after e f u)).0 (clock_step es e f free knew u)
     by false fails other =
-        (known_other es e t other (not_from_Decides (is_this (forked e) t) (this_decides (forked e) t) fails) u (f t u)).0 (knew t u)
+        (known_other es e t other (not_from_Decides (is_this (forked_thread e) t) (this_decides (forked_thread e) t) fails) u (f t u)).0 (knew t u)

@@ -12,10 +12,11 @@ use Rattle.rd_event.specs.declared.events.Event.TheVariants.{Fork, Join, Call}
 use Rattle.rd_hb.proofs.OrderLemmas.{at_end}
 use Rattle.rd_hb.proofs.TrackLemmas.{clock_step, known_step, known_bound, known_own, own_number_new}
 use Rattle.rd_hb.specs.EventClocks.{IsClock, IsOf, OwnNumber}
-use Rattle.rd_hb.specs.EventLists.{forks, joins, Known}
+use Rattle.rd_hb.specs.EventLists.{forks, joins, Known, MayHappen, WellFormed}
 use Rattle.rd_hb.specs.Knows.{Knows, KnownCount}
-use Rattle.rd_hb.proofs.CountsLemmas.{counts_le}
-use Rattle.rd_hb.specs.Order.{thread_of, forked, joined, taken}
+use Rattle.rd_hb.proofs.CountsLemmas.{counts_all, counts_le}
+use Rattle.rd_hb.proofs.EventListLemmas.{forks_more, formed_more, known_more}
+use Rattle.rd_hb.specs.Order.{thread_of, forked_thread, joined_thread, hold_taken}
 use Rattle.rd_hb.specs.OrderTests.{is_this}
 use Rattle.rd_hb.specs.declared.clock.Stamp.{Stamp}
 use Rattle.rd_hb.specs.Clock.{component, IsTick}
@@ -87,6 +88,15 @@ keeps_push threads x kept few own room events = record {
     total : length (threads ++ x ∷ []) ≡ length threads + 1
     total = length-append threads (x ∷ [])
 
+-- no thread is known at first
+pub no_threads : StandsFor [] (λ t. false) []
+unfolding forks joins
+no_threads = record {
+  known = λ t. (λ inside. absurd (omega arith), λ known. elim known [ inl root ↦ absurd (cc) | inr begun ↦ absurd (omega (arith, begun)) ]);
+  clocks = λ t u. refl;
+  joined = λ t. (λ marked. absurd (cc), λ some. absurd (omega (arith, some)));
+}
+
 -- ---- a thread is begun
 
 pub begins_push : (old : List Tracked) (thread child : ℕ) (clock : List ℕ) → child ≡ length old → IsTick (tracked old thread).clock clock thread
@@ -109,7 +119,7 @@ pub record Tracks (e : Event) (old new : List Tracked) (stamp : Stamp) : Type 0 
   pub clock : (u : ℕ) → component stamp.clock u ≡ clock_after e (known_to old) u
   pub known : (t u : ℕ) → known_to new t u ≡ known_after e (known_to old) t u
   pub count : length new ≡ threads_after e (length old)
-  pub joined : (t : ℕ) → (tracked new t).joined ≡ ((tracked old t).joined || is_this (joined e) t)
+  pub joined : (t : ℕ) → (tracked new t).joined ≡ ((tracked old t).joined || is_this (joined_thread e) t)
 
 or_false : (b : Bool) → b ≡ (b || false)
 or_false true = refl
@@ -192,7 +202,7 @@ join_tracks thread child old middle new stamp less learnt is = record {
 
 -- ---- what the tracker stands for then
 
-pub stamp_after : (threads new : List Tracked) (es : List Event) (e : Event) (stamp : Stamp) → taken e ≡ None
+pub stamp_after : (threads new : List Tracked) (es : List Event) (e : Event) (stamp : Stamp) → hold_taken e ≡ None
     → ((t u : ℕ) → KnownCount es t u (known_to threads t u)) → Tracks e threads new stamp → IsStamp (es ++ e ∷ []) (length es) stamp
 stamp_after threads new es e stamp free knew is = record {
   thread = λ f at. is.thread ∙ ap (λ o. thread_of (unwrap_or o e)) (sym (at_end es e) ∙ at);
@@ -202,13 +212,9 @@ stamp_after threads new es e stamp free knew is = record {
   clock = λ u. subst (λ n. IsClock (es ++ e ∷ []) (length es) u n) (sym (is.clock u)) (clock_step es e (known_to threads) free knew u);
 }
 
-forks_more : (es : List Event) (e : Event) (t : ℕ) → forks (es ++ e ∷ []) t ≡ forks es t + (if is_this (forked e) t then 1 else 0)
-unfolding forks
-forks_more es e t = sum_by_push (λ x. if is_this (forked x) t then 1 else 0) es e
-
-joins_more : (es : List Event) (e : Event) (t : ℕ) → joins (es ++ e ∷ []) t ≡ joins es t + (if is_this (joined e) t then 1 else 0)
+joins_more : (es : List Event) (e : Event) (t : ℕ) → joins (es ++ e ∷ []) t ≡ joins es t + (if is_this (joined_thread e) t then 1 else 0)
 unfolding joins
-joins_more es e t = sum_by_push (λ x. if is_this (joined x) t then 1 else 0) es e
+joins_more es e t = sum_by_push (λ x. if is_this (joined_thread x) t then 1 else 0) es e
 
 abbrev weight : Bool → ℕ
 weight b = if b then 1 else 0
@@ -221,28 +227,31 @@ joined_more true c n m is more = (λ x. omega (arith, is.0 x, more), λ some. is
 joined_more false true n m is more = (λ x. omega (arith, more), λ some. search)
 joined_more false false n m is more = (λ x. omega (arith, is.0 x, more), λ some. is.1 (omega (arith, some, more)))
 
-pub stands_after : (threads new : List Tracked) (roots : ℕ → Bool) (es : List Event) (e : Event) (stamp : Stamp) → taken e ≡ None
+-- the list is well-formed before the next event, which may follow it
+next_formed : (threads : List Tracked) (roots : ℕ → Bool) (es : List Event) (e : Event) → IsNext threads roots es e → WellFormed roots es
+next_formed threads roots es e next = ((formed_more roots es e).0 next.formed).0
+
+next_follows : (threads : List Tracked) (roots : ℕ → Bool) (es : List Event) (e : Event) → IsNext threads roots es e → MayHappen roots es e
+next_follows threads roots es e next = ((formed_more roots es e).0 next.formed).1
+
+pub stands_after : (threads new : List Tracked) (roots : ℕ → Bool) (es : List Event) (e : Event) (stamp : Stamp) → hold_taken e ≡ None
     → IsNext threads roots es e → Tracks e threads new stamp → StandsFor new roots (es ++ e ∷ [])
 stands_after threads new roots es e stamp free next is = record {
-  known = λ t. (there (forked e) refl t, back (forked e) refl t);
+  known = λ t. (there (forked_thread e) refl t, back (forked_thread e) refl t);
   clocks = λ t u. subst (KnownCount (es ++ e ∷ []) t u) (sym (is.known t u))
-      (known_step roots es e (known_to threads) next.formed next.follows free next.stands.clocks t u);
+      (known_step roots es e (known_to threads) (next_formed threads roots es e next) (next_follows threads roots es e next) free next.stands.clocks t u);
   joined = λ t. subst (λ b. IsTrue b ↔ (0 < joins (es ++ e ∷ []) t)) (sym (is.joined t))
-      (joined_more (tracked threads t).joined (is_this (joined e) t) (joins es t) (joins (es ++ e ∷ []) t) (next.stands.joined t) (joins_more es e t));
+      (joined_more (tracked threads t).joined (is_this (joined_thread e) t) (joins es t) (joins (es ++ e ∷ []) t) (next.stands.joined t) (joins_more es e t));
 }
   where
-    more : (t : ℕ) → Known roots es t → Known roots (es ++ e ∷ []) t
-    more t (inl root) = inl root
-    more t (inr forked_before) = inr (omega (arith, forked_before, forks_more es e t))
-
-    there : (o : Option ℕ) → forked e ≡ o → (t : ℕ) → t < length new → Known roots (es ++ e ∷ []) t
-    there None none t inside = more t ((next.stands.known t).0 (omega (arith, inside, is.count ∙ ap (λ o. weighed o (length threads)) none)))
+    there : (o : Option ℕ) → forked_thread e ≡ o → (t : ℕ) → t < length new → Known roots (es ++ e ∷ []) t
+    there None none t inside = known_more roots es e t ((next.stands.known t).0 (omega (arith, inside, is.count ∙ ap (λ o. weighed o (length threads)) none)))
     there (Some u) some t inside = elim (cases_eq u t) [
       | inl same ↦ inr (omega (arith, forks_more es e t, ap weight (ap (λ o. is_this o t) some ∙ eq-eqb u t same)))
-      | inr other ↦ more t ((next.stands.known t).0 (omega (arith, inside, other, next.numbered u some, is.count ∙ ap (λ o. weighed o (length threads)) some)))
+      | inr other ↦ known_more roots es e t ((next.stands.known t).0 (omega (arith, inside, other, next.numbered u some, is.count ∙ ap (λ o. weighed o (length threads)) some)))
     ]
 
-    back : (o : Option ℕ) → forked e ≡ o → (t : ℕ) → Known roots (es ++ e ∷ []) t → t < length new
+    back : (o : Option ℕ) → forked_thread e ≡ o → (t : ℕ) → Known roots (es ++ e ∷ []) t → t < length new
     back None none t (inl root) = omega (arith, (next.stands.known t).1 (inl root), is.count ∙ ap (λ o. weighed o (length threads)) none)
     back None none t (inr now) = omega (
       arith,
@@ -262,14 +271,29 @@ stands_after threads new roots es e stamp free next is = record {
 -- ---- what a next event may rely on
 
 pub next_inside : (threads : List Tracked) (roots : ℕ → Bool) (es : List Event) (e : Event) → IsNext threads roots es e → thread_of e < length threads
-next_inside threads roots es e next = (next.stands.known (thread_of e)).1 next.follows.known_actor
+next_inside threads roots es e next = (next.stands.known (thread_of e)).1 (next_follows threads roots es e next).known_actor
 
-pub next_joined : (threads : List Tracked) (roots : ℕ → Bool) (es : List Event) (e : Event) (u : ℕ) → IsNext threads roots es e → joined e ≡ Some u → u < length threads
-next_joined threads roots es e u next join = (next.stands.known u).1 (next.follows.known_joined u join)
+pub next_joined : (threads : List Tracked) (roots : ℕ → Bool) (es : List Event) (e : Event) (u : ℕ) → IsNext threads roots es e → joined_thread e ≡ Some u → u < length threads
+next_joined threads roots es e u next join = (next.stands.known u).1 ((next_follows threads roots es e next).known_joined u join)
 
 pub next_below : (threads : List Tracked) (roots : ℕ → Bool) (es : List Event) (e : Event) (t u : ℕ) → IsNext threads roots es e → known_to threads t u < 4294967295
 next_below threads roots es e t u next =
-    omega (arith, known_bound es t u (known_to threads t u) (next.stands.clocks t u), next.range.few_events, length-append es (e ∷ []))
+    omega (arith, known_bound es t u (known_to threads t u) (next.stands.clocks t u), next.formed.bounded.few_events, length-append es (e ∷ []))
+
+-- a forked thread has a number that fits, with one to spare
+pub next_child : (threads : List Tracked) (roots : ℕ → Bool) (es : List Event) (e : Event) (u : ℕ) → IsNext threads roots es e → forked_thread e ≡ Some u → u < 4294967295
+next_child threads roots es e u next fork =
+    omega (
+      arith,
+      next.numbered u fork,
+      next.formed.bounded.few_threads (length threads + 1) (length threads + 1) (counts_all (Known roots (es ++ e ∷ [])) (length threads + 1) each),
+    )
+  where
+    each : (t : ℕ) → t < length threads + 1 → Known roots (es ++ e ∷ []) t
+    each t inside = elim (cases_eq u t) [
+      | inl same ↦ inr (omega (arith, forks_more es e t, ap weight (ap (λ o. is_this o t) fork ∙ eq-eqb u t same)))
+      | inr other ↦ known_more roots es e t ((next.stands.known t).0 (omega (arith, inside, other, next.numbered u fork)))
+    ]
 
 -- no thread knows more events of another than that one had
 pub own_most : (threads : List Tracked) (roots : ℕ → Bool) (es : List Event) (t u : ℕ) → StandsFor threads roots es → known_to threads t u ≤ known_to threads u u
@@ -279,13 +303,13 @@ own_most threads roots es t u stands =
 
 -- ---- the answer
 
-pub ok_stamp : {E : Type 0} (threads new : List Tracked) (e : Event) (result : Result Stamp E) → taken e ≡ None
+pub ok_stamp : {E : Type 0} (threads new : List Tracked) (e : Event) (result : Result Stamp E) → hold_taken e ≡ None
     → IfOk result (λ stamp. (roots : ℕ → Bool) (es : List Event) → IsNext threads roots es e → Tracks e threads new stamp)
     → IfOk result (λ stamp. (roots : ℕ → Bool) (es : List Event) → IsNext threads roots es e → IsStamp (es ++ e ∷ []) (length es) stamp)
 ok_stamp threads new e (Ok stamp) free is = λ roots es next. stamp_after threads new es e stamp free next.stands.clocks (is roots es next)
 ok_stamp threads new e (Err error) free is = tt
 
-pub ok_stands : {E : Type 0} (threads new : List Tracked) (e : Event) (result : Result Stamp E) → taken e ≡ None
+pub ok_stands : {E : Type 0} (threads new : List Tracked) (e : Event) (result : Result Stamp E) → hold_taken e ≡ None
     → IfOk result (λ stamp. (roots : ℕ → Bool) (es : List Event) → IsNext threads roots es e → Tracks e threads new stamp)
     → OnOk result ((roots : ℕ → Bool) (es : List Event) → IsNext threads roots es e → StandsFor new roots (es ++ e ∷ []))
 ok_stands threads new e (Ok stamp) free is = λ roots es next. stands_after threads new roots es e stamp free next (is roots es next)

@@ -1,12 +1,8 @@
 -- Vector clocks: Fidge 1988 and Mattern 1989.
-use Rattle.std.specs.Prelude.{◌≡◌, ◌⊎◌, ℕ, zero, suc, List, length, Some, slice_get}
+use Rattle.std.specs.Prelude.{◌≡◌, ◌⊎◌, ℕ, suc, List, length, Some, slice_get}
 use Rattle.rd_event.specs.declared.events.Event.{Event}
+use Rattle.rd_hb.specs.Counts.{Counts}
 use Rattle.rd_hb.specs.Order.{thread_of, Reaches}
-
--- of the numbers below n, c have P
-abbrev pub Counts : (ℕ → Type 0) → ℕ → ℕ → Type 0
-Counts P zero c = c ≡ 0
-Counts P (suc n) c = (P n × ((m : ℕ) × (c ≡ suc m) × Counts P n m)) ⊎ ((¬ (P n)) × Counts P n c)
 
 -- the event at place i is of thread t
 abbrev pub IsOf : List Event → ℕ → ℕ → Type 0

@@ -1,12 +1,13 @@
 -- What a thread knows after a list of events: what the clock counts that it carries on (Fidge 1988 and Mattern 1989).
 use Rattle.std.specs.Prelude.{◌≡◌, ◌⊎◌, ℕ, List, length, Some, slice_get}
 use Rattle.rd_event.specs.declared.events.Event.{Event}
-use Rattle.rd_hb.specs.Order.{forked, Reaches}
-use Rattle.rd_hb.specs.EventClocks.{Counts, IsOf}
+use Rattle.rd_hb.specs.Order.{forked_thread, Reaches}
+use Rattle.rd_hb.specs.Counts.{Counts}
+use Rattle.rd_hb.specs.EventClocks.{IsOf}
 
 -- thread t carries on from place m: its event is of t, or forks t
 abbrev pub Carries : List Event → ℕ → ℕ → Type 0
-Carries es t m = IsOf es t m ⊎ ((e : Event) × (slice_get es m ≡ Some e) × (forked e ≡ Some t))
+Carries es t m = IsOf es t m ⊎ ((e : Event) × (slice_get es m ≡ Some e) × (forked_thread e ≡ Some t))
 
 -- thread t knows place k: t carries on from k, or from a place that k reaches
 abbrev pub Knows : List Event → ℕ → ℕ → Type 0

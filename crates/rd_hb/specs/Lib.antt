@@ -1,4 +1,6 @@
 pub mod Clock
+pub mod ClockTests
+pub mod Counts
 pub mod EventClocks
 pub mod EventLists
 pub mod Knows

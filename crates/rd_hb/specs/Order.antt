@@ -13,22 +13,22 @@ thread_of (Join thread child) = thread
 thread_of (Call call) = call.thread
 
 -- the thread that it begins
-abbrev pub forked : Event → Option ℕ
-forked (Fork thread child) = Some child
-forked (Join thread child) = None
-forked (Call call) = None
+abbrev pub forked_thread : Event → Option ℕ
+forked_thread (Fork thread child) = Some child
+forked_thread (Join thread child) = None
+forked_thread (Call call) = None
 
 -- the thread for whose end it waits
-abbrev pub joined : Event → Option ℕ
-joined (Fork thread child) = None
-joined (Join thread child) = Some child
-joined (Call call) = None
+abbrev pub joined_thread : Event → Option ℕ
+joined_thread (Fork thread child) = None
+joined_thread (Join thread child) = Some child
+joined_thread (Call call) = None
 
 -- the call that it is
-abbrev pub called : Event → Option CallOf
-called (Fork thread child) = None
-called (Join thread child) = None
-called (Call call) = Some call
+abbrev pub call_in : Event → Option CallOf
+call_in (Fork thread child) = None
+call_in (Join thread child) = None
+call_in (Call call) = Some call
 
 -- what a thread takes, and later gives back: a lock for itself
 pub data Hold : Type 0 where
@@ -39,16 +39,16 @@ abbrev pub Against : Hold → Hold → Type 0
 Against (exclusive lock) (exclusive other) = lock ≡ other
 
 -- the hold that an event takes
-abbrev pub taken : Event → Option Hold
-taken (Fork thread child) = None
-taken (Join thread child) = None
-taken (Call call) = None
+abbrev pub hold_taken : Event → Option Hold
+hold_taken (Fork thread child) = None
+hold_taken (Join thread child) = None
+hold_taken (Call call) = None
 
 -- the hold that it gives back
-abbrev pub given : Event → Option Hold
-given (Fork thread child) = None
-given (Join thread child) = None
-given (Call call) = None
+abbrev pub hold_given : Event → Option Hold
+hold_given (Fork thread child) = None
+hold_given (Join thread child) = None
+hold_given (Call call) = None
 
 -- ---- edges
 
@@ -58,13 +58,13 @@ pub data Linked (a b : Event) : Type 0 where
   -- both are of one thread
   same_thread : thread_of a ≡ thread_of b → Linked a b
   -- a forks the thread of b
-  begins : forked a ≡ Some (thread_of b) → Linked a b
+  begins : forked_thread a ≡ Some (thread_of b) → Linked a b
   -- b joins the thread of a
-  ends : joined b ≡ Some (thread_of a) → Linked a b
+  ends : joined_thread b ≡ Some (thread_of a) → Linked a b
   -- a forks a thread and b joins it
-  spans : (thread : ℕ) → forked a ≡ Some thread → joined b ≡ Some thread → Linked a b
+  spans : (thread : ℕ) → forked_thread a ≡ Some thread → joined_thread b ≡ Some thread → Linked a b
   -- a gives back a hold and b takes one against it
-  hands_over : (hold other : Hold) → given a ≡ Some hold → taken b ≡ Some other → Against hold other
+  hands_over : (hold other : Hold) → hold_given a ≡ Some hold → hold_taken b ≡ Some other → Against hold other
       → Linked a b
 
 -- there is an edge from place i to place j: i is the earlier one, and its event is linked to that at j

@@ -1,7 +1,7 @@
 -- Edges and reaching by tests, for what has to be computed.
 use Rattle.std.specs.Prelude.{ℕ, zero, suc, ◌==◌, nat_lt, Bool, false, ◌&&◌, ◌||◌, List, Option, Some, None, slice_get}
 use Rattle.rd_event.specs.declared.events.Event.{Event}
-use Rattle.rd_hb.specs.Order.{thread_of, forked, joined, Hold, exclusive, taken, given}
+use Rattle.rd_hb.specs.Order.{thread_of, forked_thread, joined_thread, Hold, exclusive, hold_taken, hold_given}
 
 -- the thread is this one
 abbrev pub is_this : Option ℕ → ℕ → Bool
@@ -26,9 +26,9 @@ is_handed _ _ = false
 unfoldable pub is_linked : Event → Event → Bool
 is_linked a b =
     (thread_of a == thread_of b)
-    || (is_this (forked a) (thread_of b)
-    || (is_this (joined b) (thread_of a)
-    || (is_same (forked a) (joined b) || is_handed (given a) (taken b))))
+    || (is_this (forked_thread a) (thread_of b)
+    || (is_this (joined_thread b) (thread_of a)
+    || (is_same (forked_thread a) (joined_thread b) || is_handed (hold_given a) (hold_taken b))))
 
 -- both are events, and linked
 abbrev pub are_linked : Option Event → Option Event → Bool

@@ -4,9 +4,9 @@ use Rattle.rd_event.specs.declared.events.Event.{Event}
 use Rattle.rd_event.specs.declared.events.Event.TheVariants.{Call}
 use Rattle.rd_hb.specs.Clock.{component, IsTick, IsJoin}
 use Rattle.rd_hb.specs.EventClocks.{OwnNumber, IsClock}
-use Rattle.rd_hb.specs.EventLists.{Known, MayFollow, WellFormed, InRange, joins}
+use Rattle.rd_hb.specs.EventLists.{Known, WellFormed, joins}
 use Rattle.rd_hb.specs.Knows.{KnownCount}
-use Rattle.rd_hb.specs.Order.{thread_of, forked, joined}
+use Rattle.rd_hb.specs.Order.{thread_of, forked_thread, joined_thread}
 use Rattle.rd_hb.specs.OrderTests.{is_this}
 use Rattle.rd_hb.specs.declared.clock.Stamp.{Stamp}
 use Rattle.rd_hb.specs.declared.tracker.Tracked.{Tracked}
@@ -20,11 +20,11 @@ met t (Some w) f u = max (f t u) (f w u)
 
 -- the clock of an event, from what the threads know before it
 abbrev pub clock_after : Event → (ℕ → ℕ → ℕ) → ℕ → ℕ
-clock_after e f u = if u == thread_of e then met (thread_of e) (joined e) f u + 1 else met (thread_of e) (joined e) f u
+clock_after e f u = if u == thread_of e then met (thread_of e) (joined_thread e) f u + 1 else met (thread_of e) (joined_thread e) f u
 
 -- what the threads know after it: its own thread and the one that it forks know its clock
 abbrev pub known_after : Event → (ℕ → ℕ → ℕ) → ℕ → ℕ → ℕ
-known_after e f t u = if (t == thread_of e) || is_this (forked e) t then clock_after e f u else f t u
+known_after e f t u = if (t == thread_of e) || is_this (forked_thread e) t then clock_after e f u else f t u
 
 -- ---- the state
 
@@ -62,20 +62,18 @@ pub record StandsFor (threads : List Tracked) (roots : ℕ → Bool) (es : List 
 
 -- how many threads are known after an event
 abbrev pub threads_after : Event → ℕ → ℕ
-threads_after e count = if is_some (forked e) then count + 1 else count
+threads_after e count = if is_some (forked_thread e) then count + 1 else count
 
 -- the bound on the steps of an event, by the number of threads that are known once it is done
 abbrev pub event_bound : Event → ℕ → ℕ
 event_bound (Call call) count = 2 * count
 event_bound _ count = 4 * count
 
--- the event may be the next one, and a forked thread has the next number
+-- with the event the list is well-formed, and a forked thread has the next number
 pub record IsNext (threads : List Tracked) (roots : ℕ → Bool) (es : List Event) (e : Event) : Type 0 where
   pub stands : StandsFor threads roots es
-  pub formed : WellFormed roots es
-  pub follows : MayFollow roots es e
-  pub range : InRange (es ++ e ∷ [])
-  pub numbered : (u : ℕ) → forked e ≡ Some u → u ≡ length threads
+  pub formed : WellFormed roots (es ++ e ∷ [])
+  pub numbered : (u : ℕ) → forked_thread e ≡ Some u → u ≡ length threads
 
 -- where the event at a place of a list stands
 pub record IsStamp (es : List Event) (place : ℕ) (stamp : Stamp) : Type 0 where

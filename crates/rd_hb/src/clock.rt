@@ -100,16 +100,11 @@ impl Clock {
         ensures some_cost { steps.old + length other.now ≤ steps.new }
         ensures cost { steps.new ≤ steps.old + 2 * length other.now }
     {
-        for i in 0..other.components.len() {
+        let theirs = other.components.as_slice();
+        let ours = self.components.as_mut_slice();
+        for i in 0..theirs.len() {
             steps.tick();
-            let theirs = other.components[i];
-            if theirs != 0 {
-                steps.tick();
-                let ours = &mut self.components[i];
-                if *ours < theirs {
-                    *ours = theirs;
-                }
-            }
+            ours[i] = ours[i].max(theirs[i]);
         }
     }
 }

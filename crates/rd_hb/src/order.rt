@@ -1,12 +1,13 @@
 //! The laws of the order of events: what its definitions say, proved for every list of events.
-ghost use Rattle.std.specs.Prelude.{◌≡◌, ◌≢◌, ◌↔◌, ℕ, ◌<◌, ◌≤◌, ◌==◌, Bool, List, [], ◌∷◌, ◌++◌, length, take, Some, IsTrue, slice_get};
+ghost use Rattle.std.specs.Prelude.{◌≡◌, ◌≢◌, ◌↔◌, ℕ, ◌<◌, ◌≤◌, ◌==◌, Bool, true, List, [], ◌∷◌, ◌++◌, length, take, Some, IsTrue, slice_get};
 ghost use Rattle.rd_event.specs.declared.events.Call.{Call as CallOf};
 ghost use Rattle.rd_event.specs.declared.events.Event.{Event};
 ghost use Rattle.rd_event.specs.declared.events.Event.TheVariants.{Fork, Join, Call};
 ghost use Rattle.rd_hb.specs.Order.{Edge, Reaches, Unordered};
 ghost use Rattle.rd_hb.specs.OrderTests.{reaches};
+ghost use Rattle.rd_hb.specs.ClockTests.{clock_at};
 ghost use Rattle.rd_hb.specs.EventClocks.{IsOf, OwnNumber, IsClock};
-ghost use Rattle.rd_hb.specs.EventLists.{MayFollow, WellFormed};
+ghost use Rattle.rd_hb.specs.EventLists.{IsBounded, MayHappen, WellFormed, implied_roots};
 
 /// Reaching is the least transitive relation that holds each edge. It leads to later places alone, a
 /// test tells it, and events that are appended leave it as it is.
@@ -24,22 +25,28 @@ pub fn law_of_reaching()
         (Reaches (es ++ fs) i j ↔ Reaches es i j) }
 {}
 
-/// A list is well-formed exactly where each event may follow the events in front of it. So it is with
-/// one event more exactly where that event may follow the list.
+/// A list is well-formed exactly where each event may follow the events in front of it, and the bounds
+/// hold. So it is with one event more exactly where that event may follow the list, within the bounds.
+/// What is well-formed by some roots is so by those that it implies.
 pub fn law_of_lists()
     ensures places { (roots : ℕ → Bool) (es : List Event) →
-        (WellFormed roots es ↔ ((j : ℕ) (e : Event) → slice_get es j ≡ Some e → MayFollow roots (take j es) e)) }
+        (WellFormed roots es ↔ (((j : ℕ) (e : Event) → slice_get es j ≡ Some e → MayHappen roots (take j es) e)
+        × IsBounded roots es)) }
     ensures growth { (roots : ℕ → Bool) (es : List Event) (e : Event) →
-        (WellFormed roots (es ++ e ∷ []) ↔ (WellFormed roots es × MayFollow roots es e)) }
+        (WellFormed roots (es ++ e ∷ [])
+        ↔ (WellFormed roots es × MayHappen roots es e × IsBounded roots (es ++ e ∷ []))) }
+    ensures implied { (roots : ℕ → Bool) (es : List Event) →
+        WellFormed roots es → WellFormed (implied_roots es) es }
 {}
 
-/// Each place has one clock. The clock of a later place covers the own number of an event exactly where
+/// Each place has one clock, which a test computes. The clock of a later place covers the own number of an event exactly where
 /// the event reaches that place, and the clock at an event's own thread is its own number. Events that
 /// are appended leave clocks and own numbers as they are.
 pub fn law_of_clocks()
     ensures exists { (es : List Event) (j t : ℕ) → (c : ℕ) × IsClock es j t c }
     ensures one { (es : List Event) (j t c d : ℕ) →
         IsClock es j t c → IsClock es j t d → c ≡ d }
+    ensures test { (es : List Event) (j t : ℕ) → IsClock es j t (clock_at es j t) }
     ensures tells { (es : List Event) (i j t o c : ℕ) → i < j → j < length es →
         IsOf es t i → OwnNumber es t i o → IsClock es j t c → ((o ≤ c) ↔ Reaches es i j) }
     ensures own { (es : List Event) (t j c : ℕ) → IsOf es t j →
@@ -66,6 +73,7 @@ pub fn examples_of_order()
     ensures clock_of_a_join_at_the_joined { IsClock (Fork 0 1 ∷ Fork 1 2 ∷ Join 0 1 ∷ []) 2 1 1 }
     ensures clock_of_a_child { IsClock (Fork 0 1 ∷ Fork 1 2 ∷ Join 0 1 ∷ []) 1 0 1 }
     ensures well_formed { WellFormed (λ t. t == 0) (Fork 0 1 ∷ Fork 1 2 ∷ Join 0 1 ∷ Join 0 2 ∷ []) }
+    ensures too_many_roots { ¬ (WellFormed (λ t. true) []) }
     ensures unknown_actor { ¬ (WellFormed (λ t. t == 0) (Fork 1 2 ∷ [])) }
     ensures unknown_joined { ¬ (WellFormed (λ t. t == 0) (Join 0 1 ∷ [])) }
     ensures forked_twice { ¬ (WellFormed (λ t. t == 0) (Fork 0 1 ∷ Fork 0 1 ∷ [])) }

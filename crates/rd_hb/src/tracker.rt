@@ -1,8 +1,8 @@
 //! The clocks of the threads of a trace.
-ghost use Rattle.std.specs.Prelude.{◌≡◌, ◌≢◌, ℕ, ◌+◌, ◌*◌, ◌<◌, ◌≤◌, Bool, ◌==◌, max, ◌||◌, if◌then◌else◌, List, [], ◌∷◌, ◌++◌, length, Some, None, IfOk, OnOk, OnErr};
+ghost use Rattle.std.specs.Prelude.{◌≡◌, ◌≢◌, ℕ, ◌+◌, ◌*◌, ◌<◌, ◌≤◌, Bool, false, ◌==◌, max, ◌||◌, if◌then◌else◌, List, [], ◌∷◌, ◌++◌, length, Some, None, IfOk, OnOk, OnErr};
 ghost use Rattle.rd_event.specs.declared.events.Event.{Event as EventOf};
 ghost use Rattle.rd_event.specs.declared.events.Event.TheVariants as event;
-ghost use Rattle.rd_hb.specs.Order.{thread_of, forked, joined};
+ghost use Rattle.rd_hb.specs.Order.{thread_of, forked_thread, joined_thread};
 ghost use Rattle.rd_hb.specs.Clock.{component, IsJoin, IsTick};
 ghost use Rattle.rd_hb.specs.Tracker.{IsBegun, IsCounted, IsLearnt, IsNext, IsStamp, StandsFor, event_bound, known_to, threads_after, tracked};
 ghost use Rattle.rd_hb.specs.declared.tracker.Tracked.{Tracked as TrackedOf};
@@ -44,7 +44,8 @@ impl Model for Tracker {
 impl Tracker {
     /// A tracker without a thread. It takes no memory.
     pub fn new(alloc: Global) -> Tracker
-        ensures { result ≡ [] }
+        ensures empty { result ≡ [] }
+        ensures stands { StandsFor result (λ t. false) [] }
     {
         Tracker {
             alloc,
@@ -70,7 +71,7 @@ impl Tracker {
         Ok(())
     }
 
-    /// Takes the next event of a well-formed trace, in which a forked thread has the next number, and says where it
+    /// Takes the next event of a well-formed list, in which a forked thread has the next number, and says where it
     /// stands. After want of memory all is as before. It takes at most 2 steps for each thread that is known
     /// once the event is done where it is a call, and 4 where it is another.
     pub fn event<L: Ledger>(

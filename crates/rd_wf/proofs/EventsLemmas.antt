@@ -5,7 +5,7 @@ use Rattle.std.specs.Cmp.Lexicographic.{bytes_decides}
 use Rattle.std.proofs.lemmas.Bool.{cases_eq, cases_lt, eq-eqb, ne_eqb, false_from_ne_true}
 use Rattle.std.proofs.lemmas.Bool.Decides.{Decides-ltb}
 use Rattle.std.proofs.lemmas.List.{append_assoc, append-nil, length-append}
-use Rattle.std.proofs.lemmas.List.Elements.{All-push, filter_map-append, Contains-append_left, Contains-push, Contains-push_cases}
+use Rattle.std.proofs.lemmas.List.Elements.{filter_map-append, Contains-append_left, Contains-push, Contains-push_cases}
 use Rattle.std.proofs.lemmas.List.Folds.{position_or_len_push}
 use Rattle.std.proofs.lemmas.List.Sums.{sum_by_push}
 use Rattle.std.proofs.lemmas.Option.{none-some, same_Some, slice_get_within}
@@ -18,9 +18,9 @@ use Rattle.rd_event.specs.declared.events.Event.TheVariants as numbered
 use Rattle.rd_event.specs.declared.items.Line.{Line}
 use Rattle.rd_event.specs.declared.items.Line.TheVariants.{Skip, Header, Thread, Object, Event}
 use Rattle.rd_event.specs.declared.items.LineEvent.TheVariants.{Fork, Join, Call}
-use Rattle.rd_hb.proofs.EventListLemmas.{formed_more, may_call, may_fork, may_join}
-use Rattle.rd_hb.specs.EventLists.{calls, forks, is_call_on, joins, HasNumbers, InRange, Known, WellFormed, MayFollow as MayCome}
-use Rattle.rd_hb.specs.Order.{called as called_by, forked as begun_by, joined as joined_by}
+use Rattle.rd_hb.proofs.EventListLemmas.{few_known, formed_more, may_call, may_fork, may_join}
+use Rattle.rd_hb.specs.EventLists.{calls, Follow, forks, is_call_on, joins, IsBounded, Known, MayHappen, WellFormed}
+use Rattle.rd_hb.specs.Order.{call_in, forked_thread, joined_thread}
 use Rattle.rd_hb.specs.OrderTests.{is_this}
 use Rattle.rd_wf.proofs.FollowLemmas.{Meets, among_decides, met}
 use Rattle.rd_wf.specs.NoLines.{told_none}
@@ -160,7 +160,7 @@ KnownBelow roots es n = (t : ℕ) → Known roots es t ↔ (t < n)
 known_fork : (roots : ℕ → Bool) (es : List Numbered) (n thread : ℕ) → KnownBelow roots es n → KnownBelow roots (es ++ numbered.Fork thread n ∷ []) (n + 1)
 unfolding forks
 known_fork roots es n thread known t =
-    let more : forks (es ++ numbered.Fork thread n ∷ []) t ≡ forks es t + cond (n == t) 1 0 = sum_by_push (λ e. cond (is_this (begun_by e) t) 1 0) es (numbered.Fork thread n) in (
+    let more : forks (es ++ numbered.Fork thread n ∷ []) t ≡ forks es t + cond (n == t) 1 0 = sum_by_push (λ e. cond (is_this (forked_thread e) t) 1 0) es (numbered.Fork thread n) in (
       λ k. elim k [
         | inl root ↦ (let below : t < n = (known t).0 (inl root) in omega arith)
         | inr some ↦ elim (cases_eq n t) [
@@ -178,42 +178,42 @@ known_fork roots es n thread known t =
     )
 
 -- an event that begins no thread
-known_same : (roots : ℕ → Bool) (es : List Numbered) (n : ℕ) (e : Numbered) → begun_by e ≡ None → KnownBelow roots es n → KnownBelow roots (es ++ e ∷ []) n
+known_same : (roots : ℕ → Bool) (es : List Numbered) (n : ℕ) (e : Numbered) → forked_thread e ≡ None → KnownBelow roots es n → KnownBelow roots (es ++ e ∷ []) n
 unfolding forks
 known_same roots es n e none known t =
-    let more : forks (es ++ e ∷ []) t ≡ forks es t + 0 = sum_by_push (λ e. cond (is_this (begun_by e) t) 1 0) es e ∙ ap (λ o. forks es t + cond (is_this o t) 1 0) none in (
+    let more : forks (es ++ e ∷ []) t ≡ forks es t + 0 = sum_by_push (λ e. cond (is_this (forked_thread e) t) 1 0) es e ∙ ap (λ o. forks es t + cond (is_this o t) 1 0) none in (
       λ k. elim k [ inl root ↦ (known t).0 (inl root) | inr some ↦ (let was : 0 < forks es t = omega arith in (known t).0 (inr was)) ],
       λ below. elim ((known t).1 below) [ inl root ↦ inl root | inr some ↦ inr (omega arith) ],
     )
 
 joins_fork : (es : List Numbered) (thread child t : ℕ) → joins (es ++ numbered.Fork thread child ∷ []) t ≡ joins es t
 unfolding joins
-joins_fork es thread child t = sum_by_push (λ e. cond (is_this (joined_by e) t) 1 0) es (numbered.Fork thread child) ∙ omega arith
+joins_fork es thread child t = sum_by_push (λ e. cond (is_this (joined_thread e) t) 1 0) es (numbered.Fork thread child) ∙ omega arith
 
 joins_join : (es : List Numbered) (thread child t : ℕ) → joins (es ++ numbered.Join thread child ∷ []) t ≡ joins es t + cond (child == t) 1 0
 unfolding joins
-joins_join es thread child t = sum_by_push (λ e. cond (is_this (joined_by e) t) 1 0) es (numbered.Join thread child)
+joins_join es thread child t = sum_by_push (λ e. cond (is_this (joined_thread e) t) 1 0) es (numbered.Join thread child)
 
 joins_call : (es : List Numbered) (call : CallOf) (t : ℕ) → joins (es ++ numbered.Call call ∷ []) t ≡ joins es t
 unfolding joins
-joins_call es call t = sum_by_push (λ e. cond (is_this (joined_by e) t) 1 0) es (numbered.Call call) ∙ omega arith
+joins_call es call t = sum_by_push (λ e. cond (is_this (joined_thread e) t) 1 0) es (numbered.Call call) ∙ omega arith
 
 -- the calls on an object are of the kind that these numbers give it
 abbrev OneKind : List Numbered → List ℕ → Type 0
 OneKind es objects = (object kind : ℕ) → 0 < calls es object kind → slice_get objects object ≡ Some kind
 
-one_kind_same : (es : List Numbered) (objects : List ℕ) (e : Numbered) → called_by e ≡ None → OneKind es objects → OneKind (es ++ e ∷ []) objects
+one_kind_same : (es : List Numbered) (objects : List ℕ) (e : Numbered) → call_in e ≡ None → OneKind es objects → OneKind (es ++ e ∷ []) objects
 unfolding calls
 one_kind_same es objects e none one object kind some =
     let more : calls (es ++ e ∷ []) object kind ≡ calls es object kind + 0 =
-    sum_by_push (λ e. cond (is_call_on (called_by e) object kind) 1 0) es e ∙ ap (λ o. calls es object kind + cond (is_call_on o object kind) 1 0) none in
+    sum_by_push (λ e. cond (is_call_on (call_in e) object kind) 1 0) es e ∙ ap (λ o. calls es object kind + cond (is_call_on o object kind) 1 0) none in
     one object kind (omega arith)
 
 one_kind_call : (es : List Numbered) (objects : List ℕ) (call : CallOf) → slice_get objects call.object ≡ Some call.kind → OneKind es objects → OneKind (es ++ numbered.Call call ∷ []) objects
 unfolding calls
 one_kind_call es objects call at one object kind some =
     let more : calls (es ++ numbered.Call call ∷ []) object kind ≡ calls es object kind + cond ((call.object == object) && (call.kind == kind)) 1 0 =
-    sum_by_push (λ e. cond (is_call_on (called_by e) object kind) 1 0) es (numbered.Call call) in
+    sum_by_push (λ e. cond (is_call_on (call_in e) object kind) 1 0) es (numbered.Call call) in
     elim (cases_eq call.object object) [
       | inl same ↦ elim (cases_eq call.kind kind) [
         | inl of ↦ ap (slice_get objects) (sym same) ∙ at ∙ ap Some of
@@ -238,11 +238,9 @@ no_other_kind es objects call at one kind other = elim (cases_eq (calls es call.
       absurd (other (same_Some kind call.kind (sym (one call.object kind was) ∙ at)))
 ]
 
-range_more : (es : List Numbered) (e : Numbered) → InRange es → HasNumbers e → length es < 4294967294 → InRange (es ++ e ∷ [])
-range_more es e range numbers few = record {
-  few_events = omega (arith, length-append es (e ∷ []));
-  few_threads = All-push HasNumbers es e range.few_threads numbers;
-}
+-- the bounds of a list whose known threads are those below a number
+bounded : (roots : ℕ → Bool) (es : List Numbered) (n : ℕ) → KnownBelow roots es n → n ≤ 4294967295 → length es ≤ 4294967294 → IsBounded roots es
+bounded roots es n known fits few = record { few_events = few; few_threads = few_known roots es n fits known }
 
 module _ (roots : ℕ → Bool) (es : List Numbered) (count : ℕ) (threads joined : List (List ℕ)) (objects : List ℕ) (told : IsTold roots es count threads joined objects) where
   -- a thread with this name is known, and runs where it isn't joined
@@ -266,10 +264,10 @@ module _ (roots : ℕ → Bool) (es : List Numbered) (count : ℕ) (threads join
       let below : place threads thread < length threads = place_below threads thread there in
       let so_many : length es ≡ count = told.counted in
       let more : length (threads ++ child ∷ []) ≡ length threads + 1 = length-append threads (child ∷ []) in
-      let may : MayCome roots es event = may_fork roots es (place threads thread) (length threads)
+      let may : MayHappen roots es event = may_fork roots es (place threads thread) (length threads)
       (λ known. let past : length threads < length threads = (told.known (length threads)).0 known in omega arith) (known_name thread there) (running thread there runs) in record {
-        formed = (formed_more roots es event).1 (told.formed, may);
-        range = range_more es event told.range (record { acting = omega arith; child = room; awaited = tt }) (omega arith);
+        formed = (formed_more roots es event).1 (told.formed, may,
+            bounded roots (es ++ event ∷ []) (length threads + 1) (known_fork roots es (length threads) (place threads thread) told.known) (omega arith) (omega (arith, length-append es (event ∷ []))));
         counted = omega (arith, length-append es (event ∷ []));
         known = λ t. subst (λ n. Known roots (es ++ event ∷ []) t ↔ (t < n)) (sym more) (known_fork roots es (length threads) (place threads thread) told.known t);
         ended = λ t. subst (λ n. (0 < n) ↔ ((name : List ℕ) × (slice_get (threads ++ child ∷ []) t ≡ Some name) × Contains joined name)) (sym (joins_fork es (place threads thread) (length threads) t))
@@ -290,9 +288,9 @@ module _ (roots : ℕ → Bool) (es : List Numbered) (count : ℕ) (threads join
       let room : length threads ≤ 4294967295 = told.few in
       let other : place threads child ≢ place threads thread =
       (λ same. apart (same_Some child thread (sym (place_named threads child awaited) ∙ ap (slice_get threads) same ∙ place_named threads thread there))) in
-      let may : MayCome roots es event = may_join roots es (place threads thread) (place threads child) (known_name child awaited) other (known_name thread there) (running thread there runs) in record {
-        formed = (formed_more roots es event).1 (told.formed, may);
-        range = range_more es event told.range (record { acting = omega arith; child = tt; awaited = omega arith }) (omega arith);
+      let may : MayHappen roots es event = may_join roots es (place threads thread) (place threads child) (known_name child awaited) other (known_name thread there) (running thread there runs) in record {
+        formed = (formed_more roots es event).1 (told.formed, may,
+            bounded roots (es ++ event ∷ []) (length threads) (known_same roots es (length threads) event refl told.known) told.few (omega (arith, length-append es (event ∷ []))));
         counted = omega (arith, length-append es (event ∷ []));
         known = known_same roots es (length threads) event refl told.known;
         ended = marks_more (joins es) (joins (es ++ event ∷ [])) threads joined child told.ended told.places awaited (joins_join es (place threads thread) (place threads child));
@@ -309,10 +307,10 @@ module _ (roots : ℕ → Bool) (es : List Numbered) (count : ℕ) (threads join
       let below : place threads thread < length threads = place_below threads thread there in
       let so_many : length es ≡ count = told.counted in
       let room : length threads ≤ 4294967295 = told.few in
-      let may : MayCome roots es event = may_call roots es call
+      let may : MayHappen roots es event = may_call roots es call
       (subst (Known roots es) (sym acts) (known_name thread there)) (subst (λ t. joins es t ≡ 0) (sym acts) (running thread there runs)) (no_other_kind es objects call at told.one_kind) in record {
-        formed = (formed_more roots es event).1 (told.formed, may);
-        range = range_more es event told.range (record { acting = omega arith; child = tt; awaited = tt }) (omega arith);
+        formed = (formed_more roots es event).1 (told.formed, may,
+            bounded roots (es ++ event ∷ []) (length threads) (known_same roots es (length threads) event refl told.known) told.few (omega (arith, length-append es (event ∷ []))));
         counted = omega (arith, length-append es (event ∷ []));
         known = known_same roots es (length threads) event refl told.known;
         ended = λ t. subst (λ n. (0 < n) ↔ ((name : List ℕ) × (slice_get threads t ≡ Some name) × Contains joined name)) (sym (joins_call es call t)) (told.ended t);
@@ -325,7 +323,6 @@ module _ (roots : ℕ → Bool) (es : List Numbered) (count : ℕ) (threads join
   told_object : (kind : ℕ) → IsTold roots es count threads joined (objects ++ kind ∷ [])
   told_object kind = record {
     formed = told.formed;
-    range = told.range;
     counted = told.counted;
     known = told.known;
     ended = told.ended;
@@ -364,8 +361,10 @@ told_root : (r : ℕ) (es : List Numbered) (count : ℕ) (threads joined : List 
 told_root r es count threads joined objects name none told fresh room =
     let total : r ≡ length threads = root_total es r (length threads) none told.known in
     let more : length (threads ++ name ∷ []) ≡ r + 1 = length-append threads (name ∷ []) ∙ ap (λ n. n + 1) (sym total) in record {
-      formed = subst (WellFormed (λ t. ltb t (r + 1))) (sym none) tt;
-      range = told.range;
+      formed = record {
+        follow = subst (Follow (λ t. ltb t (r + 1)) []) (sym none) tt;
+        bounded = bounded (λ t. ltb t (r + 1)) es (r + 1) (known_roots es (r + 1) none) (omega arith) (omega (arith, ap length none));
+      };
       counted = told.counted;
       known = λ t. subst (λ n. Known (λ u. ltb u (r + 1)) es t ↔ (t < n)) (sym more) (known_roots es (r + 1) none t);
       ended = marks_name (joins es) threads joined name told.ended told.begun fresh;

@@ -6,7 +6,7 @@ use Rattle.rd_base.specs.declared.limits.Limits.{Limits}
 use Rattle.rd_event.specs.declared.items.Line.{Line}
 use Rattle.rd_event.specs.declared.items.Line.TheVariants.{Event}
 use Rattle.rd_event.specs.declared.events.Event.{Event as Numbered}
-use Rattle.rd_hb.specs.EventLists.{InRange, Known, WellFormed, calls, joins}
+use Rattle.rd_hb.specs.EventLists.{Known, WellFormed, calls, joins}
 use Rattle.rd_wf.specs.Kinds.{Kind}
 use Rattle.rd_wf.specs.MayFollow.{MayFollow, events, is_root, joined_of, numbered_event, object_kinds, place, threads_of}
 
@@ -58,7 +58,6 @@ AreAccepted kinds lines = AreAcceptedFrom kinds [] lines
 -- name, by its place; the joined ones are those whose name was joined; and the calls on an object are of its kind
 pub record IsTold (roots : ℕ → Bool) (es : List Numbered) (count : ℕ) (threads joined : List (List ℕ)) (objects : List ℕ) : Type 0 where
   pub formed : WellFormed roots es
-  pub range : InRange es
   pub counted : length es ≡ count
   pub known : (t : ℕ) → Known roots es t ↔ (t < length threads)
   pub ended : (t : ℕ) → (0 < joins es t) ↔ ((name : List ℕ) × (slice_get threads t ≡ Some name) × Contains joined name)

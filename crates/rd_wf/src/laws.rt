@@ -2,7 +2,7 @@
 ghost use Rattle.std.specs.Prelude.{◌≡◌, ◌↔◌, ◌<◌, List, ℕ, MatchOption, length, slice_get, Contains, Some};
 ghost use Rattle.rd_base.specs.declared.limits.Limits.{Limits as LimitsOf};
 ghost use Rattle.rd_event.specs.declared.items.Line.{Line as LineOf};
-ghost use Rattle.rd_hb.specs.EventLists.{InRange, Known, WellFormed, calls, joins};
+ghost use Rattle.rd_hb.specs.EventLists.{Known, WellFormed, calls, joins};
 ghost use Rattle.rd_wf.specs.Events.{AreAccepted, events_of, roots_of};
 ghost use Rattle.rd_wf.specs.Kinds.{Kind};
 ghost use Rattle.rd_wf.specs.MayFollow.{IsBrokenFirst, MayFollow, events, first_broken, joined_of, object_kinds, threads_of};
@@ -21,11 +21,10 @@ pub fn law_of_following()
 {}
 
 /// The events of accepted lines are a well-formed list for the threads that no event begins, as many as the lines of
-/// events, and their numbers are in range. Its known threads are those of the lines, and its joined ones those
+/// events. Its known threads are those of the lines, and its joined ones those
 /// that the lines join. All calls on an object are of the kind that its line declares.
 pub fn law_of_events()
     ensures formed { (kinds : List Kind) (lines : List LineOf) → AreAccepted kinds lines → WellFormed (roots_of lines) (events_of kinds lines) }
-    ensures range { (kinds : List Kind) (lines : List LineOf) → AreAccepted kinds lines → InRange (events_of kinds lines) }
     ensures count { (kinds : List Kind) (lines : List LineOf) → AreAccepted kinds lines → length (events_of kinds lines) ≡ events lines }
     ensures known { (kinds : List Kind) (lines : List LineOf) → AreAccepted kinds lines → (t : ℕ) →
         (Known (roots_of lines) (events_of kinds lines) t ↔ (t < length (threads_of lines))) }

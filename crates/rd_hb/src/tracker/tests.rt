@@ -1,6 +1,6 @@
 ghost use Rattle.std.specs.Prelude.{◌≡◌, ℕ, ◌<◌, Bool, IfOk, [], length};
 ghost use Rattle.rd_hb.specs.Tracker.{StandsFor};
-ghost use Rattle.rd_hb.specs.TestTraces.{call_of, one_root, two_roots, MayTakeAll};
+ghost use Rattle.rd_hb.specs.TestTraces.{sample_call, one_root, two_roots, MayTakeAll};
 
 use super::Tracker;
 use crate::clock::Stamp;
@@ -35,7 +35,7 @@ fn with_two_roots(alloc: Global) -> Result<Tracker, NoMemory>
 
 /// A call of a thread on an object that has the thread's number.
 fn call(alloc: Global, thread: u32) -> Event
-    ensures { result ≡ call_of thread }
+    ensures { result ≡ sample_call thread }
 {
     Event::Call(Call {
         thread,

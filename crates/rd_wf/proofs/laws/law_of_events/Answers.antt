@@ -4,7 +4,6 @@ use Rattle.rd_wf.proofs.laws.law_of_events.Goals as goal
 pub returns : goal.returns
 returns c = record {
   formed = λ kinds lines accepted. (accepted_told kinds lines accepted).formed;
-  range = λ kinds lines accepted. (accepted_told kinds lines accepted).range;
   count = λ kinds lines accepted. (accepted_told kinds lines accepted).counted;
   known = λ kinds lines accepted. (accepted_told kinds lines accepted).known;
   ended = λ kinds lines accepted. (accepted_told kinds lines accepted).ended;

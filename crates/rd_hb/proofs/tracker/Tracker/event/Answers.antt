@@ -1,18 +1,30 @@
-use Rattle.std.proofs.Common.{ℕ, Bool, List, [], ◌∷◌, ◌++◌, length, IfOk, OnOk, refl, sym, ap, subst}
+use Rattle.std.proofs.Common.{◌<◌, ◌≤◌, ◌+◌, ℕ, Bool, List, [], ◌∷◌, ◌++◌, length, IfOk, OnOk, refl, sym, ap, subst, arith}
 use Rattle.rd_event.specs.declared.events.Event.{Event as EventOf}
 use Rattle.rd_event.specs.declared.events.Event.TheVariants as event
-use Rattle.rd_hb.specs.Order.{joined}
-use Rattle.rd_hb.specs.Tracker.{IsNext, IsStamp, StandsFor}
-use Rattle.rd_hb.proofs.TrackerLemmas.{next_below, next_joined, own_most, ok_call, ok_fork, ok_join, ok_stamp, ok_stands}
+use Rattle.rd_hb.specs.Order.{thread_of, forked_thread, joined_thread}
+use Rattle.rd_hb.specs.Tracker.{IsNext, IsStamp, StandsFor, event_bound, threads_after}
+use Rattle.rd_hb.proofs.TrackerLemmas.{next_below, next_child, next_inside, next_joined, own_most, ok_call, ok_fork, ok_join, ok_stamp, ok_stands}
 use Rattle.rd_hb.proofs.tracker.Tracker.event.Goals as goal
+
+pub fork-requires-clause-known : goal.fork-requires-clause-known
+fork-requires-clause-known g c =
+    subst (λ e. thread_of e < length c.args.self.now) c.in-Fork.is (next_inside c.args.self.now c.requires.next.0 c.requires.next.1 c.args.event.now c.requires.next.2)
 
 pub fork-requires-clause-below : goal.fork-requires-clause-below
 fork-requires-clause-below g c =
     next_below c.args.self.now c.requires.next.0 c.requires.next.1 c.args.event.now c.in-Fork.thread c.in-Fork.thread c.requires.next.2
 
+pub fork-requires-clause-range : goal.fork-requires-clause-range
+fork-requires-clause-range g c =
+    next_child c.args.self.now c.requires.next.0 c.requires.next.1 c.args.event.now c.in-Fork.child c.requires.next.2 (ap forked_thread c.in-Fork.is)
+
+pub join-requires-clause-known : goal.join-requires-clause-known
+join-requires-clause-known g c =
+    subst (λ e. thread_of e < length c.args.self.now) c.in-Join.is (next_inside c.args.self.now c.requires.next.0 c.requires.next.1 c.args.event.now c.requires.next.2)
+
 pub join-requires-clause-awaited : goal.join-requires-clause-awaited
 join-requires-clause-awaited g c =
-    next_joined c.args.self.now c.requires.next.0 c.requires.next.1 c.args.event.now c.in-Join.child c.requires.next.2 (ap joined c.in-Join.is)
+    next_joined c.args.self.now c.requires.next.0 c.requires.next.1 c.args.event.now c.in-Join.child c.requires.next.2 (ap joined_thread c.in-Join.is)
 
 pub join-requires-clause-below : goal.join-requires-clause-below
 join-requires-clause-below g c =
@@ -21,6 +33,10 @@ join-requires-clause-below g c =
 pub join-requires-clause-own : goal.join-requires-clause-own
 join-requires-clause-own g c =
     own_most c.args.self.now c.requires.next.0 c.requires.next.1 c.in-Join.child c.in-Join.thread c.requires.next.2.stands
+
+pub alone-requires-clause-known : goal.alone-requires-clause-known
+alone-requires-clause-known g c =
+    subst (λ e. thread_of e < length c.args.self.now) c.in-Call.is (next_inside c.args.self.now c.requires.next.0 c.requires.next.1 c.args.event.now c.requires.next.2)
 
 pub alone-requires-clause-below : goal.alone-requires-clause-below
 alone-requires-clause-below g c =
@@ -67,3 +83,15 @@ returns-in-Call-clause-stands g c =
     (sym c.in-Call.is)
     (ok_stands c.args.self.now c.alone.new.self (event.Call c.in-Call.call) c.alone.result refl
     (ok_call c.args.self.now c.alone.new.self c.in-Call.call c.alone.result c.alone.ensures.ok))
+
+pub returns-in-Join-clause-cost : goal.returns-in-Join-clause-cost
+returns-in-Join-clause-cost g c =
+    let inside = next_inside c.args.self.now c.requires.next.0 c.requires.next.1 c.args.event.now c.requires.next.2 in
+    subst (λ e. c.join.new.steps ≤ c.args.steps.now + event_bound e (threads_after e (length c.args.self.now))) (sym c.in-Join.is)
+    (omega (arith, c.join.ensures.cost, inside))
+
+pub returns-in-Call-clause-cost : goal.returns-in-Call-clause-cost
+returns-in-Call-clause-cost g c =
+    let inside = next_inside c.args.self.now c.requires.next.0 c.requires.next.1 c.args.event.now c.requires.next.2 in
+    subst (λ e. c.alone.new.steps ≤ c.args.steps.now + event_bound e (threads_after e (length c.args.self.now))) (sym c.in-Call.is)
+    (omega (arith, c.alone.ensures.cost, inside))
