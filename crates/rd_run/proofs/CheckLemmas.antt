@@ -31,7 +31,7 @@ use Rattle.rd_detect.specs.Detect.{IsNext as IsNextCall, StandsFor as Detects}
 use Rattle.rd_wf.specs.Events.{AreTold, event_of, events_of, root_count, roots_of}
 use Rattle.rd_run.specs.Follower.{IsNext}
 use Rattle.rd_wf.specs.Kinds.{register_alone}
-use Rattle.rd_wf.specs.MayFollow.{Follows, accepted_of, begun, call_count, events, is_call, is_event, is_root, is_skip, numbered_event, threads_of}
+use Rattle.rd_wf.specs.MayFollow.{Follows, accepted_of, begun_name, call_count, events, is_call, is_event, is_root, is_skip, numbered_event, threads_of}
 use Rattle.rd_run.specs.Output.{entry_events, event_numbers, race_texts, races_of, text_with}
 use Rattle.rd_detect.specs.RaceTests.{latest_of}
 use Rattle.rd_wf.specs.Roster.{StandsFor as StandsForLines, thread_count}
@@ -194,7 +194,7 @@ pub quiet_tracks : (tracker : List Tracked) (before : List Line) (line : Line) (
 unfolding accepted_of
 quiet_tracks tracker before line numbers next quiet = by line refl
   where
-    kept : is_root line ≡ false → begun line ≡ None → event_of register_alone before line ≡ None → Tracks tracker (before ++ line ∷ [])
+    kept : is_root line ≡ false → begun_name line ≡ None → event_of register_alone before line ≡ None → Tracks tracker (before ++ line ∷ [])
     kept root begins event = record {
       told = told_next tracker before line numbers next;
       stands = subst (λ es. StandsFor tracker (roots_of (before ++ line ∷ [])) es) (sym (events_more register_alone before line ∙ ap (λ o. events_of register_alone before ++ cons_option o []) event ∙ append-nil (events_of register_alone before)))
@@ -203,9 +203,9 @@ quiet_tracks tracker before line numbers next quiet = by line refl
     }
 
     by : (l : Line) → line ≡ l → Tracks tracker (before ++ line ∷ [])
-    by Skip is = kept (ap is_root is) (ap begun is) (ap (event_of register_alone before) is)
-    by (Header version) is = kept (ap is_root is) (ap begun is) (ap (event_of register_alone before) is)
-    by (Object name kind) is = kept (ap is_root is) (ap begun is) (ap (event_of register_alone before) is)
+    by Skip is = kept (ap is_root is) (ap begun_name is) (ap (event_of register_alone before) is)
+    by (Header version) is = kept (ap is_root is) (ap begun_name is) (ap (event_of register_alone before) is)
+    by (Object name kind) is = kept (ap is_root is) (ap begun_name is) (ap (event_of register_alone before) is)
     by (Thread name) is =
         let root : numbers ≡ accepted.Root (length (threads_of before)) = next.told_as ∙ ap (accepted_of register_alone before) is in
         elim quiet [ inl nothing ↦ cc | inr object ↦ (let other = object.2 in cc) ]

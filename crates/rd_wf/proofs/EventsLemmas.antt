@@ -26,7 +26,7 @@ use Rattle.rd_wf.proofs.FollowLemmas.{Meets, among_decides, met}
 use Rattle.rd_wf.specs.NoLines.{told_none}
 use Rattle.rd_wf.specs.Events.{AreAccepted, AreAcceptedFrom, AreTold, IsTold, event_of, events_from, events_of, root_count, roots_of}
 use Rattle.rd_wf.specs.Kinds.{Kind, kind_names}
-use Rattle.rd_wf.specs.MayFollow.{MayFollow, begun, declared_kind, events, is_among, is_event, is_root, is_skip, joined, joined_of, kind_number, method_number, object_kinds, objects_of, place, same_name, threads_of}
+use Rattle.rd_wf.specs.MayFollow.{MayFollow, begun_name, declared_kind, events, is_among, is_event, is_root, is_skip, joined_name, joined_of, kind_number, method_number, object_kinds, objects_of, place, same_name, threads_of}
 
 -- ---- places of names
 
@@ -401,11 +401,11 @@ module _ (kinds : List Kind) (lines : List Line) (line : Line) where
   objects_more = filter_map-append (declared_kind kinds) lines (line ∷ [])
 
 module _ (lines : List Line) (line : Line) where
-  pub threads_more : threads_of (lines ++ line ∷ []) ≡ threads_of lines ++ cons_option (begun line) []
-  threads_more = filter_map-append begun lines (line ∷ [])
+  pub threads_more : threads_of (lines ++ line ∷ []) ≡ threads_of lines ++ cons_option (begun_name line) []
+  threads_more = filter_map-append begun_name lines (line ∷ [])
 
-  joined_more : joined_of (lines ++ line ∷ []) ≡ joined_of lines ++ cons_option (joined line) []
-  joined_more = filter_map-append joined lines (line ∷ [])
+  joined_more : joined_of (lines ++ line ∷ []) ≡ joined_of lines ++ cons_option (joined_name line) []
+  joined_more = filter_map-append joined_name lines (line ∷ [])
 
   count_more : events (lines ++ line ∷ []) ≡ events lines + cond (is_event line) 1 0
   count_more = sum_by_push (λ l. cond (is_event l) 1 0) lines line
@@ -424,19 +424,19 @@ module _ (kinds : List Kind) (lines : List Line) (line : Line) where
   told_as r es count threads joined objects a b c d e f told = subst (λ (T : Type 0). T) (λ i. IsTold (λ t. ltb t (sym a i)) (sym b i) (sym c i) (sym d i) (sym e i) (sym f i)) told
 
   -- so it is with a line that begins no thread and is no event, whatever it makes of the objects
-  told_silent : (objects : List ℕ) → is_root line ≡ false → is_event line ≡ false → begun line ≡ None → joined line ≡ None → event_of kinds lines line ≡ None
+  told_silent : (objects : List ℕ) → is_root line ≡ false → is_event line ≡ false → begun_name line ≡ None → joined_name line ≡ None → event_of kinds lines line ≡ None
       → object_kinds kinds (lines ++ line ∷ []) ≡ objects
       → IsTold (roots_of lines) (events_of kinds lines) (events lines) (threads_of lines) (joined_of lines) objects → AreTold kinds (lines ++ line ∷ [])
   told_silent objects root event begins joins numbers declares told = told_as (root_count lines) (events_of kinds lines) (events lines) (threads_of lines) (joined_of lines) objects
       (roots_more lines line ∙ ap (λ b. root_count lines + cond b 1 0) root ∙ omega arith)
       (events_more kinds lines line ∙ no_more (events_of kinds lines) (event_of kinds lines line) numbers)
       (count_more lines line ∙ ap (λ b. events lines + cond b 1 0) event ∙ omega arith)
-      (threads_more lines line ∙ no_more (threads_of lines) (begun line) begins)
-      (joined_more lines line ∙ no_more (joined_of lines) (joined line) joins)
+      (threads_more lines line ∙ no_more (threads_of lines) (begun_name line) begins)
+      (joined_more lines line ∙ no_more (joined_of lines) (joined_name line) joins)
       declares
       told
 
-  told_quiet : is_root line ≡ false → is_event line ≡ false → begun line ≡ None → joined line ≡ None → event_of kinds lines line ≡ None → declared_kind kinds line ≡ None
+  told_quiet : is_root line ≡ false → is_event line ≡ false → begun_name line ≡ None → joined_name line ≡ None → event_of kinds lines line ≡ None → declared_kind kinds line ≡ None
       → AreTold kinds lines → AreTold kinds (lines ++ line ∷ [])
   told_quiet root event begins joins numbers declares told = told_silent (object_kinds kinds lines) root event begins joins numbers
       (objects_more kinds lines line ∙ no_more (object_kinds kinds lines) (declared_kind kinds line) declares) told
@@ -568,16 +568,16 @@ told_more kinds limits lines (Event (Call thread object method slots)) usable (i
 -- the threads stay below the limit
 few_more : (kinds : List Kind) (limits : Limits) (lines : List Line) (line : Line) → limits.threads < 2 ^ 32 → MayFollow kinds limits lines line
     → length (threads_of lines) ≤ 4294967295 → length (threads_of (lines ++ line ∷ [])) ≤ 4294967295
-few_more kinds limits lines line range follows few = by (begun line) refl
+few_more kinds limits lines line range follows few = by (begun_name line) refl
   where
-    by : (o : Option (List ℕ)) → begun line ≡ o → length (threads_of (lines ++ line ∷ [])) ≤ 4294967295
-    by None begins = subst (λ names. length names ≤ 4294967295) (sym (threads_more lines line ∙ no_more (threads_of lines) (begun line) begins)) few
+    by : (o : Option (List ℕ)) → begun_name line ≡ o → length (threads_of (lines ++ line ∷ [])) ≤ 4294967295
+    by None begins = subst (λ names. length names ≤ 4294967295) (sym (threads_more lines line ∙ no_more (threads_of lines) (begun_name line) begins)) few
     by (Some name) begins =
         let more : length (threads_of (lines ++ line ∷ [])) ≡ length (threads_of lines) + 1 =
         ap length (threads_more lines line ∙ ap (λ o. threads_of lines ++ cons_option o []) begins) ∙ length-append (threads_of lines) (name ∷ []) in
         elim follows [
-          | inl skip ↦ absurd (none-some name (sym (ap begun skip) ∙ begins))
-          | inr may ↦ (let below : length (threads_of lines) < limits.threads = (met kinds limits lines line (λ skip. none-some name (sym (ap begun skip) ∙ begins)) (inr may)).few_threads (ap is_some begins) in omega arith)
+          | inl skip ↦ absurd (none-some name (sym (ap begun_name skip) ∙ begins))
+          | inr may ↦ (let below : length (threads_of lines) < limits.threads = (met kinds limits lines line (λ skip. none-some name (sym (ap begun_name skip) ∙ begins)) (inr may)).few_threads (ap is_some begins) in omega arith)
         ]
 
 told_from : (kinds : List Kind) (before lines : List Line) → AreTold kinds before → AreAcceptedFrom kinds before lines → AreTold kinds (before ++ lines)

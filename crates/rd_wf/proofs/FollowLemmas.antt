@@ -15,7 +15,7 @@ use Rattle.rd_event.specs.declared.items.LineEvent.TheVariants.{Fork, Join}
 use Rattle.rd_wf.specs.declared.causes.WfCause.{WfCause}
 use Rattle.rd_wf.specs.declared.causes.WfCause.TheVariants.{HeaderFirst, LateRoot, NameTaken, UnknownThread, ThreadEnded, OwnThread, UnknownKind, UnknownObject, UnknownMethod, WrongCount, Limit}
 use Rattle.rd_wf.specs.Kinds.{Kind, kind_names, method_names}
-use Rattle.rd_wf.specs.MayFollow.{Called, called, methods_of, slots_of, is_skip, is_header, is_root, is_event, begun, acting, joined, declared, kind_of, threads_of, joined_of, objects_of, headers, events, Rule, causes, MayFollow, IsBrokenFirst, same_name, is_among, passes, is_broken, first_broken}
+use Rattle.rd_wf.specs.MayFollow.{SpelledCall, line_call, methods_of, slots_of, is_skip, is_header, is_root, is_event, begun_name, acting_name, joined_name, declared_name, kind_name, threads_of, joined_of, objects_of, headers, events, Rule, causes, MayFollow, IsBrokenFirst, same_name, is_among, passes, is_broken, first_broken}
 
 -- ---- tests of names
 
@@ -121,8 +121,8 @@ is_decides : (o : Option (List ℕ)) (name : List ℕ) → Decides (passes o (sa
 is_decides None name = (λ h. absurd (true≢false (sym h)), λ h. cc)
 is_decides (Some other) name = Decides-like _ (λ e. ap Some (sym e)) (λ e. cc) (bytes_decides name other)
 
-own_decides : (line : Line) → Decides (passes (joined line) (λ name. passes (acting line) (same_name name))) (IsSomeAnd (joined line) (λ name. acting line ≡ Some name))
-own_decides line = passes_decides (joined line) _ _ (is_decides (acting line))
+own_decides : (line : Line) → Decides (passes (joined_name line) (λ name. passes (acting_name line) (same_name name))) (IsSomeAnd (joined_name line) (λ name. acting_name line ≡ Some name))
+own_decides line = passes_decides (joined_name line) _ _ (is_decides (acting_name line))
 
 -- ---- what a failed test says
 
@@ -148,13 +148,13 @@ module _ (names : List (List ℕ)) (o : Option (List ℕ)) where
 -- ---- calls
 
 module _ (kinds : List Kind) (before : List Line) where
-  object_decides : (call : Called) → Decides (not (is_among (objects_of before) call.object)) (¬ (Contains (objects_of before) call.object))
+  object_decides : (call : SpelledCall) → Decides (not (is_among (objects_of before) call.object)) (¬ (Contains (objects_of before) call.object))
   object_decides call = absent_decides (objects_of before) call.object
 
-  method_decides : (call : Called) → Decides (not (is_among (method_names (methods_of kinds before call.object)) call.method)) (¬ (Contains (method_names (methods_of kinds before call.object)) call.method))
+  method_decides : (call : SpelledCall) → Decides (not (is_among (method_names (methods_of kinds before call.object)) call.method)) (¬ (Contains (method_names (methods_of kinds before call.object)) call.method))
   method_decides call = absent_decides (method_names (methods_of kinds before call.object)) call.method
 
-  count_decides : (call : Called) → Decides (not (length call.slots == slots_of kinds before call)) (length call.slots ≢ slots_of kinds before call)
+  count_decides : (call : SpelledCall) → Decides (not (length call.slots == slots_of kinds before call)) (length call.slots ≢ slots_of kinds before call)
   count_decides call = Decides-not _ (Decides-eqb (length call.slots) (slots_of kinds before call))
 
 module _ (kinds : List Kind) (before : List Line) (line : Line) where
@@ -162,17 +162,17 @@ module _ (kinds : List Kind) (before : List Line) (line : Line) where
   rule_holds : (cause : WfCause) → is_broken kinds before line cause ≡ false → Rule kinds before line cause
   rule_holds HeaderFirst h = header_first_from (is_header line) (headers before) h
   rule_holds LateRoot h = none_before (is_root line) (events before) h
-  rule_holds NameTaken h = let taken = or_parts _ _ h in (none_among (threads_of before) (begun line) taken.0, none_among (objects_of before) (declared line) taken.1)
-  rule_holds UnknownThread h = let unknown = or_parts _ _ h in (is_contained (threads_of before) (acting line) unknown.0, is_contained (threads_of before) (joined line) unknown.1)
-  rule_holds ThreadEnded h = none_among (joined_of before) (acting line) h
-  rule_holds OwnThread h = none_passes (joined line) _ _ (λ name e. not_from_Decides _ (is_decides (acting line) name) e) h
-  rule_holds UnknownKind h = is_contained (kind_names kinds) (kind_of line) h
-  rule_holds UnknownObject h = none_passes (called line) _ _ (λ call e. (among_decides (objects_of before) call.object).0 (not-false _ e)) h
-  rule_holds UnknownMethod h = none_passes (called line) _ _ (λ call e. (among_decides (method_names (methods_of kinds before call.object)) call.method).0 (not-false _ e)) h
-  rule_holds WrongCount h = none_passes (called line) _ _ (λ call e. (Decides-eqb (length call.slots) (slots_of kinds before call)).0 (not-false _ e)) h
+  rule_holds NameTaken h = let taken = or_parts _ _ h in (none_among (threads_of before) (begun_name line) taken.0, none_among (objects_of before) (declared_name line) taken.1)
+  rule_holds UnknownThread h = let unknown = or_parts _ _ h in (is_contained (threads_of before) (acting_name line) unknown.0, is_contained (threads_of before) (joined_name line) unknown.1)
+  rule_holds ThreadEnded h = none_among (joined_of before) (acting_name line) h
+  rule_holds OwnThread h = none_passes (joined_name line) _ _ (λ name e. not_from_Decides _ (is_decides (acting_name line) name) e) h
+  rule_holds UnknownKind h = is_contained (kind_names kinds) (kind_name line) h
+  rule_holds UnknownObject h = none_passes (line_call line) _ _ (λ call e. (among_decides (objects_of before) call.object).0 (not-false _ e)) h
+  rule_holds UnknownMethod h = none_passes (line_call line) _ _ (λ call e. (among_decides (method_names (methods_of kinds before call.object)) call.method).0 (not-false _ e)) h
+  rule_holds WrongCount h = none_passes (line_call line) _ _ (λ call e. (Decides-eqb (length call.slots) (slots_of kinds before call)).0 (not-false _ e)) h
   rule_holds (Limit Events most) h = below_limit (is_event line) most (events before) h
-  rule_holds (Limit Threads most) h = below_limit (is_some (begun line)) most (length (threads_of before)) h
-  rule_holds (Limit Objects most) h = below_limit (is_some (declared line)) most (length (objects_of before)) h
+  rule_holds (Limit Threads most) h = below_limit (is_some (begun_name line)) most (length (threads_of before)) h
+  rule_holds (Limit Objects most) h = below_limit (is_some (declared_name line)) most (length (objects_of before)) h
   rule_holds (Limit name most) h = tt
 
   -- and where it passes, the line breaks it
@@ -182,29 +182,29 @@ module _ (kinds : List Kind) (before : List Line) (line : Line) where
       let both = (Decides-and _ _ (true_decides (is_root line)) (Decides-ltb 0 (events before))).0 h in
       let none : events before ≡ 0 = rule both.0 in let some : 0 < events before = both.1 in omega arith
   rule_fails NameTaken h rule =
-      elim ((Decides-or _ _ (passes_decides (begun line) _ _ (among_decides (threads_of before))) (passes_decides (declared line) _ _ (among_decides (objects_of before)))).0 h) [
-        | inl thread ↦ if_some_not (begun line) _ _ (λ name h. h) rule.0 thread
-        | inr object ↦ if_some_not (declared line) _ _ (λ name h. h) rule.1 object
+      elim ((Decides-or _ _ (passes_decides (begun_name line) _ _ (among_decides (threads_of before))) (passes_decides (declared_name line) _ _ (among_decides (objects_of before)))).0 h) [
+        | inl thread ↦ if_some_not (begun_name line) _ _ (λ name h. h) rule.0 thread
+        | inr object ↦ if_some_not (declared_name line) _ _ (λ name h. h) rule.1 object
       ]
   rule_fails UnknownThread h rule =
-      elim ((Decides-or _ _ (passes_decides (acting line) _ _ (absent_decides (threads_of before))) (passes_decides (joined line) _ _ (absent_decides (threads_of before)))).0 h) [
-        | inl thread ↦ if_some_not (acting line) _ _ (λ name there lacks. lacks there) rule.0 thread
-        | inr thread ↦ if_some_not (joined line) _ _ (λ name there lacks. lacks there) rule.1 thread
+      elim ((Decides-or _ _ (passes_decides (acting_name line) _ _ (absent_decides (threads_of before))) (passes_decides (joined_name line) _ _ (absent_decides (threads_of before)))).0 h) [
+        | inl thread ↦ if_some_not (acting_name line) _ _ (λ name there lacks. lacks there) rule.0 thread
+        | inr thread ↦ if_some_not (joined_name line) _ _ (λ name there lacks. lacks there) rule.1 thread
       ]
-  rule_fails ThreadEnded h rule = if_some_not (acting line) _ _ (λ name h. h) rule ((passes_decides (acting line) _ _ (among_decides (joined_of before))).0 h)
-  rule_fails OwnThread h rule = if_some_not (joined line) _ _ (λ name h. h) rule ((own_decides line).0 h)
-  rule_fails UnknownKind h rule = if_some_not (kind_of line) _ _ (λ name there lacks. lacks there) rule ((passes_decides (kind_of line) _ _ (absent_decides (kind_names kinds))).0 h)
-  rule_fails UnknownObject h rule = if_some_not (called line) _ _ (λ call there lacks. lacks there) rule ((passes_decides (called line) _ _ (object_decides kinds before)).0 h)
-  rule_fails UnknownMethod h rule = if_some_not (called line) _ _ (λ call there lacks. lacks there) rule ((passes_decides (called line) _ _ (method_decides kinds before)).0 h)
-  rule_fails WrongCount h rule = if_some_not (called line) _ _ (λ call same other. other same) rule ((passes_decides (called line) _ _ (count_decides kinds before)).0 h)
+  rule_fails ThreadEnded h rule = if_some_not (acting_name line) _ _ (λ name h. h) rule ((passes_decides (acting_name line) _ _ (among_decides (joined_of before))).0 h)
+  rule_fails OwnThread h rule = if_some_not (joined_name line) _ _ (λ name h. h) rule ((own_decides line).0 h)
+  rule_fails UnknownKind h rule = if_some_not (kind_name line) _ _ (λ name there lacks. lacks there) rule ((passes_decides (kind_name line) _ _ (absent_decides (kind_names kinds))).0 h)
+  rule_fails UnknownObject h rule = if_some_not (line_call line) _ _ (λ call there lacks. lacks there) rule ((passes_decides (line_call line) _ _ (object_decides kinds before)).0 h)
+  rule_fails UnknownMethod h rule = if_some_not (line_call line) _ _ (λ call there lacks. lacks there) rule ((passes_decides (line_call line) _ _ (method_decides kinds before)).0 h)
+  rule_fails WrongCount h rule = if_some_not (line_call line) _ _ (λ call same other. other same) rule ((passes_decides (line_call line) _ _ (count_decides kinds before)).0 h)
   rule_fails (Limit Events most) h rule =
       let both = (limit_decides (is_event line) most (events before)).0 h in
       let few : events before < most = rule both.0 in let many : most ≤ events before = both.1 in omega arith
   rule_fails (Limit Threads most) h rule =
-      let both = (limit_decides (is_some (begun line)) most (length (threads_of before))).0 h in
+      let both = (limit_decides (is_some (begun_name line)) most (length (threads_of before))).0 h in
       let few : length (threads_of before) < most = rule both.0 in let many : most ≤ length (threads_of before) = both.1 in omega arith
   rule_fails (Limit Objects most) h rule =
-      let both = (limit_decides (is_some (declared line)) most (length (objects_of before))).0 h in
+      let both = (limit_decides (is_some (declared_name line)) most (length (objects_of before))).0 h in
       let few : length (objects_of before) < most = rule both.0 in let many : most ≤ length (objects_of before) = both.1 in omega arith
   rule_fails (Limit name most) h rule = true≢false (sym h)
 
@@ -267,15 +267,15 @@ module _ (kinds : List Kind) (limits : Limits) (before : List Line) (line : Line
 -- what a line that isn't skipped and may follow meets, rule by rule
 pub record Meets (kinds : List Kind) (limits : Limits) (before : List Line) (line : Line) : Type 0 where
   pub early_root : IsTrue (is_root line) → events before ≡ 0
-  pub new_thread : IfSome (begun line) (λ name. ¬ (Contains (threads_of before) name))
-  pub new_object : IfSome (declared line) (λ name. ¬ (Contains (objects_of before) name))
-  pub known_actor : IfSome (acting line) (Contains (threads_of before))
-  pub known_joined : IfSome (joined line) (Contains (threads_of before))
-  pub running : IfSome (acting line) (λ name. ¬ (Contains (joined_of before) name))
-  pub other_joined : IfSome (joined line) (λ name. acting line ≢ Some name)
-  pub known_object : IfSome (called line) (λ call. Contains (objects_of before) call.object)
+  pub new_thread : IfSome (begun_name line) (λ name. ¬ (Contains (threads_of before) name))
+  pub new_object : IfSome (declared_name line) (λ name. ¬ (Contains (objects_of before) name))
+  pub known_actor : IfSome (acting_name line) (Contains (threads_of before))
+  pub known_joined : IfSome (joined_name line) (Contains (threads_of before))
+  pub running : IfSome (acting_name line) (λ name. ¬ (Contains (joined_of before) name))
+  pub other_joined : IfSome (joined_name line) (λ name. acting_name line ≢ Some name)
+  pub known_object : IfSome (line_call line) (λ call. Contains (objects_of before) call.object)
   pub few_events : IsTrue (is_event line) → events before < limits.events
-  pub few_threads : IsSome (begun line) → length (threads_of before) < limits.threads
+  pub few_threads : IsSome (begun_name line) → length (threads_of before) < limits.threads
 
 pub met : (kinds : List Kind) (limits : Limits) (before : List Line) (line : Line) → line ≢ Skip → MayFollow kinds limits before line → Meets kinds limits before line
 met kinds limits before line counted follows =

@@ -1,5 +1,5 @@
 -- What a roster tells of the accepted lines that it stands for.
-use Rattle.std.proofs.Common.{◌≡◌, inl, inr, ℕ, zero, suc, ◌+◌, Bool, true, false, not, cond, ◌==◌, ◌||◌, ltb, leb, List, [], ◌∷◌, ◌++◌, map, Option, Some, None, is_some, Result, Ok, Err, IfOk, IfErr, OnOk, Contains, filter_map, length, position, slice_get, option_map, unwrap_or, if◌then◌else◌, nat_lt, nat_le, refl, sym, ap, subst, ◌∙◌, arith, add-zero, true≢false}
+use Rattle.std.proofs.Common.{◌≡◌, inl, inr, ℕ, zero, suc, ◌+◌, Bool, true, false, not, cond, ◌==◌, ◌||◌, ltb, leb, List, [], ◌∷◌, ◌++◌, map, Option, Some, None, is_some, Result, Ok, Err, IfOk, IfErr, OnOk, OnErr, IsTrue, Contains, filter_map, length, position, slice_get, option_map, unwrap_or, if◌then◌else◌, nat_lt, nat_le, refl, sym, ap, subst, ◌∙◌, arith, add-zero, true≢false}
 use Rattle.std.specs.List.{list_any, position_or_len, IsDistinct, AllByRecursion}
 use Rattle.std.proofs.lemmas.Map.Keys.{IsDistinct-head, IsDistinct-tail}
 use Rattle.std.specs.Map.{lookup, keys_of}
@@ -24,12 +24,12 @@ use Rattle.rd_event.specs.declared.items.LineEvent.TheVariants.{Fork, Join, Call
 use Rattle.rd_wf.specs.declared.causes.WfCause.{WfCause}
 use Rattle.rd_wf.specs.declared.causes.WfCause.TheVariants.{HeaderFirst, LateRoot, NameTaken, UnknownThread, ThreadEnded, OwnThread, UnknownKind, UnknownObject, UnknownMethod, WrongCount, Limit}
 use Rattle.rd_wf.specs.declared.causes.WfRefused.{WfRefused}
-use Rattle.rd_wf.specs.declared.causes.WfRefused.TheVariants.{Cause}
+use Rattle.rd_wf.specs.declared.causes.WfRefused.TheVariants.{Cause, NoMemory}
 use Rattle.rd_wf.specs.declared.causes.Accepted.{Accepted}
 use Rattle.rd_wf.specs.declared.roster.Roster.{Roster}
 use Rattle.rd_wf.specs.declared.methods.Methods.{Methods}
 use Rattle.rd_wf.proofs.FollowLemmas.{among_decides, follows_from_none, broken_from_some}
-use Rattle.rd_wf.specs.MayFollow.{begun, joined, is_header, is_event, threads_of, joined_of, objects_of, headers, events, same_name, is_among, place, kind_number, methods_of, object_kinds, slots_of, first_broken, MayFollow, IsBrokenFirst}
+use Rattle.rd_wf.specs.MayFollow.{begun_name, joined_name, is_header, is_event, threads_of, joined_of, objects_of, headers, events, same_name, is_among, place, kind_number, methods_of, object_kinds, slots_of, first_broken, MayFollow, IsBrokenFirst, takes_memory}
 use Rattle.rd_wf.specs.Kinds.{Kind, Method, kind_names, method_names, methods_at, slots_at}
 use Rattle.rd_wf.specs.Roster.{StandsFor, kind_entry, method_entry, methods_in, thread_entry, object_entry, thread_count, object_count, Takes, Refuses}
 
@@ -332,36 +332,36 @@ module _ (kinds : List Kind) (old : Roster) (lines : List Line) (stands : Stands
   }
 
   -- a line that neither begins nor joins a thread leaves them
-  same_threads : begun line ≡ None → threads_of (lines ++ line ∷ []) ≡ threads_of lines
-  same_threads e = filter_map-append begun lines (line ∷ []) ∙ ap (λ o. threads_of lines ++ cons_option o []) e ∙ append-nil (threads_of lines)
+  same_threads : begun_name line ≡ None → threads_of (lines ++ line ∷ []) ≡ threads_of lines
+  same_threads e = filter_map-append begun_name lines (line ∷ []) ∙ ap (λ o. threads_of lines ++ cons_option o []) e ∙ append-nil (threads_of lines)
 
-  same_joined : joined line ≡ None → joined_of (lines ++ line ∷ []) ≡ joined_of lines
-  same_joined e = filter_map-append joined lines (line ∷ []) ∙ ap (λ o. joined_of lines ++ cons_option o []) e ∙ append-nil (joined_of lines)
+  same_joined : joined_name line ≡ None → joined_of (lines ++ line ∷ []) ≡ joined_of lines
+  same_joined e = filter_map-append joined_name lines (line ∷ []) ∙ ap (λ o. joined_of lines ++ cons_option o []) e ∙ append-nil (joined_of lines)
 
   same_objects : object_entry kinds line ≡ None → filter_map (object_entry kinds) (lines ++ line ∷ []) ≡ filter_map (object_entry kinds) lines
   same_objects e = filter_map-append (object_entry kinds) lines (line ∷ []) ∙ ap (λ o. filter_map (object_entry kinds) lines ++ cons_option o []) e ∙ append-nil _
 
-  quiet_entries : begun line ≡ None → joined line ≡ None → map (thread_entry (lines ++ line ∷ [])) (threads_of (lines ++ line ∷ [])) ≡ map (thread_entry lines) (threads_of lines)
+  quiet_entries : begun_name line ≡ None → joined_name line ≡ None → map (thread_entry (lines ++ line ∷ [])) (threads_of (lines ++ line ∷ [])) ≡ map (thread_entry lines) (threads_of lines)
   quiet_entries begins joins = λ i. flagged (is_among (same_joined joins i)) (same_threads begins i)
 
-  quiet_begun : begun line ≡ None → joined line ≡ None → (name : List ℕ) → Contains (joined_of (lines ++ line ∷ [])) name → Contains (threads_of (lines ++ line ∷ [])) name
+  quiet_begun : begun_name line ≡ None → joined_name line ≡ None → (name : List ℕ) → Contains (joined_of (lines ++ line ∷ [])) name → Contains (threads_of (lines ++ line ∷ [])) name
   quiet_begun begins joins name h =
       subst (λ names. Contains names name) (sym (same_threads begins)) (stands.joined_begun name (subst (λ names. Contains names name) (same_joined joins) h))
 
   -- a begun thread goes last, and is not joined
-  new_entries : (name : List ℕ) → begun line ≡ Some name → joined line ≡ None → is_among (threads_of lines) name ≡ false
+  new_entries : (name : List ℕ) → begun_name line ≡ Some name → joined_name line ≡ None → is_among (threads_of lines) name ≡ false
       → map (thread_entry (lines ++ line ∷ [])) (threads_of (lines ++ line ∷ [])) ≡ map (thread_entry lines) (threads_of lines) ++ (name, false) ∷ []
   new_entries name begins joins fresh =
       let threads : threads_of (lines ++ line ∷ []) ≡ threads_of lines ++ name ∷ [] =
-      filter_map-append begun lines (line ∷ []) ∙ ap (λ o. threads_of lines ++ cons_option o []) begins in
+      filter_map-append begun_name lines (line ∷ []) ∙ ap (λ o. threads_of lines ++ cons_option o []) begins in
       (λ i. flagged (is_among (same_joined joins i)) (threads i))
       ∙ map-append (thread_entry lines) (threads_of lines) (name ∷ [])
       ∙ ap (λ b. map (thread_entry lines) (threads_of lines) ++ (name, b) ∷ []) (not_joined kinds old lines stands name fresh)
 
-  new_begun : (name : List ℕ) → begun line ≡ Some name → joined line ≡ None → (other : List ℕ) → Contains (joined_of (lines ++ line ∷ [])) other → Contains (threads_of (lines ++ line ∷ [])) other
+  new_begun : (name : List ℕ) → begun_name line ≡ Some name → joined_name line ≡ None → (other : List ℕ) → Contains (joined_of (lines ++ line ∷ [])) other → Contains (threads_of (lines ++ line ∷ [])) other
   new_begun name begins joins other h =
       let threads : threads_of (lines ++ line ∷ []) ≡ threads_of lines ++ name ∷ [] =
-      filter_map-append begun lines (line ∷ []) ∙ ap (λ o. threads_of lines ++ cons_option o []) begins in
+      filter_map-append begun_name lines (line ∷ []) ∙ ap (λ o. threads_of lines ++ cons_option o []) begins in
       subst (λ names. Contains names other) (sym threads)
       (Contains-append_left (threads_of lines) (name ∷ []) other (stands.joined_begun other (subst (λ names. Contains names other) (same_joined joins) h)))
 
@@ -414,7 +414,7 @@ module _ (kinds : List Kind) (old new : Roster) (lines : List Line) (stands : St
       → StandsFor kinds new (lines ++ Event (Join thread child) ∷ [])
   after_join thread child known distinct header events threads objects =
       let line : Line = Event (Join thread child) in
-      let more : joined_of (lines ++ line ∷ []) ≡ joined_of lines ++ child ∷ [] = filter_map-append joined lines (line ∷ []) in
+      let more : joined_of (lines ++ line ∷ []) ≡ joined_of lines ++ child ∷ [] = filter_map-append joined_name lines (line ∷ []) in
       let same : threads_of (lines ++ line ∷ []) ≡ threads_of lines = same_threads kinds old lines stands line refl in
       let apart : IsDistinct same_name (threads_of lines) = subst (IsDistinct same_name) (thread_keys kinds old lines stands) distinct in
       let entries : map (thread_entry (lines ++ line ∷ [])) (threads_of (lines ++ line ∷ [])) ≡ flagged (λ n. is_among (joined_of lines) n || (same_name n child || false)) (threads_of lines) =
@@ -442,3 +442,17 @@ err_broken old new limits line (Ok accepted) refuses = tt
 err_broken old new limits line (Err e) refuses = λ kinds lines stands cause same.
     let refused : Refuses old new limits line (Cause cause) = subst (Refuses old new limits line) same refuses in
     (refused.0 kinds lines stands, broken_from_some kinds limits lines line cause (refused.0 kinds lines stands))
+
+
+pub err_memory : (old new : Roster) (limits : Limits) (line : Line) (r : Result Accepted WfRefused) → IfErr r (Refuses old new limits line)
+    → IfErr r (λ e. e ≡ NoMemory → (kinds : List Kind) (lines : List Line) → StandsFor kinds old lines → (first_broken kinds limits lines line ≡ None) × IsTrue (takes_memory line))
+err_memory old new limits line (Ok accepted) refuses = tt
+err_memory old new limits line (Err e) refuses = λ same kinds lines stands.
+    let refused : Refuses old new limits line NoMemory = subst (Refuses old new limits line) same refuses in
+    let told = refused kinds lines stands in (told.0, told.1)
+
+pub err_stands : (old new : Roster) (limits : Limits) (line : Line) (r : Result Accepted WfRefused) → IfErr r (Refuses old new limits line)
+    → OnErr r ((kinds : List Kind) (lines : List Line) → StandsFor kinds old lines → StandsFor kinds new lines)
+err_stands old new limits line (Ok accepted) refuses = tt
+err_stands old new limits line (Err (Cause cause)) refuses = λ kinds lines stands. subst (λ roster. StandsFor kinds roster lines) (sym refuses.1) stands
+err_stands old new limits line (Err NoMemory) refuses = λ kinds lines stands. (refuses kinds lines stands).2

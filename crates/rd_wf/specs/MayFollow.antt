@@ -41,66 +41,70 @@ is_event (Event event) = true
 is_event _ = false
 
 -- the thread that an event begins
-abbrev pub forked : LineEvent → Option (List ℕ)
-forked (Fork thread child) = Some child
-forked _ = None
+abbrev pub forked_name : LineEvent → Option (List ℕ)
+forked_name (Fork thread child) = Some child
+forked_name _ = None
 
 -- the thread for whose end an event waits
-abbrev pub awaited : LineEvent → Option (List ℕ)
-awaited (Join thread child) = Some child
-awaited _ = None
+abbrev pub awaited_name : LineEvent → Option (List ℕ)
+awaited_name (Join thread child) = Some child
+awaited_name _ = None
 
 -- the thread that acts in an event
-abbrev pub actor : LineEvent → List ℕ
-actor (Fork thread child) = thread
-actor (Join thread child) = thread
-actor (Call thread object method slots) = thread
+abbrev pub actor_name : LineEvent → List ℕ
+actor_name (Fork thread child) = thread
+actor_name (Join thread child) = thread
+actor_name (Call thread object method slots) = thread
 
 -- a call, by the names of its object and method, and with its arguments and result
-pub record Called : Type 0 where
+pub record SpelledCall : Type 0 where
   pub object : List ℕ
   pub method : List ℕ
   pub slots : List Value
 
 -- the call that an event is
-abbrev pub call_of : LineEvent → Option Called
-call_of (Call thread object method slots) = Some (record { object = object; method = method; slots = slots })
-call_of _ = None
+abbrev pub event_call : LineEvent → Option SpelledCall
+event_call (Call thread object method slots) = Some (record { object = object; method = method; slots = slots })
+event_call _ = None
 
 -- the thread that the line begins
-abbrev pub begun : Line → Option (List ℕ)
-begun (Thread thread) = Some thread
-begun (Event event) = forked event
-begun _ = None
+abbrev pub begun_name : Line → Option (List ℕ)
+begun_name (Thread thread) = Some thread
+begun_name (Event event) = forked_name event
+begun_name _ = None
 
 -- the thread that acts
-abbrev pub acting : Line → Option (List ℕ)
-acting (Event event) = Some (actor event)
-acting _ = None
+abbrev pub acting_name : Line → Option (List ℕ)
+acting_name (Event event) = Some (actor_name event)
+acting_name _ = None
 
 -- the thread that the line joins
-abbrev pub joined : Line → Option (List ℕ)
-joined (Event event) = awaited event
-joined _ = None
+abbrev pub joined_name : Line → Option (List ℕ)
+joined_name (Event event) = awaited_name event
+joined_name _ = None
 
 -- the object that it declares
-abbrev pub declared : Line → Option (List ℕ)
-declared (Object name kind) = Some name
-declared _ = None
+abbrev pub declared_name : Line → Option (List ℕ)
+declared_name (Object name kind) = Some name
+declared_name _ = None
 
 -- and that object's kind
-abbrev pub kind_of : Line → Option (List ℕ)
-kind_of (Object name kind) = Some kind
-kind_of _ = None
+abbrev pub kind_name : Line → Option (List ℕ)
+kind_name (Object name kind) = Some kind
+kind_name _ = None
 
 -- the call that it is
-abbrev pub called : Line → Option Called
-called (Event event) = call_of event
-called _ = None
+abbrev pub line_call : Line → Option SpelledCall
+line_call (Event event) = event_call event
+line_call _ = None
 
 -- it is a call
 abbrev pub is_call : Line → Bool
-is_call line = is_some (called line)
+is_call line = is_some (line_call line)
+
+-- to accept it takes memory: it begins a thread, declares an object, or is a call
+abbrev pub takes_memory : Line → Bool
+takes_memory line = is_some (begun_name line) || (is_some (declared_name line) || is_call line)
 
 -- ---- names and their places
 
@@ -116,15 +120,15 @@ place names name = position_or_len (same_name name) names
 
 -- the threads, in the order of the lines that began them
 abbrev pub threads_of : List Line → List (List ℕ)
-threads_of before = filter_map begun before
+threads_of before = filter_map begun_name before
 
 -- the threads that were joined, in the order of the joins
 abbrev pub joined_of : List Line → List (List ℕ)
-joined_of before = filter_map joined before
+joined_of before = filter_map joined_name before
 
 -- the objects, in the order of their lines
 abbrev pub objects_of : List Line → List (List ℕ)
-objects_of before = filter_map declared before
+objects_of before = filter_map declared_name before
 
 -- the number of the kind that an object is declared with
 abbrev pub declared_kind : List Kind → Line → Option ℕ
@@ -148,7 +152,7 @@ abbrev pub method_number : List Kind → List Line → List ℕ → List ℕ →
 method_number kinds before object method = place (method_names (methods_of kinds before object)) method
 
 -- how many slots the method of a call has
-abbrev pub slots_of : List Kind → List Line → Called → ℕ
+abbrev pub slots_of : List Kind → List Line → SpelledCall → ℕ
 slots_of kinds before call = slots_at (methods_of kinds before call.object) (method_number kinds before call.object call.method)
 
 -- how many headers there are
@@ -174,23 +178,23 @@ Rule kinds before line HeaderFirst = IsTrue (is_header line) ↔ (headers before
 Rule kinds before line LateRoot = IsTrue (is_root line) → events before ≡ 0
 -- no thread has the name of the new thread, and no object that of the new object
 Rule kinds before line NameTaken =
-    IfSome (begun line) (λ name. ¬ (Contains (threads_of before) name)) × IfSome (declared line) (λ name. ¬ (Contains (objects_of before) name))
+    IfSome (begun_name line) (λ name. ¬ (Contains (threads_of before) name)) × IfSome (declared_name line) (λ name. ¬ (Contains (objects_of before) name))
 -- the acting thread was begun, and so was the joined one
-Rule kinds before line UnknownThread = IfSome (acting line) (Contains (threads_of before)) × IfSome (joined line) (Contains (threads_of before))
+Rule kinds before line UnknownThread = IfSome (acting_name line) (Contains (threads_of before)) × IfSome (joined_name line) (Contains (threads_of before))
 -- the acting thread was not joined
-Rule kinds before line ThreadEnded = IfSome (acting line) (λ name. ¬ (Contains (joined_of before) name))
+Rule kinds before line ThreadEnded = IfSome (acting_name line) (λ name. ¬ (Contains (joined_of before) name))
 -- no thread joins itself
-Rule kinds before line OwnThread = IfSome (joined line) (λ name. acting line ≢ Some name)
+Rule kinds before line OwnThread = IfSome (joined_name line) (λ name. acting_name line ≢ Some name)
 -- the kind is a kind
-Rule kinds before line UnknownKind = IfSome (kind_of line) (Contains (kind_names kinds))
+Rule kinds before line UnknownKind = IfSome (kind_name line) (Contains (kind_names kinds))
 -- the called object was declared, its kind has the method, and the call has as many slots as the method
-Rule kinds before line UnknownObject = IfSome (called line) (λ call. Contains (objects_of before) call.object)
-Rule kinds before line UnknownMethod = IfSome (called line) (λ call. Contains (method_names (methods_of kinds before call.object)) call.method)
-Rule kinds before line WrongCount = IfSome (called line) (λ call. length call.slots ≡ slots_of kinds before call)
+Rule kinds before line UnknownObject = IfSome (line_call line) (λ call. Contains (objects_of before) call.object)
+Rule kinds before line UnknownMethod = IfSome (line_call line) (λ call. Contains (method_names (methods_of kinds before call.object)) call.method)
+Rule kinds before line WrongCount = IfSome (line_call line) (λ call. length call.slots ≡ slots_of kinds before call)
 -- no count that the line raises passes its limit
 Rule kinds before line (Limit Events most) = IsTrue (is_event line) → events before < most
-Rule kinds before line (Limit Threads most) = IsSome (begun line) → length (threads_of before) < most
-Rule kinds before line (Limit Objects most) = IsSome (declared line) → length (objects_of before) < most
+Rule kinds before line (Limit Threads most) = IsSome (begun_name line) → length (threads_of before) < most
+Rule kinds before line (Limit Objects most) = IsSome (declared_name line) → length (objects_of before) < most
 Rule kinds before line (Limit name most) = Unit {0}
 
 -- the causes in the order in which they are told
@@ -226,18 +230,18 @@ passes (Some x) test = test x
 abbrev pub is_broken : List Kind → List Line → Line → WfCause → Bool
 is_broken kinds before line HeaderFirst = if is_header line then nat_lt 0 (headers before) else headers before == 0
 is_broken kinds before line LateRoot = is_root line && nat_lt 0 (events before)
-is_broken kinds before line NameTaken = passes (begun line) (is_among (threads_of before)) || passes (declared line) (is_among (objects_of before))
+is_broken kinds before line NameTaken = passes (begun_name line) (is_among (threads_of before)) || passes (declared_name line) (is_among (objects_of before))
 is_broken kinds before line UnknownThread =
-    passes (acting line) (λ name. not (is_among (threads_of before) name)) || passes (joined line) (λ name. not (is_among (threads_of before) name))
-is_broken kinds before line ThreadEnded = passes (acting line) (is_among (joined_of before))
-is_broken kinds before line OwnThread = passes (joined line) (λ name. passes (acting line) (same_name name))
-is_broken kinds before line UnknownKind = passes (kind_of line) (λ kind. not (is_among (kind_names kinds) kind))
-is_broken kinds before line UnknownObject = passes (called line) (λ call. not (is_among (objects_of before) call.object))
-is_broken kinds before line UnknownMethod = passes (called line) (λ call. not (is_among (method_names (methods_of kinds before call.object)) call.method))
-is_broken kinds before line WrongCount = passes (called line) (λ call. not (length call.slots == slots_of kinds before call))
+    passes (acting_name line) (λ name. not (is_among (threads_of before) name)) || passes (joined_name line) (λ name. not (is_among (threads_of before) name))
+is_broken kinds before line ThreadEnded = passes (acting_name line) (is_among (joined_of before))
+is_broken kinds before line OwnThread = passes (joined_name line) (λ name. passes (acting_name line) (same_name name))
+is_broken kinds before line UnknownKind = passes (kind_name line) (λ kind. not (is_among (kind_names kinds) kind))
+is_broken kinds before line UnknownObject = passes (line_call line) (λ call. not (is_among (objects_of before) call.object))
+is_broken kinds before line UnknownMethod = passes (line_call line) (λ call. not (is_among (method_names (methods_of kinds before call.object)) call.method))
+is_broken kinds before line WrongCount = passes (line_call line) (λ call. not (length call.slots == slots_of kinds before call))
 is_broken kinds before line (Limit Events most) = is_event line && nat_le most (events before)
-is_broken kinds before line (Limit Threads most) = is_some (begun line) && nat_le most (length (threads_of before))
-is_broken kinds before line (Limit Objects most) = is_some (declared line) && nat_le most (length (objects_of before))
+is_broken kinds before line (Limit Threads most) = is_some (begun_name line) && nat_le most (length (threads_of before))
+is_broken kinds before line (Limit Objects most) = is_some (declared_name line) && nat_le most (length (objects_of before))
 is_broken kinds before line (Limit name most) = false
 
 -- the first cause whose rule the line breaks, if it breaks any

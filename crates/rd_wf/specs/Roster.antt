@@ -1,5 +1,5 @@
 -- What a roster holds of the accepted lines of a trace: this project's profile.
-use Rattle.std.specs.Prelude.{◌≡◌, ℕ, Bool, nat_lt, List, [], ◌∷◌, ◌++◌, map, length, Contains, filter_map, MatchOption, true, false, Option, Some, None}
+use Rattle.std.specs.Prelude.{◌≡◌, ℕ, Bool, nat_lt, List, [], ◌∷◌, ◌++◌, map, length, Contains, filter_map, MatchOption, true, false, Option, Some, None, IsTrue}
 use Rattle.indexmap.specs.IndexMap.{index_map_len}
 use Rattle.rd_base.specs.declared.limits.Limits.{Limits}
 use Rattle.rd_event.specs.declared.items.Line.{Line}
@@ -12,7 +12,7 @@ use Rattle.rd_wf.specs.declared.roster.Roster.{Roster}
 use Rattle.rd_wf.specs.declared.roster.judge.Declared.{Declared}
 use Rattle.rd_wf.specs.declared.methods.Method.{Method as Found}
 use Rattle.rd_wf.specs.declared.methods.Methods.{Methods}
-use Rattle.rd_wf.specs.MayFollow.{threads_of, joined_of, objects_of, headers, events, is_among, kind_number, place, first_broken, accepted_of}
+use Rattle.rd_wf.specs.MayFollow.{threads_of, joined_of, objects_of, headers, events, is_among, kind_number, place, first_broken, accepted_of, takes_memory}
 use Rattle.rd_wf.specs.Kinds.{Kind, Method, kind_names, method_names, slots_at}
 
 -- how many threads and objects the roster numbers
@@ -84,7 +84,9 @@ abbrev pub Takes : Roster → Roster → Limits → Line → Accepted → Type 0
 Takes old new limits line accepted = (kinds : List Kind) (lines : List Line) → StandsFor kinds old lines →
     (first_broken kinds limits lines line ≡ None) × (accepted ≡ accepted_of kinds lines line) × StandsFor kinds new (lines ++ line ∷ [])
 
--- a refusal by a cause changes nothing, and after want of memory the roster stands for the same lines
+-- A refusal by a cause changes nothing. Want of memory comes only for a line that may follow and takes memory, and the roster then
+-- stands for the same lines.
 abbrev pub Refuses : Roster → Roster → Limits → Line → WfRefused → Type 0
 Refuses old new limits line (Cause cause) = Forbids old limits line cause × (new ≡ old)
-Refuses old new limits line NoMemory = (kinds : List Kind) (lines : List Line) → StandsFor kinds old lines → StandsFor kinds new lines
+Refuses old new limits line NoMemory = (kinds : List Kind) (lines : List Line) → StandsFor kinds old lines →
+    (first_broken kinds limits lines line ≡ None) × IsTrue (takes_memory line) × StandsFor kinds new lines

@@ -30,10 +30,10 @@ pub struct Roster {
 }
 
 impl Roster {
-    ghost use Rattle.std.specs.Prelude.{◌≡◌, ◌<◌, List, [], ◌∷◌, ◌++◌, IfOk, IfErr, OnOk, OnErr, length, slice_get};
+    ghost use Rattle.std.specs.Prelude.{◌≡◌, ◌<◌, List, [], ◌∷◌, ◌++◌, IfOk, IfErr, OnOk, OnErr, IsTrue, length, slice_get};
     ghost use Rattle.rd_base.specs.Limits.{AreUsable};
     ghost use Rattle.rd_event.specs.declared.items.Line.{Line as LineOf};
-    ghost use Rattle.rd_wf.specs.MayFollow.{IsBrokenFirst, MayFollow, first_broken, accepted_of, threads_of, objects_of, headers, events};
+    ghost use Rattle.rd_wf.specs.MayFollow.{IsBrokenFirst, MayFollow, first_broken, accepted_of, threads_of, objects_of, headers, events, takes_memory};
     ghost use Rattle.rd_wf.specs.Kinds.{Kind, register_alone};
     ghost use Rattle.rd_wf.specs.Roster.{StandsFor, Takes, Refuses, thread_count, object_count};
 
@@ -194,9 +194,9 @@ impl Roster {
         }
     }
 
-    /// Takes the next line, if it may follow the accepted ones, and says what it is in numbers. Else it
-    /// refuses the line, by the cause that names the first part of the rules that the line breaks, and
-    /// nothing changes. After want of memory the roster stands for the same lines as before.
+    /// Takes the next line, if it may follow the accepted ones, and says what it is in numbers. Else it refuses the line, by the
+    /// cause that names the first rule that the line breaks, and nothing changes. Want of memory comes only for a line that may
+    /// follow, and that begins a thread, declares an object or is a call. The roster then stands for the same lines as before.
     pub fn accept(&mut self, line: &Line, limits: &Limits) -> Result<Accepted, WfRefused>
         requires { AreUsable limits.now }
         ensures ok { IfOk result (λ accepted. (kinds : List Kind) (lines : List LineOf) → StandsFor kinds self.old lines →
@@ -206,6 +206,8 @@ impl Roster {
         ensures refused { IfErr result (λ e. (kinds : List Kind) (lines : List LineOf) → StandsFor kinds self.old lines → (cause : WfCause) → e ≡ WfRefused.Cause cause →
             (first_broken kinds limits.now lines line.now ≡ Some cause) × IsBrokenFirst kinds limits.now lines line.now cause) }
         ensures same { IfErr result (λ e. (cause : WfCause) → e ≡ WfRefused.Cause cause → self.new ≡ self.old) }
+        ensures memory { IfErr result (λ e. e ≡ WfRefused.NoMemory → (kinds : List Kind) (lines : List LineOf) → StandsFor kinds self.old lines →
+            (first_broken kinds limits.now lines line.now ≡ None) × IsTrue (takes_memory line.now)) }
         ensures err { OnErr result ((kinds : List Kind) (lines : List LineOf) → StandsFor kinds self.old lines → StandsFor kinds self.new lines) }
     {
         self.take(line, limits)

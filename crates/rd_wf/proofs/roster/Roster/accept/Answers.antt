@@ -1,4 +1,4 @@
-use Rattle.rd_wf.proofs.RosterLemmas.{ok_follows, err_broken}
+use Rattle.rd_wf.proofs.RosterLemmas.{ok_follows, err_broken, err_memory, err_stands}
 use Rattle.rd_wf.proofs.roster.Roster.accept.Goals as goal
 
 pub returns-clause-follows : goal.returns-clause-follows
@@ -6,3 +6,9 @@ returns-clause-follows c = ok_follows c.args.self.now c.take.new.self c.args.lim
 
 pub returns-clause-refused : goal.returns-clause-refused
 returns-clause-refused c = err_broken c.args.self.now c.take.new.self c.args.limits.now c.args.line.now c.take.result c.take.ensures.refused
+
+pub returns-clause-memory : goal.returns-clause-memory
+returns-clause-memory c = err_memory c.args.self.now c.take.new.self c.args.limits.now c.args.line.now c.take.result c.take.ensures.refused
+
+pub returns-clause-err : goal.returns-clause-err
+returns-clause-err c = err_stands c.args.self.now c.take.new.self c.args.limits.now c.args.line.now c.take.result c.take.ensures.refused

@@ -4,7 +4,7 @@ use Rattle.rd_event.specs.declared.events.Call.{Call as CallOf}
 use Rattle.rd_event.specs.declared.events.Event.TheVariants as numbered
 use Rattle.rd_event.specs.declared.items.Line.{Line}
 use Rattle.rd_wf.specs.Kinds.{Kind, method_names, methods_at, slots_at}
-use Rattle.rd_wf.specs.MayFollow.{Called, accepted_of, is_among, methods_of, slots_of}
+use Rattle.rd_wf.specs.MayFollow.{SpelledCall, accepted_of, is_among, methods_of, slots_of}
 use Rattle.rd_wf.specs.Roster.{FindsMethod, FindsObject}
 use Rattle.rd_wf.specs.declared.causes.Accepted.TheVariants as accepted
 use Rattle.rd_wf.specs.declared.roster.judge.Declared.{Declared}
@@ -55,7 +55,7 @@ returns-then-items-from-clause-err c = λ kinds lines stands.
     let actor = c.in-Some.ensures.value kinds lines stands in
     let object = c.in-Some-declared.ensures kinds lines stands in
     let method = some_method kinds lines c.args.object.now c.args.method.now c.in-Some-declared.declared c.in-Some-method.method object (c.in-Some-method.ensures kinds lines stands) in
-    let call : Called = record { object = c.args.object.now; method = c.args.method.now; slots = c.args.slots.now } in
+    let call : SpelledCall = record { object = c.args.object.now; method = c.args.method.now; slots = c.args.slots.now } in
     let slots : c.in-Some-method.method.slots ≡ slots_of kinds lines call = method.2 ∙ ap (slots_at (methods_of kinds lines c.args.object.now)) method.1 in
     let other : (length c.args.slots.now == slots_of kinds lines call) ≡ false =
     ne_eqb _ _ (λ e. c.if-items-from.true (ap length c.items.ensures ∙ e ∙ sym slots ∙ sym c.from.ensures)) in
@@ -67,7 +67,7 @@ returns-in-Some-limit_cause-clause-err c = λ kinds lines stands.
     let actor = c.in-Some.ensures.value kinds lines stands in
     let object = c.in-Some-declared.ensures kinds lines stands in
     let method = some_method kinds lines c.args.object.now c.args.method.now c.in-Some-declared.declared c.in-Some-method.method object (c.in-Some-method.ensures kinds lines stands) in
-    let call : Called = record { object = c.args.object.now; method = c.args.method.now; slots = c.args.slots.now } in
+    let call : SpelledCall = record { object = c.args.object.now; method = c.args.method.now; slots = c.args.slots.now } in
     let slots : c.in-Some-method.method.slots ≡ slots_of kinds lines call = method.2 ∙ ap (slots_at (methods_of kinds lines c.args.object.now)) method.1 in
     let same : (length c.args.slots.now == slots_of kinds lines call) ≡ true =
     eq-eqb _ _ (ap length (sym c.items.ensures) ∙ c.if-items-from.false ∙ c.from.ensures ∙ slots) in
@@ -81,7 +81,7 @@ returns-clause-ok c = λ kinds lines stands.
     let actor = c.in-Some.ensures.value kinds lines stands in
     let object = c.in-Some-declared.ensures kinds lines stands in
     let method = some_method kinds lines c.args.object.now c.args.method.now c.in-Some-declared.declared c.in-Some-method.method object (c.in-Some-method.ensures kinds lines stands) in
-    let call : Called = record { object = c.args.object.now; method = c.args.method.now; slots = c.args.slots.now } in
+    let call : SpelledCall = record { object = c.args.object.now; method = c.args.method.now; slots = c.args.slots.now } in
     let slots : c.in-Some-method.method.slots ≡ slots_of kinds lines call = method.2 ∙ ap (slots_at (methods_of kinds lines c.args.object.now)) method.1 in
     let same : (length c.args.slots.now == slots_of kinds lines call) ≡ true =
     eq-eqb _ _ (ap length (sym c.items.ensures) ∙ c.if-items-from.false ∙ c.from.ensures ∙ slots) in
