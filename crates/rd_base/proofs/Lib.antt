@@ -3,3 +3,4 @@ pub mod IntegerLemmas
 pub mod TextLemmas
 pub mod FoundLemmas
 pub mod ValueLemmas
+pub mod OrderLemmas

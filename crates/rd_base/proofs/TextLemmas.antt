@@ -7,7 +7,7 @@ use Rattle.std.proofs.lemmas.Bool.{cases_Bool, cases_lt}
 use Rattle.std.proofs.lemmas.Bool.Decides.{eqb_tells, nat_tests}
 use Rattle.std.proofs.lemmas.List.{nil_from_length}
 use Rattle.std.proofs.lemmas.Option.{cond_some, same_Some, none-some, option_and_then_some}
-use Rattle.rd_base.specs.Spelling.{is_plain, escaped, inside}
+use Rattle.rd_base.specs.Spelling.{is_plain, byte_spelling, bytes_spelling}
 use Rattle.rd_base.specs.ReadingValues.{hex_value, first_byte, next_of, inside_of}
 
 -- a hexadecimal digit gives its value back
@@ -18,8 +18,8 @@ hex_small : (byte : ℕ) → hex_value byte < 16
 hex_small byte = grind (arith, nat_tests)
 
 -- the spelling of a byte gives the byte back
-first_found : (byte : ℕ) (after : List ℕ) → byte < 256 → first_byte (escaped byte ++ after) ≡ byte
-unfolding escaped first_byte
+first_found : (byte : ℕ) (after : List ℕ) → byte < 256 → first_byte (byte_spelling byte ++ after) ≡ byte
+unfolding byte_spelling first_byte
 first_found byte after small =
     elim (eqb_tells byte 34) [
       | inl quote ↦ rw quote.0 (sym quote.1)
@@ -36,30 +36,30 @@ first_found byte after small =
     ]
 
 -- the spelling of a byte has one byte or more, and four at most
-pub escaped_length : (byte : ℕ) → (0 < length (escaped byte)) × (length (escaped byte) ≤ 4)
-unfolding escaped
-escaped_length byte = (grind (arith, nat_tests), grind (arith, nat_tests))
+pub byte_spelling_length : (byte : ℕ) → (0 < length (byte_spelling byte)) × (length (byte_spelling byte) ≤ 4)
+unfolding byte_spelling
+byte_spelling_length byte = (grind (arith, nat_tests), grind (arith, nat_tests))
 
-next_found : (byte : ℕ) (after : List ℕ) → byte < 256 → next_of (escaped byte ++ after) ≡ Some (byte, after)
+next_found : (byte : ℕ) (after : List ℕ) → byte < 256 → next_of (byte_spelling byte ++ after) ≡ Some (byte, after)
 unfolding next_of
 next_found byte after small =
     rw (
       first_found byte after small,
-      take_at (escaped byte) after (length (escaped byte)) refl,
-      (bytes_decides (escaped byte) (escaped byte)).1 refl,
-      drop_at (escaped byte) after (length (escaped byte)) refl,
+      take_at (byte_spelling byte) after (length (byte_spelling byte)) refl,
+      (bytes_decides (byte_spelling byte) (byte_spelling byte)).1 refl,
+      drop_at (byte_spelling byte) after (length (byte_spelling byte)) refl,
     ) refl
 
 -- a number that is no byte would be spelled by four bytes
-large : (byte : ℕ) → 256 ≤ byte → escaped byte ≡ 92 ∷ 120 ∷ digit_glyph false (byte / 16) ∷ digit_glyph false (byte % 16) ∷ []
-unfolding escaped
+large : (byte : ℕ) → 256 ≤ byte → byte_spelling byte ≡ 92 ∷ 120 ∷ digit_glyph false (byte / 16) ∷ digit_glyph false (byte % 16) ∷ []
+unfolding byte_spelling
 large byte big = grind (arith, nat_tests)
 
 two_digits_small : (high low : ℕ) (after : List ℕ) → first_byte (92 ∷ 120 ∷ high ∷ low ∷ after) < 256
 unfolding first_byte
 two_digits_small high low after = omega (arith, hex_small high, hex_small low)
 
-first_small : (bytes after : List ℕ) → escaped (first_byte bytes) ++ after ≡ bytes → first_byte bytes < 256
+first_small : (bytes after : List ℕ) → byte_spelling (first_byte bytes) ++ after ≡ bytes → first_byte bytes < 256
 first_small bytes after is =
     elim (cases_lt (first_byte bytes) 256) [
       | inl small ↦ small
@@ -69,18 +69,18 @@ first_small bytes after is =
     ]
 
 pub next_said : (bytes : List ℕ) (byte : ℕ) (after : List ℕ) → next_of bytes ≡ Some (byte, after)
-    → (byte < 256) × (escaped byte ++ after ≡ bytes)
+    → (byte < 256) × (byte_spelling byte ++ after ≡ bytes)
 unfolding next_of
 next_said bytes byte after found =
     let first = first_byte bytes in
-    let rest = drop (length (escaped first)) bytes in
-    let parts = cond_some {A = ℕ × List ℕ} (starts_with nat_eq bytes (escaped first)) (first, rest) (byte, after) found in
-    let front = (bytes_decides (escaped first) (take (length (escaped first)) bytes)).0 parts.0 in
-    let whole = ap (λ front. front ++ rest) front ∙ take-append-drop (length (escaped first)) bytes in
+    let rest = drop (length (byte_spelling first)) bytes in
+    let parts = cond_some {A = ℕ × List ℕ} (starts_with nat_eq bytes (byte_spelling first)) (first, rest) (byte, after) found in
+    let front = (bytes_decides (byte_spelling first) (take (length (byte_spelling first)) bytes)).0 parts.0 in
+    let whole = ap (λ front. front ++ rest) front ∙ take-append-drop (length (byte_spelling first)) bytes in
     let same_byte : first ≡ byte = ap (λ (step : ℕ × List ℕ). step.0) parts.1 in
     let same_rest : rest ≡ after = ap (λ (step : ℕ × List ℕ). step.1) parts.1 in (
       subst (λ b. b < 256) same_byte (first_small bytes rest whole),
-      subst (λ b. escaped b ++ after ≡ bytes) same_byte (subst (λ x. escaped first ++ x ≡ bytes) same_rest whole),
+      subst (λ b. byte_spelling b ++ after ≡ bytes) same_byte (subst (λ x. byte_spelling first ++ x ≡ bytes) same_rest whole),
     )
 
 -- one more byte of a text
@@ -92,14 +92,14 @@ next_inside room (b ∷ bytes) byte after some next = rw next refl
 
 -- a text is found in its spelling
 pub inside_found : (text : List ℕ) (room : ℕ) → length text ≤ room → AllByRecursion (λ b. b < 256) text
-    → inside_of room (inside text) ≡ Some text
+    → inside_of room (bytes_spelling text) ≡ Some text
 unfolding inside_of
 inside_found [] room few each = refl
 inside_found (byte ∷ text) zero few each = absurd (omega arith)
 inside_found (byte ∷ text) (suc room) few each =
-    let some : 0 < length (escaped byte ++ inside text) = omega (arith, length-append (escaped byte) (inside text), (escaped_length byte).0) in
+    let some : 0 < length (byte_spelling byte ++ bytes_spelling text) = omega (arith, length-append (byte_spelling byte) (bytes_spelling text), (byte_spelling_length byte).0) in
     let short : length text ≤ room = omega arith in
-    next_inside room (escaped byte ++ inside text) byte (inside text) some (next_found byte (inside text) each.0)
+    next_inside room (byte_spelling byte ++ bytes_spelling text) byte (bytes_spelling text) some (next_found byte (bytes_spelling text) each.0)
     ∙ ap (option_map (λ text. byte ∷ text)) (inside_found text room short each.1)
 
 -- what a changed answer came from
@@ -110,10 +110,10 @@ option_map_some f None y is = absurd (none-some y is)
 
 -- and only there
 pub inside_said : (room : ℕ) (bytes text : List ℕ) → inside_of room bytes ≡ Some text
-    → (length text ≤ room) × AllByRecursion (λ b. b < 256) text × (inside text ≡ bytes)
+    → (length text ≤ room) × AllByRecursion (λ b. b < 256) text × (bytes_spelling text ≡ bytes)
 unfolding inside_of
 inside_said room [] text found =
-    subst (λ text. (length text ≤ room) × AllByRecursion (λ b. b < 256) text × (inside text ≡ [])) (same_Some [] text found)
+    subst (λ text. (length text ≤ room) × AllByRecursion (λ b. b < 256) text × (bytes_spelling text ≡ [])) (same_Some [] text found)
     (zero-le, tt, refl)
 inside_said zero (b ∷ bytes) text found = absurd (none-some text found)
 inside_said (suc room) (b ∷ bytes) text found =
@@ -121,8 +121,8 @@ inside_said (suc room) (b ∷ bytes) text found =
     let rest = option_map_some _ (inside_of room step.1) text more in
     let first = next_said (b ∷ bytes) step.0 step.1 next in
     let others = inside_said room step.1 rest.0 rest.1 in
-    subst (λ text. (length text ≤ suc room) × AllByRecursion (λ b. b < 256) text × (inside text ≡ b ∷ bytes)) rest.2
-    (omega (arith, others.0), (first.0, others.1), ap (λ after. escaped step.0 ++ after) others.2 ∙ first.1))
+    subst (λ text. (length text ≤ suc room) × AllByRecursion (λ b. b < 256) text × (bytes_spelling text ≡ b ∷ bytes)) rest.2
+    (omega (arith, others.0), (first.0, others.1), ap (λ after. byte_spelling step.0 ++ after) others.2 ∙ first.1))
 
 -- Steps of the loop that reads a text.
 map_twice : (text : List ℕ) (byte : ℕ) (found : Option (List ℕ))

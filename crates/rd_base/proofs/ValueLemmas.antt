@@ -11,7 +11,7 @@ use Rattle.rd_base.specs.declared.values.Value.{Value}
 use Rattle.rd_base.specs.declared.values.Value.TheVariants.{Nil, Bool as Truth, Int, Text}
 use Rattle.rd_base.specs.declared.spelling.ValueRefused.{ValueRefused}
 use Rattle.rd_base.specs.declared.spelling.ValueRefused.TheVariants.{NotAValue}
-use Rattle.rd_base.specs.Spelling.{inside, spelling, IsValue}
+use Rattle.rd_base.specs.Spelling.{bytes_spelling, spelling, IsValue}
 use Rattle.rd_base.specs.ReadingValues.{inside_of, is_quoted, value_of}
 use Rattle.rd_base.proofs.FoundLemmas.{if_some, map_found, each_by_recursion, each_from_recursion}
 use Rattle.rd_base.proofs.IntegerLemmas.{first_is_digit, integer_found, integer_said}
@@ -84,7 +84,7 @@ value_found (Int z) range =
       not_quoted (signed_decimal z) (no_quote z range),
     ) (ap (option_map (λ z. Int z)) (integer_found z range))
 value_found (Text text) range =
-    rw (quoted (inside text), between (inside text))
+    rw (quoted (bytes_spelling text), between (bytes_spelling text))
     (ap (option_map (λ text. Text text)) (inside_found text 255 range.few (each_by_recursion _ text range.each)))
 
 -- what is found is a value, and the bytes are its spelling

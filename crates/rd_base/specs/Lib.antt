@@ -1,4 +1,5 @@
 pub mod Limits
 pub mod Names
+pub mod Order
 pub mod ReadingValues
 pub mod Spelling

@@ -7,7 +7,7 @@ use Rattle.std.specs.Str.{bytes_eq}
 use Rattle.std.specs.Str.Parse.{signed_digits_value}
 use Rattle.rd_base.specs.declared.values.Value.{Value}
 use Rattle.rd_base.specs.declared.values.Value.TheVariants.{Nil, Bool as Truth, Int, Text}
-use Rattle.rd_base.specs.Spelling.{escaped}
+use Rattle.rd_base.specs.Spelling.{byte_spelling}
 
 -- a number of 64 bits with a sign
 abbrev pub has_64_bits : ℤ → Bool
@@ -40,7 +40,7 @@ first_byte bytes = if slice_index bytes 0 == 92 then byte_behind_slash bytes els
 -- the byte whose spelling the bytes begin with, and the bytes behind it
 unfoldable pub next_of : List ℕ → Option (ℕ × List ℕ)
 next_of bytes =
-    let spelled = escaped (first_byte bytes) in
+    let spelled = byte_spelling (first_byte bytes) in
     if starts_with nat_eq bytes spelled then Some (first_byte bytes, drop (length spelled) bytes) else None
 
 -- the bytes that stand spelled between the quotes of a text, at most so many
@@ -59,11 +59,15 @@ is_quoted bytes =
 abbrev pub between_quotes : List ℕ → List ℕ
 between_quotes bytes = slice_range bytes 1 (length bytes - 1)
 
+-- the text whose bytes stand spelled between the first and the last byte
+abbrev pub text_of : List ℕ → Option Value
+text_of bytes = option_map (λ text. Text text) (inside_of 255 (between_quotes bytes))
+
 -- the value that the bytes spell
 unfoldable pub value_of : List ℕ → Option Value
 value_of bytes =
     if bytes_eq bytes (codes "nil") then Some Nil
     else if bytes_eq bytes (codes "true") then Some (Truth true)
     else if bytes_eq bytes (codes "false") then Some (Truth false)
-    else if is_quoted bytes then option_map (λ text. Text text) (inside_of 255 (between_quotes bytes))
+    else if is_quoted bytes then text_of bytes
     else option_map (λ z. Int z) (integer_of bytes)

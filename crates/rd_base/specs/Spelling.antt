@@ -11,16 +11,16 @@ abbrev pub is_plain : ℕ → Bool
 is_plain b = nat_le 32 b && nat_le b 126
 
 -- the spelling of a byte of a text: `\"`, `\\`, a plain byte itself, or `\x` and two hexadecimal digits in lower case
-unfoldable pub escaped : ℕ → List ℕ
-escaped b =
+unfoldable pub byte_spelling : ℕ → List ℕ
+byte_spelling b =
     if b == 34 then 92 ∷ 34 ∷ []
     else if b == 92 then 92 ∷ 92 ∷ []
     else if is_plain b then b ∷ []
     else 92 ∷ 120 ∷ digit_glyph false (b / 16) ∷ digit_glyph false (b % 16) ∷ []
 
 -- the bytes of a text, each spelled
-abbrev pub inside : List ℕ → List ℕ
-inside text = flat_map escaped text
+abbrev pub bytes_spelling : List ℕ → List ℕ
+bytes_spelling text = flat_map byte_spelling text
 
 -- the one spelling of a value
 abbrev pub spelling : Value → List ℕ
@@ -28,7 +28,7 @@ spelling Nil = codes "nil"
 spelling (Truth true) = codes "true"
 spelling (Truth false) = codes "false"
 spelling (Int z) = signed_decimal z
-spelling (Text text) = 34 ∷ inside text ++ 34 ∷ []
+spelling (Text text) = 34 ∷ bytes_spelling text ++ 34 ∷ []
 
 -- the bytes of a text: 0 to 255 of them
 pub record IsText (text : List ℕ) : Type 0 where

@@ -18,5 +18,5 @@ pub use limits::{LimitName, Limits};
 pub use memory::NoMemory;
 pub use names::{BadName, Name};
 pub use slots::Slots;
-pub use spelling::{ValueRefused, append_value, law_of_values, read_value, spell_value};
-pub use values::{Text, TextRefused, Value};
+pub use spelling::{ValueRefused, append_value, is_value, law_of_values, read_value, spell_value};
+pub use values::{Text, TextRefused, Value, law_of_order};

@@ -1,12 +1,12 @@
 //! The spelling of values.
-ghost use Rattle.std.specs.Prelude.{◌≡◌, ◌<◌, ◌≤◌, ◌++◌, ◌↔◌, [], ◌∷◌, ℕ, List, true, false, Option, Some, None, OnOk, OnErr, IfOk, IfErr, IfSome, IfNone, IsTrue, length, slice_index, nat_eq};
+ghost use Rattle.std.specs.Prelude.{◌≡◌, ◌<◌, ◌≤◌, ◌++◌, ◌↔◌, [], ◌∷◌, ℕ, List, true, false, Option, Some, None, OnOk, OnErr, IfOk, IfErr, IfSome, IfNone, IsTrue, is_some, length, slice_index, nat_eq};
 ghost use Rattle.std.specs.List.{starts_with};
 ghost use Rattle.std.specs.Str.{bytes_eq};
 ghost use Rattle.std.specs.Fmt.{digit_glyph, signed_decimal};
 ghost use Rattle.std.specs.Option.{option_map};
 ghost use Rattle.rd_base.specs.declared.values.Value.{Value};
-ghost use Rattle.rd_base.specs.Spelling.{is_plain, escaped, inside, spelling, IsValue};
-ghost use Rattle.rd_base.specs.ReadingValues.{hex_value, first_byte, next_of, inside_of, integer_of, is_quoted, value_of};
+ghost use Rattle.rd_base.specs.Spelling.{is_plain, byte_spelling, bytes_spelling, spelling, IsValue};
+ghost use Rattle.rd_base.specs.ReadingValues.{hex_value, first_byte, next_of, inside_of, integer_of, is_quoted, text_of, value_of};
 
 use crate::byte_lists::Bytes;
 use crate::memory::NoMemory;
@@ -87,9 +87,9 @@ fn hex_digit(value: u8) -> u8
 }
 
 // The spelling of a byte of a text.
-#[tactic(auto, unfolding(crate::specs::Spelling::escaped))]
+#[tactic(auto, unfolding(crate::specs::Spelling::byte_spelling))]
 fn escape(byte: u8) -> ArrayVec<u8, 4>
-    ensures { result.items ≡ escaped byte }
+    ensures { result.items ≡ byte_spelling byte }
 {
     let mut spelled = ArrayVec::new();
     if byte == b'"' {
@@ -146,7 +146,7 @@ fn first_byte(bytes: &[u8]) -> u8
 }
 
 // The byte whose spelling the bytes begin with, and the bytes behind it.
-#[tactic(auto, using(crate::proofs::TextLemmas::escaped_length), unfolding(crate::specs::ReadingValues::next_of))]
+#[tactic(auto, using(crate::proofs::TextLemmas::byte_spelling_length), unfolding(crate::specs::ReadingValues::next_of))]
 fn next_byte(bytes: &[u8]) -> Option<(u8, &[u8])>
     ensures some { IfSome result (λ step. next_of bytes.now ≡ Some (step.0, step.1.now)) }
     ensures none { IfNone result (next_of bytes.now ≡ None) }
@@ -183,16 +183,51 @@ fn is_quoted(bytes: &[u8]) -> bool
     bytes.len() >= 2 && bytes[0] == b'"' && bytes[bytes.len() - 1] == b'"'
 }
 
-// The text with these bytes.
-fn text(alloc: Global, bytes: &[u8]) -> Result<Text, ValueRefused>
-    requires { length bytes.now ≤ 255 }
-    ensures value { IfOk result (λ text. text ≡ bytes.now) }
-    ensures memory { IfErr result (λ e. e ≡ ValueRefused.NoMemory) }
+// The text that the bytes spell, which begin and end with `"`.
+#[inline(never)]
+#[tactic(auto, unfolding(crate::specs::ReadingValues::value_of))]
+fn text_value(alloc: Global, bytes: &[u8]) -> Result<Value, ValueRefused>
+    requires long { 2 ≤ length bytes.now }
+    ensures found { IfOk result (λ value. text_of bytes.now ≡ Some value) }
+    ensures none { IfErr result (λ e. e ≡ ValueRefused.NotAValue → text_of bytes.now ≡ None) }
+    ensures memory { IfErr result (λ e. e ≡ ValueRefused.NoMemory → (text : List ℕ) × (text_of bytes.now ≡ Some (Value.Text text))) }
 {
-    let Ok(text) = Text::from_bytes(alloc, bytes) else {
+    let Some(inside) = read_inside(&bytes[1..bytes.len() - 1]) else {
+        return Err(ValueRefused::NotAValue);
+    };
+    let Ok(text) = Text::from_bytes(alloc, inside.as_slice()) else {
         return Err(ValueRefused::NoMemory);
     };
-    Ok(text)
+    Ok(Value::Text(text))
+}
+
+// Do the bytes, which begin and end with `"`, spell a text?
+#[inline(never)]
+fn is_text(bytes: &[u8]) -> bool
+    requires long { 2 ≤ length bytes.now }
+    ensures { result ≡ is_some (text_of bytes.now) }
+{
+    read_inside(&bytes[1..bytes.len() - 1]).is_some()
+}
+
+/// Do the bytes spell a value? It takes no memory.
+#[tactic(auto, unfolding(crate::specs::ReadingValues::value_of))]
+pub fn is_value(bytes: &[u8]) -> bool
+    ensures { result ≡ is_some (value_of bytes.now) }
+{
+    if is(bytes, "nil") {
+        return true;
+    }
+    if is(bytes, "true") {
+        return true;
+    }
+    if is(bytes, "false") {
+        return true;
+    }
+    if is_quoted(bytes) {
+        return is_text(bytes);
+    }
+    integer(bytes).is_some()
 }
 
 // The value that the bytes spell.
@@ -200,7 +235,7 @@ fn text(alloc: Global, bytes: &[u8]) -> Result<Text, ValueRefused>
 fn value(alloc: Global, bytes: &[u8]) -> Result<Value, ValueRefused>
     ensures found { IfOk result (λ value. value_of bytes.now ≡ Some value) }
     ensures none { IfErr result (λ e. e ≡ ValueRefused.NotAValue → value_of bytes.now ≡ None) }
-    ensures memory { IfErr result (λ e. e ≡ ValueRefused.NoMemory → IsTrue (is_quoted bytes.now)) }
+    ensures memory { IfErr result (λ e. e ≡ ValueRefused.NoMemory → (text : List ℕ) × (value_of bytes.now ≡ Some (Value.Text text))) }
 {
     if is(bytes, "nil") {
         return Ok(Value::Nil);
@@ -212,10 +247,7 @@ fn value(alloc: Global, bytes: &[u8]) -> Result<Value, ValueRefused>
         return Ok(Value::Bool(false));
     }
     if is_quoted(bytes) {
-        let Some(inside) = read_inside(&bytes[1..bytes.len() - 1]) else {
-            return Err(ValueRefused::NotAValue);
-        };
-        return Ok(Value::Text(text(alloc, inside.as_slice())?));
+        return text_value(alloc, bytes);
     }
     let Some(number) = integer(bytes) else {
         return Err(ValueRefused::NotAValue);
@@ -224,14 +256,14 @@ fn value(alloc: Global, bytes: &[u8]) -> Result<Value, ValueRefused>
 }
 
 /// Reads a value from its spelling. The answer is `NotAValue` exactly if the bytes spell none. Only a
-/// text takes memory, so `NoMemory` comes only for bytes that begin and end with `"`.
+/// text takes memory, so `NoMemory` comes only for bytes that spell a text.
 pub fn read_value(alloc: Global, bytes: &[u8]) -> Result<Value, ValueRefused>
     ensures value { IfOk result (λ value. bytes.now ≡ spelling value) }
     ensures range { IfOk result IsValue }
     ensures only { IfErr result (λ e. e ≡ ValueRefused.NotAValue → (value : Value) → IsValue value → ¬ (bytes.now ≡ spelling value)) }
     ensures found { IfOk result (λ value. value_of bytes.now ≡ Some value) }
     ensures none { IfErr result (λ e. e ≡ ValueRefused.NotAValue → value_of bytes.now ≡ None) }
-    ensures memory { IfErr result (λ e. e ≡ ValueRefused.NoMemory → IsTrue (is_quoted bytes.now)) }
+    ensures memory { IfErr result (λ e. e ≡ ValueRefused.NoMemory → (text : List ℕ) × (value_of bytes.now ≡ Some (Value.Text text))) }
 {
     value(alloc, bytes)
 }
@@ -239,7 +271,7 @@ pub fn read_value(alloc: Global, bytes: &[u8]) -> Result<Value, ValueRefused>
 // The spelling of a text with these bytes.
 fn quoted(text: &[u8]) -> ArrayVec<u8, 1022>
     requires { length text.now ≤ 255 }
-    ensures { result.items ≡ 34 ∷ inside text.now ++ 34 ∷ [] }
+    ensures { result.items ≡ 34 ∷ bytes_spelling text.now ++ 34 ∷ [] }
 {
     let mut spelled = ArrayVec::new();
     spelled.push(b'"');
@@ -252,10 +284,11 @@ fn quoted(text: &[u8]) -> ArrayVec<u8, 1022>
     spelled
 }
 
-/// Puts the spelling of a value behind a text. After want of memory the text is as before.
+/// Puts the spelling of a value behind a text. After want of memory the text is as before. Each value that code holds is in its range.
 pub fn append_value(text: &mut Bytes, value: &Value) -> Result<(), NoMemory>
     ensures ok { OnOk result (text.new ≡ text.old ++ spelling value.now) }
     ensures err { OnErr result (text.new ≡ text.old) }
+    ensures range { IsValue value.now }
 {
     match value {
         Value::Nil => text.append(b"nil"),

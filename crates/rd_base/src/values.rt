@@ -1,7 +1,12 @@
 //! Values: the arguments and results of calls.
-ghost use Rattle.std.specs.Prelude.{◌≡◌, ◌<◌, ◌≤◌, ◌↔◌, IfOk, IsErrOf, length};
+ghost use Rattle.std.specs.Prelude.{◌≡◌, ◌<◌, ◌≤◌, ◌↔◌, ℕ, List, All, IfOk, IsErrOf, IsTrue, length};
+ghost use Rattle.std.specs.declared.cmp.Ordering.TheVariants.{Equal};
+ghost use Rattle.rd_base.specs.declared.values.Value.{Value};
+ghost use Rattle.rd_base.specs.Order.{bytes_cmp, value_cmp};
+ghost use Rattle.rd_base.specs.Spelling.{IsText};
 
 use crate::memory::NoMemory;
+use crate::names::Name;
 use std::alloc::{AllocError, Global};
 use std::cmp::Ordering;
 use std::hash::{Hash, Hasher};
@@ -46,6 +51,14 @@ impl Model for Text {
     ghost invariant = { λ t. length t.bytes.items ≤ 255 };
 }
 
+// The same bytes, of which each is below 256.
+fn ranged(bytes: &[u8]) -> &[u8]
+    ensures value { result.now ≡ bytes.now }
+    ensures range { All (λ b. b < 256) bytes.now }
+{
+    bytes
+}
+
 impl Text {
     /// The text of these bytes. `TooLong` comes exactly above 255 bytes.
     pub fn from_bytes(alloc: Global, bytes: &[u8]) -> Result<Text, TextRefused>
@@ -64,8 +77,9 @@ impl Text {
     pub fn items(&self) -> &[u8]
         ensures value { result.now ≡ self.now }
         ensures few { length self.now ≤ 255 }
+        ensures text { IsText self.now }
     {
-        self.bytes.as_slice()
+        ranged(self.bytes.as_slice())
     }
 
     /// An equal text.
@@ -166,3 +180,17 @@ impl Value {
         })
     }
 }
+
+/// The law of the order of values and names: values are ordered as `value_cmp` says and names by their bytes; `==` tells exactly
+/// the equal ones alike, and so does the order; equal ones are hashed alike.
+#[tactic(auto, using(crate::proofs::OrderLemmas::tied_values, crate::proofs::OrderLemmas::tied_bytes))]
+pub fn law_of_order()
+    ensures values { (a b : Value) → ⟦<Value as Ord>⟧.cmp a b ≡ value_cmp a b }
+    ensures tied_values { (a b : Value) → (value_cmp a b ≡ Equal) ↔ (a ≡ b) }
+    ensures equal_values { (a b : Value) → IsTrue (⟦<Value as PartialEq>⟧.eq a b) ↔ (a ≡ b) }
+    ensures hashed_values { (a b : Value) → IsTrue (⟦<Value as PartialEq>⟧.eq a b) → ⟦<Value as Hash>⟧.hash_input a ≡ ⟦<Value as Hash>⟧.hash_input b }
+    ensures names { (a b : List ℕ) → ⟦<Name as Ord>⟧.cmp a b ≡ bytes_cmp a b }
+    ensures tied_names { (a b : List ℕ) → (bytes_cmp a b ≡ Equal) ↔ (a ≡ b) }
+    ensures equal_names { (a b : List ℕ) → IsTrue (⟦<Name as PartialEq>⟧.eq a b) ↔ (a ≡ b) }
+    ensures hashed_names { (a b : List ℕ) → IsTrue (⟦<Name as PartialEq>⟧.eq a b) → ⟦<Name as Hash>⟧.hash_input a ≡ ⟦<Name as Hash>⟧.hash_input b }
+{}

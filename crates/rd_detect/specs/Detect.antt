@@ -29,7 +29,7 @@ IsAnswer Commuting lines es j None = ¬ (Reported Commuting es j)
 IsAnswer Commuting lines es j (Some line) = (i : ℕ) × IsLatest Commuting es j i × (slice_get lines i ≡ Some line)
 
 -- the call is the next event, at this place and with this stamp
-pub record IsNext (held : List Seen) (lines : List ℕ) (es : List Event) (place : ℕ) (call : CallOf) (stamp : Stamp) : Type 0 where
+pub record IsNextCall (held : List Seen) (lines : List ℕ) (es : List Event) (place : ℕ) (call : CallOf) (stamp : Stamp) : Type 0 where
   pub stands : StandsFor held lines es
   pub at_end : place ≡ length es
   pub stamped : IsStamp (es ++ Call call ∷ []) (length es) stamp

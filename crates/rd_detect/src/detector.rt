@@ -3,7 +3,7 @@ ghost use Rattle.std.specs.Prelude.{◌≡◌, ℕ, ◌+◌, ◌<◌, ◌≤◌,
 ghost use Rattle.rd_event.specs.declared.events.Event.{Event as EventOf};
 ghost use Rattle.rd_event.specs.declared.events.Event.TheVariants as event;
 ghost use Rattle.rd_detect.specs.Register.{Commute};
-ghost use Rattle.rd_detect.specs.Detect.{IsAnswer, IsNewest, IsNext, Meets, StandsFor};
+ghost use Rattle.rd_detect.specs.Detect.{IsAnswer, IsNewest, IsNextCall, Meets, StandsFor};
 
 use crate::register::commute;
 use rd_base::{NoMemory, Steps};
@@ -93,10 +93,10 @@ impl Detector {
         _tracker: &Tracker,
         steps: &mut Steps<L>,
     ) -> Result<Option<u64>, NoMemory>
-        requires next { (lines : List ℕ) × (es : List EventOf) × IsNext self.old lines es place call.now stamp.now }
-        ensures answer { IfOk result (λ answer. (lines : List ℕ) (es : List EventOf) → IsNext self.old lines es place call.now stamp.now →
+        requires next { (lines : List ℕ) × (es : List EventOf) × IsNextCall self.old lines es place call.now stamp.now }
+        ensures answer { IfOk result (λ answer. (lines : List ℕ) (es : List EventOf) → IsNextCall self.old lines es place call.now stamp.now →
             IsAnswer Commute lines (es ++ event.Call call.now ∷ []) place answer) }
-        ensures stands { OnOk result ((lines : List ℕ) (es : List EventOf) → IsNext self.old lines es place call.now stamp.now →
+        ensures stands { OnOk result ((lines : List ℕ) (es : List EventOf) → IsNextCall self.old lines es place call.now stamp.now →
             StandsFor self.new (lines ++ line ∷ []) (es ++ event.Call call.now ∷ [])) }
         ensures count { OnOk result (length self.new ≡ length self.old + 1) }
         ensures err { OnErr result (self.new ≡ self.old) }

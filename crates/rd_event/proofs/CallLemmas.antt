@@ -1,4 +1,4 @@
--- `call_of` finds a call exactly in its spelling.
+-- `call_read` finds a call exactly in its spelling.
 use Rattle.std.proofs.Common.{◌≡◌, ℕ, ◌<◌, List, ◌∷◌, ◌++◌, length, refl, sym, ◌∙◌, ap, arith, codes, Some, IfSome, length-append}
 use Rattle.std.specs.Prelude.{⊤}
 use Rattle.std.specs.List.{before_first, after_first}
@@ -8,18 +8,18 @@ use Rattle.rd_base.specs.Names.{IsName}
 use Rattle.rd_base.proofs.FoundLemmas.{map_found, then_found}
 use Rattle.rd_event.specs.declared.items.LineEvent.{LineEvent}
 use Rattle.rd_event.specs.declared.items.LineEvent.TheVariants.{Call}
-use Rattle.rd_event.specs.Items.{IsEvent, AreSlots, apart, event_spelling, slots_spelling}
-use Rattle.rd_event.specs.Reading.{is_space, name_of, call_of}
+use Rattle.rd_event.specs.Items.{IsEvent, AreSlots, words_apart, event_spelling, slots_spelling}
+use Rattle.rd_event.specs.Reading.{is_space, name_of, call_read}
 use Rattle.rd_event.specs.ReadingSlots.{slots_of}
 use Rattle.rd_event.proofs.SlotLemmas.{slots_found, slots_said}
 use Rattle.rd_event.proofs.WordLemmas.{NameSaid, cut_joined, before_space, after_space, name_said, name_found}
 
 -- two words, a space apart, are the bytes
 said_apart : (bytes first second : List ℕ) → first ≡ before_first is_space bytes → second ≡ after_first is_space bytes
-    → 0 < length second → (apart first second ≡ bytes) × (0 < length bytes)
+    → 0 < length second → (words_apart first second ≡ bytes) × (0 < length bytes)
 said_apart bytes first second before behind some =
     let more : 0 < length (after_first is_space bytes) = omega (arith, ap length behind) in
-    let all : apart first second ≡ bytes =
+    let all : words_apart first second ≡ bytes =
     ap (λ word. word ++ 32 ∷ second) before ∙ ap (λ rest. before_first is_space bytes ++ 32 ∷ rest) behind
     ∙ sym (cut_joined bytes more) in
     (all, omega (arith, length-append first (32 ∷ second), ap length all))
@@ -45,12 +45,12 @@ parts_said rest names words thread object method slots is_names is_words thread_
     let method_on = said_apart words method (slots_spelling slots) third.1 values.1 some in
     let object_on = said_apart names object words second.1 is_words method_on.1 in
     let thread_on = said_apart rest thread names first.1 is_names object_on.1 in
-    let whole : apart thread (apart object (apart method (slots_spelling slots))) ≡ rest =
-    ap (λ more. apart thread (apart object more)) method_on.0 ∙ ap (apart thread) object_on.0 ∙ thread_on.0 in
+    let whole : words_apart thread (words_apart object (words_apart method (slots_spelling slots))) ≡ rest =
+    ap (λ more. words_apart thread (words_apart object more)) method_on.0 ∙ ap (words_apart thread) object_on.0 ∙ thread_on.0 in
     ((first.0, second.0, third.0, values.0), ap (λ all. codes "call" ++ 32 ∷ all) (sym whole), thread_on.1)
 
-pub call_said : (rest : List ℕ) → IfSome (call_of rest) (CallSaid rest)
-unfolding call_of
+pub call_said : (rest : List ℕ) → IfSome (call_read rest) (CallSaid rest)
+unfolding call_read
 call_said rest =
     let Said : LineEvent → Type 0 = CallSaid rest in
     let names = after_first is_space rest in
@@ -63,11 +63,11 @@ call_said rest =
 
 -- What is said is found.
 pub call_found : (thread object method : List ℕ) (slots : List Value) → IsName thread → IsName object → IsName method → AreSlots slots
-    → call_of (apart thread (apart object (apart method (slots_spelling slots)))) ≡ Some (Call thread object method slots)
-unfolding call_of
+    → call_read (words_apart thread (words_apart object (words_apart method (slots_spelling slots)))) ≡ Some (Call thread object method slots)
+unfolding call_read
 call_found thread object method slots first second third values =
-    let words = apart method (slots_spelling slots) in
-    let names = apart object words in
+    let words = words_apart method (slots_spelling slots) in
+    let names = words_apart object words in
     rw (
       before_space thread names first,
       after_space thread names first,
@@ -79,4 +79,26 @@ call_found thread object method slots first second third values =
       name_found object second,
       name_found method third,
       slots_found slots values,
+    ) refl
+
+-- the call of three names and slots, each read from what stands behind the one before it
+pub call_there : (rest names words values thread object method : List ℕ) (slots : List Value)
+    → thread ≡ before_first is_space rest → names ≡ after_first is_space rest
+    → object ≡ before_first is_space names → words ≡ after_first is_space names
+    → method ≡ before_first is_space words → values ≡ after_first is_space words
+    → IsName thread → IsName object → IsName method → slots_of 7 values ≡ Some slots
+    → call_read rest ≡ Some (Call thread object method slots)
+unfolding call_read
+call_there rest names words values thread object method slots thread_is names_are object_is words_are method_is values_are first second third found =
+    rw (
+      sym thread_is,
+      sym names_are,
+      sym object_is,
+      sym words_are,
+      sym method_is,
+      sym values_are,
+      name_found thread first,
+      name_found object second,
+      name_found method third,
+      found,
     ) refl

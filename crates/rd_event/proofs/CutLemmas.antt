@@ -11,20 +11,20 @@ use Rattle.std.proofs.lemmas.List.{at_drop_all, drop_more}
 use Rattle.std.proofs.lemmas.Str.Parse.{digit_from_value}
 use Rattle.rd_base.specs.declared.values.Value.{Value}
 use Rattle.rd_base.specs.declared.values.Value.TheVariants.{Nil, Bool as Truth, Int, Text}
-use Rattle.rd_base.specs.Spelling.{escaped, is_plain, inside, spelling, IsValue}
+use Rattle.rd_base.specs.Spelling.{byte_spelling, is_plain, bytes_spelling, spelling, IsValue}
 use Rattle.rd_base.proofs.FoundLemmas.{each_by_recursion}
 use Rattle.rd_event.specs.declared.slots.Place.{Place}
 use Rattle.rd_event.specs.declared.slots.Place.TheVariants.{Outside, Quoted, Escaped}
-use Rattle.rd_event.specs.ReadingSlots.{ends, next, value_length, first_value, other_values}
+use Rattle.rd_event.specs.ReadingSlots.{is_end, next_place, value_length, first_value, other_values}
 
 -- Steps of the loop that looks for the end.
-pub ends_here : (place : Place) (bytes : List ℕ) (index : ℕ) → index < length bytes → ends place (get_or bytes index 0) ≡ true
+pub ends_here : (place : Place) (bytes : List ℕ) (index : ℕ) → index < length bytes → is_end place (get_or bytes index 0) ≡ true
     → value_length place (drop index bytes) ≡ 0
 unfolding value_length
 ends_here place bytes index within here = rw (drop_more bytes index 0 within, here) refl
 
-pub goes_on : (place : Place) (bytes : List ℕ) (index : ℕ) → index < length bytes → ends place (get_or bytes index 0) ≡ false
-    → value_length place (drop index bytes) ≡ suc (value_length (next place (get_or bytes index 0)) (drop (index + 1) bytes))
+pub goes_on : (place : Place) (bytes : List ℕ) (index : ℕ) → index < length bytes → is_end place (get_or bytes index 0) ≡ false
+    → value_length place (drop index bytes) ≡ suc (value_length (next_place place (get_or bytes index 0)) (drop (index + 1) bytes))
 unfolding value_length
 goes_on place bytes index within on = rw (drop_more bytes index 0 within, on) refl
 
@@ -33,7 +33,7 @@ unfolding value_length
 ends_behind place bytes index behind = at_drop_all (value_length place) bytes index behind
 
 -- only a space ends a value
-space_ends : (place : Place) (byte : ℕ) → ends place byte ≡ true → byte ≡ 32
+space_ends : (place : Place) (byte : ℕ) → is_end place byte ≡ true → byte ≡ 32
 space_ends Outside byte here = eqb-true byte 32 here
 space_ends Quoted byte here = cc
 space_ends Escaped byte here = cc
@@ -43,11 +43,11 @@ cut_back : (place : Place) (bytes : List ℕ) → value_length place bytes < len
     → take (value_length place bytes) bytes ++ 32 ∷ drop (suc (value_length place bytes)) bytes ≡ bytes
 unfolding value_length
 cut_back place [] within = absurd (omega arith)
-cut_back place (byte ∷ bytes) within = elim (cases_Bool (ends place byte)) [
+cut_back place (byte ∷ bytes) within = elim (cases_Bool (is_end place byte)) [
   | inl here ↦ rw here (ap (λ b. b ∷ bytes) (sym (space_ends place byte here)))
   | inr on ↦
-      let more : value_length (next place byte) bytes < length bytes = (let all = rw on at within in omega arith) in
-      rw on (ap (λ xs. byte ∷ xs) (cut_back (next place byte) bytes more))
+      let more : value_length (next_place place byte) bytes < length bytes = (let all = rw on at within in omega arith) in
+      rw on (ap (λ xs. byte ∷ xs) (cut_back (next_place place byte) bytes more))
 ]
 
 pub values_joined : (bytes : List ℕ) → 0 < length (other_values bytes) → bytes ≡ first_value bytes ++ 32 ∷ other_values bytes
@@ -62,7 +62,7 @@ Through p word q = (rest : List ℕ) → value_length p (word ++ rest) ≡ lengt
 through_none : (p : Place) → Through p [] p
 through_none p rest = omega arith
 
-through_byte : (p q : Place) (byte : ℕ) (word : List ℕ) → ends p byte ≡ false → Through (next p byte) word q → Through p (byte ∷ word) q
+through_byte : (p q : Place) (byte : ℕ) (word : List ℕ) → is_end p byte ≡ false → Through (next_place p byte) word q → Through p (byte ∷ word) q
 unfolding value_length
 through_byte p q byte word on through rest = rw on (ap suc (through rest) ∙ omega arith)
 
@@ -103,8 +103,8 @@ through_digits_of high low highs lows =
     escaped_byte 120 (high ∷ low ∷ [])
     (inside_byte high (low ∷ []) highs.0 highs.1 (inside_byte low [] lows.0 lows.1 (through_none Quoted)))
 
-through_escaped : (byte : ℕ) → byte < 256 → Through Quoted (escaped byte) Quoted
-unfolding escaped
+through_escaped : (byte : ℕ) → byte < 256 → Through Quoted (byte_spelling byte) Quoted
+unfolding byte_spelling
 through_escaped byte small =
     let none = through_none Quoted in
     elim (eqb_tells byte 34) [
@@ -121,10 +121,10 @@ through_escaped byte small =
       ]
     ]
 
-through_inside : (text : List ℕ) → AllByRecursion (λ b. b < 256) text → Through Quoted (inside text) Quoted
+through_inside : (text : List ℕ) → AllByRecursion (λ b. b < 256) text → Through Quoted (bytes_spelling text) Quoted
 through_inside [] each = through_none Quoted
 through_inside (byte ∷ text) each =
-    through_both Quoted Quoted Quoted (escaped byte) (inside text) (through_escaped byte each.0) (through_inside text each.1)
+    through_both Quoted Quoted Quoted (byte_spelling byte) (bytes_spelling text) (through_escaped byte each.0) (through_inside text each.1)
 
 -- no value ends inside the spelling of one
 through_value : (value : Value) → IsValue value → Through Outside (spelling value) Outside
@@ -136,8 +136,8 @@ through_value (Int (pos n)) range = through_decimal n (omega (arith, range.sfits
 through_value (Int (negsuc n)) range =
     through_other 45 (decimal (suc n)) (omega arith) (omega arith) (through_decimal (suc n) (omega (arith, range.sfits)))
 through_value (Text text) range =
-    through_byte Outside Outside 34 (inside text ++ 34 ∷ []) refl
-    (through_both Quoted Quoted Outside (inside text) (34 ∷ []) (through_inside text (each_by_recursion _ text range.each))
+    through_byte Outside Outside 34 (bytes_spelling text ++ 34 ∷ []) refl
+    (through_both Quoted Quoted Outside (bytes_spelling text) (34 ∷ []) (through_inside text (each_by_recursion _ text range.each))
     (through_byte Quoted Outside 34 [] refl (through_none Outside)))
 
 -- a value before a space ends there

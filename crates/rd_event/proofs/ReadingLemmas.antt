@@ -1,12 +1,12 @@
 -- `item_of` finds an item exactly where the bytes say it.
-use Rattle.std.proofs.Common.{◌≡◌, ℕ, ◌<◌, true, List, ◌∷◌, ◌++◌, length, refl, sym, ◌∙◌, ap, subst, arith, codes, Some, None, IfSome, IfOk, IfErr, Result, Ok, Err, length-append}
+use Rattle.std.proofs.Common.{◌≡◌, ℕ, ◌<◌, true, List, ◌∷◌, ◌++◌, length, refl, sym, ◌∙◌, ap, subst, arith, codes, Some, None, IfSome, OnOk, IfErr, Result, Ok, Err, length-append}
 use Rattle.std.specs.Prelude.{⊤}
 use Rattle.std.specs.List.{before_first, after_first}
 use Rattle.std.specs.Option.{option_map}
 use Rattle.std.specs.Str.{bytes_eq}
 use Rattle.std.specs.Cmp.Lexicographic.{bytes_decides}
 use Rattle.std.proofs.lemmas.Option.{same_Some, none-some, IfSome_then, MatchOption-at_some}
-use Rattle.std.proofs.lemmas.Result.{IfOk-weaker}
+use Rattle.std.proofs.lemmas.Result.{on_ok_weaker}
 use Rattle.rd_base.specs.Names.{IsName}
 use Rattle.rd_base.proofs.FoundLemmas.{if_some, map_some}
 use Rattle.rd_event.specs.declared.items.Line.{Line}
@@ -15,8 +15,8 @@ use Rattle.rd_event.specs.declared.items.LineEvent.{LineEvent}
 use Rattle.rd_event.specs.declared.items.LineEvent.TheVariants.{Fork, Join, Call}
 use Rattle.rd_event.specs.declared.reading.LineRefused.{LineRefused}
 use Rattle.rd_event.specs.declared.reading.LineRefused.TheVariants.{BadLine}
-use Rattle.rd_event.specs.Items.{IsEvent, InRange, apart, event_spelling, spelling, Says}
-use Rattle.rd_event.specs.Reading.{is_space, names_of, call_of, event_with, item_with, item_of}
+use Rattle.rd_event.specs.Items.{IsEvent, LineInRange, words_apart, event_spelling, spelling, Says}
+use Rattle.rd_event.specs.Reading.{is_space, names_of, is_call, call_read, event_with, item_with, item_of}
 use Rattle.rd_event.proofs.CallLemmas.{CallSaid, call_said, call_found}
 use Rattle.rd_event.proofs.WordLemmas.{NameSaid, NamesSaid, cut_joined, name_said, names_said, name_found, names_found}
 
@@ -29,7 +29,7 @@ with_keyword keyword text rest shown same is =
 -- a line of a keyword and two names
 abbrev TwoNamesSaid : List ℕ → List ℕ → List ℕ → List ℕ × List ℕ → Type 0
 TwoNamesSaid keyword text rest names =
-    (IsName names.0 × IsName names.1) × (keyword ++ 32 ∷ rest ≡ text ++ 32 ∷ apart names.0 names.1) × (0 < length rest)
+    (IsName names.0 × IsName names.1) × (keyword ++ 32 ∷ rest ≡ text ++ 32 ∷ words_apart names.0 names.1) × (0 < length rest)
 
 two_names_said : (keyword text rest : List ℕ) → bytes_eq keyword text ≡ true
     → IfSome (names_of rest) (TwoNamesSaid keyword text rest)
@@ -37,7 +37,7 @@ two_names_said keyword text rest same =
     IfSome_then (names_of rest) {P = NamesSaid rest} {Q = TwoNamesSaid keyword text rest} (names_said rest)
     (λ names said.
     let more : 0 < length rest = omega (arith, length-append names.0 (32 ∷ names.1), ap length said.1) in
-    (said.0, with_keyword keyword text rest (apart names.0 names.1) same said.1, more))
+    (said.0, with_keyword keyword text rest (words_apart names.0 names.1) same said.1, more))
 
 abbrev EventSaid : List ℕ → List ℕ → LineEvent → Type 0
 EventSaid keyword rest event = IsEvent event × (keyword ++ 32 ∷ rest ≡ event_spelling event) × (0 < length rest)
@@ -48,13 +48,13 @@ event_said keyword rest =
     let Said : LineEvent → Type 0 = EventSaid keyword rest in
     if_some Said _ _ _ (λ same. map_some _ Said _ _ (two_names_said keyword (codes "fork") rest same) (λ names said. said))
     (if_some Said _ _ _ (λ same. map_some _ Said _ _ (two_names_said keyword (codes "join") rest same) (λ names said. said))
-    (if_some Said _ (call_of rest) _
-    (λ same. IfSome_then (call_of rest) {P = CallSaid rest} {Q = Said} (call_said rest)
+    (if_some Said _ (call_read rest) _
+    (λ same. IfSome_then (call_read rest) {P = CallSaid rest} {Q = Said} (call_said rest)
     (λ event said. (said.0, ap (λ word. word ++ 32 ∷ rest) ((bytes_decides keyword (codes "call")).0 same) ∙ said.1, said.2)))
     tt))
 
 abbrev ItemSaid : List ℕ → List ℕ → Line → Type 0
-ItemSaid keyword rest item = InRange item × Says (keyword ++ 32 ∷ rest) item × (0 < length rest)
+ItemSaid keyword rest item = LineInRange item × Says (keyword ++ 32 ∷ rest) item × (0 < length rest)
 
 header_said : (keyword rest : List ℕ) → bytes_eq keyword (codes "rdtrace") ≡ true → bytes_eq rest (codes "1") ≡ true
     → ItemSaid keyword rest (Header 1)
@@ -78,7 +78,7 @@ item_said keyword rest =
     (map_some _ Said _ _ (event_said keyword rest) (λ event said. said))))
 
 abbrev LineSaid : List ℕ → Line → Type 0
-LineSaid bytes item = InRange item × Says bytes item
+LineSaid bytes item = LineInRange item × Says bytes item
 
 line_said : (bytes : List ℕ) → IfSome (item_of bytes) (LineSaid bytes)
 unfolding item_of
@@ -90,14 +90,20 @@ line_said bytes =
     (IfSome_then (item_with keyword rest) {P = ItemSaid keyword rest} {Q = LineSaid bytes} (item_said keyword rest)
     (λ item said. (said.0, subst (λ all. Says all item) (sym (cut_joined bytes said.2)) said.1)))
 
+-- the item of a call
+pub call_item : (keyword rest : List ℕ) → is_call keyword ≡ true
+    → item_with keyword rest ≡ option_map (λ event. Event event) (call_read rest)
+unfolding item_with event_with
+call_item keyword rest same = rw ((bytes_decides keyword (codes "call")).0 same) refl
+
 -- an item that is found is in its range, and the bytes say it
-pub found_said : (bytes : List ℕ) (item : Line) → item_of bytes ≡ Some item → InRange item × Says bytes item
+pub found_said : (bytes : List ℕ) (item : Line) → item_of bytes ≡ Some item → LineInRange item × Says bytes item
 found_said bytes item found = MatchOption-at_some ⊤ (LineSaid bytes) item found (line_said bytes)
 
 -- What is said is found.
 
 -- an item that the bytes say is found
-pub line_found : (bytes : List ℕ) (item : Line) → InRange item → Says bytes item → item_of bytes ≡ Some item
+pub line_found : (bytes : List ℕ) (item : Line) → LineInRange item → Says bytes item → item_of bytes ≡ Some item
 unfolding item_of item_with event_with
 line_found bytes Skip range says = rw says refl
 line_found bytes (Header version) range says = rw (says, range) refl
@@ -121,29 +127,29 @@ spelling_says (Thread thread) = refl
 spelling_says (Object name kind) = refl
 spelling_says (Event event) = refl
 
-pub found_again : (item : Line) → InRange item → item_of (spelling item) ≡ Some item
+pub found_again : (item : Line) → LineInRange item → item_of (spelling item) ≡ Some item
 found_again item range = line_found (spelling item) item range (spelling_says item)
 
 -- no bytes say two items
-pub one_line : (bytes : List ℕ) (x y : Line) → InRange x → InRange y → Says bytes x → Says bytes y → x ≡ y
+pub one_line : (bytes : List ℕ) (x y : Line) → LineInRange x → LineInRange y → Says bytes x → Says bytes y → x ≡ y
 one_line bytes x y x_range y_range x_says y_says =
     same_Some x y (sym (line_found bytes x x_range x_says) ∙ line_found bytes y y_range y_says)
 
 -- where none is found, the bytes say none
-none_said : (bytes : List ℕ) → item_of bytes ≡ None → (item : Line) → InRange item → ¬ (Says bytes item)
+none_said : (bytes : List ℕ) → item_of bytes ≡ None → (item : Line) → LineInRange item → ¬ (Says bytes item)
 none_said bytes none item range says = none-some item (sym none ∙ line_found bytes item range says)
 
 -- the same of what a call answers
-pub ok_in_range : (bytes : List ℕ) (result : Result Line LineRefused) → IfOk result (λ item. item_of bytes ≡ Some item)
-    → IfOk result InRange
-ok_in_range bytes result = IfOk-weaker result _ _ (λ item found. (found_said bytes item found).0)
+pub ok_in_range : (bytes : List ℕ) (item : Line) (result : Result Unit LineRefused) → OnOk result (item_of bytes ≡ Some item)
+    → OnOk result (LineInRange item)
+ok_in_range bytes item result = on_ok_weaker result (λ found. (found_said bytes item found).0)
 
-pub ok_says : (bytes : List ℕ) (result : Result Line LineRefused) → IfOk result (λ item. item_of bytes ≡ Some item)
-    → IfOk result (Says bytes)
-ok_says bytes result = IfOk-weaker result _ _ (λ item found. (found_said bytes item found).1)
+pub ok_says : (bytes : List ℕ) (item : Line) (result : Result Unit LineRefused) → OnOk result (item_of bytes ≡ Some item)
+    → OnOk result (Says bytes item)
+ok_says bytes item result = on_ok_weaker result (λ found. (found_said bytes item found).1)
 
-pub err_says_none : (bytes : List ℕ) (result : Result Line LineRefused)
+pub err_says_none : (bytes : List ℕ) (result : Result Unit LineRefused)
     → IfErr result (λ e. e ≡ BadLine → item_of bytes ≡ None)
-    → IfErr result (λ e. e ≡ BadLine → (item : Line) → InRange item → ¬ (Says bytes item))
-err_says_none bytes (Ok item) none = none
+    → IfErr result (λ e. e ≡ BadLine → (item : Line) → LineInRange item → ¬ (Says bytes item))
+err_says_none bytes (Ok unit) none = none
 err_says_none bytes (Err e) none = λ bad. none_said bytes (none bad)

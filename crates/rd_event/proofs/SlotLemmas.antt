@@ -1,5 +1,5 @@
 -- `slots_of` finds the slots of a call exactly in their spelling.
-use Rattle.std.proofs.Common.{◌≡◌, ℕ, zero, suc, ◌-◌, ◌<◌, ◌≤◌, true, false, List, [], ◌∷◌, ◌++◌, length, refl, sym, ◌∙◌, ap, codes, Option, Some, None, IfSome, option_map, option_and_then, arith, append_assoc, length-append, bytes_eq, pos, negsuc}
+use Rattle.std.proofs.Common.{◌≡◌, ℕ, zero, suc, ◌-◌, ◌<◌, ◌≤◌, true, false, List, [], ◌∷◌, ◌++◌, length, refl, sym, ◌∙◌, ap, codes, Option, Some, None, IfSome, option_map, option_and_then, is_some, arith, append_assoc, length-append, bytes_eq, pos, negsuc}
 use Rattle.std.specs.Prelude.{⊤}
 use Rattle.std.specs.Fmt.{digits}
 use Rattle.std.specs.List.{AllByRecursion}
@@ -13,7 +13,7 @@ use Rattle.rd_base.specs.Spelling.{IsValue, spelling as value_spelling}
 use Rattle.rd_base.specs.ReadingValues.{integer_of, value_of}
 use Rattle.rd_base.proofs.FoundLemmas.{if_some, map_found, then_found, each_by_recursion, each_from_recursion}
 use Rattle.rd_base.proofs.ValueLemmas.{value_found, found_said as value_said}
-use Rattle.rd_event.specs.Items.{AreSlots, apart, slots_spelling}
+use Rattle.rd_event.specs.Items.{AreSlots, words_apart, slots_spelling}
 use Rattle.rd_event.specs.ReadingSlots.{first_value, other_values, slots_of}
 use Rattle.rd_event.proofs.CutLemmas.{values_joined, value_before, value_behind, arrow_before, arrow_behind}
 
@@ -90,6 +90,54 @@ too_many bytes slots rest so_far full =
     let none : 7 - length slots ≡ 0 = omega arith in
     so_far ∙ ap (λ n. option_map (λ more. slots ++ more) (slots_of n rest)) none ∙ ap (option_map (λ more. slots ++ more)) (no_room rest)
 
+-- Steps of the test that bytes spell slots.
+with_one : (room : ℕ) → 0 < room → room ≡ suc (room - 1)
+with_one room some = omega arith
+
+some_made : {A B : Type 0} (f : A → B) (found : Option A) → is_some (option_map f found) ≡ is_some found
+some_made f (Some x) = refl
+some_made f None = refl
+
+some_behind : {A B C : Type 0} (f : A → B → C) (first : Option A) (others : Option B) → is_some first ≡ true
+    → is_some (option_and_then (λ x. option_map (f x) others) first) ≡ is_some others
+some_behind f (Some x) others some = some_made (f x) others
+some_behind f None others some = cc
+
+none_behind : {A B C : Type 0} (f : A → B → C) (first : Option A) (others : Option B) → is_some first ≡ false
+    → is_some (option_and_then (λ x. option_map (f x) others) first) ≡ false
+none_behind f (Some x) others none = cc
+none_behind f None others none = refl
+
+pub tested_without_room : (room : ℕ) (bytes : List ℕ) → room ≡ 0 → is_some (slots_of room bytes) ≡ false
+tested_without_room room bytes none = ap (λ n. is_some (slots_of n bytes)) none ∙ ap is_some (no_room bytes)
+
+pub tested_at_arrow : (room : ℕ) (bytes : List ℕ) → 0 < room → bytes_eq (first_value bytes) (codes "->") ≡ true
+    → is_some (slots_of room bytes) ≡ is_some (value_of (other_values bytes))
+tested_at_arrow room bytes some arrow =
+    ap (λ n. is_some (slots_of n bytes)) (with_one room some) ∙ ap is_some (slots_at_arrow (room - 1) bytes arrow)
+    ∙ some_made (λ result. result ∷ []) (value_of (other_values bytes))
+
+pub tested_at_argument : (room : ℕ) (bytes : List ℕ) → 0 < room → bytes_eq (first_value bytes) (codes "->") ≡ false
+    → is_some (value_of (first_value bytes)) ≡ true → is_some (slots_of room bytes) ≡ is_some (slots_of (room - 1) (other_values bytes))
+tested_at_argument room bytes some arrow value =
+    ap (λ n. is_some (slots_of n bytes)) (with_one room some) ∙ ap is_some (slots_at_argument (room - 1) bytes arrow)
+    ∙ some_behind (λ argument slots. argument ∷ slots) (value_of (first_value bytes)) (slots_of (room - 1) (other_values bytes)) value
+
+pub tested_at_no_value : (room : ℕ) (bytes : List ℕ) → 0 < room → bytes_eq (first_value bytes) (codes "->") ≡ false
+    → is_some (value_of (first_value bytes)) ≡ false → is_some (slots_of room bytes) ≡ false
+tested_at_no_value room bytes some arrow none =
+    ap (λ n. is_some (slots_of n bytes)) (with_one room some) ∙ ap is_some (slots_at_argument (room - 1) bytes arrow)
+    ∙ none_behind (λ argument slots. argument ∷ slots) (value_of (first_value bytes)) (slots_of (room - 1) (other_values bytes)) none
+
+-- what a passed test found, and that a failed one found nothing
+pub slots_there : {A : Type 0} (found : Option A) → is_some found ≡ true → (x : A) × (found ≡ Some x)
+slots_there (Some x) some = (x, refl)
+slots_there None some = cc
+
+pub nothing_there : {A : Type 0} (found : Option A) → is_some found ≡ false → found ≡ None
+nothing_there (Some x) none = cc
+nothing_there None none = refl
+
 -- an arrow is no value
 arrow_spells_none : value_of (codes "->") ≡ None
 unfolding value_of integer_of digits
@@ -134,17 +182,17 @@ spelled (Int (negsuc n)) range = omega arith
 spelled (Text text) range = omega arith
 
 pub one_more : (argument : Value) (slots : List Value) → 1 ≤ length slots
-    → slots_spelling (argument ∷ slots) ≡ apart (value_spelling argument) (slots_spelling slots)
+    → slots_spelling (argument ∷ slots) ≡ words_apart (value_spelling argument) (slots_spelling slots)
 one_more argument [] some = absurd (omega arith)
 one_more argument (slot ∷ slots) some = refl
 
 -- two words, a space apart, are the bytes
 said_apart : (bytes first second : List ℕ) → first_value bytes ≡ first → other_values bytes ≡ second → 0 < length second
-    → (apart first second ≡ bytes) × (0 < length bytes)
+    → (words_apart first second ≡ bytes) × (0 < length bytes)
 said_apart bytes first second before behind some =
     let more : 0 < length (other_values bytes) = omega (arith, ap length behind) in
     let joined = values_joined bytes more in
-    let all : apart first second ≡ bytes =
+    let all : words_apart first second ≡ bytes =
     ap (λ word. word ++ 32 ∷ second) (sym before) ∙ ap (λ rest. first_value bytes ++ 32 ∷ rest) (sym behind) ∙ sym joined in
     (all, omega (arith, length-append first (32 ∷ second), ap length all))
 

@@ -8,7 +8,7 @@ use Rattle.std.proofs.lemmas.List.Sums.{split_at_first, passes_at_first, list_al
 use Rattle.rd_base.specs.Names.{IsName, is_name_byte}
 use Rattle.rd_base.proofs.FoundLemmas.{if_some}
 use Rattle.rd_base.proofs.NameLemmas.{is_name_decides}
-use Rattle.rd_event.specs.Items.{apart}
+use Rattle.rd_event.specs.Items.{words_apart}
 use Rattle.rd_event.specs.Reading.{is_space, name_of, names_of}
 
 -- bytes are what stands before their first space, the space, and what stands after it
@@ -51,7 +51,7 @@ unfolding name_of
 name_said bytes = if_some (NameSaid bytes) _ (Some bytes) _ (λ pass. ((is_name_decides bytes).0 pass, refl)) tt
 
 abbrev pub NamesSaid : List ℕ → List ℕ × List ℕ → Type 0
-NamesSaid bytes names = (IsName names.0 × IsName names.1) × (apart names.0 names.1 ≡ bytes)
+NamesSaid bytes names = (IsName names.0 × IsName names.1) × (words_apart names.0 names.1 ≡ bytes)
 
 pub names_said : (bytes : List ℕ) → IfSome (names_of bytes) (NamesSaid bytes)
 unfolding names_of
@@ -70,7 +70,7 @@ unfolding name_of
 name_found name named = rw ((is_name_decides name).1 named) refl
 
 pub names_found : (first second : List ℕ) → IsName first → IsName second
-    → ◌≡◌ {A = Option (List ℕ × List ℕ)} (names_of (apart first second)) (Some (first, second))
+    → ◌≡◌ {A = Option (List ℕ × List ℕ)} (names_of (words_apart first second)) (Some (first, second))
 unfolding names_of
 names_found first second one two =
     rw (

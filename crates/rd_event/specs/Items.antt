@@ -21,35 +21,48 @@ IsEvent (Fork thread child) = IsName thread × IsName child
 IsEvent (Join thread child) = IsName thread × IsName child
 IsEvent (Call thread object method slots) = IsName thread × IsName object × IsName method × AreSlots slots
 
-abbrev pub InRange : Line → Type 0
-InRange Skip = Unit {0}
-InRange (Header version) = version ≡ 1
-InRange (Thread thread) = IsName thread
-InRange (Object name kind) = IsName name × IsName kind
-InRange (Event event) = IsEvent event
+abbrev pub LineInRange : Line → Type 0
+LineInRange Skip = Unit {0}
+LineInRange (Header version) = version ≡ 1
+LineInRange (Thread thread) = IsName thread
+LineInRange (Object name kind) = IsName name × IsName kind
+LineInRange (Event event) = IsEvent event
+
+-- what a line must be to have a spelling: its version is 1, and a call has 1 to 7 slots
+abbrev pub HasFewSlots : LineEvent → Type 0
+HasFewSlots (Fork thread child) = Unit {0}
+HasFewSlots (Join thread child) = Unit {0}
+HasFewSlots (Call thread object method slots) = (1 ≤ length slots) × (length slots ≤ 7)
+
+abbrev pub IsSpellable : Line → Type 0
+IsSpellable Skip = Unit {0}
+IsSpellable (Header version) = version ≡ 1
+IsSpellable (Thread thread) = Unit {0}
+IsSpellable (Object name kind) = Unit {0}
+IsSpellable (Event event) = HasFewSlots event
 
 -- two names or other words, one space apart
-abbrev pub apart : List ℕ → List ℕ → List ℕ
-apart first second = first ++ 32 ∷ second
+abbrev pub words_apart : List ℕ → List ℕ → List ℕ
+words_apart first second = first ++ 32 ∷ second
 
 -- each argument and a space, then an arrow, a space and the result
 abbrev pub slots_spelling : List Value → List ℕ
 slots_spelling [] = []
-slots_spelling (result ∷ []) = apart (codes "->") (value_spelling result)
-slots_spelling (argument ∷ slot ∷ slots) = apart (value_spelling argument) (slots_spelling (slot ∷ slots))
+slots_spelling (result ∷ []) = words_apart (codes "->") (value_spelling result)
+slots_spelling (argument ∷ slot ∷ slots) = words_apart (value_spelling argument) (slots_spelling (slot ∷ slots))
 
 abbrev pub event_spelling : LineEvent → List ℕ
-event_spelling (Fork thread child) = codes "fork " ++ apart thread child
-event_spelling (Join thread child) = codes "join " ++ apart thread child
+event_spelling (Fork thread child) = codes "fork " ++ words_apart thread child
+event_spelling (Join thread child) = codes "join " ++ words_apart thread child
 event_spelling (Call thread object method slots) =
-    codes "call " ++ apart thread (apart object (apart method (slots_spelling slots)))
+    codes "call " ++ words_apart thread (words_apart object (words_apart method (slots_spelling slots)))
 
 -- the one spelling of each item that isn't skipped
 abbrev pub spelling : Line → List ℕ
 spelling Skip = []
 spelling (Header version) = codes "rdtrace 1"
 spelling (Thread thread) = codes "thread " ++ thread
-spelling (Object name kind) = codes "object " ++ apart name kind
+spelling (Object name kind) = codes "object " ++ words_apart name kind
 spelling (Event event) = event_spelling event
 
 -- an empty line, or one whose first byte is #

@@ -8,6 +8,8 @@ use Rattle.rd_event.specs.declared.items.Line.{Line}
 use Rattle.rd_event.specs.declared.items.Line.TheVariants.{Skip, Header, Thread, Object, Event}
 use Rattle.rd_event.specs.declared.items.LineEvent.{LineEvent}
 use Rattle.rd_event.specs.declared.items.LineEvent.TheVariants.{Fork, Join, Call}
+use Rattle.rd_event.specs.declared.reading.Pair.{Pair}
+use Rattle.rd_event.specs.declared.reading.Pair.TheVariants.{Object as ObjectPair, Fork as ForkPair, Join as JoinPair}
 use Rattle.rd_event.specs.Items.{is_skipped}
 use Rattle.rd_event.specs.ReadingSlots.{slots_of}
 
@@ -26,8 +28,8 @@ names_of bytes =
     if is_name first && is_name second then Some (first, second) else None
 
 -- the call of a line with these bytes behind its keyword: three names and the slots, a space apart
-unfoldable pub call_of : List ℕ → Option LineEvent
-call_of rest =
+unfoldable pub call_read : List ℕ → Option LineEvent
+call_read rest =
     let names = after_first is_space rest in
     let words = after_first is_space names in
     let found_thread = name_of (before_first is_space rest) in
@@ -36,6 +38,12 @@ call_of rest =
     let found_slots = slots_of 7 (after_first is_space words) in
     option_and_then (λ thread. option_and_then (λ object. option_and_then (λ method.
     option_map (λ slots. Call thread object method slots) found_slots) found_method) found_object) found_thread
+
+-- the item of a line with two names
+abbrev pub pair_item : Pair → List ℕ × List ℕ → Line
+pair_item ObjectPair names = Object names.0 names.1
+pair_item ForkPair names = Event (Fork names.0 names.1)
+pair_item JoinPair names = Event (Join names.0 names.1)
 
 -- the keyword of a call
 abbrev pub is_call : List ℕ → Bool
@@ -46,7 +54,7 @@ unfoldable pub event_with : List ℕ → List ℕ → Option LineEvent
 event_with keyword rest =
     if bytes_eq keyword (codes "fork") then option_map (λ names. Fork names.0 names.1) (names_of rest)
     else if bytes_eq keyword (codes "join") then option_map (λ names. Join names.0 names.1) (names_of rest)
-    else if is_call keyword then call_of rest
+    else if is_call keyword then call_read rest
     else None
 
 -- the item of such a line

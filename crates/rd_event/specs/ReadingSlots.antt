@@ -8,21 +8,21 @@ use Rattle.rd_event.specs.declared.slots.Place.{Place}
 use Rattle.rd_event.specs.declared.slots.Place.TheVariants.{Outside, Quoted, Escaped}
 
 -- a value ends before a space that stands outside its quotes
-abbrev pub ends : Place → ℕ → Bool
-ends Outside b = b == 32
-ends Quoted b = false
-ends Escaped b = false
+abbrev pub is_end : Place → ℕ → Bool
+is_end Outside b = b == 32
+is_end Quoted b = false
+is_end Escaped b = false
 
 -- the place behind a byte
-abbrev pub next : Place → ℕ → Place
-next Outside b = if b == 34 then Quoted else Outside
-next Quoted b = if b == 34 then Outside else if b == 92 then Escaped else Quoted
-next Escaped b = Quoted
+abbrev pub next_place : Place → ℕ → Place
+next_place Outside b = if b == 34 then Quoted else Outside
+next_place Quoted b = if b == 34 then Outside else if b == 92 then Escaped else Quoted
+next_place Escaped b = Quoted
 
 -- how many bytes stand before the first space outside quotes
 unfoldable pub value_length : Place → List ℕ → ℕ
 value_length place [] = 0
-value_length place (b ∷ bytes) = if ends place b then 0 else suc (value_length (next place b) bytes)
+value_length place (b ∷ bytes) = if is_end place b then 0 else suc (value_length (next_place place b) bytes)
 
 -- the bytes before that space, and those behind it
 abbrev pub first_value : List ℕ → List ℕ

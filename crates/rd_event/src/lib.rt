@@ -11,5 +11,5 @@ mod tests;
 
 pub use events::{Call, Event};
 pub use items::{Line, LineEvent};
-pub use reading::{LineRefused, law_of_spelling, read_line};
+pub use reading::{LineRefused, law_of_spelling, read_into, read_line};
 pub use spelling::spell;

@@ -1,10 +1,11 @@
 //! Reading a line.
-ghost use Rattle.std.specs.Prelude.{◌≡◌, ◌↔◌, ℕ, List, Option, Some, None, IfOk, IfErr, IsTrue};
+ghost use Rattle.std.specs.Prelude.{◌≡◌, ◌↔◌, ℕ, List, Option, Some, None, false, OnOk, OnErr, IfOk, IfErr, IsTrue};
+ghost use Rattle.std.specs.Option.{option_map};
 ghost use Rattle.std.specs.List.{before_first, after_first, position};
 ghost use Rattle.rd_event.specs.declared.items.Line.{Line};
 ghost use Rattle.std.specs.Str.{bytes_eq};
-ghost use Rattle.rd_event.specs.Items.{is_skipped, InRange, Says, spelling};
-ghost use Rattle.rd_event.specs.Reading.{is_space, name_of, names_of, is_call, call_of, event_with, item_with, item_of};
+ghost use Rattle.rd_event.specs.Items.{is_skipped, LineInRange, Says, spelling};
+ghost use Rattle.rd_event.specs.Reading.{is_space, name_of, names_of, is_call, call_read, pair_item, event_with, item_with, item_of};
 
 use crate::items::{Line, LineEvent};
 use crate::slots::slots;
@@ -53,114 +54,184 @@ fn cut(bytes: &[u8]) -> (&[u8], &[u8])
     (&bytes[..space], &bytes[space + 1..])
 }
 
-// The name that the bytes are.
-#[tactic(auto, using(rd_base::proofs::NameLemmas::is_name_decides), unfolding(crate::specs::Reading::name_of))]
-fn name(bytes: &[u8]) -> Result<Name, LineRefused>
-    ensures name { IfOk result (λ name. name_of bytes.now ≡ Some name) }
-    ensures none { IfErr result (λ e. e ≡ LineRefused.BadLine → name_of bytes.now ≡ None) }
+// The lines that are a keyword and two names.
+#[derive(Clone, Copy)]
+enum Pair {
+    Object,
+    Fork,
+    Join,
+}
+
+// Reads such a line with these bytes after the space behind its keyword.
+#[tactic(auto, using(rd_base::proofs::NameLemmas::is_name_decides), unfolding(crate::specs::Reading::names_of))]
+fn read_pair(pair: Pair, rest: &[u8], line: &mut Line) -> Result<(), LineRefused>
+    ensures item { OnOk result (option_map (pair_item pair) (names_of rest.now) ≡ Some line.new) }
+    ensures none { OnErr result (option_map (pair_item pair) (names_of rest.now) ≡ None) }
     ensures refused { IfErr result (λ e. e ≡ LineRefused.BadLine) }
 {
-    let Ok(name) = Name::from_bytes(bytes) else {
+    let (first, second) = cut(rest);
+    let Ok(first) = Name::from_bytes(first) else {
         return Err(LineRefused::BadLine);
     };
-    Ok(name)
+    let Ok(second) = Name::from_bytes(second) else {
+        return Err(LineRefused::BadLine);
+    };
+    match pair {
+        Pair::Object => {
+            *line = Line::Object {
+                name: first,
+                kind: second,
+            };
+            Ok(())
+        }
+        Pair::Fork => {
+            *line = Line::Event(LineEvent::Fork {
+                thread: first,
+                child: second,
+            });
+            Ok(())
+        }
+        Pair::Join => {
+            *line = Line::Event(LineEvent::Join {
+                thread: first,
+                child: second,
+            });
+            Ok(())
+        }
+    }
 }
 
-// The two names, one space apart, that the bytes are.
-#[tactic(auto, unfolding(crate::specs::Reading::name_of, crate::specs::Reading::names_of))]
-fn names(bytes: &[u8]) -> Result<(Name, Name), LineRefused>
-    ensures names { IfOk result (λ names. names_of bytes.now ≡ Some names) }
-    ensures none { IfErr result (λ e. e ≡ LineRefused.BadLine → names_of bytes.now ≡ None) }
+// Reads the line of a root thread with these bytes after the space behind its keyword.
+#[tactic(auto, using(rd_base::proofs::NameLemmas::is_name_decides), unfolding(crate::specs::Reading::name_of))]
+fn read_thread(rest: &[u8], line: &mut Line) -> Result<(), LineRefused>
+    ensures item { OnOk result (option_map (λ name. Line.Thread name) (name_of rest.now) ≡ Some line.new) }
+    ensures none { OnErr result (option_map (λ name. Line.Thread name) (name_of rest.now) ≡ None) }
     ensures refused { IfErr result (λ e. e ≡ LineRefused.BadLine) }
 {
-    let (first, second) = cut(bytes);
-    Ok((name(first)?, name(second)?))
+    let Ok(thread) = Name::from_bytes(rest) else {
+        return Err(LineRefused::BadLine);
+    };
+    *line = Line::Thread(thread);
+    Ok(())
 }
 
-// The call of a line with these bytes behind its keyword.
-#[tactic(auto, unfolding(crate::specs::Reading::call_of))]
-fn call(alloc: Global, rest: &[u8]) -> Result<LineEvent, LineRefused>
-    ensures event { IfOk result (λ event. call_of rest.now ≡ Some event) }
-    ensures none { IfErr result (λ e. e ≡ LineRefused.BadLine → call_of rest.now ≡ None) }
+// Reads a call with these bytes after the space behind its keyword.
+#[tactic(auto, using(rd_base::proofs::NameLemmas::is_name_decides), unfolding(crate::specs::Reading::name_of, crate::specs::Reading::call_read))]
+fn read_call(alloc: Global, rest: &[u8], line: &mut Line) -> Result<(), LineRefused>
+    ensures item { OnOk result (option_map (λ event. Line.Event event) (call_read rest.now) ≡ Some line.new) }
+    ensures none { IfErr result (λ e. e ≡ LineRefused.BadLine → option_map (λ event. Line.Event event) (call_read rest.now) ≡ None) }
+    ensures memory { IfErr result (λ e. e ≡ LineRefused.NoMemory → (item : Line) × (option_map (λ event. Line.Event event) (call_read rest.now) ≡ Some item)) }
 {
     let (thread, names) = cut(rest);
     let (object, words) = cut(names);
     let (method, values) = cut(words);
-    Ok(LineEvent::Call {
-        thread: name(thread)?,
-        object: name(object)?,
-        method: name(method)?,
-        slots: slots(alloc, values)?,
-    })
+    let Ok(thread) = Name::from_bytes(thread) else {
+        return Err(LineRefused::BadLine);
+    };
+    let Ok(object) = Name::from_bytes(object) else {
+        return Err(LineRefused::BadLine);
+    };
+    let Ok(method) = Name::from_bytes(method) else {
+        return Err(LineRefused::BadLine);
+    };
+    let slots = match slots(alloc, values) {
+        Ok(slots) => slots,
+        Err(refused) => return Err(refused),
+    };
+    *line = Line::Event(LineEvent::Call {
+        thread,
+        object,
+        method,
+        slots,
+    });
+    Ok(())
 }
 
-// The event of a line with this keyword and these bytes after the space behind it.
-#[tactic(auto, unfolding(crate::specs::Reading::event_with))]
-fn event(alloc: Global, keyword: &[u8], rest: &[u8]) -> Result<LineEvent, LineRefused>
-    ensures event { IfOk result (λ event. event_with keyword.now rest.now ≡ Some event) }
-    ensures none { IfErr result (λ e. e ≡ LineRefused.BadLine → event_with keyword.now rest.now ≡ None) }
-    ensures memory { IfErr result (λ e. e ≡ LineRefused.NoMemory → IsTrue (is_call keyword.now)) }
-{
-    if is(keyword, "fork") {
-        let (thread, child) = names(rest)?;
-        return Ok(LineEvent::Fork { thread, child });
-    }
-    if is(keyword, "join") {
-        let (thread, child) = names(rest)?;
-        return Ok(LineEvent::Join { thread, child });
-    }
-    if is(keyword, "call") {
-        return call(alloc, rest);
-    }
-    Err(LineRefused::BadLine)
-}
-
-// The item of such a line.
-#[tactic(auto, unfolding(crate::specs::Reading::item_with))]
-fn item(alloc: Global, keyword: &[u8], rest: &[u8]) -> Result<Line, LineRefused>
-    ensures item { IfOk result (λ item. item_with keyword.now rest.now ≡ Some item) }
-    ensures none { IfErr result (λ e. e ≡ LineRefused.BadLine → item_with keyword.now rest.now ≡ None) }
-    ensures memory { IfErr result (λ e. e ≡ LineRefused.NoMemory → IsTrue (is_call keyword.now)) }
+// Reads a line that is no call, with this keyword and these bytes after the space behind it.
+#[tactic(auto, unfolding(crate::specs::Reading::event_with, crate::specs::Reading::item_with))]
+fn read_other(keyword: &[u8], rest: &[u8], line: &mut Line) -> Result<(), LineRefused>
+    requires { is_call keyword.now ≡ false }
+    ensures item { OnOk result (item_with keyword.now rest.now ≡ Some line.new) }
+    ensures none { OnErr result (item_with keyword.now rest.now ≡ None) }
+    ensures refused { IfErr result (λ e. e ≡ LineRefused.BadLine) }
 {
     if is(keyword, "rdtrace") {
         if is(rest, "1") {
-            return Ok(Line::Header { version: 1 });
+            *line = Line::Header { version: 1 };
+            return Ok(());
         }
         return Err(LineRefused::BadLine);
     }
     if is(keyword, "thread") {
-        return Ok(Line::Thread(name(rest)?));
+        return read_thread(rest, line);
     }
     if is(keyword, "object") {
-        let (name, kind) = names(rest)?;
-        return Ok(Line::Object { name, kind });
+        return read_pair(Pair::Object, rest, line);
     }
-    Ok(Line::Event(event(alloc, keyword, rest)?))
+    if is(keyword, "fork") {
+        return read_pair(Pair::Fork, rest, line);
+    }
+    if is(keyword, "join") {
+        return read_pair(Pair::Join, rest, line);
+    }
+    Err(LineRefused::BadLine)
+}
+
+// Reads a line.
+#[tactic(auto, using(crate::proofs::ReadingLemmas::call_item), unfolding(crate::specs::Reading::item_of))]
+fn read_item(alloc: Global, bytes: &[u8], line: &mut Line) -> Result<(), LineRefused>
+    ensures item { OnOk result (item_of bytes.now ≡ Some line.new) }
+    ensures none { IfErr result (λ e. e ≡ LineRefused.BadLine → item_of bytes.now ≡ None) }
+    ensures memory { IfErr result (λ e. e ≡ LineRefused.NoMemory → (item : Line) × (item_of bytes.now ≡ Some item)) }
+    ensures call { IfErr result (λ e. e ≡ LineRefused.NoMemory → IsTrue (is_call (before_first is_space bytes.now))) }
+{
+    if is_skipped(bytes) {
+        *line = Line::Skip;
+        return Ok(());
+    }
+    let (keyword, rest) = cut(bytes);
+    if is(keyword, "call") {
+        return read_call(alloc, rest, line);
+    }
+    read_other(keyword, rest, line)
+}
+
+/// Reads a line, given without its line feed, into `line`, which may be anything after an error. The answers are those of `read_line`.
+pub fn read_into(alloc: Global, bytes: &[u8], line: &mut Line) -> Result<(), LineRefused>
+    ensures says { OnOk result (Says bytes.now line.new) }
+    ensures range { OnOk result (LineInRange line.new) }
+    ensures only { IfErr result (λ e. e ≡ LineRefused.BadLine → (item : Line) → LineInRange item → ¬ (Says bytes.now item)) }
+    ensures item { OnOk result (item_of bytes.now ≡ Some line.new) }
+    ensures none { IfErr result (λ e. e ≡ LineRefused.BadLine → item_of bytes.now ≡ None) }
+    ensures memory { IfErr result (λ e. e ≡ LineRefused.NoMemory → (item : Line) × (item_of bytes.now ≡ Some item)) }
+    ensures call { IfErr result (λ e. e ≡ LineRefused.NoMemory → IsTrue (is_call (before_first is_space bytes.now))) }
+{
+    read_item(alloc, bytes, line)
 }
 
 /// Reads a line, given without its line feed. The answer is `BadLine` exactly if the bytes spell no
-/// item. Only the values of a call take memory, so `NoMemory` comes only for a line whose first word is `call`.
-#[tactic(auto, unfolding(crate::specs::Reading::item_of))]
+/// item. Only the values of a call take memory, so `NoMemory` comes only for bytes that spell a call.
 pub fn read_line(alloc: Global, bytes: &[u8]) -> Result<Line, LineRefused>
     ensures says { IfOk result (λ item. Says bytes.now item) }
-    ensures range { IfOk result InRange }
-    ensures only { IfErr result (λ e. e ≡ LineRefused.BadLine → (item : Line) → InRange item → ¬ (Says bytes.now item)) }
+    ensures range { IfOk result LineInRange }
+    ensures only { IfErr result (λ e. e ≡ LineRefused.BadLine → (item : Line) → LineInRange item → ¬ (Says bytes.now item)) }
     ensures item { IfOk result (λ item. item_of bytes.now ≡ Some item) }
     ensures none { IfErr result (λ e. e ≡ LineRefused.BadLine → item_of bytes.now ≡ None) }
-    ensures memory { IfErr result (λ e. e ≡ LineRefused.NoMemory → IsTrue (is_call (before_first is_space bytes.now))) }
+    ensures memory { IfErr result (λ e. e ≡ LineRefused.NoMemory → (item : Line) × (item_of bytes.now ≡ Some item)) }
+    ensures call { IfErr result (λ e. e ≡ LineRefused.NoMemory → IsTrue (is_call (before_first is_space bytes.now))) }
 {
-    if is_skipped(bytes) {
-        return Ok(Line::Skip);
+    let mut line = Line::Skip;
+    match read_into(alloc, bytes, &mut line) {
+        Ok(()) => Ok(line),
+        Err(refused) => Err(refused),
     }
-    let (keyword, rest) = cut(bytes);
-    item(alloc, keyword, rest)
 }
 
 /// The law of spelling: `item_of` gives exactly the items that the bytes say, each in its range, it gives each item again from
 /// the item's spelling, and no bytes say two.
 pub fn law_of_spelling()
-    ensures test { (bytes : List ℕ) (item : Line) → InRange item → (item_of bytes ≡ Some item ↔ Says bytes item) }
-    ensures range { (bytes : List ℕ) (item : Line) → item_of bytes ≡ Some item → InRange item }
-    ensures again { (item : Line) → InRange item → item_of (spelling item) ≡ Some item }
-    ensures one_item { (bytes : List ℕ) (x y : Line) → InRange x → InRange y → Says bytes x → Says bytes y → x ≡ y }
+    ensures test { (bytes : List ℕ) (item : Line) → LineInRange item → (item_of bytes ≡ Some item ↔ Says bytes item) }
+    ensures range { (bytes : List ℕ) (item : Line) → item_of bytes ≡ Some item → LineInRange item }
+    ensures again { (item : Line) → LineInRange item → item_of (spelling item) ≡ Some item }
+    ensures one_item { (bytes : List ℕ) (x y : Line) → LineInRange x → LineInRange y → Says bytes x → Says bytes y → x ≡ y }
 {}

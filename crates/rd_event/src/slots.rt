@@ -1,11 +1,11 @@
 //! Reading the arguments and the result of a call.
-ghost use Rattle.std.specs.Prelude.{◌≡◌, Some, None, IfOk, IfErr};
-ghost use Rattle.rd_base.specs.ReadingValues.{value_of};
+ghost use Rattle.std.specs.Prelude.{◌≡◌, List, Some, None, is_some, IfOk, IfErr};
+ghost use Rattle.rd_base.specs.declared.values.Value.{Value};
 ghost use Rattle.rd_event.specs.declared.slots.Place.TheVariants.{Outside};
-ghost use Rattle.rd_event.specs.ReadingSlots.{ends, next, value_length, first_value, other_values, slots_of};
+ghost use Rattle.rd_event.specs.ReadingSlots.{is_end, next_place, value_length, first_value, other_values, slots_of};
 
 use crate::reading::{LineRefused, is};
-use rd_base::{Slots, Value, ValueRefused, read_value};
+use rd_base::{Slots, ValueRefused, is_value, read_value};
 use std::alloc::Global;
 
 // Where a reader of values stands: outside quotes, between quotes, or behind a `\` between quotes.
@@ -17,8 +17,8 @@ enum Place {
 }
 
 // Does a value end before this byte?
-fn ends(place: Place, byte: u8) -> bool
-    ensures { result ≡ ends place byte }
+fn is_end(place: Place, byte: u8) -> bool
+    ensures { result ≡ is_end place byte }
 {
     match place {
         Place::Outside => byte == b' ',
@@ -27,8 +27,8 @@ fn ends(place: Place, byte: u8) -> bool
 }
 
 // The place behind this byte.
-fn next(place: Place, byte: u8) -> Place
-    ensures { result ≡ next place byte }
+fn next_place(place: Place, byte: u8) -> Place
+    ensures { result ≡ next_place place byte }
 {
     match place {
         Place::Outside => {
@@ -57,10 +57,10 @@ fn value_length(bytes: &[u8]) -> usize
 {
     let mut place = Place::Outside;
     for (index, byte) in bytes.iter().enumerate() {
-        if ends(place, *byte) {
+        if is_end(place, *byte) {
             return index;
         }
-        place = next(place, *byte);
+        place = next_place(place, *byte);
     }
     bytes.len()
 }
@@ -77,15 +77,34 @@ fn cut_value(bytes: &[u8]) -> (&[u8], &[u8])
     (&bytes[..length], &bytes[length + 1..])
 }
 
-// The value that the bytes spell.
-fn value(alloc: Global, bytes: &[u8]) -> Result<Value, LineRefused>
-    ensures value { IfOk result (λ value. value_of bytes.now ≡ Some value) }
-    ensures none { IfErr result (λ e. e ≡ LineRefused.BadLine → value_of bytes.now ≡ None) }
+// Do the bytes spell at most so many values: arguments, then a result behind an arrow? It takes no memory.
+#[tactic(auto, using(crate::proofs::SlotLemmas::tested_without_room, crate::proofs::SlotLemmas::tested_at_arrow, crate::proofs::SlotLemmas::tested_at_argument, crate::proofs::SlotLemmas::tested_at_no_value))]
+fn are_slots(room: u8, bytes: &[u8]) -> bool
+    ensures { result ≡ is_some (slots_of room bytes.now) }
 {
-    match read_value(alloc, bytes) {
-        Ok(value) => Ok(value),
-        Err(ValueRefused::NotAValue) => Err(LineRefused::BadLine),
-        Err(ValueRefused::NoMemory) => Err(LineRefused::NoMemory),
+    if room == 0 {
+        return false;
+    }
+    let (word, after) = cut_value(bytes);
+    if is(word, "->") {
+        return is_value(after);
+    }
+    if !is_value(word) {
+        return false;
+    }
+    are_slots(room - 1, after)
+}
+
+// Why a call with these bytes behind its names is refused where memory is: `NoMemory` only if they spell slots.
+#[cold]
+fn want_of_memory(bytes: &[u8]) -> LineRefused
+    ensures none { result ≡ LineRefused.BadLine → slots_of 7 bytes.now ≡ None }
+    ensures memory { result ≡ LineRefused.NoMemory → (slots : List Value) × (slots_of 7 bytes.now ≡ Some slots) }
+{
+    if are_slots(7, bytes) {
+        LineRefused::NoMemory
+    } else {
+        LineRefused::BadLine
     }
 }
 
@@ -93,27 +112,30 @@ fn value(alloc: Global, bytes: &[u8]) -> Result<Value, LineRefused>
 pub(crate) fn slots(alloc: Global, bytes: &[u8]) -> Result<Slots, LineRefused>
     ensures slots { IfOk result (λ slots. slots_of 7 bytes.now ≡ Some slots) }
     ensures none { IfErr result (λ e. e ≡ LineRefused.BadLine → slots_of 7 bytes.now ≡ None) }
+    ensures memory { IfErr result (λ e. e ≡ LineRefused.NoMemory → (slots : List Value) × (slots_of 7 bytes.now ≡ Some slots)) }
 {
     let mut slots = Slots::new(alloc);
     let mut rest = bytes;
     while slots.items().len() < 7 {
         let (word, after) = cut_value(rest);
         if is(word, "->") {
-            let result = match value(alloc, after) {
+            let result = match read_value(alloc, after) {
                 Ok(result) => result,
-                Err(refused) => return Err(refused),
+                Err(ValueRefused::NotAValue) => return Err(LineRefused::BadLine),
+                Err(ValueRefused::NoMemory) => return Err(want_of_memory(bytes)),
             };
             let Ok(()) = slots.push(result) else {
-                return Err(LineRefused::NoMemory);
+                return Err(want_of_memory(bytes));
             };
             return Ok(slots);
         }
-        let argument = match value(alloc, word) {
+        let argument = match read_value(alloc, word) {
             Ok(argument) => argument,
-            Err(refused) => return Err(refused),
+            Err(ValueRefused::NotAValue) => return Err(LineRefused::BadLine),
+            Err(ValueRefused::NoMemory) => return Err(want_of_memory(bytes)),
         };
         let Ok(()) = slots.push(argument) else {
-            return Err(LineRefused::NoMemory);
+            return Err(want_of_memory(bytes));
         };
         rest = after;
     }

@@ -1,6 +1,8 @@
 //! Spelling a line.
-ghost use Rattle.std.specs.Prelude.{◌≡◌, [], ◌∷◌, ◌++◌, Some, OnOk, IfOk};
-ghost use Rattle.rd_event.specs.Items.{InRange, Says, apart, slots_spelling, event_spelling, spelling};
+ghost use Rattle.std.specs.Prelude.{◌≡◌, [], ◌∷◌, ◌++◌, All, Some, OnOk, IfOk};
+ghost use Rattle.rd_base.specs.Names.{IsName};
+ghost use Rattle.rd_base.specs.Spelling.{IsValue};
+ghost use Rattle.rd_event.specs.Items.{LineInRange, IsEvent, IsSpellable, HasFewSlots, Says, words_apart, slots_spelling, event_spelling, spelling};
 ghost use Rattle.rd_event.specs.Reading.{item_of};
 
 use crate::items::{Line, LineEvent};
@@ -14,7 +16,8 @@ fn append_names(
     first: &Name,
     second: &Name,
 ) -> Result<(), NoMemory>
-    ensures { OnOk result (text.new ≡ text.old ++ (keyword.now ++ apart first.now second.now)) }
+    ensures ok { OnOk result (text.new ≡ text.old ++ (keyword.now ++ words_apart first.now second.now)) }
+    ensures names { OnOk result (IsName first.now × IsName second.now) }
 {
     text.append(keyword)?;
     append_word(text, first)?;
@@ -23,7 +26,8 @@ fn append_names(
 
 // Puts the name and a space behind the text.
 fn append_word(text: &mut Bytes, name: &Name) -> Result<(), NoMemory>
-    ensures { OnOk result (text.new ≡ text.old ++ (name.now ++ 32 ∷ [])) }
+    ensures ok { OnOk result (text.new ≡ text.old ++ (name.now ++ 32 ∷ [])) }
+    ensures name { IsName name.now }
 {
     text.append(name.items())?;
     text.push(b' ')
@@ -31,7 +35,8 @@ fn append_word(text: &mut Bytes, name: &Name) -> Result<(), NoMemory>
 
 // Puts each argument and a space, and then the arrow and the result, behind the text.
 fn append_slots(text: &mut Bytes, slots: &[Value]) -> Result<(), NoMemory>
-    ensures { OnOk result (text.new ≡ text.old ++ slots_spelling slots.now) }
+    ensures ok { OnOk result (text.new ≡ text.old ++ slots_spelling slots.now) }
+    ensures values { OnOk result (All IsValue slots.now) }
 {
     let [arguments @ .., last] = slots else {
         return Ok(());
@@ -52,7 +57,9 @@ fn append_call(
     method: &Name,
     slots: &Slots,
 ) -> Result<(), NoMemory>
-    ensures { OnOk result (text.new ≡ text.old ++ event_spelling (LineEvent.Call thread.now object.now method.now slots.now)) }
+    requires { HasFewSlots (LineEvent.Call thread.now object.now method.now slots.now) }
+    ensures ok { OnOk result (text.new ≡ text.old ++ event_spelling (LineEvent.Call thread.now object.now method.now slots.now)) }
+    ensures range { OnOk result (IsEvent (LineEvent.Call thread.now object.now method.now slots.now)) }
 {
     text.append(b"call ")?;
     append_word(text, thread)?;
@@ -63,7 +70,9 @@ fn append_call(
 
 // Puts the spelling of an event behind the text.
 fn append_event(text: &mut Bytes, event: &LineEvent) -> Result<(), NoMemory>
-    ensures { OnOk result (text.new ≡ text.old ++ event_spelling event.now) }
+    requires { HasFewSlots event.now }
+    ensures ok { OnOk result (text.new ≡ text.old ++ event_spelling event.now) }
+    ensures range { OnOk result (IsEvent event.now) }
 {
     match event {
         LineEvent::Fork { thread, child } => append_names(text, b"fork ", thread, child),
@@ -79,7 +88,9 @@ fn append_event(text: &mut Bytes, event: &LineEvent) -> Result<(), NoMemory>
 
 // Puts the spelling of a line behind the text.
 fn append_line(text: &mut Bytes, line: &Line) -> Result<(), NoMemory>
-    ensures { OnOk result (text.new ≡ text.old ++ spelling line.now) }
+    requires { IsSpellable line.now }
+    ensures ok { OnOk result (text.new ≡ text.old ++ spelling line.now) }
+    ensures range { OnOk result (LineInRange line.now) }
 {
     match line {
         Line::Skip => Ok(()),
@@ -94,9 +105,9 @@ fn append_line(text: &mut Bytes, line: &Line) -> Result<(), NoMemory>
 }
 
 /// The spelling of a line, without a line feed. A skipped line is spelled as the empty line. What is spelled is read as the
-/// line again.
+/// line again. The types keep names and values in their ranges; what is asked is version 1 in a header and 1 to 7 slots in a call.
 pub fn spell(alloc: Global, line: &Line) -> Result<Bytes, NoMemory>
-    requires { InRange line.now }
+    requires { IsSpellable line.now }
     ensures value { IfOk result (λ text. text ≡ spelling line.now) }
     ensures says { IfOk result (λ text. Says text line.now) }
     ensures again { IfOk result (λ text. item_of text ≡ Some line.now) }

@@ -21,7 +21,7 @@ use Rattle.rd_hb.specs.OrderTests.{is_this}
 use Rattle.rd_hb.specs.declared.clock.Stamp.{Stamp}
 use Rattle.rd_hb.specs.Clock.{component, IsTick}
 use Rattle.rd_hb.specs.declared.tracker.Tracked.{Tracked}
-use Rattle.rd_hb.specs.Tracker.{tracked, no_thread, known_to, clock_after, known_after, threads_after, AreTracked, IsBegun, IsCounted, IsLearnt, IsNext, IsStamp, IsTracked, StandsFor}
+use Rattle.rd_hb.specs.Tracker.{tracked, no_thread, known_to, clock_after, known_after, threads_after, AreTracked, IsBegun, IsCounted, IsLearnt, IsNextEvent, IsStamp, IsTracked, StandsFor}
 
 -- ---- one thread is changed, or added
 
@@ -228,14 +228,14 @@ joined_more false true n m is more = (λ x. omega (arith, more), λ some. search
 joined_more false false n m is more = (λ x. omega (arith, is.0 x, more), λ some. is.1 (omega (arith, some, more)))
 
 -- the list is well-formed before the next event, which may follow it
-next_formed : (threads : List Tracked) (roots : ℕ → Bool) (es : List Event) (e : Event) → IsNext threads roots es e → WellFormed roots es
+next_formed : (threads : List Tracked) (roots : ℕ → Bool) (es : List Event) (e : Event) → IsNextEvent threads roots es e → WellFormed roots es
 next_formed threads roots es e next = ((formed_more roots es e).0 next.formed).0
 
-next_follows : (threads : List Tracked) (roots : ℕ → Bool) (es : List Event) (e : Event) → IsNext threads roots es e → MayHappen roots es e
+next_follows : (threads : List Tracked) (roots : ℕ → Bool) (es : List Event) (e : Event) → IsNextEvent threads roots es e → MayHappen roots es e
 next_follows threads roots es e next = ((formed_more roots es e).0 next.formed).1
 
 pub stands_after : (threads new : List Tracked) (roots : ℕ → Bool) (es : List Event) (e : Event) (stamp : Stamp) → hold_taken e ≡ None
-    → IsNext threads roots es e → Tracks e threads new stamp → StandsFor new roots (es ++ e ∷ [])
+    → IsNextEvent threads roots es e → Tracks e threads new stamp → StandsFor new roots (es ++ e ∷ [])
 stands_after threads new roots es e stamp free next is = record {
   known = λ t. (there (forked_thread e) refl t, back (forked_thread e) refl t);
   clocks = λ t u. subst (KnownCount (es ++ e ∷ []) t u) (sym (is.known t u))
@@ -270,18 +270,18 @@ stands_after threads new roots es e stamp free next is = record {
 
 -- ---- what a next event may rely on
 
-pub next_inside : (threads : List Tracked) (roots : ℕ → Bool) (es : List Event) (e : Event) → IsNext threads roots es e → thread_of e < length threads
+pub next_inside : (threads : List Tracked) (roots : ℕ → Bool) (es : List Event) (e : Event) → IsNextEvent threads roots es e → thread_of e < length threads
 next_inside threads roots es e next = (next.stands.known (thread_of e)).1 (next_follows threads roots es e next).known_actor
 
-pub next_joined : (threads : List Tracked) (roots : ℕ → Bool) (es : List Event) (e : Event) (u : ℕ) → IsNext threads roots es e → joined_thread e ≡ Some u → u < length threads
+pub next_joined : (threads : List Tracked) (roots : ℕ → Bool) (es : List Event) (e : Event) (u : ℕ) → IsNextEvent threads roots es e → joined_thread e ≡ Some u → u < length threads
 next_joined threads roots es e u next join = (next.stands.known u).1 ((next_follows threads roots es e next).known_joined u join)
 
-pub next_below : (threads : List Tracked) (roots : ℕ → Bool) (es : List Event) (e : Event) (t u : ℕ) → IsNext threads roots es e → known_to threads t u < 4294967295
+pub next_below : (threads : List Tracked) (roots : ℕ → Bool) (es : List Event) (e : Event) (t u : ℕ) → IsNextEvent threads roots es e → known_to threads t u < 4294967295
 next_below threads roots es e t u next =
     omega (arith, known_bound es t u (known_to threads t u) (next.stands.clocks t u), next.formed.bounded.few_events, length-append es (e ∷ []))
 
 -- a forked thread has a number that fits, with one to spare
-pub next_child : (threads : List Tracked) (roots : ℕ → Bool) (es : List Event) (e : Event) (u : ℕ) → IsNext threads roots es e → forked_thread e ≡ Some u → u < 4294967295
+pub next_child : (threads : List Tracked) (roots : ℕ → Bool) (es : List Event) (e : Event) (u : ℕ) → IsNextEvent threads roots es e → forked_thread e ≡ Some u → u < 4294967295
 next_child threads roots es e u next fork =
     omega (
       arith,
@@ -304,32 +304,32 @@ own_most threads roots es t u stands =
 -- ---- the answer
 
 pub ok_stamp : {E : Type 0} (threads new : List Tracked) (e : Event) (result : Result Stamp E) → hold_taken e ≡ None
-    → IfOk result (λ stamp. (roots : ℕ → Bool) (es : List Event) → IsNext threads roots es e → Tracks e threads new stamp)
-    → IfOk result (λ stamp. (roots : ℕ → Bool) (es : List Event) → IsNext threads roots es e → IsStamp (es ++ e ∷ []) (length es) stamp)
+    → IfOk result (λ stamp. (roots : ℕ → Bool) (es : List Event) → IsNextEvent threads roots es e → Tracks e threads new stamp)
+    → IfOk result (λ stamp. (roots : ℕ → Bool) (es : List Event) → IsNextEvent threads roots es e → IsStamp (es ++ e ∷ []) (length es) stamp)
 ok_stamp threads new e (Ok stamp) free is = λ roots es next. stamp_after threads new es e stamp free next.stands.clocks (is roots es next)
 ok_stamp threads new e (Err error) free is = tt
 
 pub ok_stands : {E : Type 0} (threads new : List Tracked) (e : Event) (result : Result Stamp E) → hold_taken e ≡ None
-    → IfOk result (λ stamp. (roots : ℕ → Bool) (es : List Event) → IsNext threads roots es e → Tracks e threads new stamp)
-    → OnOk result ((roots : ℕ → Bool) (es : List Event) → IsNext threads roots es e → StandsFor new roots (es ++ e ∷ []))
+    → IfOk result (λ stamp. (roots : ℕ → Bool) (es : List Event) → IsNextEvent threads roots es e → Tracks e threads new stamp)
+    → OnOk result ((roots : ℕ → Bool) (es : List Event) → IsNextEvent threads roots es e → StandsFor new roots (es ++ e ∷ []))
 ok_stands threads new e (Ok stamp) free is = λ roots es next. stands_after threads new roots es e stamp free next (is roots es next)
 ok_stands threads new e (Err error) free is = tt
 
 pub ok_call : {E : Type 0} (threads new : List Tracked) (call : CallOf) (result : Result Stamp E) → IfOk result (IsCounted call.thread threads new)
-    → IfOk result (λ stamp. (roots : ℕ → Bool) (es : List Event) → IsNext threads roots es (Call call) → Tracks (Call call) threads new stamp)
+    → IfOk result (λ stamp. (roots : ℕ → Bool) (es : List Event) → IsNextEvent threads roots es (Call call) → Tracks (Call call) threads new stamp)
 ok_call threads new call (Ok stamp) is = λ roots es next. call_tracks call threads new stamp is
 ok_call threads new call (Err error) is = tt
 
 pub ok_fork : {E : Type 0} (threads new : List Tracked) (thread child : ℕ) (result : Result Stamp E)
     → IfOk result (λ stamp. (middle : List Tracked) × IsBegun thread child threads middle × IsCounted thread middle new stamp)
-    → IfOk result (λ stamp. (roots : ℕ → Bool) (es : List Event) → IsNext threads roots es (Fork thread child) → Tracks (Fork thread child) threads new stamp)
+    → IfOk result (λ stamp. (roots : ℕ → Bool) (es : List Event) → IsNextEvent threads roots es (Fork thread child) → Tracks (Fork thread child) threads new stamp)
 ok_fork threads new thread child (Ok stamp) is = λ roots es next.
     fork_tracks thread child threads is.0 new stamp (next_inside threads roots es (Fork thread child) next) (next.numbered child refl) is.1 is.2
 ok_fork threads new thread child (Err error) is = tt
 
 pub ok_join : {E : Type 0} (threads new : List Tracked) (thread child : ℕ) (result : Result Stamp E)
     → IfOk result (λ stamp. (middle : List Tracked) × IsLearnt thread child threads middle × IsCounted thread middle new stamp)
-    → IfOk result (λ stamp. (roots : ℕ → Bool) (es : List Event) → IsNext threads roots es (Join thread child) → Tracks (Join thread child) threads new stamp)
+    → IfOk result (λ stamp. (roots : ℕ → Bool) (es : List Event) → IsNextEvent threads roots es (Join thread child) → Tracks (Join thread child) threads new stamp)
 ok_join threads new thread child (Ok stamp) is = λ roots es next.
     join_tracks thread child threads is.0 new stamp (own_most threads roots es child thread next.stands) is.1 is.2
 ok_join threads new thread child (Err error) is = tt

@@ -16,7 +16,7 @@ use Rattle.rd_hb.proofs.OrderLemmas.{this_decides}
 use Rattle.rd_hb.specs.Order.{forked_thread}
 use Rattle.rd_hb.specs.OrderTests.{is_this}
 use Rattle.rd_hb.specs.EventLists.{calls, forks, joins, Follow, IsBounded, Known, WellFormed}
-use Rattle.rd_hb.specs.Tracker.{IsNext, StandsFor, threads_after}
+use Rattle.rd_hb.specs.Tracker.{IsNextEvent, StandsFor, threads_after}
 use Rattle.rd_hb.specs.TestTraces.{sample_call, one_root, two_roots, MayTakeAll, NextNumbers}
 use Rattle.rd_hb.specs.declared.tracker.Tracked.{Tracked}
 
@@ -37,7 +37,7 @@ taken_at : (es : List Event) (i : ℕ) (e : Event) → i < length es → e ≡ g
 taken_at es i e inside is = take_more es i e inside ∙ ap (λ x. take i es ++ x ∷ []) (sym is)
 
 pub took_next : (threads : List Tracked) (roots : ℕ → Bool) (es : List Event) (i : ℕ) (e : Event) → WellFormed roots es → i < length es → e ≡ get_or es i e
-    → Took threads roots (take i es) (drop i es) → IsNext threads roots (take i es) e
+    → Took threads roots (take i es) (drop i es) → IsNextEvent threads roots (take i es) e
 took_next threads roots es i e formed inside is took = record {
   stands = took.stands;
   formed = subst (WellFormed roots) (taken_at es i e inside is)

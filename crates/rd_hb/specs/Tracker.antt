@@ -70,7 +70,7 @@ event_bound (Call call) count = 2 * count
 event_bound _ count = 4 * count
 
 -- with the event the list is well-formed, and a forked thread has the next number
-pub record IsNext (threads : List Tracked) (roots : ℕ → Bool) (es : List Event) (e : Event) : Type 0 where
+pub record IsNextEvent (threads : List Tracked) (roots : ℕ → Bool) (es : List Event) (e : Event) : Type 0 where
   pub stands : StandsFor threads roots es
   pub formed : WellFormed roots (es ++ e ∷ [])
   pub numbered : (u : ℕ) → forked_thread e ≡ Some u → u ≡ length threads

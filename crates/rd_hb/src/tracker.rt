@@ -4,7 +4,7 @@ ghost use Rattle.rd_event.specs.declared.events.Event.{Event as EventOf};
 ghost use Rattle.rd_event.specs.declared.events.Event.TheVariants as event;
 ghost use Rattle.rd_hb.specs.Order.{thread_of, forked_thread, joined_thread};
 ghost use Rattle.rd_hb.specs.Clock.{component, IsJoin, IsTick};
-ghost use Rattle.rd_hb.specs.Tracker.{IsBegun, IsCounted, IsLearnt, IsNext, IsStamp, StandsFor, event_bound, known_to, threads_after, tracked};
+ghost use Rattle.rd_hb.specs.Tracker.{IsBegun, IsCounted, IsLearnt, IsNextEvent, IsStamp, StandsFor, event_bound, known_to, threads_after, tracked};
 ghost use Rattle.rd_hb.specs.declared.tracker.Tracked.{Tracked as TrackedOf};
 
 use crate::clock::{Clock, Stamp};
@@ -79,10 +79,10 @@ impl Tracker {
         event: &Event,
         steps: &mut Steps<L>,
     ) -> Result<Stamp, NoMemory>
-        requires next { (roots : ℕ → Bool) × (es : List EventOf) × IsNext self.old roots es event.now }
-        ensures stamp { IfOk result (λ stamp. (roots : ℕ → Bool) (es : List EventOf) → IsNext self.old roots es event.now →
+        requires next { (roots : ℕ → Bool) × (es : List EventOf) × IsNextEvent self.old roots es event.now }
+        ensures stamp { IfOk result (λ stamp. (roots : ℕ → Bool) (es : List EventOf) → IsNextEvent self.old roots es event.now →
             IsStamp (es ++ event.now ∷ []) (length es) stamp) }
-        ensures stands { OnOk result ((roots : ℕ → Bool) (es : List EventOf) → IsNext self.old roots es event.now →
+        ensures stands { OnOk result ((roots : ℕ → Bool) (es : List EventOf) → IsNextEvent self.old roots es event.now →
             StandsFor self.new roots (es ++ event.now ∷ [])) }
         ensures count { OnOk result (length self.new ≡ threads_after event.now (length self.old)) }
         ensures err { OnErr result (self.new ≡ self.old) }

@@ -9,6 +9,7 @@ use Rattle.rd_io.specs.LineReader.{HasNoFeed, HasLine, Reader, with_more, IsShor
 pub record Searches (start now : Reader) (bytes : List ℕ) (seen : ℕ) : Type 0 where
   pub reader : now ≡ with_more start bytes
   pub bound : length (start.pending ++ bytes) ≤ start.room + 1
+  pub fits : length (start.pending ++ bytes) ≤ start.limit
   pub held : seen ≤ length now.pending
   pub within : seen ≤ now.room
   pub clean : HasNoFeed (take seen now.pending)
@@ -19,11 +20,12 @@ none_more r = ap (λ (p : List ℕ). let s : Reader = record { pending = p; room
 more_more : (r : Reader) (xs ys : List ℕ) → with_more (with_more r xs) ys ≡ with_more r (xs ++ ys)
 more_more r xs ys = ap (λ (p : List ℕ). let s : Reader = record { pending = p; room = r.room; limit = r.limit; line = r.line; number = r.number; ended = r.ended } in s) (append_assoc r.pending xs ys)
 
-pub searches_none : (r : Reader) → length r.pending ≤ r.room + 1 → Searches r r [] 0
-searches_none r bound =
+pub searches_none : (r : Reader) → length r.pending ≤ r.room + 1 → length r.pending ≤ r.limit → Searches r r [] 0
+searches_none r bound fits =
     record {
       reader = none_more r;
       bound = subst (λ (p : List ℕ). length p ≤ r.room + 1) (sym (append-nil r.pending)) bound;
+      fits = subst (λ (p : List ℕ). length p ≤ r.limit) (sym (append-nil r.pending)) fits;
       held = omega arith;
       within = omega arith;
       clean = λ k l. absurd (omega arith);
@@ -31,16 +33,19 @@ searches_none r bound =
 
 -- further bytes behind a search that found nothing in those before
 pub searches_more : (start now after : Reader) (bytes more : List ℕ) (seen : ℕ) → Searches start now bytes seen → IsShort now
-    → after ≡ with_more now more → length now.pending + length more ≤ now.room + 1 → Searches start after (bytes ++ more) (length now.pending)
-searches_more start now after bytes more seen s short is fits =
+    → after ≡ with_more now more → length now.pending + length more ≤ now.room + 1 → length now.pending + length more ≤ now.limit
+    → Searches start after (bytes ++ more) (length now.pending)
+searches_more start now after bytes more seen s short is bound fits =
     let clean : HasNoFeed (take (length now.pending) (with_more now more).pending) =
     subst HasNoFeed (sym (take-append_seam now.pending more)) short.clean in
     let pending : length now.pending ≡ length start.pending + length bytes =
     ap (λ (r : Reader). length r.pending) s.reader ∙ length-append start.pending bytes in
     let room : now.room ≡ start.room = ap (λ (r : Reader). r.room) s.reader in
+    let limit : now.limit ≡ start.limit = ap (λ (r : Reader). r.limit) s.reader in
     record {
       reader = is ∙ ap (λ r. with_more r more) s.reader ∙ more_more start bytes more;
       bound = simp length-append (omega (arith, pending, room));
+      fits = simp length-append (omega (arith, pending, limit));
       held = subst (λ (r : Reader). length now.pending ≤ length r.pending) (sym is) (omega (arith, length-append now.pending more));
       within = subst (λ (r : Reader). length now.pending ≤ r.room) (sym is) short.within;
       clean = subst (λ (r : Reader). HasNoFeed (take (length now.pending) r.pending)) (sym is) clean;

@@ -106,6 +106,23 @@ abbrev pub with_more : Reader → List ℕ → Reader
 with_more r bytes =
     record { pending = r.pending ++ bytes; room = r.room; limit = r.limit; line = r.line; number = r.number; ended = r.ended }
 
+-- the lines ended well
+abbrev pub with_end : Reader → Reader
+with_end r = record r { ended = Some (Ok next.End) }
+
+-- the line that is being read is refused, for good
+abbrev pub with_refusal : Reader → ReadEnd → Reader
+with_refusal r refused = record r { number = r.number + 1; ended = Some (Err refused) }
+
+-- the pending bytes are a rest that no line feed ends, which is refused, for good
+abbrev pub with_rest : Reader → Reader
+with_rest r = record r {
+  pending = [];
+  line = r.pending;
+  number = r.number + 1;
+  ended = Some (Err read_end.NoFinalNewline);
+}
+
 -- what a search for the next line finds, with all that it took pending
 abbrev pub Finds : Reader → Reader → Found → Type 0
 Finds old new found.Line = GivesLine old new
@@ -128,6 +145,23 @@ Tells old bytes new (Err read_end.ReadFault) =
 Tells old bytes new (Err read_end.LineTooLong) = (stop : Stop) (more : List ℕ) → left old stop (bytes ++ more) ≡ stops line_too_long
 Tells old bytes new (Err read_end.BytesLimit) = (stop : Stop) (more : List ℕ) → left old stop (bytes ++ more) ≡ stops bytes_limit
 Tells old bytes new (Err read_end.NoFinalNewline) = (left old end bytes ≡ stops no_final_newline) × (new.line ≡ old.pending ++ bytes)
+
+-- where the reader stands after an answer, where these bytes were taken in the call
+abbrev pub Leaves : Reader → List ℕ → Reader → Result Next ReadEnd → Type 0
+Leaves old bytes new (Ok next.Line) = GivesLine (with_more old bytes) new
+Leaves old bytes new (Ok next.End) = new ≡ with_end (with_more old bytes)
+Leaves old bytes new (Err read_end.ReadFault) = new ≡ with_more old bytes
+Leaves old bytes new (Err read_end.LineTooLong) = new ≡ with_refusal (with_more old bytes) read_end.LineTooLong
+Leaves old bytes new (Err read_end.BytesLimit) = new ≡ with_refusal (with_more old bytes) read_end.BytesLimit
+Leaves old bytes new (Err read_end.NoFinalNewline) = new ≡ with_rest (with_more old bytes)
+
+-- What an answer says of the lines to come and where it leaves the reader, where these bytes were taken in the call: no
+-- more than one past the limit on bytes, and with the pending ones no more than a line may have.
+pub record IsAnswered (old : Reader) (bytes : List ℕ) (new : Reader) (result : Result Next ReadEnd) : Type 0 where
+  pub tells : Tells old bytes new result
+  pub leaves : Leaves old bytes new result
+  pub past : length (old.pending ++ bytes) ≤ old.room + 1
+  pub fits : length (old.pending ++ bytes) ≤ old.limit
 
 -- the input has ended
 abbrev pub IsAtEnd : Result Next ReadEnd → Type 0
@@ -175,7 +209,7 @@ ended_by (Err read_end.LineTooLong) = Some (Err read_end.LineTooLong)
 ended_by (Err read_end.BytesLimit) = Some (Err read_end.BytesLimit)
 ended_by (Err read_end.NoFinalNewline) = Some (Err read_end.NoFinalNewline)
 
--- where the reader stands after an answer
+-- how an answer moves the reader on, whatever was taken
 pub record Moves (old new : Reader) (result : Result Next ReadEnd) : Type 0 where
   pub limit : new.limit ≡ old.limit
   pub line : keeps_line result ≡ true → new.line ≡ old.line

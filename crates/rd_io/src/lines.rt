@@ -2,12 +2,11 @@
 ghost use Rattle.std.specs.Prelude.{◌≡◌, ◌≢◌, ℕ, ◌++◌, Some, Ok, Err, Result, ◌+◌, ◌-◌, ◌*◌, ◌^◌, ◌<◌, ◌≤◌, List, [], None, take, drop, length, IfOk, OnErr};
 ghost use Rattle.rd_io.specs.Inputs.{Goes, Takes, Reads, HasCause, Rose};
 ghost use Rattle.rd_base.specs.Limits.{AreUsable};
-ghost use Rattle.rd_io.specs.LineReader.{HasNoFeed, FindsFeed, Looks, Finds, HasLine, Tells, Moves, IsAtEnd, IsFault, fresh, last_number, with_more};
+ghost use Rattle.rd_io.specs.LineReader.{HasNoFeed, FindsFeed, Looks, Finds, HasLine, IsAnswered, Moves, IsAtEnd, IsFault, fresh, last_number, with_more, with_end, with_refusal, with_rest};
 
 use crate::inputs::{Failed, Inputs};
-use rd_base::Limits;
-use rd_base::NoMemory;
 use memchr::memchr;
+use rd_base::{Limits, NoMemory};
 use std::alloc::Global;
 use std::marker::Model;
 
@@ -211,6 +210,7 @@ impl LineReader {
             × (self.new ≡ with_more self.old bytes)
             × Goes (I.told inputs.old) (I.told inputs.new) (λ old new. Takes old new bytes × (count ≡ 0 → old.held ≡ []))) }
         ensures bound { IfOk result (λ count. length self.old.pending + count ≤ self.old.room + 1) }
+        ensures fits { IfOk result (λ count. length self.old.pending + count ≤ self.old.limit) }
         ensures err { OnErr result ((self.new ≡ self.old) × Goes (I.told inputs.old) (I.told inputs.new) (λ old new. new ≡ old)) }
         ensures cause { HasCause (I.faults inputs.old) (I.faults inputs.new) result }
     {
@@ -243,6 +243,7 @@ impl LineReader {
         requires { self.old.ended ≡ None }
         ensures finds { (bytes : List ℕ) × Finds (with_more self.old bytes) self.new result
             × (length (self.old.pending ++ bytes) ≤ self.old.room + 1)
+            × (length (self.old.pending ++ bytes) ≤ self.old.limit)
             × Goes (I.told inputs.old) (I.told inputs.new) (λ old new. Takes old new bytes × (result ≡ Found.Ended → new.held ≡ [])) }
         ensures still { HasLine self.old → inputs.new ≡ inputs.old }
         ensures later { I.faults inputs.old ≤ I.faults inputs.new }
@@ -272,14 +273,7 @@ impl LineReader {
     fn refuse(&mut self, refused: ReadEnd) -> Result<Next, ReadEnd>
         requires { self.old.ended ≡ None }
         ensures answer { result ≡ Err refused }
-        ensures reader { self.new ≡ record {
-          pending = self.old.pending;
-          room = self.old.room;
-          limit = self.old.limit;
-          line = self.old.line;
-          number = self.old.number + 1;
-          ended = Some (Err refused);
-        } }
+        ensures reader { self.new ≡ with_refusal self.old refused }
     {
         self.number += 1;
         self.ended = Some(Err(refused));
@@ -290,22 +284,8 @@ impl LineReader {
     fn finish(&mut self) -> Result<Next, ReadEnd>
         requires going { self.old.ended ≡ None }
         requires short { length self.old.pending < self.old.limit }
-        ensures well { self.old.pending ≡ [] → (result ≡ Ok Next.End) × (self.new ≡ record {
-          pending = [];
-          room = self.old.room;
-          limit = self.old.limit;
-          line = self.old.line;
-          number = self.old.number;
-          ended = Some (Ok Next.End);
-        }) }
-        ensures rest { self.old.pending ≢ [] → (result ≡ Err ReadEnd.NoFinalNewline) × (self.new ≡ record {
-          pending = [];
-          room = self.old.room;
-          limit = self.old.limit;
-          line = self.old.pending;
-          number = self.old.number + 1;
-          ended = Some (Err ReadEnd.NoFinalNewline);
-        }) }
+        ensures well { self.old.pending ≡ [] → (result ≡ Ok Next.End) × (self.new ≡ with_end self.old) }
+        ensures rest { self.old.pending ≢ [] → (result ≡ Err ReadEnd.NoFinalNewline) × (self.new ≡ with_rest self.old) }
     {
         if self.held == 0 {
             self.ended = Some(Ok(Next::End));
@@ -332,13 +312,16 @@ impl LineReader {
     ///
     /// After an answer other than `Line` and `ReadFault` each further call answers the same, and reads nothing.
     pub fn next<I: Inputs>(&mut self, inputs: &mut I) -> Result<Next, ReadEnd>
+        // Once the lines have ended, each further call answers the same.
         ensures again { (answer : Result Next ReadEnd) → self.old.ended ≡ Some answer →
             (result ≡ answer) × (self.new ≡ self.old) × (inputs.new ≡ inputs.old) }
+        // What the answer says of the lines to come, where it leaves the reader, and what it took of the input.
         ensures moves { self.old.ended ≡ None → Moves self.old self.new result }
-        ensures tells { self.old.ended ≡ None → (bytes : List ℕ) × Tells self.old bytes self.new result
-            × (length (self.old.pending ++ bytes) ≤ self.old.room + 1)
+        ensures tells { self.old.ended ≡ None → (bytes : List ℕ) × IsAnswered self.old bytes self.new result
             × Goes (I.told inputs.old) (I.told inputs.new) (λ old new. Takes old new bytes × (IsAtEnd result → new.held ≡ [])) }
+        // Where a whole line is held nothing is read.
         ensures still { HasLine self.old → inputs.new ≡ inputs.old }
+        // A read failed in this call exactly where the answer says so.
         ensures later { I.faults inputs.old ≤ I.faults inputs.new }
         ensures calm { ¬ (IsFault result) → I.faults inputs.new ≡ I.faults inputs.old }
         ensures fault { self.old.ended ≡ None → IsFault result → Rose (I.faults inputs.old) (I.faults inputs.new) }

@@ -4,10 +4,9 @@ ghost use Rattle.rd_io.specs.Calls.{FailsNext};
 ghost use Rattle.rd_io.specs.Inputs.{Goes, Opens, Reads, HasCause};
 ghost use Rattle.rd_io.specs.MemoryInputs.{StoredFile, RefusesName, is_named, no_files, file_named, source_of, taken_by_read, with_file, with_opened, with_failed_open, with_failed_read, with_taken};
 
-use rd_base::Word;
 use crate::calls::Calls;
 use crate::inputs::{Failed, Inputs};
-use rd_base::NoMemory;
+use rd_base::{NoMemory, Word};
 use std::alloc::Global;
 use std::marker::Model;
 

@@ -1,7 +1,7 @@
 //! A sink in memory.
-ghost use Rattle.std.specs.Prelude.{◌≡◌, ◌↔◌, ◌<◌, ◌≤◌, length, IfOk, OnOk, OnErr, IsErr, Ok, Some};
+ghost use Rattle.std.specs.Prelude.{◌≡◌, ◌↔◌, ◌≤◌, length, true, false, IfOk, OnOk, OnErr, IsErr, Some};
 ghost use Rattle.rd_io.specs.Inputs.{Rose};
-ghost use Rattle.rd_io.specs.Sinks.{Writes};
+ghost use Rattle.rd_io.specs.Sinks.{Writes, is_failed};
 ghost use Rattle.rd_io.specs.MemorySink.{RefusesPart, empty_sink, with_part, with_failed_write};
 
 use crate::calls::Calls;
@@ -12,23 +12,32 @@ use std::alloc::Global;
 use std::marker::Model;
 
 /// A sink that keeps its bytes in memory, which it takes when it is made. Contracts see it as the bytes so far, how
-/// many more there is room for, and its calls of `write`.
+/// many more there is room for, the bytes when a write last failed, and its calls of `write`.
 #[derive(Drop)]
 pub struct MemorySink {
     bytes: Vec<u8>,
     room: usize,
+    // How many bytes there were when a write last failed.
+    fault_at: Option<usize>,
     calls: Calls,
 }
 
 impl Model for MemorySink {
-    ghost use Rattle.std.specs.Prelude.{◌+◌, ◌≤◌, vec_len, vec_capacity};
+    ghost use Rattle.std.specs.Prelude.{◌+◌, ◌≤◌, take, option_map, vec_len, vec_capacity};
+    ghost use Rattle.std.specs.Option.{ForSome};
     ghost use Rattle.rd_io.specs.MemorySink.{SinkState};
 
     ghost Value = { SinkState };
 
-    ghost view = { λ s. record { written = s.bytes.items; room = s.room; calls = s.calls } };
+    ghost view = { λ s. record {
+      written = s.bytes.items;
+      room = s.room;
+      at_fault = option_map (λ count. take count s.bytes.items) s.fault_at;
+      calls = s.calls;
+    } };
 
-    ghost invariant = { λ s. vec_len s.bytes + s.room ≤ vec_capacity s.bytes };
+    ghost invariant = { λ s. (vec_len s.bytes + s.room ≤ vec_capacity s.bytes)
+        × ForSome s.fault_at (λ count. count ≤ vec_len s.bytes) };
 }
 
 impl MemorySink {
@@ -41,6 +50,7 @@ impl MemorySink {
         Ok(MemorySink {
             bytes: Vec::with_capacity(alloc, room)?,
             room,
+            fault_at: None,
             calls: Calls::new(alloc, failing)?,
         })
     }
@@ -65,14 +75,18 @@ impl Sink for MemorySink {
 
     ghost faults = { λ sink. sink.calls.faults };
 
+    ghost at_fault = { λ sink. sink.at_fault };
+
     /// Writes the whole part. It fails exactly where the call is named among those that are to fail, or the part is
     /// longer than the room that is left. It takes no memory.
     fn write(&mut self, part: &[u8]) -> Result<usize, Failed>
         ensures bound { IfOk result (λ count. count ≤ length part.now) }
         ensures written { Writes (Some self.old.written) (Some self.new.written) part.now result }
         ensures later { self.old.calls.faults ≤ self.new.calls.faults }
-        ensures failed { OnErr result (Rose self.old.calls.faults self.new.calls.faults) }
-        ensures nothing { result ≡ Ok 0 → 0 < length part.now → Rose self.old.calls.faults self.new.calls.faults }
+        ensures failed { is_failed part.now result ≡ true →
+            Rose self.old.calls.faults self.new.calls.faults × (self.new.at_fault ≡ Some self.new.written) }
+        ensures calm { is_failed part.now result ≡ false →
+            (self.new.calls.faults ≡ self.old.calls.faults) × (self.new.at_fault ≡ self.old.at_fault) }
         ensures refused { IsErr result ↔ RefusesPart self.old part.now }
         ensures whole { IfOk result (λ count. count ≡ length part.now) }
         ensures ok { OnOk result (self.new ≡ with_part self.old part.now) }
@@ -80,6 +94,7 @@ impl Sink for MemorySink {
     {
         let failing = self.calls.is_next_failing();
         if failing || part.len() > self.room {
+            self.fault_at = Some(self.bytes.len());
             return Err(self.calls.fail());
         }
         let Ok(()) = self.bytes.extend_from_slice(part) else {

@@ -1,7 +1,7 @@
 //! Sinks of bytes.
-ghost use Rattle.std.specs.Prelude.{◌≡◌, ℕ, ◌<◌, ◌≤◌, List, Option, take, length, IfOk, IfErr, OnOk, OnErr, Ok};
+ghost use Rattle.std.specs.Prelude.{◌≡◌, ℕ, ◌≤◌, List, Option, take, length, true, false, IfOk, IfErr, OnOk, OnErr};
 ghost use Rattle.rd_io.specs.Inputs.{Rose};
-ghost use Rattle.rd_io.specs.Sinks.{Appends, Writes};
+ghost use Rattle.rd_io.specs.Sinks.{Appends, Writes, is_failed};
 
 use crate::inputs::Failed;
 use thiserror::Error;
@@ -15,13 +15,18 @@ pub trait Sink {
     /// stays at its last value.
     ghost faults: { Self → ℕ };
 
+    /// The bytes so far when a write last failed. None where this isn't told, or none has failed.
+    ghost at_fault: { Self → Option (List ℕ) };
+
     /// Writes a front of the part, and answers how many bytes. After an `Err` nothing was written.
     fn write(&mut self, part: &[u8]) -> Result<usize, Failed>
         ensures bound { IfOk result (λ count. count ≤ length part.now) }
         ensures written { Writes (written self.old) (written self.new) part.now result }
         ensures later { faults self.old ≤ faults self.new }
-        ensures failed { OnErr result (Rose (faults self.old) (faults self.new)) }
-        ensures nothing { result ≡ Ok 0 → 0 < length part.now → Rose (faults self.old) (faults self.new) };
+        ensures failed { is_failed part.now result ≡ true →
+            Rose (faults self.old) (faults self.new) × (at_fault self.new ≡ written self.new) }
+        ensures calm { is_failed part.now result ≡ false →
+            (faults self.new ≡ faults self.old) × (at_fault self.new ≡ at_fault self.old) };
 }
 
 /// A write failed after this many bytes of the part.
@@ -38,7 +43,10 @@ pub fn write_all<S: Sink>(out: &mut S, part: &[u8]) -> Result<(), WriteFault>
     ensures front { IfErr result (λ fault. (fault.written ≤ length part.now)
         × Appends (S.written out.old) (S.written out.new) (take fault.written part.now)) }
     ensures later { S.faults out.old ≤ S.faults out.new }
-    ensures cause { OnErr result (Rose (S.faults out.old) (S.faults out.new)) }
+    ensures calm { OnOk result (S.faults out.new ≡ S.faults out.old) }
+    ensures kept { OnOk result (S.at_fault out.new ≡ S.at_fault out.old) }
+    ensures cause { OnErr result (Rose (S.faults out.old) (S.faults out.new)
+        × (S.at_fault out.new ≡ S.written out.new)) }
 {
     let mut written = 0;
     while written < part.len() {

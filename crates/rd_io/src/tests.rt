@@ -2,9 +2,7 @@ ghost use Rattle.std.specs.Prelude.{◌≤◌, None};
 ghost use Rattle.rd_base.specs.Limits.{AreUsable};
 
 use super::*;
-use rd_base::Word;
-use rd_base::Limits;
-use rd_base::NoMemory;
+use rd_base::{Limits, NoMemory, Word};
 use std::alloc::Global;
 use std::process::Abort;
 use std::test::Fail;
@@ -350,10 +348,12 @@ impl Sink for Narrow {
 
     ghost faults = { λ sink. sink.faults };
 
+    ghost at_fault = { λ _. None };
+
     fn write(&mut self, part: &[u8]) -> Result<usize, Failed> {
         let width = if self.writes == 0 { 0 } else { self.width };
         let count = part.len().min(width);
-        if count == 0 {
+        if count == 0 && !part.is_empty() {
             self.faults = self.faults.saturating_add(1);
             return Ok(0);
         }

@@ -1,13 +1,8 @@
 pub mod AcceptedLemmas
 pub mod CheckLemmas
 pub mod ContinueLemmas
-pub mod DetectLemmas
-pub mod EventsLemmas
-pub mod FollowLemmas
 pub mod OutputLemmas
-pub mod RaceLemmas
-pub mod RegisterLemmas
+pub mod ProgressLemmas
 pub mod ReportLemmas
-pub mod RosterLemmas
 pub mod RunLemmas
 pub mod WalkLemmas

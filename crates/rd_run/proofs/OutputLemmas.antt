@@ -1,10 +1,11 @@
 -- What is written, and the status.
-use Rattle.std.proofs.Common.{◌≡◌, ◌≢◌, ℕ, Bool, true, false, cond, List, [], ◌++◌, refl, sym, ap, ◌∙◌, eqb}
+use Rattle.std.proofs.Common.{◌≡◌, ◌≢◌, ℕ, Bool, true, false, cond, List, [], ◌++◌, Option, Result, Err, refl, sym, ap, subst, ◌∙◌, eqb}
 use Rattle.std.proofs.lemmas.List.{append_assoc, append-nil}
 use Rattle.rd_run.specs.Commands.{halted_with}
-use Rattle.rd_run.specs.Output.{Outcome, IsOutput, check_status, is_limit}
-use Rattle.rd_run.specs.declared.following.Halt.{Halt}
-use Rattle.rd_run.specs.declared.following.Halt.TheVariants as halt
+use Rattle.rd_run.specs.Analysis.{TellsFault}
+use Rattle.rd_run.specs.Output.{Outcome, IsOutput, StatusTellsFault, check_status, is_limit}
+use Rattle.rd_run.specs.declared.analysis.Halt.{Halt}
+use Rattle.rd_run.specs.declared.analysis.Halt.TheVariants as halt
 use Rattle.rd_run.specs.declared.endings.Ending.{Ending}
 use Rattle.rd_run.specs.declared.endings.Ending.TheVariants.{End, Refused, Fault}
 use Rattle.rd_run.specs.declared.status.Status.{Status}
@@ -84,3 +85,33 @@ halted_no_usage halt.NoMemory = λ e. cc
 pub halted_no_input : (halt : Halt) → halted_with halt ≢ InputFault
 halted_no_input halt.OutputFault = λ e. cc
 halted_no_input halt.NoMemory = λ e. cc
+
+-- where all was written, no fault is told
+pub quiet_status : (before now : ℕ) (point written : Option (List ℕ)) (races : ℕ) (ending : Ending) → now ≡ before → StatusTellsFault before now point written (check_status races ending)
+unfolding check_status
+quiet_status before now point written races End same = by (eqb races 0)
+  where
+    by : (b : Bool) → StatusTellsFault before now point written (cond b Clean Raced)
+    by true = same
+    by false = same
+quiet_status before now point written races (Refused number cause) same = by (is_limit cause)
+  where
+    by : (b : Bool) → StatusTellsFault before now point written (cond b LimitReached TraceRefused)
+    by true = same
+    by false = same
+quiet_status before now point written races Fault same = same
+
+-- and where it was cut short, it is told as the halt tells it
+pub halted_tells : (before now : ℕ) (point written : Option (List ℕ)) (T : Type 0) (halt : Halt) → TellsFault {T = T} before now point written (Err halt)
+    → StatusTellsFault before now point written (halted_with halt)
+halted_tells before now point written T halt.OutputFault tells = tells
+halted_tells before now point written T halt.NoMemory tells = tells
+
+-- a call behind others that told no fault
+pub tells_behind : {T : Type 0} (before middle now : ℕ) (point written : Option (List ℕ)) (result : Result T Halt) → middle ≡ before
+    → TellsFault middle now point written result → TellsFault before now point written result
+tells_behind before middle now point written result same tells = subst (λ n. TellsFault n now point written result) same tells
+
+pub status_behind : (before middle now : ℕ) (point written : Option (List ℕ)) (status : Status) → middle ≡ before
+    → StatusTellsFault middle now point written status → StatusTellsFault before now point written status
+status_behind before middle now point written status same tells = subst (λ n. StatusTellsFault n now point written status) same tells

@@ -1,22 +1,22 @@
--- What a check of no lines keeps and writes: the laws that it has as a follower of accepted lines.
+-- What a check of no lines keeps and writes: the laws that it has as an analysis.
 use Rattle.std.specs.Prelude.{◌≡◌, List, [], length}
-use Rattle.std.proofs.Common.{inl, inr, refl, sym, ap, subst, arith, true≢false}
-use Rattle.std.proofs.lemmas.Bool.Decides.{Decides-ltb}
-use Rattle.std.proofs.lemmas.List.Elements.{All-nil}
+use Rattle.std.proofs.Common.{refl, sym, ap, subst, arith, true≢false}
 use Rattle.std.proofs.lemmas.Option.{none-some}
-use Rattle.rd_hb.specs.EventLists.{calls, forks, joins, HasNumbers}
+use Rattle.rd_hb.specs.EventLists.{forks, joins}
 use Rattle.rd_hb.specs.Tracker.{StandsFor}
-use Rattle.rd_run.specs.Checking.{Checks, IsNew}
 use Rattle.rd_detect.specs.Detect.{StandsFor as Detects}
-use Rattle.rd_wf.specs.Events.{AreTold, events_of, roots_of}
-use Rattle.rd_wf.specs.Kinds.{Kind, register_alone}
+use Rattle.rd_detect.specs.RegisterTests.{commutes}
+use Rattle.rd_wf.specs.Events.{events_of, roots_of}
+use Rattle.rd_wf.specs.Kinds.{Kind}
+use Rattle.rd_wf.specs.NoLines.{told_none}
+use Rattle.rd_run.specs.Checking.{Checks, IsNew}
 use Rattle.rd_run.specs.Output.{races_before, race_texts, races_of, texts_before}
 use Rattle.rd_run.specs.declared.checking.Check.{Check}
 
-stands_none : StandsFor [] (roots_of []) (events_of register_alone [])
+stands_none : (kinds : List Kind) → StandsFor [] (roots_of []) (events_of kinds [])
 unfolding forks joins
-stands_none = record {
-  known = λ t. (λ below. absurd (omega arith), λ known. ((told_none register_alone).known t).0 known);
+stands_none kinds = record {
+  known = λ t. (λ below. absurd (omega arith), λ known. ((told_none kinds).known t).0 known);
   clocks = λ t u. refl;
   joined = λ t. (λ h. absurd (true≢false (sym h)), λ some. absurd (omega arith));
 }
@@ -29,13 +29,13 @@ detects_none = record {
   rising = λ k l seen other before at_k at_l. absurd (none-some seen at_k);
 }
 
-pub checks_none : (start : Check) → IsNew start → Checks start [] start
+pub checks_none : (kinds : List Kind) (start : Check) → IsNew start → Checks kinds start [] start
 unfolding races_of races_before
-checks_none start new = record {
+checks_none kinds start new = record {
   starts = new;
   tracks = record {
-    told = told_none register_alone;
-    stands = subst (λ tracker. StandsFor tracker (roots_of []) (events_of register_alone [])) (sym new.no_thread) stands_none;
+    told = told_none kinds;
+    stands = subst (λ tracker. StandsFor tracker (roots_of []) (events_of kinds [])) (sym new.no_thread) (stands_none kinds);
     count = ap length new.no_thread;
   };
   detects = subst (λ held. Detects held [] []) (sym new.no_call) detects_none;
@@ -43,6 +43,6 @@ checks_none start new = record {
   races = new.no_race;
 }
 
-pub no_text : race_texts [] ≡ []
+pub no_text : (kinds : List Kind) → race_texts commutes kinds [] ≡ []
 unfolding race_texts texts_before
-no_text = refl
+no_text kinds = refl

@@ -1,15 +1,19 @@
 -- What a command writes, and its status. This project's profile.
-use Rattle.std.specs.Prelude.{◌≡◌, ℕ, zero, suc, ◌+◌, ◌==◌, nat_lt, ◌≤◌, Bool, true, false, List, [], ◌∷◌, ◌++◌, length, count_by, filter_map, slice_get, codes, decimal, Option, Some, None, is_none, is_some, unwrap_or, if◌then◌else◌}
-use Rattle.rd_io.specs.Inputs.{Source, file_of}
+use Rattle.std.specs.Prelude.{◌≡◌, ℕ, zero, suc, ◌+◌, ◌==◌, ◌≤◌, Bool, true, false, List, [], ◌∷◌, ◌++◌, length, count_by, filter_map, slice_get, codes, decimal, Option, Some, None, option_map, is_none, is_some, unwrap_or, if◌then◌else◌}
+use Rattle.rd_io.specs.Inputs.{Rose, Source, file_of}
+use Rattle.rd_io.specs.Lines.{Stop}
 use Rattle.rd_io.specs.Lines.Stop.{end, fault}
 use Rattle.rd_base.specs.declared.limits.Limits.{Limits}
 use Rattle.rd_base.specs.declared.limits.LimitName.{LimitName}
+use Rattle.rd_event.specs.declared.events.Call.{Call}
 use Rattle.rd_event.specs.declared.events.Event.{Event}
 use Rattle.rd_base.specs.declared.limits.LimitName.TheVariants.{Bytes, Line, Events, Threads, Locks, Objects, Depth, SpecText, Tokens, Kinds, Methods, Arguments, Nodes, FormulaDepth, Predicates}
 use Rattle.rd_wf.specs.Events.{events_of}
 use Rattle.rd_wf.specs.MayFollow.{is_event, same_name}
 use Rattle.rd_detect.specs.RaceTests.{latest_of}
-use Rattle.rd_wf.specs.Kinds.{register_alone}
+use Rattle.rd_detect.specs.RegisterTests.{commutes}
+use Rattle.rd_run.specs.Progress.{IsRead}
+use Rattle.rd_wf.specs.Kinds.{Kind, register_alone}
 use Rattle.rd_run.specs.Walk.{Walked, ends, Entry, entries_of, ending_of, items, trace_of, step_bound}
 use Rattle.rd_wf.specs.declared.causes.WfCause.{WfCause}
 use Rattle.rd_wf.specs.declared.causes.WfCause.TheVariants as wf
@@ -113,26 +117,27 @@ text_with numbers place None = []
 text_with numbers place (Some earlier) = race_line (number_at numbers place) (number_at numbers earlier)
 
 -- the texts for the events in front of a place, in their order
-unfoldable pub texts_before : List ℕ → List Event → ℕ → List ℕ
-texts_before numbers es zero = []
-texts_before numbers es (suc place) = texts_before numbers es place ++ text_with numbers place (latest_of es place)
+unfoldable pub texts_before : (Call → Call → Bool) → List ℕ → List Event → ℕ → List ℕ
+texts_before commuting numbers es zero = []
+texts_before commuting numbers es (suc place) = texts_before commuting numbers es place ++ text_with numbers place (latest_of commuting es place)
 
 -- how many of the events in front of a place are reported
-unfoldable pub races_before : List Event → ℕ → ℕ
-races_before es zero = 0
-races_before es (suc place) = races_before es place + (if is_some (latest_of es place) then 1 else 0)
+unfoldable pub races_before : (Call → Call → Bool) → List Event → ℕ → ℕ
+races_before commuting es zero = 0
+races_before commuting es (suc place) = races_before commuting es place + (if is_some (latest_of commuting es place) then 1 else 0)
 
 -- the events of the accepted lines
-abbrev pub entry_events : List Entry → List Event
-entry_events entries = events_of register_alone (items entries)
+abbrev pub entry_events : List Kind → List Entry → List Event
+entry_events kinds entries = events_of kinds (items entries)
 
 -- how many calls of the accepted lines are reported
-unfoldable pub races_of : List Entry → ℕ
-races_of entries = races_before (entry_events entries) (length (entry_events entries))
+unfoldable pub races_of : (Call → Call → Bool) → List Kind → List Entry → ℕ
+races_of commuting kinds entries = races_before commuting (entry_events kinds entries) (length (entry_events kinds entries))
 
 -- the texts of the reported calls of the accepted lines, in their order, each with the latest that races with it
-unfoldable pub race_texts : List Entry → List ℕ
-race_texts entries = texts_before (event_numbers entries) (entry_events entries) (length (entry_events entries))
+unfoldable pub race_texts : (Call → Call → Bool) → List Kind → List Entry → List ℕ
+race_texts commuting kinds entries =
+    texts_before commuting (event_numbers entries) (entry_events kinds entries) (length (entry_events kinds entries))
 
 -- ---- the status
 
@@ -151,12 +156,14 @@ check_status races End = if races == 0 then Clean else Raced
 check_status races (Refused number cause) = if is_limit cause then LimitReached else TraceRefused
 check_status races Fault = InputFault
 
--- `check` on a trace
-abbrev pub check_outcome : Walked → Outcome
-check_outcome walked =
+-- `check` on a trace with objects of these kinds, whose calls commute where they pass the test
+abbrev pub check_outcome : (Call → Call → Bool) → List Kind → Walked → Outcome
+check_outcome commuting kinds walked =
+    let entries = entries_of walked in
+    let races = races_of commuting kinds entries in
     record {
-      text = race_texts (entries_of walked) ++ ending_text (races_of (entries_of walked)) (ending_of walked);
-      status = check_status (races_of (entries_of walked)) (ending_of walked);
+      text = race_texts commuting kinds entries ++ ending_text races (ending_of walked);
+      status = check_status races (ending_of walked);
     }
 
 -- ---- commands
@@ -174,31 +181,30 @@ command_of _ = None
 abbrev pub usage_outcome : Outcome
 usage_outcome = record { text = codes "refused usage\n"; status = Usage }
 
--- where no file was opened
-abbrev pub fault_outcome : Outcome
-fault_outcome = record { text = []; status = InputFault }
-
 -- the files that a command names
 abbrev pub files_of : Option Command → List (List ℕ)
 files_of None = []
 files_of (Some (check name)) = name ∷ []
 
--- The walk of a command over inputs that told `old` before it and `new` after it. Where the count of their faults rose
--- (`rose`), it is over the bytes that were taken before a read failed, and else over the whole file.
-abbrev pub command_walk : Command → Limits → Bool → Source → Source → Walked
-command_walk (check name) limits false old new = trace_of register_alone limits end (unwrap_or (file_of old.files name) [])
-command_walk (check name) limits true old new = trace_of register_alone limits fault new.taken
+-- What a command works on, over inputs that told `old` before it and `new` after it: nothing, where not all files that it names were
+-- opened. Else where the count of the inputs' faults rose (`rose`) it is what was taken before a read failed, and else the whole file.
+abbrev pub input_of : Command → Bool → Source → Source → Option (Stop × List ℕ)
+input_of (check name) rose old new =
+    if new.opens == old.opens + 1 then (if rose then Some (fault, new.taken) else option_map (λ bytes. (end, bytes)) (file_of old.files name)) else None
+
+-- the walk over what a command works on. Over nothing it ends at once, by the fault of the open that failed
+abbrev pub walk_on : List Kind → Limits → Option (Stop × List ℕ) → Walked
+walk_on kinds limits None = ends Fault
+walk_on kinds limits (Some input) = trace_of kinds limits input.0 input.1
 
 abbrev pub walk_of : Option Command → Limits → Bool → Source → Source → Walked
 walk_of None limits rose old new = ends Fault
-walk_of (Some command) limits rose old new = command_walk command limits rose old new
+walk_of (Some command) limits rose old new = walk_on register_alone limits (input_of command rose old new)
 
 -- the outcome of a command over such inputs
 abbrev pub outcome_of : Option Command → Limits → Bool → Source → Source → Outcome
 outcome_of None limits rose old new = usage_outcome
-outcome_of (Some command) limits false old new = check_outcome (command_walk command limits false old new)
-outcome_of (Some command) limits true old new =
-    if nat_lt old.opens new.opens then check_outcome (command_walk command limits true old new) else fault_outcome
+outcome_of (Some command) limits rose old new = check_outcome commutes register_alone (walk_of (Some command) limits rose old new)
 
 -- the bytes are a front of the whole
 abbrev pub IsFront : List ℕ → List ℕ → Type 0
@@ -216,11 +222,34 @@ pub record OpensOnly (command : Option Command) (old new : Source) : Type 0 wher
   pub opens : new.opens ≤ old.opens + length (files_of command)
   pub misses : new.misses ≤ old.misses + count_by (λ name. is_none (file_of old.files name)) (files_of command)
 
+-- the status tells how a trace was judged
+abbrev pub tells_trace : Status → Bool
+tells_trace Clean = true
+tells_trace Raced = true
+tells_trace TraceRefused = true
+tells_trace LimitReached = true
+tells_trace _ = false
+
+-- What was taken of the file of a command that opened it, of which so many lines are accepted: what was taken and what is left are the
+-- file's bytes, and no more was taken than may be.
+abbrev pub TakesOnly : Option Command → Limits → ℕ → Source → Source → Type 0
+TakesOnly None limits accepted old new = new ≡ old
+TakesOnly (Some (check name)) limits accepted old new =
+    new.opens ≡ old.opens + 1 → (file_of old.files name ≡ Some (new.taken ++ new.held)) × IsRead limits new.taken accepted
+
 -- what a run leaves of inputs that told `old` before it and of the output, to which `part` was added
 pub record Runs (command : Option Command) (limits : Limits) (rose : Bool) (old new : Source) (part : List ℕ) (status : Status) (before after : ℕ) : Type 0 where
   -- what was written, and the status
   pub output : IsOutput status part (outcome_of command limits rose old new)
-  -- the files that were opened
+  -- the files that were opened, and what was taken of them
   pub opened : OpensOnly command old new
+  pub all_opened : tells_trace status ≡ true → new.opens ≡ old.opens + length (files_of command)
+  pub taken : TakesOnly command limits (length (entries_of (walk_of command limits rose old new))) old new
   -- the steps that were taken
   pub cost : after ≤ before + step_bound (entries_of (walk_of command limits rose old new))
+
+-- A failed write is told as one: the sink's count of faults rose exactly where the status says so, and nothing was written behind the
+-- point where the write failed.
+abbrev pub StatusTellsFault : ℕ → ℕ → Option (List ℕ) → Option (List ℕ) → Status → Type 0
+StatusTellsFault before now point written OutputFault = Rose before now × (point ≡ written)
+StatusTellsFault before now point written status = now ≡ before

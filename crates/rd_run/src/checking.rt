@@ -1,17 +1,14 @@
 //! What `check` does with each accepted line.
-ghost use Rattle.std.specs.Prelude.{◌≡◌, ◌+◌, ◌≤◌, List, ◌∷◌, [], ◌++◌, IfOk, OnOk, MatchOption};
-ghost use Rattle.rd_event.specs.declared.events.Call.{Call as CallOf};
-ghost use Rattle.rd_event.specs.declared.items.Line.{Line as LineOf};
-ghost use Rattle.rd_run.specs.Checking.{IsNextLine, IsStamped, Tracks, tracker_bound};
+ghost use Rattle.std.specs.Prelude.{◌≡◌, ◌+◌, ◌≤◌, List, ◌∷◌, [], ◌++◌};
 
-use rd_detect::Detector;
-use crate::following::{Follower, Halt};
-use rd_wf::{Accepted, Roster};
+use crate::analysis::{Analysis, Halt};
 use crate::writing::write_race;
-use rd_io::Sink;
-use rd_base::{NoMemory, Steps};
+use rd_base::Steps;
+use rd_detect::Detector;
 use rd_event::{Call, Event, Line};
 use rd_hb::{Stamp, Tracker};
+use rd_io::Sink;
+use rd_wf::{Accepted, Roster};
 use std::alloc::Global;
 use std::sync::ledger::Ledger;
 
@@ -26,22 +23,30 @@ pub struct Check {
 
 impl Check {
     ghost use Rattle.std.specs.Prelude.{◌≡◌, ◌+◌, ◌<◌, ◌≤◌, ◌^◌, ℕ, List, ◌∷◌, [], ◌++◌, length, IfOk, IfErr, OnOk, OnErr};
-    ghost use Rattle.rd_io.specs.Inputs.{Rose};
     ghost use Rattle.rd_io.specs.Sinks.{Appends};
     ghost use Rattle.rd_event.specs.declared.events.Event.{Event as EventOf};
     ghost use Rattle.rd_event.specs.declared.events.Event.TheVariants as event;
-    ghost use Rattle.rd_run.specs.Checking.{IsNew, next_races, next_text};
-    ghost use Rattle.rd_detect.specs.Detect.{IsNext, StandsFor};
-    ghost use Rattle.rd_run.specs.Follower.{WritesFront};
+    ghost use Rattle.rd_event.specs.declared.items.Line.{Line as LineOf};
+    ghost use Rattle.rd_detect.specs.Detect.{IsNextCall, StandsFor};
+    ghost use Rattle.rd_detect.specs.RegisterTests.{commutes};
+    ghost use Rattle.rd_run.specs.Analysis.{TellsFault, WritesBetween, WritesFront};
+    ghost use Rattle.rd_run.specs.Checking.{Checks, IsNew, IsNextLine, next_races, next_text};
+    ghost use Rattle.rd_run.specs.Output.{entry_events, race_texts};
+    ghost use Rattle.rd_run.specs.Walk.{Entry, items, line_bound};
+    ghost use Rattle.rd_wf.specs.Kinds.{Kind};
 
     /// A check of no lines.
-    pub fn new(alloc: Global) -> Result<Check, NoMemory>
-        ensures { IfOk result IsNew }
+    pub fn new(alloc: Global) -> Result<Check, Halt>
+        ensures new { IfOk result IsNew }
+        ensures memory { IfErr result (λ halt. halt ≡ Halt.NoMemory) }
     {
+        let Ok(detector) = Detector::new(alloc) else {
+            return Err(Halt::NoMemory);
+        };
         Ok(Check {
             alloc,
             tracker: Tracker::new(alloc),
-            detector: Detector::new(alloc)?,
+            detector,
             races: 0,
         })
     }
@@ -56,21 +61,20 @@ impl Check {
         out: &mut S,
         steps: &mut Steps<L>,
     ) -> Result<(), Halt>
-        requires next { (numbers : List ℕ) × (es : List EventOf) × IsNext self.old.detector numbers es place call.now stamp.now }
+        requires next { (numbers : List ℕ) × (es : List EventOf) × IsNextCall self.old.detector numbers es place call.now stamp.now }
         requires few { self.old.races + 1 < 2 ^ 64 }
         ensures tracker { self.new.tracker ≡ self.old.tracker }
-        ensures stands { OnOk result ((numbers : List ℕ) (es : List EventOf) → IsNext self.old.detector numbers es place call.now stamp.now →
+        ensures stands { OnOk result ((numbers : List ℕ) (es : List EventOf) → IsNextCall self.old.detector numbers es place call.now stamp.now →
             StandsFor self.new.detector (numbers ++ line ∷ []) (es ++ event.Call call.now ∷ [])) }
         ensures held { OnOk result (length self.new.detector ≡ length self.old.detector + 1) }
-        ensures races { OnOk result ((numbers : List ℕ) (es : List EventOf) → IsNext self.old.detector numbers es place call.now stamp.now →
-            self.new.races ≡ self.old.races + next_races es (event.Call call.now)) }
-        ensures written { OnOk result ((numbers : List ℕ) (es : List EventOf) → IsNext self.old.detector numbers es place call.now stamp.now →
-            Appends (S.written out.old) (S.written out.new) (next_text numbers line es (event.Call call.now))) }
-        ensures front { OnErr result ((numbers : List ℕ) (es : List EventOf) → IsNext self.old.detector numbers es place call.now stamp.now →
-            WritesFront (S.written out.old) (S.written out.new) [] (next_text numbers line es (event.Call call.now))) }
+        ensures races { OnOk result ((numbers : List ℕ) (es : List EventOf) → IsNextCall self.old.detector numbers es place call.now stamp.now →
+            self.new.races ≡ self.old.races + next_races commutes es (event.Call call.now)) }
+        ensures written { OnOk result ((numbers : List ℕ) (es : List EventOf) → IsNextCall self.old.detector numbers es place call.now stamp.now →
+            Appends (S.written out.old) (S.written out.new) (next_text commutes numbers line es (event.Call call.now))) }
+        ensures front { OnErr result ((numbers : List ℕ) (es : List EventOf) → IsNextCall self.old.detector numbers es place call.now stamp.now →
+            WritesFront (S.written out.old) (S.written out.new) [] (next_text commutes numbers line es (event.Call call.now))) }
         ensures cost { steps.new ≤ steps.old + length self.old.detector }
-        ensures later { S.faults out.old ≤ S.faults out.new }
-        ensures cause { IfErr result (λ halt. halt ≡ Halt.OutputFault → Rose (S.faults out.old) (S.faults out.new)) }
+        ensures fault { TellsFault (S.faults out.old) (S.faults out.new) (S.at_fault out.new) (S.written out.new) result }
     {
         let Ok(answer) = self
             .detector
@@ -84,57 +88,72 @@ impl Check {
         self.races += 1;
         write_race(self.alloc, line, earlier, out)
     }
-}
 
-/// Hands a root or an event to the tracker, and gives the event's stamp. Other lines leave it as it is.
-fn track<L: Ledger>(
-    tracker: &mut Tracker,
-    accepted: &Accepted,
-    steps: &mut Steps<L>,
-) -> Result<Option<Stamp>, NoMemory>
-    requires { (before : List LineOf) × (line : LineOf) × IsNextLine tracker.old before line accepted.now }
-    ensures tracks { OnOk result ((before : List LineOf) (line : LineOf) → IsNextLine tracker.old before line accepted.now →
-        Tracks tracker.new (before ++ line ∷ [])) }
-    ensures stamped { IfOk result (λ stamp. (before : List LineOf) (line : LineOf) → IsNextLine tracker.old before line accepted.now →
-        IsStamped before accepted.now stamp) }
-    ensures cost { (before : List LineOf) (line : LineOf) → IsNextLine tracker.old before line accepted.now →
-        steps.new ≤ steps.old + tracker_bound before line }
-{
-    match accepted {
-        Accepted::Root(thread) => {
-            tracker.root(*thread)?;
-            Ok(None)
+    /// Hands the next root to the tracker.
+    fn root(&mut self, thread: u32) -> Result<(), Halt>
+        requires { (kinds : List Kind) × (start : Check) × (before : List Entry) × (item : LineOf) × Checks kinds start before self.old
+            × IsNextLine kinds self.old.tracker (items before) item (Accepted.Root thread) }
+        ensures checks { OnOk result ((kinds : List Kind) (start : Check) (before : List Entry) (entry : Entry) → Checks kinds start before self.old →
+            IsNextLine kinds self.old.tracker (items before) entry.item (Accepted.Root thread) → Checks kinds start (before ++ entry ∷ []) self.new) }
+        ensures memory { IfErr result (λ halt. halt ≡ Halt.NoMemory) }
+    {
+        match self.tracker.root(thread) {
+            Ok(()) => Ok(()),
+            Err(_) => Err(Halt::NoMemory),
         }
-        Accepted::Event(event) => Ok(Some(tracker.event(event, steps)?)),
-        Accepted::Nothing | Accepted::Object { .. } => Ok(None),
+    }
+
+    /// Hands the event at this place, which is the next one, to the tracker, and a call to the detector.
+    fn event<S: Sink, L: Ledger>(
+        &mut self,
+        number: u64,
+        place: u32,
+        event: &Event,
+        out: &mut S,
+        steps: &mut Steps<L>,
+    ) -> Result<(), Halt>
+        requires { (kinds : List Kind) × (start : Check) × (before : List Entry) × (item : LineOf) × Checks kinds start before self.old
+            × IsNextLine kinds self.old.tracker (items before) item (Accepted.Event event.now) × (place ≡ length (entry_events kinds before)) }
+        ensures checks { OnOk result ((kinds : List Kind) (start : Check) (before : List Entry) (item : LineOf) → Checks kinds start before self.old →
+            IsNextLine kinds self.old.tracker (items before) item (Accepted.Event event.now) → place ≡ length (entry_events kinds before) →
+            Checks kinds start (before ++ record { number = number; item = item } ∷ []) self.new) }
+        ensures written { OnOk result ((kinds : List Kind) (start : Check) (before : List Entry) (item : LineOf) → Checks kinds start before self.old →
+            IsNextLine kinds self.old.tracker (items before) item (Accepted.Event event.now) → place ≡ length (entry_events kinds before) →
+            WritesBetween (S.written out.old) (S.written out.new) (race_texts commutes kinds before)
+                (race_texts commutes kinds (before ++ record { number = number; item = item } ∷ []))) }
+        ensures halted { OnErr result ((kinds : List Kind) (start : Check) (before : List Entry) (item : LineOf) → Checks kinds start before self.old →
+            IsNextLine kinds self.old.tracker (items before) item (Accepted.Event event.now) → place ≡ length (entry_events kinds before) →
+            WritesFront (S.written out.old) (S.written out.new) (race_texts commutes kinds before)
+                (race_texts commutes kinds (before ++ record { number = number; item = item } ∷ []))) }
+        ensures cost { (kinds : List Kind) (start : Check) (before : List Entry) (item : LineOf) → Checks kinds start before self.old →
+            IsNextLine kinds self.old.tracker (items before) item (Accepted.Event event.now) → steps.new ≤ steps.old + line_bound (items before) item }
+        ensures fault { TellsFault (S.faults out.old) (S.faults out.new) (S.at_fault out.new) (S.written out.new) result }
+    {
+        let Ok(stamp) = self.tracker.event(event, steps) else {
+            return Err(Halt::NoMemory);
+        };
+        let Event::Call(call) = event else {
+            return Ok(());
+        };
+        self.detect(number, place, call, &stamp, out, steps)
     }
 }
 
-/// The call that an accepted line is.
-fn call_in(accepted: &Accepted) -> Option<&Call>
-    ensures { MatchOption result ((call : CallOf) → ¬ (accepted.now ≡ Accepted.Event (Event.Call call)))
-        (λ call. accepted.now ≡ Accepted.Event (Event.Call call.now)) }
-{
-    match accepted {
-        Accepted::Event(Event::Call(call)) => Some(call),
-        _ => None,
-    }
-}
-
-impl Follower for Check {
-    ghost use Rattle.rd_run.specs.Output.{race_texts};
-    ghost use Rattle.rd_run.specs.Checking.{Checks, IsNew};
+impl Analysis for Check {
+    ghost use Rattle.rd_detect.specs.RegisterTests.{commutes};
     ghost use Rattle.rd_run.specs.CheckLaws.{checks_none, no_text};
+    ghost use Rattle.rd_run.specs.Checking.{Checks, IsNew};
+    ghost use Rattle.rd_run.specs.Output.{race_texts};
 
     ghost begins = { IsNew };
 
-    ghost follows = { Checks };
+    ghost leads = { Checks };
 
-    ghost text = { λ _. race_texts };
+    ghost text = { λ kinds _. race_texts commutes kinds };
 
     ghost starts = { checks_none };
 
-    ghost silent = { λ _. no_text };
+    ghost silent = { λ kinds _. no_text kinds };
 
     fn accept<S: Sink, L: Ledger>(
         &mut self,
@@ -145,16 +164,10 @@ impl Follower for Check {
         out: &mut S,
         steps: &mut Steps<L>,
     ) -> Result<(), Halt> {
-        // The proof reads here that the threads fit 32 bits.
-        let _threads = roster.threads();
-        let Ok(stamp) = track(&mut self.tracker, accepted, steps) else {
-            return Err(Halt::NoMemory);
-        };
-        let Some(call) = call_in(accepted) else {
-            return Ok(());
-        };
-        let Some(stamp) = stamp else { unreachable!() };
-        let place = roster.events() - 1;
-        self.detect(number, place, call, &stamp, out, steps)
+        match accepted {
+            Accepted::Nothing | Accepted::Object { .. } => Ok(()),
+            Accepted::Root(thread) => self.root(*thread),
+            Accepted::Event(event) => self.event(number, roster.events() - 1, event, out, steps),
+        }
     }
 }

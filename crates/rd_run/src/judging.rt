@@ -1,16 +1,18 @@
 //! What is said of the bytes of a line.
-ghost use Rattle.std.specs.Prelude.{◌≡◌, ◌++◌, [], ◌∷◌, List, Ok, Err, IfOk, IfErr};
+ghost use Rattle.std.specs.Prelude.{◌≡◌, ◌≤◌, ◌++◌, [], ◌∷◌, List, Err, Ok, Some, length, IfOk, IfErr, OnOk, OnErr};
+ghost use Rattle.std.specs.List.{list_any};
 ghost use Rattle.rd_base.specs.Limits.{AreUsable};
+ghost use Rattle.rd_event.specs.Reading.{item_of};
 ghost use Rattle.rd_event.specs.declared.items.Line.{Line as Item};
-ghost use Rattle.rd_wf.specs.MayFollow.{Follows, accepted_of};
-ghost use Rattle.rd_wf.specs.Kinds.{register_alone};
+ghost use Rattle.rd_run.specs.Walk.{is_text, is_unbuilt, is_unbuilt_item, judged};
+ghost use Rattle.rd_wf.specs.Kinds.{Kind};
+ghost use Rattle.rd_wf.specs.MayFollow.{MayFollow, accepted_of, threads_of};
 ghost use Rattle.rd_wf.specs.Roster.{StandsFor};
-ghost use Rattle.rd_run.specs.Walk.{is_unbuilt, is_unbuilt_item, judged};
 
 use crate::endings::TraceCause;
+use rd_base::{Limits, Value};
+use rd_event::{Line, LineEvent, LineRefused, read_into};
 use rd_wf::{Accepted, Roster, WfRefused};
-use rd_base::Limits;
-use rd_event::{Line, LineRefused, read_line};
 use std::alloc::Global;
 
 /// Why a line isn't accepted.
@@ -25,14 +27,16 @@ pub enum Refusal {
 fn is_unbuilt(bytes: &[u8]) -> bool
     ensures { result ≡ is_unbuilt bytes.now }
 {
-    let skipped = bytes.is_empty() || bytes.starts_with(b"#");
-    if skipped {
-        return false;
-    }
     let acquires = bytes.starts_with(b"acquire ");
     let releases = bytes.starts_with(b"release ");
     let quotes = bytes.contains(&b'"');
     acquires || (releases || quotes)
+}
+
+fn has_text(slots: &[Value]) -> bool
+    ensures { result ≡ list_any is_text slots.now }
+{
+    slots.iter().any(|slot| matches!(slot, Value::Text(_)))
 }
 
 fn is_unbuilt_item(item: &Line) -> bool
@@ -45,45 +49,59 @@ fn is_unbuilt_item(item: &Line) -> bool
             let dictionary = kind.items() == b"dictionary".as_slice();
             counter || (set || dictionary)
         }
+        Line::Event(LineEvent::Call { slots, .. }) => has_text(slots.items()),
         _ => false,
     }
 }
 
-/// The item that the bytes of a line say, if it may follow the roster's lines, and what it is in
-/// numbers; the roster then has it. A refusal leaves the roster as it was.
+/// Reads the bytes of a line into `line`, and asks the roster whether what they say may follow its lines. It then has it, and the
+/// answer says what it is in numbers. A refusal leaves the roster as it was, and the line may be anything. Want of memory comes only
+/// for bytes that say an item.
 #[tactic(auto, unfolding(crate::specs::Walk::judged))]
 pub fn judge(
     alloc: Global,
     bytes: &[u8],
+    line: &mut Line,
     roster: &mut Roster,
     limits: &Limits,
-) -> Result<(Line, Accepted), Refusal>
+) -> Result<Accepted, Refusal>
     requires { AreUsable limits.now }
-    ensures judged { IfOk result (λ taken. (before : List Item) → StandsFor roster.old before →
-        judged register_alone limits.now before bytes.now ≡ Ok taken.0) }
-    ensures follows { IfOk result (λ taken. (before : List Item) → StandsFor roster.old before →
-        Follows register_alone limits.now before taken.0) }
-    ensures numbers { IfOk result (λ taken. (before : List Item) → StandsFor roster.old before →
-        taken.1 ≡ accepted_of register_alone before taken.0) }
-    ensures stands { IfOk result (λ taken. (before : List Item) → StandsFor roster.old before →
-        StandsFor roster.new (before ++ taken.0 ∷ [])) }
-    ensures refused { IfErr result (λ e. (cause : TraceCause) → e ≡ Refusal.Cause cause →
-        (before : List Item) → StandsFor roster.old before → judged register_alone limits.now before bytes.now ≡ Err cause) }
-    ensures same { IfErr result (λ e. (before : List Item) → StandsFor roster.old before → StandsFor roster.new before) }
+
+    // what the bytes say may follow, and is told in numbers
+    ensures judged { OnOk result ((kinds : List Kind) (before : List Item) → StandsFor kinds roster.old before →
+        judged kinds limits.now before bytes.now ≡ Ok line.new) }
+    ensures follows { OnOk result ((kinds : List Kind) (before : List Item) → StandsFor kinds roster.old before →
+        MayFollow kinds limits.now before line.new) }
+    ensures numbers { IfOk result (λ accepted. (kinds : List Kind) (before : List Item) → StandsFor kinds roster.old before →
+        accepted ≡ accepted_of kinds before line.new) }
+    ensures stands { OnOk result ((kinds : List Kind) (before : List Item) → StandsFor kinds roster.old before →
+        StandsFor kinds roster.new (before ++ line.new ∷ [])) }
+    ensures few { OnOk result ((kinds : List Kind) (before : List Item) → StandsFor kinds roster.old before →
+        length (threads_of (before ++ line.new ∷ [])) ≤ 4294967295) }
+
+    // or the first cause against it is told
+    ensures refused { IfErr result (λ e. (cause : TraceCause) → e ≡ Refusal.Cause cause → (kinds : List Kind) (before : List Item) →
+        StandsFor kinds roster.old before → judged kinds limits.now before bytes.now ≡ Err cause) }
+    ensures memory { IfErr result (λ e. e ≡ Refusal.NoMemory → (item : Item) × (item_of bytes.now ≡ Some item)) }
+    ensures same { OnErr result ((kinds : List Kind) (before : List Item) → StandsFor kinds roster.old before → StandsFor kinds roster.new before) }
 {
-    if is_unbuilt(bytes) {
-        return Err(Refusal::Cause(TraceCause::NotBuilt));
-    }
-    let item = match read_line(alloc, bytes) {
-        Ok(item) => item,
-        Err(LineRefused::BadLine) => return Err(Refusal::Cause(TraceCause::BadLine)),
+    match read_into(alloc, bytes, line) {
+        Ok(()) => {}
+        Err(LineRefused::BadLine) => {
+            let cause = if is_unbuilt(bytes) {
+                TraceCause::NotBuilt
+            } else {
+                TraceCause::BadLine
+            };
+            return Err(Refusal::Cause(cause));
+        }
         Err(LineRefused::NoMemory) => return Err(Refusal::NoMemory),
-    };
-    if is_unbuilt_item(&item) {
+    }
+    if is_unbuilt_item(line) {
         return Err(Refusal::Cause(TraceCause::NotBuilt));
     }
-    match roster.accept(&item, limits) {
-        Ok(accepted) => Ok((item, accepted)),
+    match roster.accept(line, limits) {
+        Ok(accepted) => Ok(accepted),
         Err(WfRefused::Cause(cause)) => Err(Refusal::Cause(TraceCause::Wf(cause))),
         Err(WfRefused::NoMemory) => Err(Refusal::NoMemory),
     }

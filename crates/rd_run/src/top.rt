@@ -1,27 +1,30 @@
 //! The call that the program makes.
-ghost use Rattle.std.specs.Prelude.{◌≡◌, ◌≢◌, ◌⊎◌, ◌↔◌, ℕ, ◌+◌, ◌<◌, ◌≤◌, ◌^◌, nat_lt, List, [], ◌++◌, Option, Some, None, OnOk, OnErr, IsOk, IfErr, true};
-ghost use Rattle.rd_io.specs.Inputs.{Source, Goes, Takes, Rose};
+ghost use Rattle.std.specs.Prelude.{◌≡◌, ◌≢◌, ◌⊎◌, ◌↔◌, ℕ, ◌+◌, ◌<◌, ◌≤◌, ◌^◌, nat_lt, List, [], ◌++◌, Option, Some, None, length, OnOk, OnErr, IsOk, IfErr};
 ghost use Rattle.rd_base.specs.Limits.{AreUsable};
+ghost use Rattle.rd_io.specs.Inputs.{Source, Goes, Takes, Rose};
+ghost use Rattle.rd_io.specs.LineReader.{fresh};
 ghost use Rattle.rd_io.specs.Sinks.{Appends};
-ghost use Rattle.rd_run.specs.Follower.{WritesFront};
-ghost use Rattle.rd_run.specs.Output.{Runs, IsOutput, usage_outcome, command_of, races_line, refused_line, ending_text, check_status, is_limit};
+ghost use Rattle.rd_run.specs.Analysis.{TellsFault, WritesFront};
 ghost use Rattle.rd_run.specs.Checking.{IsNew};
 ghost use Rattle.rd_run.specs.Commands.{asked, halted_with, Checked};
-ghost use Rattle.rd_io.specs.LineReader.{fresh};
-ghost use Rattle.rd_wf.specs.Roster.{StandsFor};
-ghost use Rattle.rd_run.specs.Walk.{Entry, step_bound};
+ghost use Rattle.rd_run.specs.Output.{Runs, IsOutput, StatusTellsFault, usage_outcome, command_of, races_line, refused_line, ending_text, check_status, is_limit};
 ghost use Rattle.rd_run.specs.Output.Command.{check};
+ghost use Rattle.rd_run.specs.Progress.{IsRead};
+ghost use Rattle.rd_run.specs.Walk.{Entry, step_bound};
+ghost use Rattle.rd_wf.specs.Kinds.{register_alone};
+ghost use Rattle.rd_wf.specs.Roster.{StandsFor, kinds_in};
 
+use crate::analysis::Halt;
 use crate::checking::Check;
 use crate::endings::{Ending, TraceCause};
-use crate::following::Halt;
 use crate::status::Status;
 use crate::texts::{races_line, refused_line};
-use crate::walking::walk_lines;
-use rd_wf::{Roster, WfCause};
+use crate::walk::{Walker, walk_lines};
 use crate::writing::write_line;
+use rd_base::{Limits, Steps, Word};
+use rd_event::Line;
 use rd_io::{Inputs, LineReader, Sink};
-use rd_base::{Bytes, Limits, Steps, Word};
+use rd_wf::{Roster, WfCause};
 use std::alloc::Global;
 use std::sync::ledger::Ledger;
 
@@ -65,8 +68,7 @@ fn is_limit(cause: TraceCause) -> bool
 fn write_races<S: Sink>(alloc: Global, races: u64, out: &mut S) -> Result<(), Halt>
     ensures ok { OnOk result (Appends (S.written out.old) (S.written out.new) (races_line races)) }
     ensures front { OnErr result (WritesFront (S.written out.old) (S.written out.new) [] (races_line races)) }
-    ensures later { S.faults out.old ≤ S.faults out.new }
-    ensures cause { IfErr result (λ halt. halt ≡ Halt.OutputFault → Rose (S.faults out.old) (S.faults out.new)) }
+    ensures fault { TellsFault (S.faults out.old) (S.faults out.new) (S.at_fault out.new) (S.written out.new) result }
 {
     match races_line(alloc, races) {
         Ok(line) => write_line(out, line.items()),
@@ -82,8 +84,7 @@ fn write_refusal<S: Sink>(
 ) -> Result<(), Halt>
     ensures ok { OnOk result (Appends (S.written out.old) (S.written out.new) (refused_line line cause)) }
     ensures front { OnErr result (WritesFront (S.written out.old) (S.written out.new) [] (refused_line line cause)) }
-    ensures later { S.faults out.old ≤ S.faults out.new }
-    ensures cause { IfErr result (λ halt. halt ≡ Halt.OutputFault → Rose (S.faults out.old) (S.faults out.new)) }
+    ensures fault { TellsFault (S.faults out.old) (S.faults out.new) (S.at_fault out.new) (S.written out.new) result }
 {
     match refused_line(alloc, line, cause) {
         Ok(text) => write_line(out, text.items()),
@@ -96,8 +97,7 @@ fn write_ending<S: Sink>(alloc: Global, races: u64, ending: Ending, out: &mut S)
     ensures ok { OnOk result (Appends (S.written out.old) (S.written out.new) (ending_text races ending)) }
     ensures front { OnErr result (WritesFront (S.written out.old) (S.written out.new) [] (ending_text races ending)) }
     ensures silent { ending ≡ Ending.Fault → IsOk result }
-    ensures later { S.faults out.old ≤ S.faults out.new }
-    ensures cause { IfErr result (λ halt. halt ≡ Halt.OutputFault → Rose (S.faults out.old) (S.faults out.new)) }
+    ensures fault { TellsFault (S.faults out.old) (S.faults out.new) (S.at_fault out.new) (S.written out.new) result }
 {
     match ending {
         Ending::Fault => Ok(()),
@@ -139,10 +139,8 @@ fn check_status(races: u64, ending: Ending) -> Status
 fn report<S: Sink>(alloc: Global, races: u64, ending: Ending, out: &mut S) -> Status
     ensures output { (part : List ℕ) × Appends (S.written out.old) (S.written out.new) part
         × IsOutput result part (record { text = ending_text races ending; status = check_status races ending }) }
-    ensures later { S.faults out.old ≤ S.faults out.new }
-    ensures cause { result ≡ Status.OutputFault → Rose (S.faults out.old) (S.faults out.new) }
-    ensures input { result ≡ Status.InputFault → ending ≡ Ending.Fault }
-    ensures fault { ending ≡ Ending.Fault → result ≡ Status.InputFault }
+    ensures input { result ≡ Status.InputFault ↔ (ending ≡ Ending.Fault) }
+    ensures fault { StatusTellsFault (S.faults out.old) (S.faults out.new) (S.at_fault out.new) (S.written out.new) result }
     ensures no_usage { result ≢ Status.Usage }
 {
     match write_ending(alloc, races, ending, out) {
@@ -153,39 +151,29 @@ fn report<S: Sink>(alloc: Global, races: u64, ending: Ending, out: &mut S) -> St
 
 /// `check` on the current input, from its first byte on.
 fn check_opened<I: Inputs, S: Sink, L: Ledger>(
-    alloc: Global,
+    mut walker: Walker<Check>,
     mut reader: LineReader,
-    mut roster: Roster,
-    mut follower: Check,
     inputs: &mut I,
     out: &mut S,
-    limits: &Limits,
     steps: &mut Steps<L>,
 ) -> Status
-    requires usable { AreUsable limits.now }
-    requires fresh { reader ≡ fresh limits.now }
-    requires none { StandsFor roster [] }
-    requires begins { IsNew follower }
+    requires usable { AreUsable walker.limits }
+    requires fresh { reader ≡ fresh walker.limits }
+    requires none { StandsFor (kinds_in walker.roster) walker.roster [] }
+    requires begins { IsNew walker.analysis }
     ensures checked { (entries : List Entry) × (taken : List ℕ) × (part : List ℕ)
         × Appends (S.written out.old) (S.written out.new) part
         × (steps.new ≤ steps.old + step_bound entries)
-        × Goes (I.told inputs.old) (I.told inputs.new) (λ old new. Takes old new taken × Checked limits.now taken new.held entries part result) }
-    ensures fault { result ≡ Status.InputFault → Rose (I.faults inputs.old) (I.faults inputs.new) }
+        × IsRead walker.limits taken (length entries)
+        × Goes (I.told inputs.old) (I.told inputs.new)
+            (λ old new. Takes old new taken × Checked (kinds_in walker.roster) walker.limits taken new.held entries part result) }
+    ensures input_fault { result ≡ Status.InputFault → Rose (I.faults inputs.old) (I.faults inputs.new) }
     ensures calm { result ≢ Status.InputFault → I.faults inputs.new ≡ I.faults inputs.old }
-    ensures cause { result ≡ Status.OutputFault → Rose (S.faults out.old) (S.faults out.new) }
+    ensures fault { StatusTellsFault (S.faults out.old) (S.faults out.new) (S.at_fault out.new) (S.written out.new) result }
     ensures no_usage { result ≢ Status.Usage }
 {
-    match walk_lines(
-        alloc,
-        &mut reader,
-        inputs,
-        &mut roster,
-        &mut follower,
-        out,
-        limits,
-        steps,
-    ) {
-        Ok(ending) => report(alloc, follower.races, ending, out),
+    match walk_lines(&mut walker, &mut reader, inputs, out, steps) {
+        Ok(ending) => report(walker.alloc, walker.analysis.races, ending, out),
         Err(halt) => status_of(halt),
     }
 }
@@ -203,9 +191,9 @@ fn check<I: Inputs, S: Sink, L: Ledger>(
     ensures runs { (old : Source) → I.told inputs.old ≡ Some old → I.faults inputs.old < 2 ^ 63 → old.opens < 2 ^ 63 →
         (new : Source) × (part : List ℕ) × (I.told inputs.new ≡ Some new) × Appends (S.written out.old) (S.written out.new) part
         × Runs (Some (check trace.now)) limits.now (nat_lt (I.faults inputs.old) (I.faults inputs.new)) old new part result steps.old steps.new }
-    ensures fault { result ≡ Status.InputFault → Rose (I.faults inputs.old) (I.faults inputs.new) }
+    ensures input_fault { result ≡ Status.InputFault → Rose (I.faults inputs.old) (I.faults inputs.new) }
     ensures calm { result ≢ Status.InputFault → I.faults inputs.new ≡ I.faults inputs.old }
-    ensures cause { result ≡ Status.OutputFault → Rose (S.faults out.old) (S.faults out.new) }
+    ensures fault { StatusTellsFault (S.faults out.old) (S.faults out.new) (S.at_fault out.new) (S.written out.new) result }
     ensures no_usage { result ≢ Status.Usage }
 {
     let Ok(roster) = Roster::new(alloc) else {
@@ -214,20 +202,27 @@ fn check<I: Inputs, S: Sink, L: Ledger>(
     let Ok(reader) = LineReader::new(alloc, limits) else {
         return Status::NoMemory;
     };
-    let Ok(follower) = Check::new(alloc) else {
+    let Ok(analysis) = Check::new(alloc) else {
         return Status::NoMemory;
     };
     let Ok(()) = inputs.open(trace) else {
         return Status::InputFault;
     };
-    check_opened(alloc, reader, roster, follower, inputs, out, limits, steps)
+    let walker = Walker {
+        alloc,
+        limits: *limits,
+        roster,
+        analysis,
+        line: Line::Skip,
+    };
+    check_opened(walker, reader, inputs, out, steps)
 }
 
 /// Says that the words match no command.
 fn refuse_usage<S: Sink>(out: &mut S) -> Status
     ensures output { (part : List ℕ) × Appends (S.written out.old) (S.written out.new) part × IsOutput result part usage_outcome }
     ensures status { (result ≡ Status.Usage) ⊎ (result ≡ Status.OutputFault) }
-    ensures cause { result ≡ Status.OutputFault → Rose (S.faults out.old) (S.faults out.new) }
+    ensures fault { StatusTellsFault (S.faults out.old) (S.faults out.new) (S.at_fault out.new) (S.written out.new) result }
 {
     match write_line(out, b"refused usage\n") {
         Ok(()) => Status::Usage,
@@ -240,8 +235,9 @@ fn refuse_usage<S: Sink>(out: &mut S) -> Status
 ///
 /// Whatever the inputs and the output tell: `Usage` comes exactly where the words match no command, unless writing failed;
 /// `InputFault` exactly where the inputs' count of faults rose in this call, unless writing failed or memory ran out; `OutputFault`
-/// only where the output's count rose. Where the inputs tell their bytes, what is written and the status are those of the
-/// file, or of the bytes that were taken before a read failed; `OutputFault` and `NoMemory` leave a front of it.
+/// exactly where the output's count rose, and then nothing was written behind the point where the write failed. Where the inputs tell
+/// their bytes, what is written and the status are those of the file, or of the bytes that were taken before a read failed;
+/// `OutputFault` and `NoMemory` leave a front of it. No more is taken of the file than the limits and the reader's buffer allow.
 pub fn run<I: Inputs, S: Sink, L: Ledger>(
     alloc: Global,
     words: &[Word],
@@ -252,7 +248,8 @@ pub fn run<I: Inputs, S: Sink, L: Ledger>(
 ) -> Status
     requires { AreUsable limits.now }
 
-    // what is written and the status are the defined ones, only the files of the words are opened, and the steps are bounded
+    // what is written and the status are the defined ones, only the files of the words are opened, no more of them is taken than may
+    // be, and the steps are bounded
     ensures runs { (old : Source) → I.told inputs.old ≡ Some old → I.faults inputs.old < 2 ^ 63 → old.opens < 2 ^ 63 →
         (new : Source) × (part : List ℕ) × (I.told inputs.new ≡ Some new) × Appends (S.written out.old) (S.written out.new) part
         × Runs (command_of words.now) limits.now (nat_lt (I.faults inputs.old) (I.faults inputs.new)) old new part result steps.old steps.new }
@@ -264,7 +261,9 @@ pub fn run<I: Inputs, S: Sink, L: Ledger>(
     ensures input_fault { result ≡ Status.InputFault → Rose (I.faults inputs.old) (I.faults inputs.new) }
     ensures calm { result ≢ Status.InputFault → result ≢ Status.OutputFault → result ≢ Status.NoMemory →
         I.faults inputs.new ≡ I.faults inputs.old }
-    ensures output_fault { result ≡ Status.OutputFault → Rose (S.faults out.old) (S.faults out.new) }
+
+    // a failed write is told as one, and nothing is written behind it
+    ensures output_fault { StatusTellsFault (S.faults out.old) (S.faults out.new) (S.at_fault out.new) (S.written out.new) result }
 {
     match command_of(words) {
         None => refuse_usage(out),

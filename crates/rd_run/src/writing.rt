@@ -1,11 +1,10 @@
 //! Writing a line of the report.
-ghost use Rattle.std.specs.Prelude.{◌≡◌, ◌≤◌, [], OnOk, OnErr, IfErr};
-ghost use Rattle.rd_io.specs.Inputs.{Rose};
+ghost use Rattle.std.specs.Prelude.{◌≡◌, [], OnOk, OnErr, IfErr};
 ghost use Rattle.rd_io.specs.Sinks.{Appends};
-ghost use Rattle.rd_run.specs.Follower.{WritesFront};
+ghost use Rattle.rd_run.specs.Analysis.{TellsFault, WritesFront};
 ghost use Rattle.rd_run.specs.Output.{race_line};
 
-use crate::following::Halt;
+use crate::analysis::Halt;
 use crate::texts::race_line;
 use rd_io::{Sink, write_all};
 use std::alloc::Global;
@@ -14,8 +13,8 @@ use std::alloc::Global;
 pub fn write_line<S: Sink>(out: &mut S, line: &[u8]) -> Result<(), Halt>
     ensures ok { OnOk result (Appends (S.written out.old) (S.written out.new) line.now) }
     ensures front { OnErr result (WritesFront (S.written out.old) (S.written out.new) [] line.now) }
-    ensures later { S.faults out.old ≤ S.faults out.new }
-    ensures cause { IfErr result (λ halt. (halt ≡ Halt.OutputFault) × Rose (S.faults out.old) (S.faults out.new)) }
+    ensures fault { TellsFault (S.faults out.old) (S.faults out.new) (S.at_fault out.new) (S.written out.new) result }
+    ensures only { IfErr result (λ halt. halt ≡ Halt.OutputFault) }
 {
     match write_all(out, line) {
         Ok(()) => Ok(()),
@@ -27,8 +26,7 @@ pub fn write_line<S: Sink>(out: &mut S, line: &[u8]) -> Result<(), Halt>
 pub fn write_race<S: Sink>(alloc: Global, later: u64, earlier: u64, out: &mut S) -> Result<(), Halt>
     ensures ok { OnOk result (Appends (S.written out.old) (S.written out.new) (race_line later earlier)) }
     ensures front { OnErr result (WritesFront (S.written out.old) (S.written out.new) [] (race_line later earlier)) }
-    ensures later { S.faults out.old ≤ S.faults out.new }
-    ensures cause { IfErr result (λ halt. halt ≡ Halt.OutputFault → Rose (S.faults out.old) (S.faults out.new)) }
+    ensures fault { TellsFault (S.faults out.old) (S.faults out.new) (S.at_fault out.new) (S.written out.new) result }
 {
     match race_line(alloc, later, earlier) {
         Ok(line) => write_line(out, line.items()),

@@ -1,5 +1,5 @@
 -- What a roster tells of the accepted lines that it stands for.
-use Rattle.std.proofs.Common.{◌≡◌, inl, inr, ℕ, zero, suc, ◌+◌, Bool, true, false, not, cond, ◌==◌, ◌||◌, ltb, leb, List, [], ◌∷◌, ◌++◌, map, Option, Some, None, is_some, Result, Ok, Err, IfOk, IfErr, OnOk, OnErr, IsTrue, Contains, filter_map, length, position, slice_get, option_map, unwrap_or, if◌then◌else◌, nat_lt, nat_le, refl, sym, ap, subst, ◌∙◌, arith, add-zero, true≢false}
+use Rattle.std.proofs.Common.{◌≡◌, inl, inr, ℕ, zero, suc, ◌+◌, ◌<◌, ◌≤◌, Bool, true, false, not, cond, ◌==◌, ◌||◌, ltb, leb, List, [], ◌∷◌, ◌++◌, map, Option, Some, None, is_some, Result, Ok, Err, IfOk, IfErr, OnOk, OnErr, IsTrue, Contains, filter_map, length, position, slice_get, option_map, unwrap_or, if◌then◌else◌, nat_lt, nat_le, refl, sym, ap, subst, ◌∙◌, arith, add-zero, true≢false}
 use Rattle.std.specs.List.{list_any, position_or_len, IsDistinct, AllByRecursion}
 use Rattle.std.proofs.lemmas.Map.Keys.{IsDistinct-head, IsDistinct-tail}
 use Rattle.std.specs.Map.{lookup, keys_of}
@@ -31,7 +31,7 @@ use Rattle.rd_wf.specs.declared.methods.Methods.{Methods}
 use Rattle.rd_wf.proofs.FollowLemmas.{among_decides, follows_from_none, broken_from_some}
 use Rattle.rd_wf.specs.MayFollow.{begun_name, joined_name, is_header, is_event, threads_of, joined_of, objects_of, headers, events, same_name, is_among, place, kind_number, methods_of, object_kinds, slots_of, first_broken, MayFollow, IsBrokenFirst, takes_memory}
 use Rattle.rd_wf.specs.Kinds.{Kind, Method, kind_names, method_names, methods_at, slots_at}
-use Rattle.rd_wf.specs.Roster.{StandsFor, kind_entry, method_entry, methods_in, thread_entry, object_entry, thread_count, object_count, Takes, Refuses}
+use Rattle.rd_wf.specs.Roster.{StandsFor, kind_entry, method_entry, methods_in, thread_entry, object_entry, thread_count, object_count, Accepts, Refuses}
 
 -- ---- look-ups
 
@@ -430,7 +430,7 @@ module _ (kinds : List Kind) (old new : Roster) (lines : List Line) (stands : St
 
 -- ---- what the public call says by the law
 
-pub ok_follows : (old new : Roster) (limits : Limits) (line : Line) (r : Result Accepted WfRefused) → IfOk r (Takes old new limits line)
+pub ok_follows : (old new : Roster) (limits : Limits) (line : Line) (r : Result Accepted WfRefused) → IfOk r (Accepts old new limits line)
     → OnOk r ((kinds : List Kind) (lines : List Line) → StandsFor kinds old lines → MayFollow kinds limits lines line)
 ok_follows old new limits line (Ok accepted) takes = λ kinds lines stands. follows_from_none kinds limits lines line (takes kinds lines stands).0
 ok_follows old new limits line (Err e) takes = tt
@@ -456,3 +456,9 @@ pub err_stands : (old new : Roster) (limits : Limits) (line : Line) (r : Result 
 err_stands old new limits line (Ok accepted) refuses = tt
 err_stands old new limits line (Err (Cause cause)) refuses = λ kinds lines stands. subst (λ roster. StandsFor kinds roster lines) (sym refuses.1) stands
 err_stands old new limits line (Err NoMemory) refuses = λ kinds lines stands. (refuses kinds lines stands).2
+
+pub ok_few : (old new : Roster) (limits : Limits) (line : Line) (r : Result Accepted WfRefused) → IfOk r (Accepts old new limits line) → thread_count new < 4294967296
+    → OnOk r ((kinds : List Kind) (lines : List Line) → StandsFor kinds old lines → length (threads_of (lines ++ line ∷ [])) ≤ 4294967295)
+ok_few old new limits line (Ok accepted) accepts few = λ kinds lines stands.
+    let now : StandsFor kinds new (lines ++ line ∷ []) = (accepts kinds lines stands).2 in omega (arith, now.thread_total)
+ok_few old new limits line (Err e) accepts few = tt

@@ -53,10 +53,14 @@ FindsObject kinds lines name found = MatchOption found
     (is_among (objects_of lines) name ≡ false)
     (λ object. (is_among (objects_of lines) name ≡ true) × (object.object ≡ place (objects_of lines) name) × (object.kind ≡ kind_number kinds lines name))
 
+-- the kinds that the roster holds
+abbrev pub kinds_in : Roster → List Kind
+kinds_in roster = map kind_entry roster.kinds.entries
+
 -- the roster holds these kinds, and what these accepted lines say
 pub record StandsFor (kinds : List Kind) (roster : Roster) (lines : List Line) : Type 0 where
   -- its kinds, each with its methods
-  pub kind_entries : map kind_entry roster.kinds.entries ≡ kinds
+  pub kind_entries : kinds_in roster ≡ kinds
   -- whether there is a header, and how many events there are
   pub has_header : roster.header ≡ nat_lt 0 (headers lines)
   pub event_count : roster.events ≡ events lines
@@ -80,8 +84,8 @@ Forbids roster limits line cause = (kinds : List Kind) (lines : List Line) → S
     first_broken kinds limits lines line ≡ Some cause
 
 -- the old roster permits the line, and the new one stands for one line more
-abbrev pub Takes : Roster → Roster → Limits → Line → Accepted → Type 0
-Takes old new limits line accepted = (kinds : List Kind) (lines : List Line) → StandsFor kinds old lines →
+abbrev pub Accepts : Roster → Roster → Limits → Line → Accepted → Type 0
+Accepts old new limits line accepted = (kinds : List Kind) (lines : List Line) → StandsFor kinds old lines →
     (first_broken kinds limits lines line ≡ None) × (accepted ≡ accepted_of kinds lines line) × StandsFor kinds new (lines ++ line ∷ [])
 
 -- A refusal by a cause changes nothing. Want of memory comes only for a line that may follow and takes memory, and the roster then

@@ -30,12 +30,12 @@ pub struct Roster {
 }
 
 impl Roster {
-    ghost use Rattle.std.specs.Prelude.{◌≡◌, ◌<◌, List, [], ◌∷◌, ◌++◌, IfOk, IfErr, OnOk, OnErr, IsTrue, length, slice_get};
+    ghost use Rattle.std.specs.Prelude.{◌≡◌, ◌<◌, ◌≤◌, List, [], ◌∷◌, ◌++◌, IfOk, IfErr, OnOk, OnErr, IsTrue, length, slice_get};
     ghost use Rattle.rd_base.specs.Limits.{AreUsable};
     ghost use Rattle.rd_event.specs.declared.items.Line.{Line as LineOf};
     ghost use Rattle.rd_wf.specs.MayFollow.{IsBrokenFirst, MayFollow, first_broken, accepted_of, threads_of, objects_of, headers, events, takes_memory};
     ghost use Rattle.rd_wf.specs.Kinds.{Kind, register_alone};
-    ghost use Rattle.rd_wf.specs.Roster.{StandsFor, Takes, Refuses, thread_count, object_count};
+    ghost use Rattle.rd_wf.specs.Roster.{StandsFor, Accepts, Refuses, thread_count, object_count};
 
     /// The roster of no lines. Its one kind is `register`, with the number 0.
     pub fn new(alloc: Global) -> Result<Roster, NoMemory>
@@ -56,7 +56,7 @@ impl Roster {
     }
 
     fn accept_header(&mut self, version: u8, limits: &Limits) -> Result<Accepted, WfRefused>
-        ensures ok { IfOk result (Takes self.old self.new limits.now (Line.Header version)) }
+        ensures ok { IfOk result (Accepts self.old self.new limits.now (Line.Header version)) }
         ensures refused { IfErr result (Refuses self.old self.new limits.now (Line.Header version)) }
     {
         if self.header {
@@ -67,7 +67,7 @@ impl Roster {
     }
 
     fn accept_root(&mut self, name: &Name, limits: &Limits) -> Result<Accepted, WfRefused>
-        ensures ok { IfOk result (Takes self.old self.new limits.now (Line.Thread name.now)) }
+        ensures ok { IfOk result (Accepts self.old self.new limits.now (Line.Thread name.now)) }
         ensures refused { IfErr result (Refuses self.old self.new limits.now (Line.Thread name.now)) }
     {
         match self.judge_root(name, limits) {
@@ -85,7 +85,7 @@ impl Roster {
         kind: &Name,
         limits: &Limits,
     ) -> Result<Accepted, WfRefused>
-        ensures ok { IfOk result (Takes self.old self.new limits.now (Line.Object name.now kind.now)) }
+        ensures ok { IfOk result (Accepts self.old self.new limits.now (Line.Object name.now kind.now)) }
         ensures refused { IfErr result (Refuses self.old self.new limits.now (Line.Object name.now kind.now)) }
     {
         match self.judge_object(name, kind, limits) {
@@ -103,7 +103,7 @@ impl Roster {
         child: &Name,
         limits: &Limits,
     ) -> Result<Accepted, WfRefused>
-        ensures ok { IfOk result (Takes self.old self.new limits.now (Line.Event (LineEvent.Fork thread.now child.now))) }
+        ensures ok { IfOk result (Accepts self.old self.new limits.now (Line.Event (LineEvent.Fork thread.now child.now))) }
         ensures refused { IfErr result (Refuses self.old self.new limits.now (Line.Event (LineEvent.Fork thread.now child.now))) }
     {
         match self.judge_fork(thread, child, limits) {
@@ -125,7 +125,7 @@ impl Roster {
         child: &Name,
         limits: &Limits,
     ) -> Result<Accepted, WfRefused>
-        ensures ok { IfOk result (Takes self.old self.new limits.now (Line.Event (LineEvent.Join thread.now child.now))) }
+        ensures ok { IfOk result (Accepts self.old self.new limits.now (Line.Event (LineEvent.Join thread.now child.now))) }
         ensures refused { IfErr result (Refuses self.old self.new limits.now (Line.Event (LineEvent.Join thread.now child.now))) }
     {
         match self.judge_join(thread, child, limits) {
@@ -149,7 +149,7 @@ impl Roster {
         slots: &Slots,
         limits: &Limits,
     ) -> Result<Accepted, WfRefused>
-        ensures ok { IfOk result (Takes self.old self.new limits.now (Line.Event (LineEvent.Call thread.now object.now method.now slots.now))) }
+        ensures ok { IfOk result (Accepts self.old self.new limits.now (Line.Event (LineEvent.Call thread.now object.now method.now slots.now))) }
         ensures refused { IfErr result (Refuses self.old self.new limits.now (Line.Event (LineEvent.Call thread.now object.now method.now slots.now))) }
     {
         match self.judge_call(thread, object, method, slots, limits) {
@@ -169,7 +169,7 @@ impl Roster {
     }
 
     fn take(&mut self, line: &Line, limits: &Limits) -> Result<Accepted, WfRefused>
-        ensures ok { IfOk result (Takes self.old self.new limits.now line.now) }
+        ensures ok { IfOk result (Accepts self.old self.new limits.now line.now) }
         ensures refused { IfErr result (Refuses self.old self.new limits.now line.now) }
     {
         match line {
@@ -194,7 +194,7 @@ impl Roster {
         }
     }
 
-    /// Takes the next line, if it may follow the accepted ones, and says what it is in numbers. Else it refuses the line, by the
+    /// Accepts the next line, if it may follow the accepted ones, and says what it is in numbers. Else it refuses the line, by the
     /// cause that names the first rule that the line breaks, and nothing changes. Want of memory comes only for a line that may
     /// follow, and that begins a thread, declares an object or is a call. The roster then stands for the same lines as before.
     pub fn accept(&mut self, line: &Line, limits: &Limits) -> Result<Accepted, WfRefused>
@@ -203,6 +203,8 @@ impl Roster {
             (first_broken kinds limits.now lines line.now ≡ None) × (accepted ≡ accepted_of kinds lines line.now)
             × StandsFor kinds self.new (lines ++ line.now ∷ [])) }
         ensures follows { OnOk result ((kinds : List Kind) (lines : List LineOf) → StandsFor kinds self.old lines → MayFollow kinds limits.now lines line.now) }
+        ensures few { OnOk result ((kinds : List Kind) (lines : List LineOf) → StandsFor kinds self.old lines →
+            length (threads_of (lines ++ line.now ∷ [])) ≤ 4294967295) }
         ensures refused { IfErr result (λ e. (kinds : List Kind) (lines : List LineOf) → StandsFor kinds self.old lines → (cause : WfCause) → e ≡ WfRefused.Cause cause →
             (first_broken kinds limits.now lines line.now ≡ Some cause) × IsBrokenFirst kinds limits.now lines line.now cause) }
         ensures same { IfErr result (λ e. (cause : WfCause) → e ≡ WfRefused.Cause cause → self.new ≡ self.old) }

@@ -6,5 +6,5 @@ use Rattle.rd_event.proofs.spelling.spell.Goals as goal
 
 pub returns-clause-again : goal.returns-clause-again
 returns-clause-again c =
-    ap item_of (c.in_ok-append_line.ensures ∙ ap (λ text. text ++ spelling c.args.line.now) c.new-text.ensures)
-    ∙ found_again c.args.line.now c.requires
+    ap item_of (c.in_ok-append_line.ensures.ok ∙ ap (λ text. text ++ spelling c.args.line.now) c.new-text.ensures)
+    ∙ found_again c.args.line.now c.in_ok-append_line.ensures.range

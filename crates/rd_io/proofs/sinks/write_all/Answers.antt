@@ -1,6 +1,6 @@
-use Rattle.std.proofs.Common.{◌≡◌, ℕ, ◌+◌, arith}
+use Rattle.std.proofs.Common.{◌≡◌, ◌≢◌, ℕ, ◌+◌, arith, ◌∙◌}
 use Rattle.std.proofs.lemmas.List.{length-take, length-drop}
-use Rattle.rd_io.proofs.SinkLemmas.{appends_more}
+use Rattle.rd_io.proofs.SinkLemmas.{appends_more, not_failed}
 use Rattle.rd_io.proofs.sinks.write_all.Goals as goal
 
 pub returns-then-count-eq0-clause-front : goal.returns-then-count-eq0-clause-front
@@ -11,8 +11,11 @@ returns-then-count-eq0-clause-front g c =
 
 pub loop-written-preserved : goal.loop-written-preserved
 loop-written-preserved g c =
+    let some : c.in-Ok.count ≢ 0 = c.if-count-eq0.false in
+    let calm = c.in-Ok.ensures.calm (not_failed _ c.in-Ok.count some) in
     record {
       within = omega (arith, length-take {A = ℕ}, length-drop {A = ℕ}, c.in-Ok.ensures.bound);
       front = appends_more _ _ _ _ _ _ c.loop-written.invariant.front c.in-Ok.ensures.written;
-      later = omega arith;
+      calm = calm.0 ∙ c.loop-written.invariant.calm;
+      kept = calm.1 ∙ c.loop-written.invariant.kept;
     }

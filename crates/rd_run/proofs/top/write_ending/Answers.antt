@@ -3,7 +3,7 @@ use Rattle.std.proofs.lemmas.List.{append_assoc}
 use Rattle.std.proofs.lemmas.Result.{on_ok_weaker, on_err_weaker}
 use Rattle.rd_io.specs.Sinks.{Appends}
 use Rattle.rd_io.proofs.SinkLemmas.{appends_on}
-use Rattle.rd_run.specs.Follower.{WritesFront}
+use Rattle.rd_run.specs.Analysis.{WritesFront}
 use Rattle.rd_run.specs.Output.{ending_text, races_line, refused_line}
 use Rattle.rd_run.proofs.top.write_ending.Goals as goal
 

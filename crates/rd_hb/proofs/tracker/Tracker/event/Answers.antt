@@ -2,7 +2,7 @@ use Rattle.std.proofs.Common.{◌<◌, ◌≤◌, ◌+◌, ℕ, Bool, List, [], 
 use Rattle.rd_event.specs.declared.events.Event.{Event as EventOf}
 use Rattle.rd_event.specs.declared.events.Event.TheVariants as event
 use Rattle.rd_hb.specs.Order.{thread_of, forked_thread, joined_thread}
-use Rattle.rd_hb.specs.Tracker.{IsNext, IsStamp, StandsFor, event_bound, threads_after}
+use Rattle.rd_hb.specs.Tracker.{IsNextEvent, IsStamp, StandsFor, event_bound, threads_after}
 use Rattle.rd_hb.proofs.TrackerLemmas.{next_below, next_child, next_inside, next_joined, own_most, ok_call, ok_fork, ok_join, ok_stamp, ok_stands}
 use Rattle.rd_hb.proofs.tracker.Tracker.event.Goals as goal
 
@@ -44,42 +44,42 @@ alone-requires-clause-below g c =
 
 pub returns-in-Fork-clause-stamp : goal.returns-in-Fork-clause-stamp
 returns-in-Fork-clause-stamp g c =
-    subst (λ e. IfOk c.fork.result (λ stamp. (roots : ℕ → Bool) (es : List EventOf) → IsNext c.args.self.now roots es e → IsStamp (es ++ e ∷ []) (length es) stamp))
+    subst (λ e. IfOk c.fork.result (λ stamp. (roots : ℕ → Bool) (es : List EventOf) → IsNextEvent c.args.self.now roots es e → IsStamp (es ++ e ∷ []) (length es) stamp))
     (sym c.in-Fork.is)
     (ok_stamp c.args.self.now c.fork.new.self (event.Fork c.in-Fork.thread c.in-Fork.child) c.fork.result refl
     (ok_fork c.args.self.now c.fork.new.self c.in-Fork.thread c.in-Fork.child c.fork.result c.fork.ensures.ok))
 
 pub returns-in-Fork-clause-stands : goal.returns-in-Fork-clause-stands
 returns-in-Fork-clause-stands g c =
-    subst (λ e. OnOk c.fork.result ((roots : ℕ → Bool) (es : List EventOf) → IsNext c.args.self.now roots es e → StandsFor c.fork.new.self roots (es ++ e ∷ [])))
+    subst (λ e. OnOk c.fork.result ((roots : ℕ → Bool) (es : List EventOf) → IsNextEvent c.args.self.now roots es e → StandsFor c.fork.new.self roots (es ++ e ∷ [])))
     (sym c.in-Fork.is)
     (ok_stands c.args.self.now c.fork.new.self (event.Fork c.in-Fork.thread c.in-Fork.child) c.fork.result refl
     (ok_fork c.args.self.now c.fork.new.self c.in-Fork.thread c.in-Fork.child c.fork.result c.fork.ensures.ok))
 
 pub returns-in-Join-clause-stamp : goal.returns-in-Join-clause-stamp
 returns-in-Join-clause-stamp g c =
-    subst (λ e. IfOk c.join.result (λ stamp. (roots : ℕ → Bool) (es : List EventOf) → IsNext c.args.self.now roots es e → IsStamp (es ++ e ∷ []) (length es) stamp))
+    subst (λ e. IfOk c.join.result (λ stamp. (roots : ℕ → Bool) (es : List EventOf) → IsNextEvent c.args.self.now roots es e → IsStamp (es ++ e ∷ []) (length es) stamp))
     (sym c.in-Join.is)
     (ok_stamp c.args.self.now c.join.new.self (event.Join c.in-Join.thread c.in-Join.child) c.join.result refl
     (ok_join c.args.self.now c.join.new.self c.in-Join.thread c.in-Join.child c.join.result c.join.ensures.ok))
 
 pub returns-in-Join-clause-stands : goal.returns-in-Join-clause-stands
 returns-in-Join-clause-stands g c =
-    subst (λ e. OnOk c.join.result ((roots : ℕ → Bool) (es : List EventOf) → IsNext c.args.self.now roots es e → StandsFor c.join.new.self roots (es ++ e ∷ [])))
+    subst (λ e. OnOk c.join.result ((roots : ℕ → Bool) (es : List EventOf) → IsNextEvent c.args.self.now roots es e → StandsFor c.join.new.self roots (es ++ e ∷ [])))
     (sym c.in-Join.is)
     (ok_stands c.args.self.now c.join.new.self (event.Join c.in-Join.thread c.in-Join.child) c.join.result refl
     (ok_join c.args.self.now c.join.new.self c.in-Join.thread c.in-Join.child c.join.result c.join.ensures.ok))
 
 pub returns-in-Call-clause-stamp : goal.returns-in-Call-clause-stamp
 returns-in-Call-clause-stamp g c =
-    subst (λ e. IfOk c.alone.result (λ stamp. (roots : ℕ → Bool) (es : List EventOf) → IsNext c.args.self.now roots es e → IsStamp (es ++ e ∷ []) (length es) stamp))
+    subst (λ e. IfOk c.alone.result (λ stamp. (roots : ℕ → Bool) (es : List EventOf) → IsNextEvent c.args.self.now roots es e → IsStamp (es ++ e ∷ []) (length es) stamp))
     (sym c.in-Call.is)
     (ok_stamp c.args.self.now c.alone.new.self (event.Call c.in-Call.call) c.alone.result refl
     (ok_call c.args.self.now c.alone.new.self c.in-Call.call c.alone.result c.alone.ensures.ok))
 
 pub returns-in-Call-clause-stands : goal.returns-in-Call-clause-stands
 returns-in-Call-clause-stands g c =
-    subst (λ e. OnOk c.alone.result ((roots : ℕ → Bool) (es : List EventOf) → IsNext c.args.self.now roots es e → StandsFor c.alone.new.self roots (es ++ e ∷ [])))
+    subst (λ e. OnOk c.alone.result ((roots : ℕ → Bool) (es : List EventOf) → IsNextEvent c.args.self.now roots es e → StandsFor c.alone.new.self roots (es ++ e ∷ [])))
     (sym c.in-Call.is)
     (ok_stands c.args.self.now c.alone.new.self (event.Call c.in-Call.call) c.alone.result refl
     (ok_call c.args.self.now c.alone.new.self c.in-Call.call c.alone.result c.alone.ensures.ok))

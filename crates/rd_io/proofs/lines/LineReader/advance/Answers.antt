@@ -8,7 +8,9 @@ pub search-init : goal.search-init
 search-init g c =
     let bound : length c.args.self.now.pending ≤ c.args.self.now.room + 1 =
     subst (λ (r : Reader). length r.pending ≤ r.room + 1) c.self.view_is (simp (length-take, length-drop) (omega arith)) in
-    ([], searches_none c.args.self.now bound, takes_none (g.I.Inputs.told c.args.inputs.now), refl, λ _. refl)
+    let fits : length c.args.self.now.pending ≤ c.args.self.now.limit =
+    subst (λ (r : Reader). length r.pending ≤ r.limit) c.self.view_is (simp (length-take, length-drop) (omega arith)) in
+    ([], searches_none c.args.self.now bound fits, takes_none (g.I.Inputs.told c.args.inputs.now), refl, λ _. refl)
 
 pub returns-in_default-clause-still : goal.returns-in_default-clause-still
 returns-in_default-clause-still g c = λ has.
@@ -27,10 +29,11 @@ search-preserved g c =
     let s = c.in-Short.ensures in
     let seen : c.held-seen.result ≡ length c.search.self.pending = c.held-seen.ensures ∙ ap (λ (r : Reader). length r.pending) s.0 in
     let now = o.2 ∙ ap (λ (r : Reader). with_more r o.0) s.0 in
-    let bound = rw s.0 at c.in-Ok.ensures.bound in (
+    let bound = rw s.0 at c.in-Ok.ensures.bound in
+    let fits = rw s.0 at c.in-Ok.ensures.fits in (
       i.0 ++ o.0,
       subst (Searches c.args.self.now c.fill.new.self (i.0 ++ o.0)) (sym seen)
-          (searches_more c.args.self.now c.search.self c.fill.new.self i.0 o.0 c.search.seen i.1 s.1 now (omega (arith, bound, o.1))),
+          (searches_more c.args.self.now c.search.self c.fill.new.self i.0 o.0 c.search.seen i.1 s.1 now (omega (arith, bound, o.1)) (omega (arith, fits, o.1))),
       takes_on _ _ _ i.0 o.0 i.2 (λ old told. let r = o.3 old told in (r.0, r.1, r.2.0)),
       c.in-Ok.ensures.cause.calm ∙ i.3,
       λ has. absurd (no_line c.args.self.now c.search.self i.0 i.1.reader s.1.clean has),

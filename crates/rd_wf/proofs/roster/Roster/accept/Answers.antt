@@ -1,4 +1,5 @@
-use Rattle.rd_wf.proofs.RosterLemmas.{ok_follows, err_broken, err_memory, err_stands}
+use Rattle.std.proofs.Common.{arith}
+use Rattle.rd_wf.proofs.RosterLemmas.{ok_few, ok_follows, err_broken, err_memory, err_stands}
 use Rattle.rd_wf.proofs.roster.Roster.accept.Goals as goal
 
 pub returns-clause-follows : goal.returns-clause-follows
@@ -12,3 +13,7 @@ returns-clause-memory c = err_memory c.args.self.now c.take.new.self c.args.limi
 
 pub returns-clause-err : goal.returns-clause-err
 returns-clause-err c = err_stands c.args.self.now c.take.new.self c.args.limits.now c.args.line.now c.take.result c.take.ensures.refused
+
+pub returns-clause-few : goal.returns-clause-few
+returns-clause-few c =
+    ok_few c.args.self.now c.take.new.self c.args.limits.now c.args.line.now c.take.result c.take.ensures.ok (omega (arith, c.take.new.self.few_threads))

@@ -1,0 +1,39 @@
+//! The laws of walks and of reports: what their definitions say, proved for all bytes and for every list of events.
+ghost use Rattle.std.specs.Prelude.{◌≡◌, ◌↔◌, ℕ, ◌<◌, ◌^◌, List, length};
+ghost use Rattle.rd_base.specs.Limits.{AreUsable};
+ghost use Rattle.rd_base.specs.declared.limits.Limits.{Limits};
+ghost use Rattle.rd_detect.specs.Races.{Reported};
+ghost use Rattle.rd_detect.specs.Register.{Commute};
+ghost use Rattle.rd_detect.specs.RegisterTests.{commutes};
+ghost use Rattle.rd_hb.specs.EventLists.{WellFormed};
+ghost use Rattle.rd_io.specs.Lines.{Stop};
+ghost use Rattle.rd_run.specs.Output.{check_outcome, entry_events, event_numbers, race_texts, races_of};
+ghost use Rattle.rd_run.specs.Reports.{IsReport};
+ghost use Rattle.rd_run.specs.Walk.{Entry, Walked, ending_of, entries_of, items, trace_of};
+ghost use Rattle.rd_wf.specs.Events.{AreAccepted, events_of, roots_of};
+ghost use Rattle.rd_wf.specs.Kinds.{Kind};
+
+use crate::endings::Ending;
+use crate::status::Status;
+
+/// The lines that the walk over the bytes of a trace accepts are accepted each after those in front of it, whatever the bytes, and
+/// their events are a well-formed list for the threads that no event begins.
+pub fn law_of_walks()
+    ensures accepted { (kinds : List Kind) (limits : Limits) → AreUsable limits → limits.threads < 2 ^ 32 → (stop : Stop) (bytes : List ℕ) →
+        AreAccepted kinds (items (entries_of (trace_of kinds limits stop bytes))) }
+    ensures formed { (kinds : List Kind) (limits : Limits) → AreUsable limits → limits.threads < 2 ^ 32 → (stop : Stop) (bytes : List ℕ) →
+        let lines = items (entries_of (trace_of kinds limits stop bytes)) in WellFormed (roots_of lines) (events_of kinds lines) }
+{}
+
+/// What `check` writes and answers, in the words of races. The texts of the races are, for each event of the accepted lines in
+/// their order, nothing where no earlier call races with it, else its line and the line of the latest that does. The
+/// count of races is 0 exactly where no call is reported. The status is `Raced` exactly where the trace was read to its
+/// end and some call is reported.
+pub fn law_of_reports()
+    ensures report { (kinds : List Kind) (entries : List Entry) → IsReport Commute (event_numbers entries) (entry_events kinds entries)
+        (length (entry_events kinds entries)) (race_texts commutes kinds entries) }
+    ensures none { (kinds : List Kind) (entries : List Entry) →
+        ((races_of commutes kinds entries ≡ 0) ↔ ((j : ℕ) → ¬ (Reported Commute (entry_events kinds entries) j))) }
+    ensures raced { (kinds : List Kind) (walked : Walked) → ((check_outcome commutes kinds walked).status ≡ Status.Raced
+        ↔ ((ending_of walked ≡ Ending.End) × ((j : ℕ) × Reported Commute (entry_events kinds (entries_of walked)) j))) }
+{}
