@@ -6,7 +6,7 @@ use Rattle.std.proofs.lemmas.Bool.Decides.{Decides-and, Decides-or, Decides-eqb,
 use Rattle.rd_event.specs.declared.events.Event.{Event}
 use Rattle.rd_hb.specs.Order.{thread_of, forked_thread, joined_thread}
 use Rattle.rd_hb.specs.OrderTests.{is_this}
-use Rattle.rd_hb.specs.EventLists.{acts, forks, joins, Known, MayHappen, IsBounded, WellFormed, implied_roots}
+use Rattle.rd_hb.specs.EventLists.{acts, forks, joins, Known, MayHappen, WellFormed, implied_roots}
 use Rattle.rd_hb.proofs.CountsLemmas.{counts_within}
 use Rattle.rd_hb.proofs.EventListLemmas.{counted_once, formed_by_places, known_cases, known_later, may_follow_at, some_counted}
 use Rattle.rd_hb.proofs.OrderLemmas.{this_decides}

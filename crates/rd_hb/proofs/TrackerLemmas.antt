@@ -12,10 +12,10 @@ use Rattle.rd_event.specs.declared.events.Event.TheVariants.{Fork, Join, Call}
 use Rattle.rd_hb.proofs.OrderLemmas.{at_end}
 use Rattle.rd_hb.proofs.TrackLemmas.{clock_step, known_step, known_bound, known_own, own_number_new}
 use Rattle.rd_hb.specs.EventClocks.{IsClock, IsOf, OwnNumber}
-use Rattle.rd_hb.specs.EventLists.{forks, joins, Known, MayHappen, WellFormed}
+use Rattle.rd_hb.specs.EventLists.{forks, joins, Known, MayHappen, IsBounded, WellFormed}
 use Rattle.rd_hb.specs.Knows.{Knows, KnownCount}
 use Rattle.rd_hb.proofs.CountsLemmas.{counts_all, counts_le}
-use Rattle.rd_hb.proofs.EventListLemmas.{forks_more, formed_more, known_more}
+use Rattle.rd_hb.proofs.EventListLemmas.{few_known, forks_more, formed_more, known_more}
 use Rattle.rd_hb.specs.Order.{thread_of, forked_thread, joined_thread, hold_taken}
 use Rattle.rd_hb.specs.OrderTests.{is_this}
 use Rattle.rd_hb.specs.declared.clock.Stamp.{Stamp}
@@ -200,6 +200,48 @@ join_tracks thread child old middle new stamp less learnt is = record {
         ≡ (if u == thread then max (known_to old thread u) (known_to old child u) + 1 else max (known_to old thread u) (known_to old child u))
     met_at u = ap (λ n. if u == thread then n + 1 else n) (learnt.own u)
 
+-- ---- the known threads after an event, where those before it have the numbers below one, and a forked thread has that one
+
+abbrev weight : Bool → ℕ
+weight b = if b then 1 else 0
+
+abbrev weighed : Option ℕ → ℕ → ℕ
+weighed o n = if is_some o then n + 1 else n
+
+pub known_after_event : (roots : ℕ → Bool) (es : List Event) (e : Event) (threads : ℕ) → ((t : ℕ) → (t < threads) ↔ Known roots es t)
+    → ((u : ℕ) → forked_thread e ≡ Some u → u ≡ threads) → (t : ℕ) → (t < threads_after e threads) ↔ Known roots (es ++ e ∷ []) t
+known_after_event roots es e threads known numbered t = (there (forked_thread e) refl, back (forked_thread e) refl)
+  where
+    there : (o : Option ℕ) → forked_thread e ≡ o → t < threads_after e threads → Known roots (es ++ e ∷ []) t
+    there None none inside = known_more roots es e t ((known t).0 (omega (arith, inside, ap (λ o. weighed o threads) none)))
+    there (Some u) some inside = elim (cases_eq u t) [
+      | inl same ↦ inr (omega (arith, forks_more es e t, ap weight (ap (λ o. is_this o t) some ∙ eq-eqb u t same)))
+      | inr other ↦ known_more roots es e t ((known t).0 (omega (arith, inside, other, numbered u some, ap (λ o. weighed o threads) some)))
+    ]
+
+    back : (o : Option ℕ) → forked_thread e ≡ o → Known roots (es ++ e ∷ []) t → t < threads_after e threads
+    back None none (inl root) = omega (arith, (known t).1 (inl root), ap (λ o. weighed o threads) none)
+    back None none (inr now) =
+        omega (arith, (known t).1 (inr (omega (arith, now, forks_more es e t, ap weight (ap (λ o. is_this o t) none)))), ap (λ o. weighed o threads) none)
+    back (Some u) some (inl root) = omega (arith, (known t).1 (inl root), ap (λ o. weighed o threads) some)
+    back (Some u) some (inr now) = elim (cases_eq u t) [
+      | inl same ↦ omega (arith, same, numbered u some, ap (λ o. weighed o threads) some)
+      | inr other ↦ omega (
+        arith,
+        (known t).1 (inr (omega (arith, now, forks_more es e t, ap weight (ap (λ o. is_this o t) some ∙ ne_eqb u t other)))),
+        ap (λ o. weighed o threads) some,
+      )
+    ]
+
+-- so the bounds hold where there is room for the event and its thread
+pub bounded_next : (roots : ℕ → Bool) (es : List Event) (e : Event) (threads : ℕ) → ((t : ℕ) → (t < threads) ↔ Known roots es t)
+    → ((u : ℕ) → forked_thread e ≡ Some u → u ≡ threads) → length es < 4294967294 → threads_after e threads ≤ 4294967295 → IsBounded roots (es ++ e ∷ [])
+bounded_next roots es e threads known numbered few fits = record {
+  few_events = omega (arith, few, length-append es (e ∷ []));
+  few_threads = few_known roots (es ++ e ∷ []) (threads_after e threads) fits
+      (λ t. (let same = known_after_event roots es e threads known numbered t in (same.1, same.0)));
+}
+
 -- ---- what the tracker stands for then
 
 pub stamp_after : (threads new : List Tracked) (es : List Event) (e : Event) (stamp : Stamp) → hold_taken e ≡ None
@@ -216,12 +258,6 @@ joins_more : (es : List Event) (e : Event) (t : ℕ) → joins (es ++ e ∷ []) 
 unfolding joins
 joins_more es e t = sum_by_push (λ x. if is_this (joined_thread x) t then 1 else 0) es e
 
-abbrev weight : Bool → ℕ
-weight b = if b then 1 else 0
-
-abbrev weighed : Option ℕ → ℕ → ℕ
-weighed o n = if is_some o then n + 1 else n
-
 joined_more : (b c : Bool) (n m : ℕ) → (IsTrue b ↔ (0 < n)) → m ≡ n + (if c then 1 else 0) → IsTrue (b || c) ↔ (0 < m)
 joined_more true c n m is more = (λ x. omega (arith, is.0 x, more), λ some. is.1 (is.0 search))
 joined_more false true n m is more = (λ x. omega (arith, more), λ some. search)
@@ -237,36 +273,12 @@ next_follows threads roots es e next = ((formed_more roots es e).0 next.formed).
 pub stands_after : (threads new : List Tracked) (roots : ℕ → Bool) (es : List Event) (e : Event) (stamp : Stamp) → hold_taken e ≡ None
     → IsNextEvent threads roots es e → Tracks e threads new stamp → StandsFor new roots (es ++ e ∷ [])
 stands_after threads new roots es e stamp free next is = record {
-  known = λ t. (there (forked_thread e) refl t, back (forked_thread e) refl t);
+  known = λ t. subst (λ n. (t < n) ↔ Known roots (es ++ e ∷ []) t) (sym is.count) (known_after_event roots es e (length threads) next.stands.known next.numbered t);
   clocks = λ t u. subst (KnownCount (es ++ e ∷ []) t u) (sym (is.known t u))
       (known_step roots es e (known_to threads) (next_formed threads roots es e next) (next_follows threads roots es e next) free next.stands.clocks t u);
   joined = λ t. subst (λ b. IsTrue b ↔ (0 < joins (es ++ e ∷ []) t)) (sym (is.joined t))
       (joined_more (tracked threads t).joined (is_this (joined_thread e) t) (joins es t) (joins (es ++ e ∷ []) t) (next.stands.joined t) (joins_more es e t));
 }
-  where
-    there : (o : Option ℕ) → forked_thread e ≡ o → (t : ℕ) → t < length new → Known roots (es ++ e ∷ []) t
-    there None none t inside = known_more roots es e t ((next.stands.known t).0 (omega (arith, inside, is.count ∙ ap (λ o. weighed o (length threads)) none)))
-    there (Some u) some t inside = elim (cases_eq u t) [
-      | inl same ↦ inr (omega (arith, forks_more es e t, ap weight (ap (λ o. is_this o t) some ∙ eq-eqb u t same)))
-      | inr other ↦ known_more roots es e t ((next.stands.known t).0 (omega (arith, inside, other, next.numbered u some, is.count ∙ ap (λ o. weighed o (length threads)) some)))
-    ]
-
-    back : (o : Option ℕ) → forked_thread e ≡ o → (t : ℕ) → Known roots (es ++ e ∷ []) t → t < length new
-    back None none t (inl root) = omega (arith, (next.stands.known t).1 (inl root), is.count ∙ ap (λ o. weighed o (length threads)) none)
-    back None none t (inr now) = omega (
-      arith,
-      (next.stands.known t).1 (inr (omega (arith, now, forks_more es e t, ap weight (ap (λ o. is_this o t) none)))),
-      is.count ∙ ap (λ o. weighed o (length threads)) none,
-    )
-    back (Some u) some t (inl root) = omega (arith, (next.stands.known t).1 (inl root), is.count ∙ ap (λ o. weighed o (length threads)) some)
-    back (Some u) some t (inr now) = elim (cases_eq u t) [
-      | inl same ↦ omega (arith, same, next.numbered u some, is.count ∙ ap (λ o. weighed o (length threads)) some)
-      | inr other ↦ omega (
-        arith,
-        (next.stands.known t).1 (inr (omega (arith, now, forks_more es e t, ap weight (ap (λ o. is_this o t) some ∙ ne_eqb u t other)))),
-        is.count ∙ ap (λ o. weighed o (length threads)) some,
-      )
-    ]
 
 -- ---- what a next event may rely on
 
@@ -283,17 +295,14 @@ next_below threads roots es e t u next =
 -- a forked thread has a number that fits, with one to spare
 pub next_child : (threads : List Tracked) (roots : ℕ → Bool) (es : List Event) (e : Event) (u : ℕ) → IsNextEvent threads roots es e → forked_thread e ≡ Some u → u < 4294967295
 next_child threads roots es e u next fork =
+    let after = threads_after e (length threads) in
+    let each = known_after_event roots es e (length threads) next.stands.known next.numbered in
     omega (
       arith,
       next.numbered u fork,
-      next.formed.bounded.few_threads (length threads + 1) (length threads + 1) (counts_all (Known roots (es ++ e ∷ [])) (length threads + 1) each),
+      ap (λ o. weighed o (length threads)) fork,
+      next.formed.bounded.few_threads after after (counts_all (Known roots (es ++ e ∷ [])) after (λ t inside. (each t).0 inside)),
     )
-  where
-    each : (t : ℕ) → t < length threads + 1 → Known roots (es ++ e ∷ []) t
-    each t inside = elim (cases_eq u t) [
-      | inl same ↦ inr (omega (arith, forks_more es e t, ap weight (ap (λ o. is_this o t) fork ∙ eq-eqb u t same)))
-      | inr other ↦ known_more roots es e t ((next.stands.known t).0 (omega (arith, inside, other, next.numbered u fork)))
-    ]
 
 -- no thread knows more events of another than that one had
 pub own_most : (threads : List Tracked) (roots : ℕ → Bool) (es : List Event) (t u : ℕ) → StandsFor threads roots es → known_to threads t u ≤ known_to threads u u

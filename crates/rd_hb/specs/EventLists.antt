@@ -69,9 +69,10 @@ abbrev pub Follow : (ℕ → Bool) → List Event → List Event → Type 0
 Follow roots before [] = Unit {0}
 Follow roots before (e ∷ es) = MayHappen roots before e × Follow roots (before ++ e ∷ []) es
 
--- there are not too many events, and not too many known threads, roots and forked ones
+-- events and known threads, roots and forked ones, are few enough for numbers of 32 bits, with one to spare
 pub record IsBounded (roots : ℕ → Bool) (es : List Event) : Type 0 where
   pub few_events : length es ≤ 4294967294
+  -- of the numbers below n, so many are of known threads
   pub few_threads : (n c : ℕ) → Counts (Known roots es) n c → c ≤ 4294967295
 
 -- each event of the list may follow those in front of it, within the bounds

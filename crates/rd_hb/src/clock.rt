@@ -57,6 +57,31 @@ impl Clock {
         })
     }
 
+    /// A clock that counts the same, with room for the threads below that number, in one allocation.
+    pub(crate) fn copy_with_room(&self, alloc: Global, threads: u32) -> Result<Clock, NoMemory>
+        ensures room { IfOk result (λ clock. length clock ≡ max (length self.now) threads) }
+        ensures kept { IfOk result (λ clock. (thread : ℕ) → component clock thread ≡ component self.now thread) }
+    {
+        let room = self.components.len().max(threads as usize);
+        let mut copy = Clock {
+            components: Vec::with_capacity(alloc, room)?,
+        };
+        copy.components
+            .extend_from_slice(self.components.as_slice())?;
+        copy.reserve(threads)?;
+        Ok(copy)
+    }
+
+    /// Becomes equal to another clock, which has just the same room. It takes no memory.
+    pub(crate) fn assign_reserved(&mut self, other: &Clock)
+        requires { length other.now ≡ length self.old }
+        ensures { self.new ≡ other.now }
+    {
+        self.components
+            .as_mut_slice()
+            .copy_from_slice(other.components.as_slice());
+    }
+
     /// The component of a thread. It takes no memory and one step.
     pub fn get<L: Ledger>(&self, thread: u32, steps: &mut Steps<L>) -> u32
         ensures value { result ≡ component self.now thread }

@@ -43,6 +43,7 @@ impl Model for Tracker {
 
 impl Tracker {
     /// A tracker without a thread. It takes no memory.
+    #[tactic(auto, using(crate::proofs::TrackerLemmas::no_threads))]
     pub fn new(alloc: Global) -> Tracker
         ensures empty { result ≡ [] }
         ensures stands { StandsFor result (λ t. false) [] }
@@ -137,8 +138,8 @@ impl Tracker {
         ensures room { IfOk result (λ clock. length clock ≡ max (length (tracked self.now thread).clock) (child + 1)) }
         ensures cost { steps.new ≤ steps.old + 1 }
     {
-        let mut first = self.clock(thread)?;
-        first.reserve(child + 1)?;
+        let own = &self.threads[thread as usize].clock;
+        let mut first = own.copy_with_room(self.alloc, child + 1)?;
         first.tick(thread, steps);
         Ok(first)
     }
@@ -180,24 +181,30 @@ impl Tracker {
         ensures room { IfOk result (λ clock. length clock ≡ length self.now) }
         ensures cost { steps.new ≤ steps.old + 2 * length self.now }
     {
-        let mut clock = self.clock(thread)?;
-        clock.reserve(self.threads.len() as u32)?;
+        let own = &self.threads[thread as usize].clock;
+        let mut clock = own.copy_with_room(self.alloc, self.threads.len() as u32)?;
         clock.join_reserved(&self.threads[child as usize].clock, steps);
         Ok(clock)
     }
 
-    /// A thread begins to know what that clock counts, and another has ended.
-    fn learn(&mut self, thread: u32, child: u32, clock: Clock)
+    /// A thread begins to know what that clock counts, and another has ended. The thread's own clock takes memory only
+    /// where it has no room yet.
+    fn learn(&mut self, thread: u32, child: u32, clock: &Clock) -> Result<(), NoMemory>
         requires known { thread < length self.old }
         requires awaited { child < length self.old }
-        requires room { length clock ≡ length self.old }
-        requires own { component clock thread ≡ known_to self.old thread thread }
+        requires room { length clock.now ≡ length self.old }
+        requires own { component clock.now thread ≡ known_to self.old thread thread }
         ensures count { length self.new ≡ length self.old }
-        ensures learnt { (t : ℕ) → (tracked self.new t).clock ≡ (if t == thread then clock else (tracked self.old t).clock) }
-        ensures joined { (t : ℕ) → (tracked self.new t).joined ≡ ((tracked self.old t).joined || (child == t)) }
+        ensures learnt { OnOk result ((t : ℕ) → (tracked self.new t).clock ≡ (if t == thread then clock.now else (tracked self.old t).clock)) }
+        ensures joined { OnOk result ((t : ℕ) → (tracked self.new t).joined ≡ ((tracked self.old t).joined || (child == t))) }
+        ensures err { OnErr result (self.new ≡ self.old) }
     {
-        self.threads[thread as usize].clock = clock;
+        let room = self.threads.len() as u32;
+        let own = &mut self.threads[thread as usize].clock;
+        own.reserve(room)?;
+        own.assign_reserved(clock);
         self.threads[child as usize].joined = true;
+        Ok(())
     }
 
     /// An event that begins no thread and waits for none.
@@ -247,9 +254,8 @@ impl Tracker {
         ensures err { OnErr result (self.new ≡ self.old) }
         ensures cost { steps.new ≤ steps.old + (2 * length self.old + 2) }
     {
-        let met = self.meet(thread, child, steps)?;
-        let clock = met.copy(self.alloc)?;
-        self.learn(thread, child, met);
+        let clock = self.meet(thread, child, steps)?;
+        self.learn(thread, child, &clock)?;
         Ok(self.count(thread, clock, steps))
     }
 }

@@ -12,9 +12,9 @@ returns-clause-ok g c =
       record {
         count = c.learn.ensures.count;
         own = subst (IsJoin (tracked old thread).clock (tracked old c.args.child).clock)
-            (sym (c.learn.ensures.learnt thread ∙ ap (λ b. cond b c.in_ok-met.met (tracked old thread).clock) (eq-eqb thread thread refl))) c.in_ok-met.ensures.joined;
-        others = λ t other. c.learn.ensures.learnt t ∙ ap (λ b. cond b c.in_ok-met.met (tracked old t).clock) (ne_eqb t thread other);
-        joined = c.learn.ensures.joined;
+            (sym (c.in_ok-learn.ensures.learnt thread ∙ ap (λ b. cond b c.in_ok-clock.clock (tracked old thread).clock) (eq-eqb thread thread refl))) c.in_ok-clock.ensures.joined;
+        others = λ t other. c.in_ok-learn.ensures.learnt t ∙ ap (λ b. cond b c.in_ok-clock.clock (tracked old t).clock) (ne_eqb t thread other);
+        joined = c.in_ok-learn.ensures.joined;
       },
       c.count.ensures.counted,
     )
