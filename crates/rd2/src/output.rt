@@ -22,6 +22,8 @@ impl<'a, P: Print> Sink for OutputSink<'a, P> {
 
     ghost faults = { λ out. out.faults };
 
+    ghost at_fault = { λ _. None };
+
     fn write(&mut self, part: &[u8]) -> Result<usize, Failed> {
         if let Ok(count) = self.to.write_some(part) {
             if count == 0 && !part.is_empty() {

@@ -4,8 +4,8 @@
 //! values and longer traces are not covered here.
 ghost use Rattle.std.specs.Prelude.{◌<◌};
 
-use super::Row;
-use crate::Status;
+use crate::runs::Row;
+use rd_run::Status;
 use std::alloc::Global;
 use std::test::Fail;
 

@@ -2,7 +2,7 @@
 ghost use Rattle.std.specs.Prelude.{◌≡◌, ◌<◌, ◌≤◌};
 ghost use Rattle.rd_base.specs.Limits.{AreUsable};
 
-use crate::{Status, run};
+use rd_run::{Status, run};
 use rd_io::{MemoryInputs, MemorySink};
 use rd_base::{Limits, NoMemory, Steps, Word};
 use std::alloc::Global;
@@ -11,7 +11,6 @@ use std::process::Abort;
 use std::sync::ledger::{Blank, Ledger};
 use std::test::Fail;
 
-mod random;
 
 /// One register, one fork and one join.
 const FORK_AND_JOIN: &[u8] =
@@ -46,17 +45,17 @@ fn run_counted<L: Ledger>(
 
 /// What a run over one file, `t.trace`, answers and writes.
 #[derive(Clone, Copy)]
-struct Row<'a> {
-    words: &'a [u8],
-    trace: &'a [u8],
-    piece: u32,
-    failing_reads: &'a [u32],
-    failing_writes: &'a [u32],
-    limits: Limits,
+pub struct Row<'a> {
+    pub words: &'a [u8],
+    pub trace: &'a [u8],
+    pub piece: u32,
+    pub failing_reads: &'a [u32],
+    pub failing_writes: &'a [u32],
+    pub limits: Limits,
 }
 
 impl<'a> Row<'a> {
-    fn check(trace: &'a [u8]) -> Row<'a>
+    pub fn check(trace: &'a [u8]) -> Row<'a>
         ensures limits { AreUsable result.limits }
         ensures piece { 1 ≤ result.piece }
     {
@@ -70,7 +69,7 @@ impl<'a> Row<'a> {
         }
     }
 
-    fn run(&self, alloc: Global) -> Result<(Status, MemorySink), NoMemory>
+    pub fn run(&self, alloc: Global) -> Result<(Status, MemorySink), NoMemory>
         requires limits { AreUsable self.now.limits }
         requires piece { 1 ≤ self.now.piece }
     {

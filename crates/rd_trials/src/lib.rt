@@ -1,0 +1,7 @@
+//! Trials of whole runs, over inputs and a sink in memory.
+#![tactic(auto)]
+
+#[cfg(test)]
+mod random;
+#[cfg(test)]
+mod runs;
