@@ -47,7 +47,7 @@ pub read_takes : (before after : Option Source) (now : List ℕ) (from asked cou
     → Goes before after (λ old new. Reads {E = Failed} old new (take asked (drop from now)) (Ok count))
     → Goes before after (λ old new. Takes old new (take count (drop from now)) × (count ≡ 0 → old.held ≡ []))
 read_takes before after now from asked count some few fits goes old is =
-    let (new, told, (takes, none)) = goes old is in (
+    let (new, told, (takes, none, _)) = goes old is in (
       new,
       told,
       (

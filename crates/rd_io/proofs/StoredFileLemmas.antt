@@ -1,5 +1,5 @@
 -- Files in memory: how one is found, and what the inputs tell after a call.
-use Rattle.std.proofs.Common.{◌≡◌, ℕ, Bool, cond, ◌<◌, ◌≤◌, ◌+◌, List, [], ◌∷◌, ◌++◌, Option, None, Some, length, take, drop, get_or, refl, sym, ap, ◌∙◌, subst, arith}
+use Rattle.std.proofs.Common.{◌≡◌, ℕ, Bool, cond, ◌<◌, ◌≤◌, ◌+◌, List, [], ◌∷◌, ◌++◌, Option, None, Some, Ok, length, take, drop, get_or, refl, sym, ap, ◌∙◌, subst, arith}
 use Rattle.std.specs.Prelude.{find, position, slice_get, map, option_map, is_some}
 use Rattle.std.specs.List.{position_or_len}
 use Rattle.std.proofs.lemmas.Grind.{common_steps}
@@ -11,7 +11,8 @@ use Rattle.std.proofs.Math.Seq.{take-add}
 use Rattle.std.proofs.lemmas.List.{length-append, drop-drop, take-append-drop, nil_from_length}
 use Rattle.std.proofs.lemmas.Option.{slice_get_past, slice_get-get_or}
 use Rattle.rd_io.specs.Calls.{CallCount, with_call, with_fault}
-use Rattle.rd_io.specs.Inputs.{Source, Goes, IsOpened, IsNotOpened, Takes, file_of, next_count}
+use Rattle.rd_io.specs.Inputs.{Source, Goes, IsOpened, IsNotOpened, Reads, file_of, next_count}
+use Rattle.rd_io.specs.declared.inputs.Failed.{Failed}
 use Rattle.rd_io.specs.MemoryInputs.{StoredFile, InputsState, name_and_bytes, file_named, IsPlace, file_at, bytes_at, piece_at, source_of, taken_by_read, with_file, with_opened, with_failed_open, with_taken}
 
 no_file : StoredFile
@@ -116,14 +117,15 @@ at_more files file (Some k) h =
     ∙ ap Some (get_or-append files (file ∷ []) no_file k within)
     ∙ sym (slice_get-get_or files k no_file within)
 
-pub place_more : (files now : List StoredFile) (file : StoredFile) (place : Option ℕ) (position : ℕ)
-    → now ≡ files ++ file ∷ [] → 1 ≤ file.piece → IsPlace files place position → IsPlace now place position
-place_more files now file place position e some at =
+pub place_more : (files now : List StoredFile) (file : StoredFile) (place : Option ℕ) (position opens : ℕ)
+    → now ≡ files ++ file ∷ [] → 1 ≤ file.piece → IsPlace files place position opens → IsPlace now place position opens
+place_more files now file place position opens e some at =
     rw e
     (record {
       file = λ k here. grind (arith, common_steps, at.file k here);
       within = rw (at_more files file place at.file) at.within;
       pieces = All-push (λ file. 1 ≤ file.piece) files file at.pieces some;
+      opened = at.opened;
     })
 
 pub file_added : (old : InputsState) (now : List StoredFile) (file : StoredFile) (place : Option ℕ) (position : ℕ)
@@ -150,12 +152,11 @@ taken_more old bytes position count calls held taken e =
 
 pub read_told : (old : InputsState) (new : Source) (buffer : List ℕ) (count : ℕ)
     → new ≡ source_of (with_taken old count) → take count buffer ≡ take count old.held
-    → (count ≡ 0 → 0 < length buffer → old.held ≡ [])
-    → Goes (Some (source_of old)) (Some new)
-    (λ a b. Takes a b (take count buffer) × (count ≡ 0 → 0 < length buffer → a.held ≡ []))
-read_told old new buffer count e same ends =
-    goes_from _ _ (λ a b. Takes a b (take count buffer) × (count ≡ 0 → 0 < length buffer → a.held ≡ []))
-    (subst (λ n. Takes (source_of old) n (take count buffer) × (count ≡ 0 → 0 < length buffer → old.held ≡ [])) (sym e) (
+    → (count ≡ 0 → 0 < length buffer → old.held ≡ []) → (old.opens ≡ 0 → count ≡ 0)
+    → Goes (Some (source_of old)) (Some new) (λ a b. Reads {E = Failed} a b buffer (Ok count))
+read_told old new buffer count e same ends none =
+    goes_from _ _ (λ a b. Reads {E = Failed} a b buffer (Ok count))
+    (subst (λ n. Reads {E = Failed} (source_of old) n buffer (Ok count)) (sym e) (
       record {
         files = refl;
         held = rw same (sym (take-append-drop count old.held));
@@ -164,6 +165,7 @@ read_told old new buffer count e same ends =
         misses = refl;
       },
       ends,
+      none,
     ))
 
 -- a read into a buffer with room takes nothing only at the end

@@ -56,9 +56,11 @@ pub record Takes (old new : Source) (bytes : List ℕ) : Type 0 where
   pub opens : new.opens ≡ old.opens
   pub misses : new.misses ≡ old.misses
 
--- what a read leaves: it took the front of the buffer, and it takes nothing only at the end or without room
+-- what a read leaves: it took the front of the buffer, nothing only at the end or without room, and nothing before a
+-- file was opened
 abbrev pub Reads : {E : Type 0} → Source → Source → List ℕ → Result ℕ E → Type 0
-Reads old new buffer (Ok count) = Takes old new (take count buffer) × (count ≡ 0 → 0 < length buffer → old.held ≡ [])
+Reads old new buffer (Ok count) =
+    Takes old new (take count buffer) × (count ≡ 0 → 0 < length buffer → old.held ≡ []) × (old.opens ≡ 0 → count ≡ 0)
 Reads old new buffer (Err _) = new ≡ old
 
 -- a count of faults never falls, stays where the call went well, and rose where it failed

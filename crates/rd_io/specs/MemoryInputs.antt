@@ -102,8 +102,9 @@ bytes_at files place = unwrap_or (option_map (λ file. file.bytes) (file_at file
 abbrev pub piece_at : List StoredFile → Option ℕ → ℕ
 piece_at files place = unwrap_or (option_map (λ file. file.piece) (file_at files place)) 0
 
--- a file stands there, and has so many bytes
-pub record IsPlace (files : List StoredFile) (place : Option ℕ) (position : ℕ) : Type 0 where
+-- a file stands there, and has so many bytes; before any was opened there is no such place
+pub record IsPlace (files : List StoredFile) (place : Option ℕ) (position opens : ℕ) : Type 0 where
   pub file : ForSome place (λ index. index < length files)
   pub within : position ≤ length (bytes_at files place)
   pub pieces : All (λ file. 1 ≤ file.piece) files
+  pub opened : opens ≡ 0 → place ≡ None

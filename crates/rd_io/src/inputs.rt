@@ -25,7 +25,7 @@ pub trait Inputs {
         ensures cause { HasCause (faults self.old) (faults self.new) result };
 
     /// Moves the next bytes of the current input to the front of the buffer, and answers how many. 0 at a
-    /// buffer with room means the end of the input, for good. After an `Err` nothing was taken.
+    /// buffer with room means the end of the input, for good, and before a file was opened each answer is 0. After an `Err` nothing was taken.
     fn read(&mut self, buffer: &mut [u8]) -> Result<usize, Failed>
         ensures bound { IfOk result (λ count. count ≤ length buffer.new) }
         ensures told { Goes (told self.old) (told self.new) (λ old new. Reads old new buffer.new result) }

@@ -83,7 +83,7 @@ impl Model for MemoryInputs {
       calls = i.calls;
     } };
 
-    ghost invariant = { λ i. IsPlace i.files.items i.current i.position };
+    ghost invariant = { λ i. IsPlace i.files.items i.current i.position i.opens };
 }
 
 impl MemoryInputs {

@@ -1,6 +1,6 @@
 //! A sink in memory.
 ghost use Rattle.std.specs.Prelude.{◌≡◌, ◌↔◌, ◌≤◌, length, true, false, IfOk, OnOk, OnErr, IsErr, Some};
-ghost use Rattle.rd_io.specs.Inputs.{Rose};
+ghost use Rattle.rd_io.specs.Inputs.{next_count};
 ghost use Rattle.rd_io.specs.Sinks.{Writes, is_failed};
 ghost use Rattle.rd_io.specs.MemorySink.{RefusesPart, empty_sink, with_part, with_failed_write};
 
@@ -84,7 +84,7 @@ impl Sink for MemorySink {
         ensures written { Writes (Some self.old.written) (Some self.new.written) part.now result }
         ensures later { self.old.calls.faults ≤ self.new.calls.faults }
         ensures failed { is_failed part.now result ≡ true →
-            Rose self.old.calls.faults self.new.calls.faults × (self.new.at_fault ≡ Some self.new.written) }
+            (self.new.calls.faults ≡ next_count self.old.calls.faults) × (self.new.at_fault ≡ Some self.new.written) }
         ensures calm { is_failed part.now result ≡ false →
             (self.new.calls.faults ≡ self.old.calls.faults) × (self.new.at_fault ≡ self.old.at_fault) }
         ensures refused { IsErr result ↔ RefusesPart self.old part.now }

@@ -13,7 +13,7 @@ files_are c = c.in_ok-push.ensures.items ∙ ap (λ (f : StoredFile). c.self.ins
 
 pub invariant_of-self-2 : goal.invariant_of-self-2
 unfolding added
-invariant_of-self-2 c = place_more _ _ _ _ _ (files_are c) c.requires.some c.self.invariant
+invariant_of-self-2 c = place_more _ _ _ _ _ _ (files_are c) c.requires.some c.self.invariant
 
 pub returns-clause-ok : goal.returns-clause-ok
 unfolding added

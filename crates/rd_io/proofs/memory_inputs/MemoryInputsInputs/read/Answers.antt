@@ -45,3 +45,8 @@ returns-clause-told c =
     read_told c.args.self.now _ _ _ (ap source_of (returns-clause-ok c))
     (c.take_piece-count.ensures.taken ∙ ap (take c.take_piece-count.result) (held_is c))
     (λ none room. ends_at_nothing c.args.self.now _ _ some (returns-clause-amount c) none (omega arith))
+    (λ unopened.
+    let here : c.self.inside.opens ≡ 0 = ap (λ (s : InputsState). s.opens) c.self.view_is ∙ unopened in
+    let none = c.self.invariant.opened here in
+    let at = c.in-Some.is in
+    cc)
