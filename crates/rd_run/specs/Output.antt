@@ -1,6 +1,6 @@
 -- What a command writes, and its status. This project's profile.
 use Rattle.std.specs.Prelude.{◌≡◌, ℕ, zero, suc, ◌+◌, ◌==◌, ◌≤◌, Bool, true, false, List, [], ◌∷◌, ◌++◌, length, count_by, filter_map, slice_get, codes, decimal, Option, Some, None, option_map, is_none, is_some, unwrap_or, if◌then◌else◌}
-use Rattle.rd_io.specs.Inputs.{Rose, Source, file_of}
+use Rattle.rd_io.specs.Inputs.{Source, file_of, next_count}
 use Rattle.rd_io.specs.Lines.{Stop}
 use Rattle.rd_io.specs.Lines.Stop.{end, fault}
 use Rattle.rd_base.specs.declared.limits.Limits.{Limits}
@@ -248,8 +248,8 @@ pub record Runs (command : Option Command) (limits : Limits) (rose : Bool) (old 
   -- the steps that were taken
   pub cost : after ≤ before + step_bound (entries_of (walk_of command limits rose old new))
 
--- A failed write is told as one: the sink's count of faults rose exactly where the status says so, and nothing was written behind the
+-- A failed write is told as one: the sink's count of faults rose by one exactly where the status says so, and nothing was written behind the
 -- point where the write failed.
 abbrev pub StatusTellsFault : ℕ → ℕ → Option (List ℕ) → Option (List ℕ) → Status → Type 0
-StatusTellsFault before now point written OutputFault = Rose before now × (point ≡ written)
+StatusTellsFault before now point written OutputFault = (now ≡ next_count before) × (point ≡ written)
 StatusTellsFault before now point written status = now ≡ before
