@@ -136,7 +136,7 @@ one_line bytes x y x_range y_range x_says y_says =
     same_Some x y (sym (line_found bytes x x_range x_says) ∙ line_found bytes y y_range y_says)
 
 -- where none is found, the bytes say none
-none_said : (bytes : List ℕ) → item_of bytes ≡ None → (item : Line) → LineInRange item → ¬ (Says bytes item)
+pub none_said : (bytes : List ℕ) → item_of bytes ≡ None → (item : Line) → LineInRange item → ¬ (Says bytes item)
 none_said bytes none item range says = none-some item (sym none ∙ line_found bytes item range says)
 
 -- the same of what a call answers

@@ -1,9 +1,62 @@
--- What a report says of the events of a trace, in the words of races: this project's profile.
-use Rattle.std.specs.Prelude.{◌≡◌, ◌⊎◌, ℕ, zero, suc, List, [], ◌++◌}
+-- What a report says of the bytes of a trace, in the words of accepted lines and of races: this project's profile.
+use Rattle.std.specs.Prelude.{◌≡◌, ◌⊎◌, ℕ, zero, suc, ◌+◌, IsTrue, List, [], ◌∷◌, ◌++◌, length}
+use Rattle.rd_base.specs.declared.limits.Limits.{Limits}
+use Rattle.rd_detect.specs.Races.{Reported, IsLatest}
+use Rattle.rd_event.specs.Items.{LineInRange, Says}
 use Rattle.rd_event.specs.declared.events.Call.{Call}
 use Rattle.rd_event.specs.declared.events.Event.{Event}
-use Rattle.rd_run.specs.Output.{number_at, race_line}
-use Rattle.rd_detect.specs.Races.{Reported, IsLatest}
+use Rattle.rd_event.specs.declared.items.Line.{Line}
+use Rattle.rd_hb.specs.Counts.{Counts}
+use Rattle.rd_hb.specs.EventLists.{WellFormed}
+use Rattle.rd_io.specs.Lines.{Stop, Reading, reading}
+use Rattle.rd_io.specs.Lines.Reading.{stops, line}
+use Rattle.rd_wf.specs.Events.{roots_of}
+use Rattle.rd_wf.specs.Kinds.{Kind}
+use Rattle.rd_wf.specs.MayFollow.{IsBrokenFirst, MayFollow}
+use Rattle.rd_run.specs.Output.{Outcome, check_status, ending_text, entry_events, event_numbers, number_at, race_line}
+use Rattle.rd_run.specs.Walk.{Entry, ended, is_unbuilt, is_unbuilt_item, items}
+use Rattle.rd_run.specs.declared.endings.Ending.{Ending}
+use Rattle.rd_run.specs.declared.endings.Ending.TheVariants.{Refused}
+use Rattle.rd_run.specs.declared.endings.TraceCause.{TraceCause}
+use Rattle.rd_run.specs.declared.endings.TraceCause.TheVariants.{NotBuilt, BadLine, NoFinalNewline, Wf, Limit}
+
+-- ---- the accepted lines
+
+-- the bytes of a line say no item
+abbrev pub SaysNone : List ℕ → Type 0
+SaysNone bytes = (item : Line) → LineInRange item → ¬ (Says bytes item)
+
+-- they say this item, which is of a form that is built
+pub record SaysBuilt (bytes : List ℕ) (item : Line) : Type 0 where
+  pub range : LineInRange item
+  pub says : Says bytes item
+  pub built : ¬ (IsTrue (is_unbuilt_item item))
+
+-- the line with these bytes is accepted behind the accepted ones, as this item
+pub record IsAcceptedLine (kinds : List Kind) (limits : Limits) (before : List Line) (bytes : List ℕ) (item : Line) : Type 0 where
+  pub said : SaysBuilt bytes item
+  pub follows : MayFollow kinds limits before item
+
+-- It is refused behind them for this cause: it isn't built yet, it says no item, or the item that it says breaks the rule of this
+-- cause and none of an earlier one.
+abbrev pub IsRefusedLine : List Kind → Limits → List Line → List ℕ → TraceCause → Type 0
+IsRefusedLine kinds limits before bytes NotBuilt =
+    (SaysNone bytes × IsTrue (is_unbuilt bytes)) ⊎ ((item : Line) × LineInRange item × Says bytes item × IsTrue (is_unbuilt_item item))
+IsRefusedLine kinds limits before bytes BadLine = SaysNone bytes × ¬ (IsTrue (is_unbuilt bytes))
+IsRefusedLine kinds limits before bytes (Wf cause) = (item : Line) × SaysBuilt bytes item × IsBrokenFirst kinds limits before item cause
+IsRefusedLine kinds limits before bytes NoFinalNewline = ⊥
+IsRefusedLine kinds limits before bytes (Limit name number) = ⊥
+
+-- Of the lines that come behind the accepted ones, the first of them with this number, these are accepted, up to the first that is
+-- refused or to the end of the lines, and so they end.
+abbrev pub IsWalk : List Kind → Limits → List Line → ℕ → Reading → List Entry → Ending → Type 0
+IsWalk kinds limits before number (stops end) entries ending = (entries ≡ []) × (ending ≡ ended limits before number end)
+IsWalk kinds limits before number (line bytes more) entries ending =
+    ((cause : TraceCause) × IsRefusedLine kinds limits before bytes cause × (entries ≡ []) × (ending ≡ Refused number cause))
+    ⊎ ((item : Line) × (later : List Entry) × IsAcceptedLine kinds limits before bytes item
+    × (entries ≡ record { number = number; item = item } ∷ later) × IsWalk kinds limits (before ++ item ∷ []) (number + 1) more later ending)
+
+-- ---- the races
 
 -- The text for the events in front of a place: that for those before the last of them, and then nothing where no earlier call
 -- races with the last, else its line with the line of the latest that does. The numbers are those of the events' lines.
@@ -13,3 +66,24 @@ IsReport Commuting numbers es (suc place) text =
     (before : List ℕ) × IsReport Commuting numbers es place before
     × ((¬ (Reported Commuting es place) × (text ≡ before))
     ⊎ ((i : ℕ) × IsLatest Commuting es place i × (text ≡ before ++ race_line (number_at numbers place) (number_at numbers i))))
+
+-- ---- the whole
+
+-- What `check` writes and answers for the bytes of a trace whose objects are of these kinds, and whose reading ends so: the
+-- lines of the races among the events of the accepted lines, how many calls are reported, and how the lines end.
+pub record IsChecked (Commuting : Call → Call → Type 0) (kinds : List Kind) (limits : Limits) (stop : Stop) (bytes : List ℕ) (outcome : Outcome) : Type 0 where
+  -- the accepted lines, and how they end
+  pub entries : List Entry
+  pub ending : Ending
+  pub walk : IsWalk kinds limits [] 1 (reading limits.line limits.bytes stop bytes) entries ending
+  -- their events are a well-formed list
+  pub formed : WellFormed (roots_of (items entries)) (entry_events kinds entries)
+  -- a line for each reported call, with the latest that races with it
+  pub races : List ℕ
+  pub report : IsReport Commuting (event_numbers entries) (entry_events kinds entries) (length (entry_events kinds entries)) races
+  -- how many calls are reported
+  pub count : ℕ
+  pub counted : Counts (Reported Commuting (entry_events kinds entries)) (length (entry_events kinds entries)) count
+  -- what is written, and the status
+  pub text : outcome.text ≡ races ++ ending_text count ending
+  pub status : outcome.status ≡ check_status count ending

@@ -8,7 +8,7 @@ ghost use Rattle.rd_detect.specs.RegisterTests.{commutes};
 ghost use Rattle.rd_hb.specs.EventLists.{WellFormed};
 ghost use Rattle.rd_io.specs.Lines.{Stop};
 ghost use Rattle.rd_run.specs.Output.{check_outcome, entry_events, event_numbers, race_texts, races_of};
-ghost use Rattle.rd_run.specs.Reports.{IsReport};
+ghost use Rattle.rd_run.specs.Reports.{IsChecked, IsReport};
 ghost use Rattle.rd_run.specs.Walk.{Entry, Walked, ending_of, entries_of, items, trace_of};
 ghost use Rattle.rd_wf.specs.Events.{AreAccepted, events_of, roots_of};
 ghost use Rattle.rd_wf.specs.Kinds.{Kind};
@@ -36,4 +36,14 @@ pub fn law_of_reports()
         ((races_of commutes kinds entries ≡ 0) ↔ ((j : ℕ) → ¬ (Reported Commute (entry_events kinds entries) j))) }
     ensures raced { (kinds : List Kind) (walked : Walked) → ((check_outcome commutes kinds walked).status ≡ Status.Raced
         ↔ ((ending_of walked ≡ Ending.End) × ((j : ℕ) × Reported Commute (entry_events kinds (entries_of walked)) j))) }
+{}
+
+/// The headline, for all bytes of a trace, whatever the limits within their ranges, and wherever the reading of it ends. The outcome
+/// that `run` is proved to write and answer is this: the accepted lines are those that say an item which may follow, up to the
+/// first line that doesn't; the text has, for each event of theirs with which an earlier call races, its line and the line of the
+/// latest that does, then how many calls are reported, and then why a line was refused, where one was; and the status is that of how
+/// the lines end and of whether a call is reported.
+pub fn law_of_checks()
+    ensures { (kinds : List Kind) (limits : Limits) → AreUsable limits → limits.threads < 2 ^ 32 → (stop : Stop) (bytes : List ℕ) →
+        IsChecked Commute kinds limits stop bytes (check_outcome commutes kinds (trace_of kinds limits stop bytes)) }
 {}
