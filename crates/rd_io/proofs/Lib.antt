@@ -7,3 +7,4 @@ pub mod ReadingLemmas
 pub mod AdvanceLemmas
 pub mod NextLemmas
 pub mod StoredFileLemmas
+pub mod FaultLemmas

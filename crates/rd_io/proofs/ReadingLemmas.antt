@@ -28,11 +28,11 @@ parts_rest (b ∷ bs) clean =
     ∙ ap (with_byte b) (parts_rest bs (no_feed_tail b bs clean))
 
 -- the first part, or the rest where there is none
-first_of : Parts → List ℕ
+unfoldable pub first_of : Parts → List ℕ
 first_of (rest bytes) = bytes
 first_of (part bytes more) = bytes
 
-first_with : (b : ℕ) (p : Parts) → first_of (with_byte b p) ≡ b ∷ first_of p
+pub first_with : (b : ℕ) (p : Parts) → first_of (with_byte b p) ≡ b ∷ first_of p
 unfolding first_of
 first_with b (rest bytes) = refl
 first_with b (part bytes more) = refl
@@ -45,7 +45,7 @@ first_long (b ∷ bs) more clean =
     ∙ first_with b (parts_of (bs ++ more)) in
     omega (arith, ap length is)
 
-lines_long : (limit : ℕ) (stop : Stop) (past : Bool) (p : Parts) → limit ≤ length (first_of p)
+pub lines_long : (limit : ℕ) (stop : Stop) (past : Bool) (p : Parts) → limit ≤ length (first_of p)
     → lines_of limit stop past p ≡ stops line_too_long
 unfolding lines_of first_of
 lines_long limit stop past (rest bytes) l =
@@ -55,14 +55,14 @@ lines_long limit stop past (part bytes more) l =
     let t : leb limit (length bytes) ≡ true = grind (arith, nat_tests) in
     ap (λ b. cond b (stops line_too_long) (line bytes (lines_of limit stop past more))) t
 
-lines_line : (limit : ℕ) (stop : Stop) (past : Bool) (bytes : List ℕ) (p : Parts) → length bytes < limit
+pub lines_line : (limit : ℕ) (stop : Stop) (past : Bool) (bytes : List ℕ) (p : Parts) → length bytes < limit
     → lines_of limit stop past (part bytes p) ≡ line bytes (lines_of limit stop past p)
 unfolding lines_of
 lines_line limit stop past bytes p l =
     let t : leb limit (length bytes) ≡ false = grind (arith, nat_tests) in
     ap (λ b. cond b (stops line_too_long) (line bytes (lines_of limit stop past p))) t
 
-lines_rest : (limit : ℕ) (stop : Stop) (past : Bool) (bytes : List ℕ) → length bytes < limit
+pub lines_rest : (limit : ℕ) (stop : Stop) (past : Bool) (bytes : List ℕ) → length bytes < limit
     → lines_of limit stop past (rest bytes) ≡ cond past (stops bytes_limit) (stops (ending_of stop bytes))
 unfolding lines_of
 lines_rest limit stop past bytes l =

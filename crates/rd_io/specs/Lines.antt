@@ -1,5 +1,5 @@
 -- The lines of bytes, and how they end. This project's profile.
-use Rattle.std.specs.Prelude.{ℕ, Bool, ◌==◌, nat_lt, nat_le, List, [], ◌∷◌, take, length, if◌then◌else◌}
+use Rattle.std.specs.Prelude.{◌≡◌, ℕ, Bool, ◌==◌, nat_lt, nat_le, List, [], ◌∷◌, take, length, if◌then◌else◌}
 
 -- why the bytes go no further: the input ended, or a read of it failed
 pub data Stop : Type 0 where
@@ -51,3 +51,9 @@ lines_of limit stop past (rest bytes) =
 -- the lines of bytes with a limit on the bytes of a line and one on all bytes (`room`)
 unfoldable pub reading : ℕ → ℕ → Stop → List ℕ → Reading
 reading limit room stop bytes = lines_of limit stop (nat_lt room (length bytes)) (parts_of (take room bytes))
+
+-- the lines are the first of the whole's: they stop by a fault before the end of these, or else as these do
+abbrev pub IsFrontOf : Reading → Reading → Type 0
+IsFrontOf (stops faulted) whole = Unit {0}
+IsFrontOf (stops ending) whole = whole ≡ stops ending
+IsFrontOf (line bytes more) whole = (later : Reading) × (whole ≡ line bytes later) × IsFrontOf more later

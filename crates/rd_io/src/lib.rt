@@ -3,6 +3,7 @@
 
 mod calls;
 mod inputs;
+mod laws;
 mod lines;
 mod memory_inputs;
 mod memory_sink;
@@ -11,6 +12,7 @@ mod sinks;
 mod tests;
 
 pub use inputs::{Failed, Inputs};
+pub use laws::law_of_lines;
 pub use lines::{LineReader, Next, ReadEnd};
 pub use memory_inputs::MemoryInputs;
 pub use memory_sink::MemorySink;

@@ -1,6 +1,7 @@
 pub mod AcceptedLemmas
 pub mod CheckLemmas
 pub mod ContinueLemmas
+pub mod FaultLemmas
 pub mod HeadlineLemmas
 pub mod OutputLemmas
 pub mod ProgressLemmas

@@ -1,5 +1,5 @@
 //! The laws of walks and of reports: what their definitions say, proved for all bytes and for every list of events.
-ghost use Rattle.std.specs.Prelude.{◌≡◌, ◌↔◌, ℕ, ◌<◌, ◌^◌, List, length};
+ghost use Rattle.std.specs.Prelude.{◌≡◌, ◌↔◌, ℕ, ◌<◌, ◌^◌, List, ◌++◌, length};
 ghost use Rattle.rd_base.specs.Limits.{AreUsable};
 ghost use Rattle.rd_base.specs.declared.limits.Limits.{Limits};
 ghost use Rattle.rd_detect.specs.Races.{Reported};
@@ -7,7 +7,8 @@ ghost use Rattle.rd_detect.specs.Register.{Commute};
 ghost use Rattle.rd_detect.specs.RegisterTests.{commutes};
 ghost use Rattle.rd_hb.specs.EventLists.{WellFormed};
 ghost use Rattle.rd_io.specs.Lines.{Stop};
-ghost use Rattle.rd_run.specs.Output.{check_outcome, entry_events, event_numbers, race_texts, races_of};
+ghost use Rattle.rd_io.specs.Lines.Stop.{fault};
+ghost use Rattle.rd_run.specs.Output.{IsFront, check_outcome, entry_events, event_numbers, race_texts, races_of};
 ghost use Rattle.rd_run.specs.Reports.{IsChecked, IsReport};
 ghost use Rattle.rd_run.specs.Walk.{Entry, Walked, ending_of, entries_of, items, trace_of};
 ghost use Rattle.rd_wf.specs.Events.{AreAccepted, events_of, roots_of};
@@ -46,4 +47,11 @@ pub fn law_of_reports()
 pub fn law_of_checks()
     ensures { (kinds : List Kind) (limits : Limits) → AreUsable limits → limits.threads < 2 ^ 32 → (stop : Stop) (bytes : List ℕ) →
         IsChecked Commute kinds limits stop bytes (check_outcome commutes kinds (trace_of kinds limits stop bytes)) }
+{}
+
+/// What is written before a read fails is a front of what is written for the whole, whatever bytes were still to come.
+pub fn law_of_faults()
+    ensures { (kinds : List Kind) (limits : Limits) (stop : Stop) (bytes more : List ℕ) →
+        IsFront (check_outcome commutes kinds (trace_of kinds limits fault bytes)).text
+            (check_outcome commutes kinds (trace_of kinds limits stop (bytes ++ more))).text }
 {}

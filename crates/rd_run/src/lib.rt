@@ -14,6 +14,6 @@ mod writing;
 
 pub use analysis::{Analysis, Halt};
 pub use endings::{Ending, TraceCause};
-pub use laws::{law_of_checks, law_of_reports, law_of_walks};
+pub use laws::{law_of_checks, law_of_faults, law_of_reports, law_of_walks};
 pub use status::Status;
 pub use top::run;
