@@ -1,5 +1,6 @@
 //! Real files as inputs.
-ghost use Rattle.std.specs.Prelude.{None};
+ghost use Rattle.std.specs.Prelude.{None, ◌≤◌, length, IfOk};
+ghost use Rattle.rd_io.specs.Inputs.{HasCause};
 
 use rd_base::Word;
 use rd_io::{Failed, Inputs};
@@ -43,13 +44,25 @@ impl<'a, R: Files> Inputs for FileInputs<'a, R> {
     }
 
     fn read(&mut self, buffer: &mut [u8]) -> Result<usize, Failed> {
-        let Some(file) = &mut self.current else {
-            return Ok(0);
-        };
-        if let Ok(count) = file.read(buffer) {
-            return Ok(count);
+        match &mut self.current {
+            Some(file) => read_counted(file, buffer, &mut self.faults),
+            None => Ok(0),
         }
-        self.faults = self.faults.saturating_add(1);
-        Err(Failed)
     }
+}
+
+/// Reads from a file. An error counts as a fault.
+pub fn read_counted<F: Read>(
+    file: &mut F,
+    buffer: &mut [u8],
+    faults: &mut u64,
+) -> Result<usize, Failed>
+    ensures bound { IfOk result (λ count. count ≤ length buffer.new) }
+    ensures cause { HasCause faults.old faults.new result }
+{
+    if let Ok(count) = file.read(buffer) {
+        return Ok(count);
+    }
+    *faults = faults.saturating_add(1);
+    Err(Failed)
 }

@@ -2,9 +2,13 @@
 #![tactic(auto)]
 
 ghost use Rattle.std.specs.Prelude.{◌≡◌, ◌<◌};
+ghost use Rattle.std.specs.Process.{exit_status};
+ghost use Rattle.rd_run.specs.Output.{code_of};
 
 mod files;
 mod output;
+#[cfg(test)]
+mod tests;
 mod words;
 
 use files::FileInputs;
@@ -45,13 +49,22 @@ fn run_counted<R: Files + Print, L: Ledger>(
     )
 }
 
+/// What the program ends with: the number of the status.
+fn exit_code(status: Status) -> ExitCode
+    ensures { exit_status result ≡ code_of status }
+{
+    ExitCode::from(status.code())
+}
+
 fn main(rt: HostRuntime) -> ExitCode {
     match words(&rt, rt.alloc()) {
-        Ok(words) => {
-            let status = run_counted::<_, Brand>(&rt, rt.alloc(), words.as_slice(), Blank::new(1));
-            ExitCode::from(status.code())
-        }
-        Err(WordsRefused::NoMemory) => ExitCode::from(Status::NoMemory.code()),
+        Ok(words) => exit_code(run_counted::<_, Brand>(
+            &rt,
+            rt.alloc(),
+            words.as_slice(),
+            Blank::new(1),
+        )),
+        Err(WordsRefused::NoMemory) => exit_code(Status::NoMemory),
         Err(WordsRefused::NotGiven) => ExitCode::from(NO_WORDS),
     }
 }
