@@ -1,12 +1,18 @@
 -- Integers and their decimals.
-use Rattle.std.proofs.Common.{◌≡◌, ℕ, suc, ◌<◌, ◌^◌, List, get_or, ℤ, pos, negsuc, refl, sym, ap, subst, Option, Some, None, Ok, Err, decimal, Decides, FitsSigned, w64, IsUtf8, arith, ltb-true, lt-ltb, ne_eqb}
+use Rattle.std.proofs.Common.{◌≡◌, ℕ, suc, ◌+◌, ◌-◌, ◌*◌, ◌<◌, ◌≤◌, ◌^◌, length, take, lit<, length-take, List, get_or, ℤ, pos, negsuc, refl, sym, ◌∙◌, ap, subst, Option, Some, None, Ok, Err, decimal, Decides, FitsSigned, w64, IsUtf8, arith, ltb-true, lt-ltb, ne_eqb}
 use Rattle.std.specs.Fmt.{signed_decimal}
 use Rattle.std.specs.Int.{IsInRange}
-use Rattle.std.specs.Str.Parse.{signed_digits_value, ParsesSigned}
+use Rattle.std.specs.Str.Parse.{AllDigits, digits_value, signed_digits_value, ParsesSigned}
+use Rattle.std.specs.Char.{digit_value}
+use Rattle.std.proofs.lemmas.Int.Digits.{digits_more, digits_value_more, digits_value-lt}
+use Rattle.std.proofs.lemmas.Str.{digit_value_digit}
+use Rattle.std.proofs.lemmas.Str.Parse.{IsNumeralModel}
+use Rattle.std.proofs.Math.Nat.{pow-le-pow_right}
 use Rattle.std.specs.Cmp.Lexicographic.{bytes_decides}
 use Rattle.std.proofs.lemmas.Bool.{and_parts}
-use Rattle.std.proofs.lemmas.Fmt.{decimal_is_IsNumeral, parse-signed_decimal, IsAscii-signed}
+use Rattle.std.proofs.lemmas.Fmt.{decimal-digits_value, decimal_is_IsNumeral, parse-signed_decimal, IsAscii-signed}
 use Rattle.std.proofs.lemmas.Option.{cond_some}
+use Rattle.std.proofs.lemmas.List.{take_all}
 use Rattle.std.proofs.lemmas.Str.{IsUtf8-from_ascii}
 use Rattle.std.proofs.lemmas.Str.Parse.{digit_at}
 use Rattle.rd_base.specs.ReadingValues.{has_64_bits, integer_of}
@@ -65,3 +71,47 @@ no_number_no_integer {E} bytes error parses =
     let said = integer_said bytes z found in
     let ok : Err error ≡ Ok z = parse-signed_decimal w64 z bytes (Err error) said.0 said.0.sfits (sym said.1) parses in
     cc))
+
+-- Steps of the loop that reads a short number.
+digit_value_is : (byte : ℕ) → IsInRange 48 57 byte → digit_value byte ≡ byte - 48
+digit_value_is byte digit = omega (arith, digit_value_digit byte digit)
+
+pub short_more : (bytes : List ℕ) (index byte number : ℕ) → index < length bytes → byte ≡ get_or bytes index 0 → IsInRange 48 57 byte
+    → AllDigits 10 (take index bytes) → number ≡ digits_value 10 (take index bytes)
+    → AllDigits 10 (take (index + 1) bytes) × (number * 10 + (byte - 48) ≡ digits_value 10 (take (index + 1) bytes))
+short_more bytes index byte number inside is digit all so_far =
+    let value : digit_value (get_or bytes index 0) ≡ byte - 48 = ap digit_value (sym is) ∙ digit_value_is byte digit in
+    let small : digit_value (get_or bytes index 0) < 10 = omega (arith, value, digit.1) in (
+      digits_more 10 bytes index inside all small,
+      sym (digits_value_more 10 bytes index inside ∙ ap (λ n. n * 10 + digit_value (get_or bytes index 0)) (sym so_far)
+          ∙ ap (λ n. number * 10 + n) value),
+    )
+
+pub short_small : (bytes : List ℕ) → length bytes ≤ 18 → AllDigits 10 bytes → digits_value 10 bytes < 10 ^ 18
+short_small bytes few all =
+    let most : 10 ^ length bytes ≤ 10 ^ 18 = pow-le-pow_right (lit< tt) few in
+    omega (arith, digits_value-lt 10 bytes all, most)
+
+own_numerals : IsNumeralModel (AllDigits 10) (digits_value 10)
+own_numerals = record { to = λ ds all. all; from = λ ds all. all; same = λ ds all. refl }
+
+pub short_decimal : (bytes : List ℕ) → 0 < length bytes → length bytes ≤ 18 → (get_or bytes 0 0 ≡ 48 → length bytes ≡ 1)
+    → AllDigits 10 bytes → bytes ≡ decimal (digits_value 10 bytes)
+short_decimal bytes some few first all =
+    let small : digits_value 10 bytes < 2 ^ 64 = omega (arith, short_small bytes few all) in
+    sym (decimal-digits_value own_numerals bytes all some first small)
+
+pub short_front : (bytes : List ℕ) (index : ℕ) → length bytes ≤ 18 → AllDigits 10 (take index bytes)
+    → digits_value 10 (take index bytes) < 10 ^ 18
+short_front bytes index few all = short_small (take index bytes) (omega (arith, length-take index bytes)) all
+
+-- behind the loop the number's decimal is the bytes
+pub short_read : (bytes : List ℕ) (index number : ℕ) → 0 < length bytes → length bytes ≤ 18
+    → (get_or bytes 0 0 ≡ 48 → length bytes ≡ 1) → length bytes ≤ index
+    → AllDigits 10 (take index bytes) → number ≡ digits_value 10 (take index bytes)
+    → (number < 10 ^ 18) × (bytes ≡ decimal number)
+short_read bytes index number some few first ended all is =
+    let whole = take_all index bytes ended in
+    let every = subst (AllDigits 10) whole all in
+    let value : digits_value 10 bytes ≡ number = sym (is ∙ ap (digits_value 10) whole) in
+    (subst (λ n. n < 10 ^ 18) value (short_small bytes few every), short_decimal bytes some few first every ∙ ap decimal value)

@@ -1,7 +1,12 @@
 -- The test of a name.
-use Rattle.std.proofs.Common.{List, ℕ, length, leb, arith, ◌≤◌, Decides}
+use Rattle.std.proofs.Common.{◌≡◌, ℕ, zero, suc, ◌+◌, ◌<◌, ◌≤◌, Bool, true, false, not, cond, nat_lt, Option, Some, None, ◌&&◌, List, [], ◌∷◌, length, get_or, leb, arith, ap, ◌∙◌, refl, Decides}
+use Rattle.std.specs.Bool.{beq}
+use Rattle.std.specs.Cmp.{booleans_Decides}
+use Rattle.std.specs.List.{AllPass, position, prefix_len, position_or_len}
+use Rattle.std.proofs.lemmas.Bool.{and_parts}
 use Rattle.std.proofs.lemmas.Bool.Decides.{Decides-and, Decides-ltb, Decides-like, nat_tests}
-use Rattle.std.proofs.lemmas.List.Sums.{AllPass-from_list_all, list_all-from_AllPass}
+use Rattle.std.proofs.lemmas.List.Sums.{AllPass-from_list_all, list_all-from_AllPass, prefix_len-le-length, prefix_len_passes, prefix_len_stops}
+use Rattle.rd_base.specs.declared.names.TheConstants.{NAME_BYTES}
 use Rattle.rd_base.specs.Names.{IsName, is_name, is_name_byte}
 
 few_decides : (bytes : List ℕ) → Decides (leb (length bytes) 64) (length bytes ≤ 64)
@@ -15,3 +20,59 @@ is_name_decides bytes =
     (λ n. (n.some, (n.few, n.each)))
     (Decides-and _ _ (Decides-ltb 0 (length bytes)) (Decides-and _ _ (few_decides bytes)
     (AllPass-from_list_all is_name_byte bytes, list_all-from_AllPass is_name_byte bytes)))
+
+-- the flags of the bytes from one on tell which are bytes of a name
+unfoldable agree : ℕ → List Bool → Bool
+agree first [] = true
+agree first (flag ∷ flags) = beq flag (is_name_byte first) && agree (first + 1) flags
+
+flag_at : (flags : List Bool) (first place : ℕ) (default : Bool) → agree first flags ≡ true → place < length flags
+    → get_or flags place default ≡ is_name_byte (first + place)
+unfolding agree
+flag_at [] first place default all inside = absurd (omega arith)
+flag_at (flag ∷ flags) first zero default all inside =
+    let here : first ≡ first + 0 = omega arith in
+    (booleans_Decides flag (is_name_byte first)).0 (and_parts _ _ all).0 ∙ ap is_name_byte here
+flag_at (flag ∷ flags) first (suc place) default all inside =
+    let there : first + 1 + place ≡ first + suc place = omega arith in
+    flag_at flags (first + 1) place default (and_parts _ _ all).1 (omega arith) ∙ ap is_name_byte there
+
+table_agrees : agree 0 NAME_BYTES ≡ true
+unfolding agree
+table_agrees = refl
+
+pub name_byte_at : (byte : ℕ) (default : Bool) → byte < 256 → get_or NAME_BYTES byte default ≡ is_name_byte byte
+name_byte_at byte default small =
+    let there : 0 + byte ≡ byte = omega arith in
+    flag_at NAME_BYTES 0 byte default table_agrees small ∙ ap is_name_byte there
+
+-- the first byte that fails a test, as `position` looks for it
+not_twice : (test : Bool) → not (not test) ≡ test
+not_twice true = refl
+not_twice false = refl
+
+pub first_other : (p : ℕ → Bool) (bytes : List ℕ) → position_or_len (λ byte. not (p byte)) bytes ≡ prefix_len p bytes
+first_other p [] = refl
+first_other p (byte ∷ bytes) = rw (not_twice (p byte), first_other p bytes) refl
+
+none_made : (test : Bool) (place : ℕ) → ◌≡◌ {A = Option ℕ} None (cond test (Some place) None) → test ≡ false
+none_made true place none = cc
+none_made false place none = refl
+
+pub no_other : (bytes : List ℕ) → ◌≡◌ {A = Option ℕ} None (position (λ byte. not (is_name_byte byte)) bytes)
+    → length bytes ≡ prefix_len is_name_byte bytes
+no_other bytes none =
+    let first = first_other is_name_byte bytes in
+    let most = prefix_len-le-length is_name_byte bytes in
+    let test = none_made (nat_lt (position_or_len (λ byte. not (is_name_byte byte)) bytes) (length bytes)) _ none in
+    let behind : length bytes ≤ position_or_len (λ byte. not (is_name_byte byte)) bytes = grind (arith, nat_tests) in
+    omega (arith, first, most, behind)
+
+-- bytes that end behind those of names are bytes of names alone, and others are no name
+pub each_of_name : (bytes : List ℕ) → length bytes ≤ prefix_len is_name_byte bytes → AllPass is_name_byte bytes
+each_of_name bytes whole place default inside = prefix_len_passes is_name_byte bytes place default (omega arith)
+
+pub other_no_name : (bytes : List ℕ) → prefix_len is_name_byte bytes < length bytes → ¬ (IsName bytes)
+other_no_name bytes inside named =
+    let stops = prefix_len_stops is_name_byte bytes 0 inside in
+    let passes = named.each (prefix_len is_name_byte bytes) 0 inside in cc

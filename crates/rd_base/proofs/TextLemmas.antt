@@ -1,11 +1,11 @@
 -- Texts and their spellings.
-use Rattle.std.proofs.Common.{◌≡◌, ℕ, zero, suc, ◌-◌, ◌/◌, ◌%◌, ◌<◌, ◌≤◌, false, nat_eq, inl, inr, List, [], ◌∷◌, ◌++◌, length, take, drop, refl, sym, ◌∙◌, ap, subst, Option, Some, None, option_map, arith, length-append, take-append-drop, append_assoc, append-nil, take_at, drop_at, zero-le}
+use Rattle.std.proofs.Common.{◌≡◌, ℕ, zero, suc, ◌-◌, ◌/◌, ◌%◌, ◌<◌, ◌≤◌, ◌≢◌, true, false, ne_eqb, leb-true, get_or, nat_eq, inl, inr, List, [], ◌∷◌, ◌++◌, length, take, drop, refl, sym, ◌∙◌, ap, subst, Option, Some, None, option_map, arith, length-append, take-append-drop, append_assoc, append-nil, take_at, drop_at, zero-le}
 use Rattle.std.specs.Fmt.{digit_glyph}
 use Rattle.std.specs.List.{AllByRecursion, starts_with}
 use Rattle.std.specs.Cmp.Lexicographic.{bytes_decides}
-use Rattle.std.proofs.lemmas.Bool.{cases_Bool, cases_lt}
+use Rattle.std.proofs.lemmas.Bool.{cases_Bool, cases_lt, and_parts}
 use Rattle.std.proofs.lemmas.Bool.Decides.{eqb_tells, nat_tests}
-use Rattle.std.proofs.lemmas.List.{nil_from_length}
+use Rattle.std.proofs.lemmas.List.{nil_from_length, take_all}
 use Rattle.std.proofs.lemmas.Option.{cond_some, same_Some, none-some, option_and_then_some}
 use Rattle.rd_base.specs.Spelling.{is_plain, byte_spelling, bytes_spelling}
 use Rattle.rd_base.specs.ReadingValues.{hex_value, first_byte, next_of, inside_of}
@@ -82,6 +82,20 @@ next_said bytes byte after found =
       subst (λ b. b < 256) same_byte (first_small bytes rest whole),
       subst (λ b. byte_spelling b ++ after ≡ bytes) same_byte (subst (λ x. byte_spelling first ++ x ≡ bytes) same_rest whole),
     )
+
+-- a plain byte but `"` and `\` stands for itself
+plain_spelling : (byte : ℕ) → is_plain byte ≡ true → byte ≢ 34 → byte ≢ 92 → byte_spelling byte ≡ byte ∷ []
+unfolding byte_spelling
+plain_spelling byte plain no_quote no_slash = rw (ne_eqb byte 34 no_quote, ne_eqb byte 92 no_slash, plain) refl
+
+pub next_standing : (bytes : List ℕ) → 1 ≤ length bytes → is_plain (get_or bytes 0 0) ≡ true → get_or bytes 0 0 ≢ 34
+    → get_or bytes 0 0 ≢ 92 → next_of bytes ≡ Some (get_or bytes 0 0, take (length bytes - 1) (drop 1 bytes))
+next_standing [] some plain no_quote no_slash = absurd (omega arith)
+next_standing (byte ∷ after) some plain no_quote no_slash =
+    let small : byte < 256 = omega (arith, leb-true byte 126 (and_parts _ _ plain).1) in
+    let rest : take (suc (length after) - 1) after ≡ after = take_all (suc (length after) - 1) after (omega arith) in
+    ap (λ spelled. next_of (spelled ++ after)) (sym (plain_spelling byte plain no_quote no_slash))
+    ∙ next_found byte after small ∙ ap (λ others. Some (byte, others)) (sym rest)
 
 -- one more byte of a text
 next_inside : (room : ℕ) (bytes : List ℕ) (byte : ℕ) (after : List ℕ) → 0 < length bytes → next_of bytes ≡ Some (byte, after)

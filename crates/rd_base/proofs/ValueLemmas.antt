@@ -1,7 +1,7 @@
 -- `value_of` finds a value exactly in its spelling.
-use Rattle.std.proofs.Common.{◌≡◌, ℕ, suc, ◌+◌, ◌-◌, ◌<◌, ◌≤◌, true, false, ◌≢◌, nat_eq, List, [], ◌∷◌, ◌++◌, length, take, get_or, slice_range, ℤ, pos, negsuc, refl, sym, ◌∙◌, ap, subst, Some, None, IfSome, IfOk, IfErr, Result, Ok, Err, option_map, codes, FitsSigned, w64, arith, length-append, ne_eqb, eqb-true, leb-true, le-leb, take_at, bytes_eq}
+use Rattle.std.proofs.Common.{◌≡◌, ℕ, suc, ◌+◌, ◌-◌, ◌<◌, ◌≤◌, ◌^◌, true, false, ◌≢◌, nat_eq, List, [], ◌∷◌, ◌++◌, length, take, get_or, slice_range, ℤ, pos, negsuc, refl, sym, ◌∙◌, ap, subst, Some, None, IfSome, IfOk, IfErr, Result, Ok, Err, option_map, codes, FitsSigned, w64, arith, length-append, ne_eqb, eqb-true, leb-true, le-leb, take_at, bytes_eq}
 use Rattle.std.specs.Prelude.{⊤}
-use Rattle.std.specs.Fmt.{signed_decimal}
+use Rattle.std.specs.Fmt.{decimal, signed_decimal}
 use Rattle.std.specs.Cmp.Lexicographic.{bytes_decides}
 use Rattle.std.proofs.lemmas.Bool.{and_parts, and_left, and_right, and_from, false_from_ne_true}
 use Rattle.std.proofs.lemmas.List.{take_more, take_all, get_or_at}
@@ -136,3 +136,9 @@ pub err_spelled : (bytes : List ℕ) (result : Result Value ValueRefused)
     → IfErr result (λ e. e ≡ NotAValue → (value : Value) → IsValue value → ¬ (bytes ≡ spelling value))
 err_spelled bytes (Ok value) none = none
 err_spelled bytes (Err e) none = λ bad. none_said bytes (none bad)
+
+-- the value of a short number
+pub short_value : (bytes : List ℕ) (number : ℕ) → number < 10 ^ 18 → bytes ≡ decimal number → value_of bytes ≡ Some (Int (pos number))
+short_value bytes number small is =
+    let range : FitsSigned w64 (pos number) = record { sfits = omega arith } in
+    ap value_of is ∙ value_found (Int (pos number)) range

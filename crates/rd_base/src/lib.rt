@@ -16,7 +16,7 @@ pub use byte_lists::{Bytes, Word};
 pub use counter::Steps;
 pub use limits::{LimitName, Limits};
 pub use memory::NoMemory;
-pub use names::{BadName, Name};
+pub use names::{BadName, Name, name_length};
 pub use slots::Slots;
 pub use spelling::{ValueRefused, append_value, is_value, law_of_values, read_value, spell_value};
 pub use values::{Text, TextRefused, Value, law_of_order};

@@ -1,8 +1,10 @@
 //! The names of threads, locks, objects, kinds and methods.
-ghost use Rattle.std.specs.Prelude.{◌≡◌, ◌↔◌, IsOk, IfOk, IsTrue};
-ghost use Rattle.rd_base.specs.Names.{IsName};
+ghost use Rattle.std.specs.Prelude.{◌≡◌, ◌↔◌, ◌≤◌, length, not, IsOk, IfOk};
+ghost use Rattle.std.specs.List.{AllPass, position, prefix_len};
+ghost use Rattle.rd_base.specs.Names.{IsName, is_name_byte};
 
 use arrayvec::ArrayVec;
+use std::hash::{Hash, Hasher};
 use std::marker::Model;
 use thiserror::Error;
 
@@ -13,7 +15,7 @@ pub struct BadName;
 
 /// A name: 1 to 64 bytes, each a letter, a digit or one of `_ . : $ # @ -`. Contracts see it as the
 /// list of its bytes, by which it is compared and hashed.
-#[derive(Debug, Drop, PartialEq, Eq, PartialOrd, Ord, Hash)]
+#[derive(Debug, Drop, PartialEq, Eq, PartialOrd, Ord)]
 pub struct Name {
     bytes: ArrayVec<u8, 64>,
 }
@@ -31,40 +33,92 @@ impl Model for Name {
     ghost inverse = { λ bytes. record { bytes = record { items = bytes } } };
 }
 
-fn is_name(bytes: &[u8]) -> bool
-    ensures { IsTrue result ↔ IsName bytes.now }
+// Which bytes are a letter, a digit or one of `_ . : $ # @ -`.
+const NAME_BYTES: [bool; 256] = [
+    false, false, false, false, false, false, false, false, false, false, false, false, false,
+    false, false, false, false, false, false, false, false, false, false, false, false, false,
+    false, false, false, false, false, false, false, false, false, true, true, false, false, false,
+    false, false, false, false, false, true, true, false, true, true, true, true, true, true, true,
+    true, true, true, true, false, false, false, false, false, true, true, true, true, true, true,
+    true, true, true, true, true, true, true, true, true, true, true, true, true, true, true, true,
+    true, true, true, true, true, false, false, false, false, true, false, true, true, true, true,
+    true, true, true, true, true, true, true, true, true, true, true, true, true, true, true, true,
+    true, true, true, true, true, true, false, false, false, false, false, false, false, false,
+    false, false, false, false, false, false, false, false, false, false, false, false, false,
+    false, false, false, false, false, false, false, false, false, false, false, false, false,
+    false, false, false, false, false, false, false, false, false, false, false, false, false,
+    false, false, false, false, false, false, false, false, false, false, false, false, false,
+    false, false, false, false, false, false, false, false, false, false, false, false, false,
+    false, false, false, false, false, false, false, false, false, false, false, false, false,
+    false, false, false, false, false, false, false, false, false, false, false, false, false,
+    false, false, false, false, false, false, false, false, false, false, false, false, false,
+    false, false, false, false, false, false, false, false, false, false, false, false, false,
+    false, false, false, false, false, false, false, false,
+];
+
+fn is_name_byte(byte: u8) -> bool
+    ensures { result ≡ is_name_byte byte }
 {
-    !bytes.is_empty()
-        && bytes.len() <= 64
-        && bytes
-            .iter()
-            .all(|b| b.is_ascii_alphanumeric() || b"_.:$#@-".contains(b))
+    NAME_BYTES[byte as usize]
 }
 
-fn copied(bytes: &[u8]) -> ArrayVec<u8, 64>
+// The first byte that no name has.
+fn first_other(bytes: &[u8]) -> Option<usize>
+    ensures { result ≡ position (λ byte. not (is_name_byte byte)) bytes.now }
+{
+    bytes.iter().position(|byte| !is_name_byte(*byte))
+}
+
+/// How many bytes stand in front of the first byte that no name has.
+#[tactic(auto, using(crate::proofs::NameLemmas::first_other, crate::proofs::NameLemmas::no_other))]
+pub fn name_length(bytes: &[u8]) -> usize
+    ensures value { result ≡ prefix_len is_name_byte bytes.now }
+    ensures bound { result ≤ length bytes.now }
+{
+    let Some(place) = first_other(bytes) else {
+        return bytes.len();
+    };
+    place
+}
+
+// The bytes of a name.
+fn name_bytes(bytes: &[u8]) -> ArrayVec<u8, 64>
     requires { IsName bytes.now }
     ensures { result.items ≡ bytes.now }
 {
     let mut held = ArrayVec::new();
-    for byte in bytes {
-        held.push(*byte);
-    }
+    let Ok(()) = held.try_extend_from_slice(bytes) else {
+        unreachable!();
+    };
     held
 }
 
 impl Name {
     /// The name with these bytes. It comes exactly if they are the bytes of a name, and takes no memory.
+    #[tactic(auto, using(crate::proofs::NameLemmas::each_of_name, crate::proofs::NameLemmas::other_no_name))]
     pub fn from_bytes(bytes: &[u8]) -> Result<Name, BadName>
         ensures variant { IsOk result ↔ IsName bytes.now }
         ensures value { IfOk result (λ name. name ≡ bytes.now) }
     {
-        if is_name(bytes) {
-            Ok(Name {
-                bytes: copied(bytes),
-            })
-        } else {
-            Err(BadName)
+        if name_length(bytes) < bytes.len() {
+            return Err(BadName);
         }
+        Name::from_name_bytes(bytes)
+    }
+
+    /// The name with these bytes, each of which is known to be one of a name. It comes exactly if they are 1 to 64, and takes
+    /// no memory.
+    pub fn from_name_bytes(bytes: &[u8]) -> Result<Name, BadName>
+        requires { AllPass is_name_byte bytes.now }
+        ensures variant { IsOk result ↔ IsName bytes.now }
+        ensures value { IfOk result (λ name. name ≡ bytes.now) }
+    {
+        if bytes.is_empty() || bytes.len() > 64 {
+            return Err(BadName);
+        }
+        Ok(Name {
+            bytes: name_bytes(bytes),
+        })
     }
 
     /// An equal name. It takes no memory.
@@ -72,7 +126,7 @@ impl Name {
         ensures { result ≡ self.now }
     {
         Name {
-            bytes: copied(self.bytes.as_slice()),
+            bytes: name_bytes(self.bytes.as_slice()),
         }
     }
 
@@ -82,5 +136,19 @@ impl Name {
         ensures name { IsName self.now }
     {
         self.bytes.as_slice()
+    }
+}
+
+impl Hash for Name {
+    ghost use Rattle.std.specs.Prelude.{[], ◌∷◌};
+    ghost use Rattle.std.specs.Cmp.Rules.{hashing};
+    ghost use Rattle.std.proofs.Common.{rules};
+
+    ghost hash_input = { λ name. name ∷ [] };
+
+    ghost respects_eq = { Prim.search (hashing, rules) };
+
+    fn hash<H: Hasher>(&self, state: &mut H) {
+        state.write(self.bytes.as_slice())
     }
 }

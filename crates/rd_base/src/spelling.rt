@@ -1,8 +1,8 @@
 //! The spelling of values.
-ghost use Rattle.std.specs.Prelude.{◌≡◌, ◌<◌, ◌≤◌, ◌++◌, ◌↔◌, [], ◌∷◌, ℕ, List, true, false, Option, Some, None, OnOk, OnErr, IfOk, IfErr, IfSome, IfNone, IsTrue, is_some, length, slice_index, nat_eq};
+ghost use Rattle.std.specs.Prelude.{◌≡◌, ◌≢◌, ◌<◌, ◌≤◌, ◌^◌, ◌++◌, ◌↔◌, [], ◌∷◌, ℕ, List, true, false, Option, Some, None, OnOk, OnErr, IfOk, IfErr, IfSome, IfNone, IsTrue, is_some, length, slice_index, nat_eq};
 ghost use Rattle.std.specs.List.{starts_with};
 ghost use Rattle.std.specs.Str.{bytes_eq};
-ghost use Rattle.std.specs.Fmt.{digit_glyph, signed_decimal};
+ghost use Rattle.std.specs.Fmt.{digit_glyph, decimal, signed_decimal};
 ghost use Rattle.std.specs.Option.{option_map};
 ghost use Rattle.rd_base.specs.declared.values.Value.{Value};
 ghost use Rattle.rd_base.specs.Spelling.{is_plain, byte_spelling, bytes_spelling, spelling, IsValue};
@@ -57,6 +57,7 @@ fn is_decimal(bytes: &[u8], number: i64) -> bool
 }
 
 // The integer that the bytes spell: what is parsed has to be spelled like the bytes.
+#[inline(never)]
 #[tactic(auto, unfolding(crate::specs::ReadingValues::integer_of))]
 fn integer(bytes: &[u8]) -> Option<i64>
     ensures { result ≡ integer_of bytes.now }
@@ -72,6 +73,35 @@ fn integer(bytes: &[u8]) -> Option<i64>
     } else {
         None
     }
+}
+
+// Are the bytes 1 to 18, with no `0` in front of others?
+fn is_short(bytes: &[u8]) -> bool
+    ensures some { IsTrue result → 0 < length bytes.now }
+    ensures few { IsTrue result → length bytes.now ≤ 18 }
+    ensures first { IsTrue result → slice_index bytes.now 0 ≡ 48 → length bytes.now ≡ 1 }
+{
+    if bytes.is_empty() || bytes.len() > 18 {
+        return false;
+    }
+    bytes[0] != b'0' || bytes.len() == 1
+}
+
+// The number of the bytes, if they are its decimal and at most 18: the most common integers.
+fn short_number(bytes: &[u8]) -> Option<u64>
+    ensures { IfSome result (λ number. (number < 10 ^ 18) × (bytes.now ≡ decimal number)) }
+{
+    if !is_short(bytes) {
+        return None;
+    }
+    let mut number = 0u64;
+    for byte in bytes {
+        if !byte.is_ascii_digit() {
+            return None;
+        }
+        number = number * 10 + u64::from(*byte - b'0');
+    }
+    Some(number)
 }
 
 // The digit of a value below 16.
@@ -145,9 +175,32 @@ fn first_byte(bytes: &[u8]) -> u8
     hex_value(at(bytes, 2)) * 16 + hex_value(at(bytes, 3))
 }
 
+// Does the byte stand in a text as it is?
+fn stands(byte: u8) -> bool
+    ensures plain { IsTrue result → is_plain byte ≡ true }
+    ensures other { IsTrue result → (byte ≢ 34) × (byte ≢ 92) }
+{
+    is_plain(byte) && byte != b'"' && byte != b'\\'
+}
+
 // The byte whose spelling the bytes begin with, and the bytes behind it.
-#[tactic(auto, using(crate::proofs::TextLemmas::byte_spelling_length), unfolding(crate::specs::ReadingValues::next_of))]
 fn next_byte(bytes: &[u8]) -> Option<(u8, &[u8])>
+    ensures some { IfSome result (λ step. next_of bytes.now ≡ Some (step.0, step.1.now)) }
+    ensures none { IfNone result (next_of bytes.now ≡ None) }
+    ensures less { IfSome result (λ step. length step.1.now < length bytes.now) }
+{
+    let [first, others @ ..] = bytes else {
+        return spelled_byte(bytes);
+    };
+    if stands(*first) {
+        return Some((*first, others));
+    }
+    spelled_byte(bytes)
+}
+
+// The same, by the spelling of the byte.
+#[tactic(auto, using(crate::proofs::TextLemmas::byte_spelling_length), unfolding(crate::specs::ReadingValues::next_of))]
+fn spelled_byte(bytes: &[u8]) -> Option<(u8, &[u8])>
     ensures some { IfSome result (λ step. next_of bytes.now ≡ Some (step.0, step.1.now)) }
     ensures none { IfNone result (next_of bytes.now ≡ None) }
     ensures less { IfSome result (λ step. length step.1.now < length bytes.now) }
@@ -237,6 +290,9 @@ fn value(alloc: Global, bytes: &[u8]) -> Result<Value, ValueRefused>
     ensures none { IfErr result (λ e. e ≡ ValueRefused.NotAValue → value_of bytes.now ≡ None) }
     ensures memory { IfErr result (λ e. e ≡ ValueRefused.NoMemory → (text : List ℕ) × (value_of bytes.now ≡ Some (Value.Text text))) }
 {
+    if let Some(number) = short_number(bytes) {
+        return Ok(Value::Int(number as i64));
+    }
     if is(bytes, "nil") {
         return Ok(Value::Nil);
     }

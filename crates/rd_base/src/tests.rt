@@ -32,6 +32,19 @@ fn names(rt: HostRuntime) -> Result<(), Fail> {
 }
 
 #[test]
+fn ends_of_names(rt: HostRuntime) {
+    for (bytes, length) in [
+        (b"".as_slice(), 0),
+        (b"a-b c", 3),
+        (b" a", 0),
+        (b"a/b", 1),
+        (b"ab", 2),
+    ] {
+        assert_eq!(rt; name_length(bytes), length, "at {bytes:?}");
+    }
+}
+
+#[test]
 fn words_and_bytes(rt: HostRuntime) -> Result<(), Fail> {
     let mut word = Word::from_bytes(rt.alloc(), b"chec")?;
     word.push(b'k')?;

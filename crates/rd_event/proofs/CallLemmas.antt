@@ -12,7 +12,7 @@ use Rattle.rd_event.specs.Items.{IsEvent, AreSlots, words_apart, event_spelling,
 use Rattle.rd_event.specs.Reading.{is_space, name_of, call_read}
 use Rattle.rd_event.specs.ReadingSlots.{slots_of}
 use Rattle.rd_event.proofs.SlotLemmas.{slots_found, slots_said}
-use Rattle.rd_event.proofs.WordLemmas.{NameSaid, cut_joined, before_space, after_space, name_said, name_found}
+use Rattle.rd_event.proofs.WordLemmas.{name_is, cut_joined, before_space, after_space, name_found}
 
 -- two words, a space apart, are the bytes
 said_apart : (bytes first second : List ℕ) → first ≡ before_first is_space bytes → second ≡ after_first is_space bytes
@@ -23,9 +23,6 @@ said_apart bytes first second before behind some =
     ap (λ word. word ++ 32 ∷ second) before ∙ ap (λ rest. before_first is_space bytes ++ 32 ∷ rest) behind
     ∙ sym (cut_joined bytes more) in
     (all, omega (arith, length-append first (32 ∷ second), ap length all))
-
-name_is : (bytes name : List ℕ) → name_of bytes ≡ Some name → IsName name × (name ≡ bytes)
-name_is bytes name found = MatchOption-at_some ⊤ (NameSaid bytes) name found (name_said bytes)
 
 -- What is found is said.
 abbrev pub CallSaid : List ℕ → LineEvent → Type 0
@@ -83,22 +80,10 @@ call_found thread object method slots first second third values =
 
 -- the call of three names and slots, each read from what stands behind the one before it
 pub call_there : (rest names words values thread object method : List ℕ) (slots : List Value)
-    → thread ≡ before_first is_space rest → names ≡ after_first is_space rest
-    → object ≡ before_first is_space names → words ≡ after_first is_space names
-    → method ≡ before_first is_space words → values ≡ after_first is_space words
-    → IsName thread → IsName object → IsName method → slots_of 7 values ≡ Some slots
-    → call_read rest ≡ Some (Call thread object method slots)
+    → name_of (before_first is_space rest) ≡ Some thread → names ≡ after_first is_space rest
+    → name_of (before_first is_space names) ≡ Some object → words ≡ after_first is_space names
+    → name_of (before_first is_space words) ≡ Some method → values ≡ after_first is_space words
+    → slots_of 7 values ≡ Some slots → call_read rest ≡ Some (Call thread object method slots)
 unfolding call_read
-call_there rest names words values thread object method slots thread_is names_are object_is words_are method_is values_are first second third found =
-    rw (
-      sym thread_is,
-      sym names_are,
-      sym object_is,
-      sym words_are,
-      sym method_is,
-      sym values_are,
-      name_found thread first,
-      name_found object second,
-      name_found method third,
-      found,
-    ) refl
+call_there rest names words values thread object method slots thread_found names_are object_found words_are method_found values_are found =
+    rw (sym names_are, sym words_are, sym values_are, thread_found, object_found, method_found, found) refl

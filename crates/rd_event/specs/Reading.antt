@@ -23,9 +23,9 @@ name_of bytes = if is_name bytes then Some bytes else None
 -- what stands before and after the first space, if both are names
 unfoldable pub names_of : List ℕ → Option (List ℕ × List ℕ)
 names_of bytes =
-    let first = before_first is_space bytes in
-    let second = after_first is_space bytes in
-    if is_name first && is_name second then Some (first, second) else None
+    let found_first = name_of (before_first is_space bytes) in
+    let found_second = name_of (after_first is_space bytes) in
+    option_and_then (λ first. option_map (λ second. (first, second)) found_second) found_first
 
 -- the call of a line with these bytes behind its keyword: three names and the slots, a space apart
 unfoldable pub call_read : List ℕ → Option LineEvent

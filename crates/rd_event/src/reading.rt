@@ -1,7 +1,8 @@
 //! Reading a line.
 ghost use Rattle.std.specs.Prelude.{◌≡◌, ◌↔◌, ℕ, List, Option, Some, None, false, OnOk, OnErr, IfOk, IfErr, IsTrue};
 ghost use Rattle.std.specs.Option.{option_map};
-ghost use Rattle.std.specs.List.{before_first, after_first, position};
+ghost use Rattle.std.specs.List.{AllPass, before_first, after_first, position};
+ghost use Rattle.rd_base.specs.Names.{IsName, is_name_byte};
 ghost use Rattle.rd_event.specs.declared.items.Line.{Line};
 ghost use Rattle.std.specs.Str.{bytes_eq};
 ghost use Rattle.rd_event.specs.Items.{is_skipped, LineInRange, Says, spelling};
@@ -9,7 +10,7 @@ ghost use Rattle.rd_event.specs.Reading.{is_space, name_of, names_of, is_call, c
 
 use crate::items::{Line, LineEvent};
 use crate::slots::slots;
-use rd_base::Name;
+use rd_base::{Name, name_length};
 use std::alloc::Global;
 use thiserror::Error;
 
@@ -54,6 +55,23 @@ fn cut(bytes: &[u8]) -> (&[u8], &[u8])
     (&bytes[..space], &bytes[space + 1..])
 }
 
+// What stands before the first space, if its bytes are those of names, else nothing, and what stands after that space.
+#[tactic(auto, using(crate::proofs::WordLemmas::before_end, crate::proofs::WordLemmas::after_end, crate::proofs::WordLemmas::each_in_front, rd_base::proofs::NameLemmas::each_of_name))]
+fn cut_name(bytes: &[u8]) -> (&[u8], &[u8])
+    ensures each { AllPass is_name_byte result.0.now }
+    ensures before { name_of result.0.now ≡ name_of (before_first is_space bytes.now) }
+    ensures after { IsName result.0.now → result.1.now ≡ after_first is_space bytes.now }
+{
+    let length = name_length(bytes);
+    if length == bytes.len() {
+        return (bytes, &[]);
+    }
+    if bytes[length] != b' ' {
+        return (&[], &[]);
+    }
+    (&bytes[..length], &bytes[length + 1..])
+}
+
 // The lines that are a keyword and two names.
 #[derive(Clone, Copy)]
 enum Pair {
@@ -63,14 +81,14 @@ enum Pair {
 }
 
 // Reads such a line with these bytes after the space behind its keyword.
-#[tactic(auto, using(rd_base::proofs::NameLemmas::is_name_decides), unfolding(crate::specs::Reading::names_of))]
+#[tactic(auto, using(rd_base::proofs::NameLemmas::is_name_decides), unfolding(crate::specs::Reading::name_of, crate::specs::Reading::names_of))]
 fn read_pair(pair: Pair, rest: &[u8], line: &mut Line) -> Result<(), LineRefused>
     ensures item { OnOk result (option_map (pair_item pair) (names_of rest.now) ≡ Some line.new) }
     ensures none { OnErr result (option_map (pair_item pair) (names_of rest.now) ≡ None) }
     ensures refused { IfErr result (λ e. e ≡ LineRefused.BadLine) }
 {
-    let (first, second) = cut(rest);
-    let Ok(first) = Name::from_bytes(first) else {
+    let (first, second) = cut_name(rest);
+    let Ok(first) = Name::from_name_bytes(first) else {
         return Err(LineRefused::BadLine);
     };
     let Ok(second) = Name::from_bytes(second) else {
@@ -122,16 +140,16 @@ fn read_call(alloc: Global, rest: &[u8], line: &mut Line) -> Result<(), LineRefu
     ensures none { IfErr result (λ e. e ≡ LineRefused.BadLine → option_map (λ event. Line.Event event) (call_read rest.now) ≡ None) }
     ensures memory { IfErr result (λ e. e ≡ LineRefused.NoMemory → (item : Line) × (option_map (λ event. Line.Event event) (call_read rest.now) ≡ Some item)) }
 {
-    let (thread, names) = cut(rest);
-    let (object, words) = cut(names);
-    let (method, values) = cut(words);
-    let Ok(thread) = Name::from_bytes(thread) else {
+    let (thread, names) = cut_name(rest);
+    let Ok(thread) = Name::from_name_bytes(thread) else {
         return Err(LineRefused::BadLine);
     };
-    let Ok(object) = Name::from_bytes(object) else {
+    let (object, words) = cut_name(names);
+    let Ok(object) = Name::from_name_bytes(object) else {
         return Err(LineRefused::BadLine);
     };
-    let Ok(method) = Name::from_bytes(method) else {
+    let (method, values) = cut_name(words);
+    let Ok(method) = Name::from_name_bytes(method) else {
         return Err(LineRefused::BadLine);
     };
     let slots = match slots(alloc, values) {

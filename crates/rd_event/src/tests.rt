@@ -1,6 +1,6 @@
 //! Lines with what they say.
 
-use crate::{Call, Event, Line, LineEvent, LineRefused, read_line, spell};
+use crate::{Call, Event, Line, LineEvent, LineRefused, read_into, read_line, spell};
 use rd_base::{BadName, Name, NoMemory, Slots, Text, Value};
 use std::alloc::Global;
 use std::test::Fail;
@@ -48,6 +48,28 @@ fn reads_each_item(rt: HostRuntime) -> Result<(), Fail> {
         let line = read_line(rt.alloc(), text.as_bytes())?;
         assert_eq!(rt; line, want, "at {text:?}");
     }
+    Ok(())
+}
+
+#[test]
+fn reads_into_a_line_that_is_kept(rt: HostRuntime) -> Result<(), Fail> {
+    let mut line = Line::Skip;
+    for text in [
+        "thread p",
+        "call p x put \"a\" -> nil",
+        "fork p q",
+        "# a comment",
+        "object o register",
+        "rdtrace 1",
+        "call p x read -> \"b\"",
+        "join p q",
+    ] {
+        read_into(rt.alloc(), text.as_bytes(), &mut line)?;
+        let want = read_line(rt.alloc(), text.as_bytes())?;
+        assert_eq!(rt; line, want, "at {text:?}");
+    }
+    let refused = read_into(rt.alloc(), b"fork p", &mut line);
+    assert_eq!(rt; refused, Err(LineRefused::BadLine));
     Ok(())
 }
 

@@ -1,18 +1,24 @@
 //! Values with their spellings.
 
-use crate::{Text, Value, ValueRefused, read_value, spell_value};
+use crate::{Text, Value, ValueRefused, is_value, read_value, spell_value};
 use std::test::Fail;
 
 #[test]
 fn reads_and_spells_each_value(rt: HostRuntime) -> Result<(), Fail> {
     let alloc = rt.alloc();
-    let rows: [(&[u8], Value); 14] = [
+    let rows: [(&[u8], Value); 17] = [
         (b"nil", Value::Nil),
         (b"true", Value::Bool(true)),
         (b"false", Value::Bool(false)),
         (b"0", Value::Int(0)),
         (b"7", Value::Int(7)),
         (b"-1", Value::Int(-1)),
+        (b"10", Value::Int(10)),
+        (b"999999999999999999", Value::Int(999_999_999_999_999_999)),
+        (
+            b"1000000000000000000",
+            Value::Int(1_000_000_000_000_000_000),
+        ),
         (b"9223372036854775807", Value::Int(i64::MAX)),
         (b"-9223372036854775808", Value::Int(i64::MIN)),
         (b"\"\"", Value::Text(Text::from_bytes(alloc, b"")?)),
@@ -30,6 +36,7 @@ fn reads_and_spells_each_value(rt: HostRuntime) -> Result<(), Fail> {
     ];
     for (bytes, value) in rows {
         assert_eq!(rt; read_value(alloc, bytes)?, value, "at {bytes:?}");
+        assert!(rt; is_value(bytes), "at {bytes:?}");
         assert_eq!(rt; spell_value(alloc, &value)?.items(), bytes, "at {bytes:?}");
         assert_eq!(rt; value.copy(alloc)?, value, "at {bytes:?}");
     }
@@ -80,6 +87,7 @@ fn refuses_what_spells_no_value(rt: HostRuntime) {
             Err(ValueRefused::NotAValue),
             "at {bytes:?}"
         );
+        assert!(rt; !is_value(bytes), "at {bytes:?}");
     }
 }
 
