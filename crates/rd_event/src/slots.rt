@@ -114,9 +114,9 @@ pub(crate) fn slots(alloc: Global, bytes: &[u8]) -> Result<Slots, LineRefused>
     ensures none { IfErr result (λ e. e ≡ LineRefused.BadLine → slots_of 7 bytes.now ≡ None) }
     ensures memory { IfErr result (λ e. e ≡ LineRefused.NoMemory → (slots : List Value) × (slots_of 7 bytes.now ≡ Some slots)) }
 {
-    let mut slots = Slots::new(alloc);
+    let mut values = Vec::new(alloc);
     let mut rest = bytes;
-    while slots.items().len() < 7 {
+    while values.len() < 7 {
         let (word, after) = cut_value(rest);
         if is(word, "->") {
             let result = match read_value(alloc, after) {
@@ -124,7 +124,10 @@ pub(crate) fn slots(alloc: Global, bytes: &[u8]) -> Result<Slots, LineRefused>
                 Err(ValueRefused::NotAValue) => return Err(LineRefused::BadLine),
                 Err(ValueRefused::NoMemory) => return Err(want_of_memory(bytes)),
             };
-            let Ok(()) = slots.push(result) else {
+            let Ok(()) = values.push(result) else {
+                return Err(want_of_memory(bytes));
+            };
+            let Ok(slots) = Slots::from_values(alloc, values) else {
                 return Err(want_of_memory(bytes));
             };
             return Ok(slots);
@@ -134,7 +137,7 @@ pub(crate) fn slots(alloc: Global, bytes: &[u8]) -> Result<Slots, LineRefused>
             Err(ValueRefused::NotAValue) => return Err(LineRefused::BadLine),
             Err(ValueRefused::NoMemory) => return Err(want_of_memory(bytes)),
         };
-        let Ok(()) = slots.push(argument) else {
+        let Ok(()) = values.push(argument) else {
             return Err(want_of_memory(bytes));
         };
         rest = after;

@@ -1,4 +1,4 @@
-use Rattle.std.proofs.Common.{◌≡◌, ◌<◌, ◌≤◌, ◌^◌, ◌+◌, ◌*◌, ◌-◌, length, take, arith, sym, ◌∙◌, ap, refl}
+use Rattle.std.proofs.Common.{◌+◌, ◌*◌, arith, ◌∙◌, ap, refl}
 use Rattle.rd_base.proofs.IntegerLemmas.{short_more, short_front, short_read}
 use Rattle.rd_base.proofs.spelling.short_number.Goals as goal
 

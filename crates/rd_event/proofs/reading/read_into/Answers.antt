@@ -1,4 +1,3 @@
-use Rattle.std.proofs.Common.{rules}
 use Rattle.rd_event.proofs.ReadingLemmas.{ok_in_range, ok_says, err_says_none}
 use Rattle.rd_event.proofs.reading.read_into.Goals as goal
 
