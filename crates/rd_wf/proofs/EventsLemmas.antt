@@ -266,8 +266,11 @@ module _ (roots : ℕ → Bool) (es : List Numbered) (count : ℕ) (threads join
       let more : length (threads ++ child ∷ []) ≡ length threads + 1 = length-append threads (child ∷ []) in
       let may : MayHappen roots es event = may_fork roots es (place threads thread) (length threads)
       (λ known. let past : length threads < length threads = (told.known (length threads)).0 known in omega arith) (known_name thread there) (running thread there runs) in record {
-        formed = (formed_more roots es event).1 (told.formed, may,
-            bounded roots (es ++ event ∷ []) (length threads + 1) (known_fork roots es (length threads) (place threads thread) told.known) (omega arith) (omega (arith, length-append es (event ∷ []))));
+        formed = (formed_more roots es event).1 (
+          told.formed,
+          may,
+          bounded roots (es ++ event ∷ []) (length threads + 1) (known_fork roots es (length threads) (place threads thread) told.known) (omega arith) (omega (arith, length-append es (event ∷ []))),
+        );
         counted = omega (arith, length-append es (event ∷ []));
         known = λ t. subst (λ n. Known roots (es ++ event ∷ []) t ↔ (t < n)) (sym more) (known_fork roots es (length threads) (place threads thread) told.known t);
         ended = λ t. subst (λ n. (0 < n) ↔ ((name : List ℕ) × (slice_get (threads ++ child ∷ []) t ≡ Some name) × Contains joined name)) (sym (joins_fork es (place threads thread) (length threads) t))
@@ -289,8 +292,11 @@ module _ (roots : ℕ → Bool) (es : List Numbered) (count : ℕ) (threads join
       let other : place threads child ≢ place threads thread =
       (λ same. apart (same_Some child thread (sym (place_named threads child awaited) ∙ ap (slice_get threads) same ∙ place_named threads thread there))) in
       let may : MayHappen roots es event = may_join roots es (place threads thread) (place threads child) (known_name child awaited) other (known_name thread there) (running thread there runs) in record {
-        formed = (formed_more roots es event).1 (told.formed, may,
-            bounded roots (es ++ event ∷ []) (length threads) (known_same roots es (length threads) event refl told.known) told.few (omega (arith, length-append es (event ∷ []))));
+        formed = (formed_more roots es event).1 (
+          told.formed,
+          may,
+          bounded roots (es ++ event ∷ []) (length threads) (known_same roots es (length threads) event refl told.known) told.few (omega (arith, length-append es (event ∷ []))),
+        );
         counted = omega (arith, length-append es (event ∷ []));
         known = known_same roots es (length threads) event refl told.known;
         ended = marks_more (joins es) (joins (es ++ event ∷ [])) threads joined child told.ended told.places awaited (joins_join es (place threads thread) (place threads child));
@@ -309,8 +315,11 @@ module _ (roots : ℕ → Bool) (es : List Numbered) (count : ℕ) (threads join
       let room : length threads ≤ 4294967295 = told.few in
       let may : MayHappen roots es event = may_call roots es call
       (subst (Known roots es) (sym acts) (known_name thread there)) (subst (λ t. joins es t ≡ 0) (sym acts) (running thread there runs)) (no_other_kind es objects call at told.one_kind) in record {
-        formed = (formed_more roots es event).1 (told.formed, may,
-            bounded roots (es ++ event ∷ []) (length threads) (known_same roots es (length threads) event refl told.known) told.few (omega (arith, length-append es (event ∷ []))));
+        formed = (formed_more roots es event).1 (
+          told.formed,
+          may,
+          bounded roots (es ++ event ∷ []) (length threads) (known_same roots es (length threads) event refl told.known) told.few (omega (arith, length-append es (event ∷ []))),
+        );
         counted = omega (arith, length-append es (event ∷ []));
         known = known_same roots es (length threads) event refl told.known;
         ended = λ t. subst (λ n. (0 < n) ↔ ((name : List ℕ) × (slice_get threads t ≡ Some name) × Contains joined name)) (sym (joins_call es call t)) (told.ended t);

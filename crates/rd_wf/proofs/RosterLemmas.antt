@@ -7,11 +7,12 @@ use Rattle.std.specs.Cmp.Lexicographic.{bytes_decides, nat_list_eq_equiv}
 use Rattle.std.proofs.lemmas.Bool.Decides.{nat_tests}
 use Rattle.std.specs.List.{cons_option}
 use Rattle.std.proofs.lemmas.List.{length-map, map-append, append-nil}
-use Rattle.std.proofs.lemmas.List.Sums.{sum_by_push}
+use Rattle.std.proofs.lemmas.List.Sums.{sum_by_push, prefix_len-le-length}
 use Rattle.std.proofs.lemmas.List.Elements.{filter_map-append, Contains-append_left, Contains-push_cases}
 use Rattle.std.proofs.lemmas.List.Folds.{list_any-append}
-use Rattle.std.proofs.lemmas.Bool.{false_from_ne_true}
-use Rattle.indexmap.specs.IndexMap.{get_by, index_of_by, insert_entry}
+use Rattle.std.proofs.lemmas.Bool.{false_from_ne_true, ltb-false}
+use Rattle.std.proofs.Math.Bool.{not-not}
+use Rattle.indexmap.specs.IndexMap.{get_by, index_map_len, index_of_by, insert_entry}
 use Rattle.indexmap.proofs.CallerLemmas.{insert_entry-new}
 use Rattle.std.proofs.lemmas.Option.{slice_get-map}
 use Rattle.indexmap.specs.Layout.{set_value_at}
@@ -27,11 +28,14 @@ use Rattle.rd_wf.specs.declared.causes.WfRefused.{WfRefused}
 use Rattle.rd_wf.specs.declared.causes.WfRefused.TheVariants.{Cause, NoMemory}
 use Rattle.rd_wf.specs.declared.causes.Accepted.{Accepted}
 use Rattle.rd_wf.specs.declared.roster.Roster.{Roster}
+use Rattle.rd_wf.specs.declared.methods.Method.{Method as FoundMethod}
 use Rattle.rd_wf.specs.declared.methods.Methods.{Methods}
+use Rattle.rd_wf.specs.declared.roster.judge.FoundObject.{FoundObject}
+use Rattle.rd_wf.specs.declared.roster.judge.FoundThread.{FoundThread}
 use Rattle.rd_wf.proofs.FollowLemmas.{among_decides, follows_from_none, broken_from_some}
 use Rattle.rd_wf.specs.MayFollow.{begun_name, joined_name, is_header, is_event, threads_of, joined_of, objects_of, headers, events, same_name, is_among, place, kind_number, methods_of, object_kinds, slots_of, first_broken, MayFollow, IsBrokenFirst, takes_memory}
 use Rattle.rd_wf.specs.Kinds.{Kind, Method, kind_names, method_names, methods_at, slots_at}
-use Rattle.rd_wf.specs.Roster.{StandsFor, kind_entry, method_entry, methods_in, thread_entry, object_entry, thread_count, object_count, Accepts, Refuses}
+use Rattle.rd_wf.specs.Roster.{StandsFor, kind_entry, method_entry, methods_in, thread_entry, object_entry, thread_count, object_count, found_method, found_thread, found_object, Accepts, Refuses}
 
 -- ---- look-ups
 
@@ -48,21 +52,50 @@ module _ {X : Type 0} (entry : List ℕ → List ℕ × X) (named : (name : List
   keys-entries [] = refl
   keys-entries (x ∷ xs) = λ i. named x i ∷ keys-entries xs i
 
-is_some-lookup : {X : Type 0} (test : List ℕ → Bool) (es : List (List ℕ × X)) → is_some (lookup test es) ≡ list_any test (keys_of es)
-is_some-lookup test [] = refl
-is_some-lookup test (e ∷ es) = by (test e.0) (is_some-lookup test es)
-  where
-    by : (b : Bool) → is_some (lookup test es) ≡ list_any test (keys_of es) → is_some (cond b (Some e.1) (lookup test es)) ≡ (b || list_any test (keys_of es))
-    by true rest = refl
-    by false rest = rest
+-- what look-ups find in a table with these names, whose place is the next one for any other name
+module _ {X : Type 0} (test : List ℕ → Bool) where
+  is_some-lookup : (entries : List (List ℕ × X)) → is_some (lookup test entries) ≡ list_any test (keys_of entries)
+  is_some-lookup [] = refl
+  is_some-lookup (e ∷ es) = by (test e.0) (is_some-lookup es)
+    where
+      by : (b : Bool) → is_some (lookup test es) ≡ list_any test (keys_of es) → is_some (cond b (Some e.1) (lookup test es)) ≡ (b || list_any test (keys_of es))
+      by true rest = refl
+      by false rest = rest
 
--- the place that a search finds
-position-place : (test : List ℕ → Bool) (names : List (List ℕ)) (i : ℕ) → position test names ≡ Some i → i ≡ position_or_len test names
-position-place test names i e = by (ltb (position_or_len test names) (length names)) e
+  lookup-at : (entries : List (List ℕ × X)) → option_map (λ e. e.1) (slice_get entries (position_or_len test (keys_of entries))) ≡ lookup test entries
+  lookup-at [] = refl
+  lookup-at (e ∷ es) = by (test e.0) (lookup-at es)
+    where
+      At : ℕ → Bool → Type 0
+      At n b = option_map (λ e. e.1) (slice_get (e ∷ es) n) ≡ cond b (Some e.1) (lookup test es)
+
+      by : (b : Bool) → option_map (λ e. e.1) (slice_get es (position_or_len test (keys_of es))) ≡ lookup test es → At (cond (not b) (1 + position_or_len test (keys_of es)) 0) b
+      by true rest = refl
+      by false rest = let next : suc (position_or_len test (keys_of es)) ≡ 1 + position_or_len test (keys_of es) = omega arith in subst (λ n. At n false) next rest
+
+position-or_next : (test : List ℕ → Bool) (names : List (List ℕ)) → unwrap_or (position test names) (length names) ≡ position_or_len test names
+position-or_next test names = by (ltb (position_or_len test names) (length names)) refl
   where
-    by : (b : Bool) → cond b (Some (position_or_len test names)) None ≡ Some i → i ≡ position_or_len test names
-    by true h = cc
-    by false h = cc
+    by : (b : Bool) → ltb (position_or_len test names) (length names) ≡ b → unwrap_or (cond b (Some (position_or_len test names)) None) (length names) ≡ position_or_len test names
+    by true e = refl
+    by false e =
+        let most : position_or_len test names ≤ length names = prefix_len-le-length (λ name. not (test name)) names in
+        let least : length names ≤ position_or_len test names = ltb-false _ _ e in omega arith
+
+module _ {X : Type 0} (entries : List (List ℕ × X)) (names : List (List ℕ)) (keys : keys_of entries ≡ names) (name : List ℕ) where
+  known_in : is_some (lookup (same_name name) entries) ≡ is_among names name
+  known_in = is_some-lookup (same_name name) entries ∙ ap (λ names. is_among names name) keys
+
+  unknown_in : (value : Option X) → lookup (same_name name) entries ≡ value → not (is_among names name) ≡ not (is_some value)
+  unknown_in value e = ap not (sym known_in ∙ ap is_some e)
+
+  place_in : (index : Option ℕ) → position (same_name name) (keys_of entries) ≡ index → place names name ≡ unwrap_or index (length entries)
+  place_in index e =
+      ap (λ names. place names name) (sym keys) ∙ sym (position-or_next (same_name name) (keys_of entries))
+      ∙ (λ i. unwrap_or (e i) (length-map entries (λ e. e.0) i))
+
+  entry_in : (value : Option X) → lookup (same_name name) entries ≡ value → option_map (λ e. e.1) (slice_get entries (place names name)) ≡ value
+  entry_in value e = ap (λ names. option_map (λ e. e.1) (slice_get entries (place names name))) (sym keys) ∙ lookup-at (same_name name) entries ∙ e
 
 -- what a look-up finds is the entry of the name
 lookup-entries : (lines : List Line) (name : List ℕ) (names : List (List ℕ)) (joined : Bool) → lookup (same_name name) (map (thread_entry lines) names) ≡ Some joined
@@ -108,21 +141,34 @@ names-methods (e ∷ es) = ap (λ names. e.0 ∷ names) (names-methods es)
 
 -- ---- methods
 
-module _ (methods : Methods) where
-  pub method_known : (name : List ℕ) → is_some (get_by (same_name name) methods.slots) ≡ is_among (method_names (methods_in methods)) name
-  method_known name = is_some-lookup (same_name name) methods.slots.entries ∙ ap (λ names. is_among names name) (names-methods methods.slots.entries)
+method_slots : (entries : List (List ℕ × ℕ)) (i : ℕ) → slots_at (map method_entry entries) i ≡ unwrap_or (option_map (λ e. e.1) (slice_get entries i)) 0
+method_slots entries i = ap (λ o. unwrap_or (option_map (λ (m : Method). m.slots) o) 0) (slice_get-map method_entry entries i) ∙ by (slice_get entries i)
+  where
+    by : (o : Option (List ℕ × ℕ)) → unwrap_or (option_map (λ (m : Method). m.slots) (option_map method_entry o)) 0 ≡ unwrap_or (option_map (λ e. e.1) o) 0
+    by None = refl
+    by (Some e) = refl
 
-  pub method_place : (name : List ℕ) (i : ℕ) → index_of_by (same_name name) methods.slots ≡ Some i → i ≡ place (method_names (methods_in methods)) name
-  method_place name i e = position-place (same_name name) (keys_of methods.slots.entries) i e ∙ ap (λ names. place names name) (names-methods methods.slots.entries)
-
-  pub method_slots : (i : ℕ) (e : List ℕ × ℕ) → slice_get methods.slots.entries i ≡ Some e → slots_at (methods_in methods) i ≡ e.1
-  method_slots i e at =
-      let there : slice_get (methods_in methods) i ≡ Some (method_entry e) = slice_get-map method_entry methods.slots.entries i ∙ ap (option_map method_entry) at in
-      ap (λ o. unwrap_or (option_map (λ (m : Method). m.slots) o) 0) there
+-- what a look-up of a method finds
+pub method_found : (methods : Methods) (name : List ℕ) (index slots : Option ℕ) → index_of_by (same_name name) methods.slots ≡ index → get_by (same_name name) methods.slots ≡ slots
+    → found_method (methods_in methods) name ≡ record { number = unwrap_or index (index_map_len methods.slots); unknown = not (is_some slots); slots = unwrap_or slots 0 }
+method_found methods name index slots at value =
+    let entries = methods.slots.entries in
+    let names = method_names (methods_in methods) in
+    let keys : keys_of entries ≡ names = names-methods entries in
+    λ i. record {
+      number = place_in entries names keys name index at i;
+      unknown = unknown_in entries names keys name slots value i;
+      slots = (method_slots entries (place names name) ∙ ap (λ o. unwrap_or o 0) (entry_in entries names keys name slots value)) i;
+    }
 
 none_is : {X : Type 0} (o : Option X) → is_some o ≡ false → o ≡ None
 none_is None e = refl
 none_is (Some x) e = absurd (true≢false e)
+
+-- where a name is taken by none before, it is not joined
+not_joined : (kinds : List Kind) (roster : Roster) (lines : List Line) → StandsFor kinds roster lines → (name : List ℕ) → is_among (threads_of lines) name ≡ false → is_among (joined_of lines) name ≡ false
+not_joined kinds roster lines stands name fresh = false_from_ne_true _ (λ joined.
+    true≢false (sym ((among_decides (threads_of lines) name).1 (stands.joined_begun name ((among_decides (joined_of lines) name).0 joined))) ∙ fresh))
 
 module _ (kinds : List Kind) (roster : Roster) (lines : List Line) (stands : StandsFor kinds roster lines) where
   thread_keys : keys_of roster.threads.entries ≡ threads_of lines
@@ -131,28 +177,38 @@ module _ (kinds : List Kind) (roster : Roster) (lines : List Line) (stands : Sta
   object_keys : keys_of roster.objects.entries ≡ objects_of lines
   object_keys = ap keys_of stands.object_entries ∙ keys-objects kinds lines
 
-  -- whether a thread's name is known
-  pub thread_known : (name : List ℕ) → is_some (get_by (same_name name) roster.threads) ≡ is_among (threads_of lines) name
-  thread_known name = is_some-lookup (same_name name) roster.threads.entries ∙ ap (λ names. is_among names name) thread_keys
+  -- whether a name is known
+  thread_known : (name : List ℕ) → is_some (get_by (same_name name) roster.threads) ≡ is_among (threads_of lines) name
+  thread_known name = known_in roster.threads.entries (threads_of lines) thread_keys name
 
-  pub object_known : (name : List ℕ) → is_some (get_by (same_name name) roster.objects) ≡ is_among (objects_of lines) name
-  object_known name = is_some-lookup (same_name name) roster.objects.entries ∙ ap (λ names. is_among names name) object_keys
+  object_known : (name : List ℕ) → is_some (get_by (same_name name) roster.objects) ≡ is_among (objects_of lines) name
+  object_known name = known_in roster.objects.entries (objects_of lines) object_keys name
 
-  -- its number, and whether it is joined
-  pub thread_place : (name : List ℕ) (i : ℕ) → index_of_by (same_name name) roster.threads ≡ Some i → i ≡ place (threads_of lines) name
-  thread_place name i e = position-place (same_name name) (keys_of roster.threads.entries) i e ∙ ap (λ names. place names name) thread_keys
+  joined_is : (name : List ℕ) (joined : Option Bool) → get_by (same_name name) roster.threads ≡ joined → is_among (joined_of lines) name ≡ unwrap_or joined false
+  joined_is name None e = not_joined kinds roster lines stands name (sym (thread_known name) ∙ ap is_some e)
+  joined_is name (Some joined) e = sym (lookup-entries lines name (threads_of lines) joined (sym (ap (lookup (same_name name)) stands.thread_entries) ∙ e))
 
-  pub thread_joined : (name : List ℕ) (joined : Bool) → get_by (same_name name) roster.threads ≡ Some joined → joined ≡ is_among (joined_of lines) name
-  thread_joined name joined e = lookup-entries lines name (threads_of lines) joined (sym (ap (lookup (same_name name)) stands.thread_entries) ∙ e)
+  -- what a look-up of a thread finds
+  pub thread_found : (name : List ℕ) (index : Option ℕ) (joined : Option Bool) → index_of_by (same_name name) roster.threads ≡ index → get_by (same_name name) roster.threads ≡ joined
+      → found_thread lines name ≡ record { number = unwrap_or index (thread_count roster); unknown = not (is_some joined); joined = unwrap_or joined false }
+  thread_found name index joined at value =
+      λ i. record {
+        number = place_in roster.threads.entries (threads_of lines) thread_keys name index at i;
+        unknown = unknown_in roster.threads.entries (threads_of lines) thread_keys name joined value i;
+        joined = joined_is name joined value i;
+      }
 
   names_are : keys_of roster.kinds.entries ≡ kind_names kinds
   names_are = names-kinds roster.kinds.entries ∙ ap kind_names stands.kind_entries
 
-  pub kind_place : (kind : List ℕ) (i : ℕ) → index_of_by (same_name kind) roster.kinds ≡ Some i → i ≡ place (kind_names kinds) kind
-  kind_place kind i e = position-place (same_name kind) (keys_of roster.kinds.entries) i e ∙ ap (λ names. place names kind) names_are
+  kinds_total : index_map_len roster.kinds ≡ length kinds
+  kinds_total = sym (length-map roster.kinds.entries kind_entry) ∙ ap length stands.kind_entries
+
+  pub kind_place : (kind : List ℕ) (o : Option ℕ) → o ≡ index_of_by (same_name kind) roster.kinds → unwrap_or o (index_map_len roster.kinds) ≡ place (kind_names kinds) kind
+  kind_place kind o e = sym (place_in roster.kinds.entries (kind_names kinds) names_are kind o (sym e))
 
   kind_known : (kind : List ℕ) → is_some (get_by (same_name kind) roster.kinds) ≡ is_among (kind_names kinds) kind
-  kind_known kind = is_some-lookup (same_name kind) roster.kinds.entries ∙ ap (λ names. is_among names kind) names_are
+  kind_known kind = known_in roster.kinds.entries (kind_names kinds) names_are kind
 
   -- the methods of a kind, by its number
   kind_at : (i : ℕ) → slice_get kinds i ≡ option_map kind_entry (slice_get roster.kinds.entries i)
@@ -164,17 +220,22 @@ module _ (kinds : List Kind) (roster : Roster) (lines : List Line) (stands : Sta
   pub no_methods : (i : ℕ) → slice_get roster.kinds.entries i ≡ None → methods_at kinds i ≡ []
   no_methods i none = ap (λ o. unwrap_or (option_map (λ (kind : Kind). kind.methods) o) []) (kind_at i ∙ ap (option_map kind_entry) none)
 
-  -- the number of an object, and that of its kind
-  pub object_place : (name : List ℕ) (i : ℕ) → index_of_by (same_name name) roster.objects ≡ Some i → i ≡ place (objects_of lines) name
-  object_place name i e = position-place (same_name name) (keys_of roster.objects.entries) i e ∙ ap (λ names. place names name) object_keys
+  -- what a look-up of an object finds
+  object_kind : (i : ℕ) → slice_get (object_kinds kinds lines) i ≡ option_map (λ e. e.1) (slice_get roster.objects.entries i)
+  object_kind i =
+      ap (λ numbers. slice_get numbers i) (sym (ap (map (λ (e : List ℕ × ℕ). e.1)) stands.object_entries ∙ kinds-objects kinds lines))
+      ∙ slice_get-map (λ (e : List ℕ × ℕ). e.1) roster.objects.entries i
 
-  pub object_kind : (name : List ℕ) (i : ℕ) (e : List ℕ × ℕ) → i ≡ place (objects_of lines) name → slice_get roster.objects.entries i ≡ Some e → e.1 ≡ kind_number kinds lines name
-  object_kind name i e number at =
-      let declared : map (λ (e : List ℕ × ℕ). e.1) roster.objects.entries ≡ object_kinds kinds lines =
-      ap (map (λ (e : List ℕ × ℕ). e.1)) stands.object_entries ∙ kinds-objects kinds lines in
-      let there : slice_get (object_kinds kinds lines) i ≡ Some e.1 =
-      ap (λ ks. slice_get ks i) (sym declared) ∙ slice_get-map (λ (e : List ℕ × ℕ). e.1) roster.objects.entries i ∙ ap (option_map (λ (e : List ℕ × ℕ). e.1)) at in
-      sym (ap (λ o. unwrap_or o (length kinds)) (ap (slice_get (object_kinds kinds lines)) (sym number) ∙ there))
+  pub object_found : (name : List ℕ) (index kind : Option ℕ) → index_of_by (same_name name) roster.objects ≡ index → get_by (same_name name) roster.objects ≡ kind
+      → found_object kinds lines name ≡ record { number = unwrap_or index (object_count roster); unknown = not (is_some kind); kind = unwrap_or kind (index_map_len roster.kinds) }
+  object_found name index kind at value =
+      let number : option_map (λ e. e.1) (slice_get roster.objects.entries (place (objects_of lines) name)) ≡ kind =
+      entry_in roster.objects.entries (objects_of lines) object_keys name kind value in
+      λ i. record {
+        number = place_in roster.objects.entries (objects_of lines) object_keys name index at i;
+        unknown = unknown_in roster.objects.entries (objects_of lines) object_keys name kind value i;
+        kind = unwrap_or ((object_kind (place (objects_of lines) name) ∙ number) i) (sym kinds_total i);
+      }
 
   -- the name of an object
   pub object_at : (i : ℕ) (e : List ℕ × ℕ) → slice_get roster.objects.entries i ≡ Some e → slice_get (objects_of lines) i ≡ Some e.0
@@ -202,65 +263,68 @@ module _ (kinds : List Kind) (roster : Roster) (lines : List Line) (stands : Sta
   unfolding first_broken
   header_judged limits version = ap (λ b. cond b (Some HeaderFirst) None) (sym stands.has_header)
 
-  pub root_judged : (limits : Limits) (name : List ℕ) → first_broken kinds limits lines (Thread name)
-      ≡ (if not roster.header then Some HeaderFirst else if nat_lt 0 roster.events then Some LateRoot
-      else if is_some (get_by (same_name name) roster.threads) then Some NameTaken
-      else if nat_le limits.threads (thread_count roster) then Some (Limit Threads limits.threads) else None)
+  pub root_judged : (limits : Limits) (name : List ℕ) (taken : Bool) (count : ℕ) → taken ≡ is_some (get_by (same_name name) roster.threads)
+      → count ≡ thread_count roster → first_broken kinds limits lines (Thread name) ≡ (if not roster.header then Some HeaderFirst else if nat_lt 0 roster.events then Some LateRoot
+      else if taken then Some NameTaken else if nat_le limits.threads count then Some (Limit Threads limits.threads) else None)
   unfolding first_broken
-  root_judged limits name =
-      let taken : (is_among (threads_of lines) name || false) ≡ is_some (get_by (same_name name) roster.threads) = or-false _ ∙ sym (thread_known name) in
+  root_judged limits name taken count is counts =
+      let flag : (is_among (threads_of lines) name || false) ≡ taken = or-false _ ∙ sym (is ∙ thread_known name) in
       λ i. cond (no_header i) (Some HeaderFirst) (cond (ltb 0 (sym stands.event_count i)) (Some LateRoot)
-      (cond (taken i) (Some NameTaken) (cond (leb limits.threads (sym stands.thread_total i)) (Some (Limit Threads limits.threads)) None)))
+      (cond (flag i) (Some NameTaken) (cond (leb limits.threads (sym (counts ∙ stands.thread_total) i)) (Some (Limit Threads limits.threads)) None)))
 
-  pub object_judged : (limits : Limits) (name kind : List ℕ) → first_broken kinds limits lines (Object name kind)
-      ≡ (if not roster.header then Some HeaderFirst else if is_some (get_by (same_name name) roster.objects) then Some NameTaken
-      else if not (is_some (get_by (same_name kind) roster.kinds)) then Some UnknownKind
-      else if nat_le limits.objects (object_count roster) then Some (Limit Objects limits.objects) else None)
+  pub object_judged : (limits : Limits) (name kind : List ℕ) (taken unknown : Bool) (count : ℕ) → taken ≡ is_some (get_by (same_name name) roster.objects)
+      → not unknown ≡ is_some (get_by (same_name kind) roster.kinds) → count ≡ object_count roster → first_broken kinds limits lines (Object name kind)
+      ≡ (if not roster.header then Some HeaderFirst else if taken then Some NameTaken else if unknown then Some UnknownKind
+      else if nat_le limits.objects count then Some (Limit Objects limits.objects) else None)
   unfolding first_broken
-  object_judged limits name kind =
-      let taken : is_among (objects_of lines) name ≡ is_some (get_by (same_name name) roster.objects) = sym (object_known name) in
-      let unknown : not (is_among (kind_names kinds) kind) ≡ not (is_some (get_by (same_name kind) roster.kinds)) = ap not (sym (kind_known kind)) in
-      λ i. cond (no_header i) (Some HeaderFirst) (cond (taken i) (Some NameTaken) (cond (unknown i) (Some UnknownKind)
-      (cond (leb limits.objects (sym stands.object_total i)) (Some (Limit Objects limits.objects)) None)))
+  object_judged limits name kind taken unknown count is known counts =
+      let flag : is_among (objects_of lines) name ≡ taken = sym (is ∙ object_known name) in
+      let lacks : not (is_among (kind_names kinds) kind) ≡ unknown = ap not (sym (known ∙ kind_known kind)) ∙ not-not unknown in
+      λ i. cond (no_header i) (Some HeaderFirst) (cond (flag i) (Some NameTaken) (cond (lacks i) (Some UnknownKind)
+      (cond (leb limits.objects (sym (counts ∙ stands.object_total) i)) (Some (Limit Objects limits.objects)) None)))
 
-  pub fork_judged : (limits : Limits) (thread child : List ℕ) → first_broken kinds limits lines (Event (Fork thread child))
-      ≡ (if not roster.header then Some HeaderFirst else if is_some (get_by (same_name child) roster.threads) then Some NameTaken
-      else if not (is_among (threads_of lines) thread) then Some UnknownThread else if is_among (joined_of lines) thread then Some ThreadEnded
+  pub fork_judged : (limits : Limits) (thread child : List ℕ) (actor : FoundThread) (taken : Bool) (count : ℕ) → actor ≡ found_thread lines thread
+      → taken ≡ is_some (get_by (same_name child) roster.threads) → count ≡ thread_count roster → first_broken kinds limits lines (Event (Fork thread child))
+      ≡ (if not roster.header then Some HeaderFirst else if taken then Some NameTaken
+      else if actor.unknown then Some UnknownThread else if actor.joined then Some ThreadEnded
       else if nat_le limits.events roster.events then Some (Limit Events limits.events)
-      else if nat_le limits.threads (thread_count roster) then Some (Limit Threads limits.threads) else None)
+      else if nat_le limits.threads count then Some (Limit Threads limits.threads) else None)
   unfolding first_broken
-  fork_judged limits thread child =
-      let taken : (is_among (threads_of lines) child || false) ≡ is_some (get_by (same_name child) roster.threads) = or-false _ ∙ sym (thread_known child) in
-      let unknown : (not (is_among (threads_of lines) thread) || false) ≡ not (is_among (threads_of lines) thread) = or-false _ in
-      λ i. cond (no_header i) (Some HeaderFirst) (cond (taken i) (Some NameTaken) (cond (unknown i) (Some UnknownThread)
-      (cond (is_among (joined_of lines) thread) (Some ThreadEnded) (cond (leb limits.events (sym stands.event_count i)) (Some (Limit Events limits.events))
-      (cond (leb limits.threads (sym stands.thread_total i)) (Some (Limit Threads limits.threads)) None)))))
+  fork_judged limits thread child actor taken count acts is counts =
+      let flag : (is_among (threads_of lines) child || false) ≡ taken = or-false _ ∙ sym (is ∙ thread_known child) in
+      let unknown : (not (is_among (threads_of lines) thread) || false) ≡ actor.unknown = or-false _ ∙ ap (λ found. found.unknown) (sym acts) in
+      λ i. cond (no_header i) (Some HeaderFirst) (cond (flag i) (Some NameTaken) (cond (unknown i) (Some UnknownThread)
+      (cond (sym acts i).joined (Some ThreadEnded) (cond (leb limits.events (sym stands.event_count i)) (Some (Limit Events limits.events))
+      (cond (leb limits.threads (sym (counts ∙ stands.thread_total) i)) (Some (Limit Threads limits.threads)) None)))))
 
-  pub join_judged : (limits : Limits) (thread child : List ℕ) → first_broken kinds limits lines (Event (Join thread child))
-      ≡ (if not roster.header then Some HeaderFirst
-      else if not (is_among (threads_of lines) thread) || not (is_among (threads_of lines) child) then Some UnknownThread
-      else if is_among (joined_of lines) thread then Some ThreadEnded else if same_name child thread then Some OwnThread
+  pub join_judged : (limits : Limits) (thread child : List ℕ) (actor awaited : FoundThread) (own : Bool) → actor ≡ found_thread lines thread
+      → awaited ≡ found_thread lines child → own ≡ same_name child thread → first_broken kinds limits lines (Event (Join thread child))
+      ≡ (if not roster.header then Some HeaderFirst else if actor.unknown || awaited.unknown then Some UnknownThread
+      else if actor.joined then Some ThreadEnded else if own then Some OwnThread
       else if nat_le limits.events roster.events then Some (Limit Events limits.events) else None)
   unfolding first_broken
-  join_judged limits thread child =
-      λ i. cond (no_header i) (Some HeaderFirst) (cond (not (is_among (threads_of lines) thread) || not (is_among (threads_of lines) child)) (Some UnknownThread)
-      (cond (is_among (joined_of lines) thread) (Some ThreadEnded) (cond (same_name child thread) (Some OwnThread)
+  join_judged limits thread child actor awaited own acts waits is =
+      λ i. cond (no_header i) (Some HeaderFirst) (cond ((sym acts i).unknown || (sym waits i).unknown) (Some UnknownThread)
+      (cond (sym acts i).joined (Some ThreadEnded) (cond (sym is i) (Some OwnThread)
       (cond (leb limits.events (sym stands.event_count i)) (Some (Limit Events limits.events)) None))))
 
-  pub call_judged : (limits : Limits) (thread object method : List ℕ) (slots : List Value) → first_broken kinds limits lines (Event (Call thread object method slots))
-      ≡ (if not roster.header then Some HeaderFirst
-      else if not (is_among (threads_of lines) thread) then Some UnknownThread else if is_among (joined_of lines) thread then Some ThreadEnded
-      else if not (is_among (objects_of lines) object) then Some UnknownObject
-      else if not (is_among (method_names (methods_of kinds lines object)) method) then Some UnknownMethod
-      else if not (length slots == slots_of kinds lines (record { object = object; method = method; slots = slots })) then Some WrongCount
+  pub called_method : (object method : List ℕ) (found : FoundObject) (m : FoundMethod) → found ≡ found_object kinds lines object
+      → m ≡ found_method (methods_at kinds found.kind) method → m ≡ found_method (methods_of kinds lines object) method
+  called_method object method found m declared is = is ∙ ap (λ found. found_method (methods_at kinds found.kind) method) declared
+
+  pub call_judged : (limits : Limits) (thread object method : List ℕ) (slots : List Value) (actor : FoundThread) (found : FoundObject) (m : FoundMethod) (items : List Value) (count : ℕ)
+      → actor ≡ found_thread lines thread → found ≡ found_object kinds lines object → m ≡ found_method (methods_at kinds found.kind) method → items ≡ slots → count ≡ m.slots
+      → first_broken kinds limits lines (Event (Call thread object method slots))
+      ≡ (if not roster.header then Some HeaderFirst else if actor.unknown then Some UnknownThread else if actor.joined then Some ThreadEnded
+      else if found.unknown then Some UnknownObject else if m.unknown then Some UnknownMethod else if not (length items == count) then Some WrongCount
       else if nat_le limits.events roster.events then Some (Limit Events limits.events) else None)
   unfolding first_broken
-  call_judged limits thread object method slots =
-      let unknown : (not (is_among (threads_of lines) thread) || false) ≡ not (is_among (threads_of lines) thread) = or-false _ in
-      λ i. cond (no_header i) (Some HeaderFirst) (cond (unknown i) (Some UnknownThread)
-      (cond (is_among (joined_of lines) thread) (Some ThreadEnded) (cond (not (is_among (objects_of lines) object)) (Some UnknownObject)
-      (cond (not (is_among (method_names (methods_of kinds lines object)) method)) (Some UnknownMethod)
-      (cond (not (length slots == slots_of kinds lines (record { object = object; method = method; slots = slots }))) (Some WrongCount)
+  call_judged limits thread object method slots actor found m items count acts declared finds same counts =
+      let is = called_method object method found m declared finds in
+      let unknown : (not (is_among (threads_of lines) thread) || false) ≡ actor.unknown = or-false _ ∙ ap (λ found. found.unknown) (sym acts) in
+      λ i. cond (no_header i) (Some HeaderFirst) (cond (unknown i) (Some UnknownThread) (cond (sym acts i).joined (Some ThreadEnded)
+      (cond (sym declared i).unknown (Some UnknownObject) (cond (sym is i).unknown (Some UnknownMethod)
+      (cond (not (length (sym same i) == (sym (counts ∙ ap (λ m. m.slots) is) i))) (Some WrongCount)
       (cond (leb limits.events (sym stands.event_count i)) (Some (Limit Events limits.events)) None))))))
 
 -- ---- one line more
@@ -302,11 +366,6 @@ module _ (flag : List ℕ → Bool) (child : List ℕ) where
           let next : 1 + place xs child ≡ suc (place xs child) = omega arith in
           subst (λ b. Flagged (cond (not b) (1 + place xs child) 0)) (sym other)
           (subst Flagged (sym next) (λ i. (x, unmarked_flag x other i) ∷ rest later i))
-
--- where a name is taken by none before, it is not joined
-not_joined : (kinds : List Kind) (roster : Roster) (lines : List Line) → StandsFor kinds roster lines → (name : List ℕ) → is_among (threads_of lines) name ≡ false → is_among (joined_of lines) name ≡ false
-not_joined kinds roster lines stands name fresh = false_from_ne_true _ (λ joined.
-    true≢false (sym ((among_decides (threads_of lines) name).1 (stands.joined_begun name ((among_decides (joined_of lines) name).0 joined))) ∙ fresh))
 
 more_headers : (n : ℕ) (is : Bool) → nat_lt 0 (n + cond is 1 0) ≡ (nat_lt 0 n || is)
 more_headers zero true = refl
@@ -442,7 +501,6 @@ err_broken old new limits line (Ok accepted) refuses = tt
 err_broken old new limits line (Err e) refuses = λ kinds lines stands cause same.
     let refused : Refuses old new limits line (Cause cause) = subst (Refuses old new limits line) same refuses in
     (refused.0 kinds lines stands, broken_from_some kinds limits lines line cause (refused.0 kinds lines stands))
-
 
 pub err_memory : (old new : Roster) (limits : Limits) (line : Line) (r : Result Accepted WfRefused) → IfErr r (Refuses old new limits line)
     → IfErr r (λ e. e ≡ NoMemory → (kinds : List Kind) (lines : List Line) → StandsFor kinds old lines → (first_broken kinds limits lines line ≡ None) × IsTrue (takes_memory line))

@@ -1,15 +1,19 @@
 -- What a roster holds of the accepted lines of a trace: this project's profile.
-use Rattle.std.specs.Prelude.{◌≡◌, ℕ, Bool, nat_lt, List, [], ◌∷◌, ◌++◌, map, length, Contains, filter_map, MatchOption, true, false, Option, Some, None, IsTrue}
+use Rattle.std.specs.Prelude.{◌≡◌, ℕ, Bool, nat_lt, not, if◌then◌else◌, List, [], ◌∷◌, ◌++◌, map, length, Contains, filter_map, Option, Some, None, IsTrue}
 use Rattle.indexmap.specs.IndexMap.{index_map_len}
 use Rattle.rd_base.specs.declared.limits.Limits.{Limits}
 use Rattle.rd_event.specs.declared.items.Line.{Line}
 use Rattle.rd_event.specs.declared.items.Line.TheVariants.{Object}
 use Rattle.rd_wf.specs.declared.causes.Accepted.{Accepted}
+use Rattle.rd_base.specs.declared.limits.LimitName.TheVariants.{Events, Threads, Objects}
 use Rattle.rd_wf.specs.declared.causes.WfCause.{WfCause}
+use Rattle.rd_wf.specs.declared.causes.WfCause.TheVariants.{HeaderFirst, LateRoot, NameTaken, UnknownThread, ThreadEnded, OwnThread, UnknownKind, UnknownObject, UnknownMethod, WrongCount, Limit}
 use Rattle.rd_wf.specs.declared.causes.WfRefused.{WfRefused}
 use Rattle.rd_wf.specs.declared.causes.WfRefused.TheVariants.{Cause, NoMemory}
 use Rattle.rd_wf.specs.declared.roster.Roster.{Roster}
-use Rattle.rd_wf.specs.declared.roster.judge.Declared.{Declared}
+use Rattle.rd_wf.specs.declared.roster.judge.Broken.{Broken}
+use Rattle.rd_wf.specs.declared.roster.judge.FoundObject.{FoundObject}
+use Rattle.rd_wf.specs.declared.roster.judge.FoundThread.{FoundThread}
 use Rattle.rd_wf.specs.declared.methods.Method.{Method as Found}
 use Rattle.rd_wf.specs.declared.methods.Methods.{Methods}
 use Rattle.rd_wf.specs.MayFollow.{threads_of, joined_of, objects_of, headers, events, is_among, kind_number, place, first_broken, accepted_of, takes_memory}
@@ -41,17 +45,53 @@ methods_in methods = map method_entry methods.slots.entries
 abbrev pub kind_entry : List ℕ × Methods → Kind
 kind_entry entry = record { name = entry.0; methods = methods_in entry.1 }
 
--- the number of the method of that name, with how many slots it has; nothing where none of these has the name
-abbrev pub FindsMethod : List Method → List ℕ → Option Found → Type 0
-FindsMethod methods name found = MatchOption found
-    (is_among (method_names methods) name ≡ false)
-    (λ method. (is_among (method_names methods) name ≡ true) × (method.number ≡ place (method_names methods) name) × (method.slots ≡ slots_at methods method.number))
+-- ---- what look-ups find
 
--- the number of a declared object of that name, with that of its kind; nothing where none has the name
-abbrev pub FindsObject : List Kind → List Line → List ℕ → Option Declared → Type 0
-FindsObject kinds lines name found = MatchOption found
-    (is_among (objects_of lines) name ≡ false)
-    (λ object. (is_among (objects_of lines) name ≡ true) × (object.object ≡ place (objects_of lines) name) × (object.kind ≡ kind_number kinds lines name))
+-- the method of that name: its number, and how many slots it has; the next number and none where there is no such method
+abbrev pub found_method : List Method → List ℕ → Found
+found_method methods name = record {
+  number = place (method_names methods) name;
+  unknown = not (is_among (method_names methods) name);
+  slots = slots_at methods (place (method_names methods) name);
+}
+
+-- the thread of that name: its number, which is the next one where it was not begun, and whether the lines join it
+abbrev pub found_thread : List Line → List ℕ → FoundThread
+found_thread lines name = record {
+  number = place (threads_of lines) name;
+  unknown = not (is_among (threads_of lines) name);
+  joined = is_among (joined_of lines) name;
+}
+
+-- the object of that name: its number, which is the next one where it was not declared, and that of its kind
+abbrev pub found_object : List Kind → List Line → List ℕ → FoundObject
+found_object kinds lines name = record {
+  number = place (objects_of lines) name;
+  unknown = not (is_among (objects_of lines) name);
+  kind = kind_number kinds lines name;
+}
+
+-- ---- the rules that a line breaks
+
+-- the cause of the first flag
+abbrev pub first_of : Broken → Limits → Option WfCause
+first_of broken limits =
+    if broken.header_first then Some HeaderFirst
+    else if broken.late_root then Some LateRoot
+    else if broken.name_taken then Some NameTaken
+    else if broken.unknown_thread then Some UnknownThread
+    else if broken.thread_ended then Some ThreadEnded
+    else if broken.own_thread then Some OwnThread
+    else if broken.unknown_kind then Some UnknownKind
+    else if broken.unknown_object then Some UnknownObject
+    else if broken.unknown_method then Some UnknownMethod
+    else if broken.wrong_count then Some WrongCount
+    else if broken.events then Some (Limit Events limits.events)
+    else if broken.threads then Some (Limit Threads limits.threads)
+    else if broken.objects then Some (Limit Objects limits.objects)
+    else None
+
+-- ---- what a roster holds
 
 -- the kinds that the roster holds
 abbrev pub kinds_in : Roster → List Kind

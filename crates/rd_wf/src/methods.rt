@@ -14,17 +14,19 @@ pub struct Methods {
     ghost few: { index_map_len slots < 2 ^ 8 },
 }
 
-/// A method of a kind, by its number.
+/// What a look-up of a method's name finds: its number and how many slots its calls have. Where there
+/// is none, the number is the next one, and there are no slots.
 #[derive(Clone, Copy)]
 pub struct Method {
     pub number: u8,
+    pub unknown: bool,
     pub slots: u8,
 }
 
 impl Methods {
     ghost use Rattle.std.specs.Prelude.{◌≡◌, IfOk};
     ghost use Rattle.rd_wf.specs.Kinds.{register_methods};
-    ghost use Rattle.rd_wf.specs.Roster.{FindsMethod, methods_in};
+    ghost use Rattle.rd_wf.specs.Roster.{found_method, methods_in};
 
     /// The methods of a register: read, write and swap.
     pub fn of_register(alloc: Global) -> Result<Methods, NoMemory>
@@ -38,13 +40,20 @@ impl Methods {
     }
 
     /// The method of that name.
-    pub fn find(&self, name: &Name) -> Option<Method>
-        ensures { FindsMethod (methods_in self.now) name.now result }
+    pub fn find(&self, name: &Name) -> Method
+        ensures { result ≡ found_method (methods_in self.now) name.now }
     {
-        let (number, _, slots) = self.slots.get_full(name)?;
-        Some(Method {
-            number: number as u8,
-            slots: *slots,
-        })
+        match self.slots.get_full(name) {
+            None => Method {
+                number: self.slots.len() as u8,
+                unknown: true,
+                slots: 0,
+            },
+            Some((number, _, slots)) => Method {
+                number: number as u8,
+                unknown: false,
+                slots: *slots,
+            },
+        }
     }
 }

@@ -1,5 +1,5 @@
 //! Whether a line may follow the accepted lines, by what a roster holds of them.
-ghost use Rattle.std.specs.Prelude.{◌≡◌, ◌+◌, ◌<◌, ◌≤◌, ◌^◌, IfNone, IfSome};
+ghost use Rattle.std.specs.Prelude.{◌≡◌, false, IfNone};
 
 use super::Roster;
 use crate::causes::{Accepted, WfCause};
@@ -7,14 +7,24 @@ use crate::methods::Method;
 use rd_base::{LimitName, Limits, Name, Slots};
 use rd_event::{Call, Event, Line, LineEvent};
 
-/// A thread that was begun: its number, and whether it was joined.
+/// What a look-up of a thread's name finds: its number, which is the next one where it was not begun, and whether it was joined.
 #[derive(Clone, Copy)]
-struct Known {
-    thread: u32,
+pub(super) struct FoundThread {
+    number: u32,
+    unknown: bool,
     joined: bool,
 }
 
-/// The number of an object, and that of its kind.
+/// What a look-up of an object's name finds: its number, which is the next one where it was not
+/// declared, and that of its kind, which is then no kind's.
+#[derive(Clone, Copy)]
+pub(super) struct FoundObject {
+    number: u32,
+    unknown: bool,
+    kind: u32,
+}
+
+/// The number of a new object, and that of its kind.
 #[derive(Clone, Copy)]
 pub(super) struct Declared {
     pub(super) object: u32,
@@ -37,54 +47,134 @@ pub(super) struct Numbers {
     pub(super) method: u8,
 }
 
-/// The cause, where one more after so many would pass this limit.
-fn limit_cause(count: u32, name: LimitName, most: u32) -> Option<WfCause>
-    ensures room { IfNone result ((count < most) × (count + 1 < 2 ^ 32)) }
-    ensures full { IfSome result (λ cause. (cause ≡ WfCause.Limit name most) × (most ≤ count)) }
-{
-    if count < most {
-        None
-    } else {
-        Some(WfCause::Limit(name, most))
+/// The rules that a line breaks: a flag for each cause, in their order.
+#[derive(Clone, Copy)]
+pub(super) struct Broken {
+    header_first: bool,
+    late_root: bool,
+    name_taken: bool,
+    unknown_thread: bool,
+    thread_ended: bool,
+    own_thread: bool,
+    unknown_kind: bool,
+    unknown_object: bool,
+    unknown_method: bool,
+    wrong_count: bool,
+    events: bool,
+    threads: bool,
+    objects: bool,
+}
+
+/// No rule is broken.
+const UNBROKEN: Broken = Broken {
+    header_first: false,
+    late_root: false,
+    name_taken: false,
+    unknown_thread: false,
+    thread_ended: false,
+    own_thread: false,
+    unknown_kind: false,
+    unknown_object: false,
+    unknown_method: false,
+    wrong_count: false,
+    events: false,
+    threads: false,
+    objects: false,
+};
+
+impl Broken {
+    ghost use Rattle.std.specs.Prelude.{◌≡◌};
+    ghost use Rattle.rd_wf.specs.Roster.{first_of};
+
+    /// The cause of the first rule that is broken.
+    fn first(&self, limits: &Limits) -> Option<WfCause>
+        ensures first { result ≡ first_of self.now limits.now }
+        ensures room { IfNone result ((self.now.events ≡ false) × (self.now.threads ≡ false) × (self.now.objects ≡ false)) }
+    {
+        if self.header_first {
+            Some(WfCause::HeaderFirst)
+        } else if self.late_root {
+            Some(WfCause::LateRoot)
+        } else if self.name_taken {
+            Some(WfCause::NameTaken)
+        } else if self.unknown_thread {
+            Some(WfCause::UnknownThread)
+        } else if self.thread_ended {
+            Some(WfCause::ThreadEnded)
+        } else if self.own_thread {
+            Some(WfCause::OwnThread)
+        } else if self.unknown_kind {
+            Some(WfCause::UnknownKind)
+        } else if self.unknown_object {
+            Some(WfCause::UnknownObject)
+        } else if self.unknown_method {
+            Some(WfCause::UnknownMethod)
+        } else if self.wrong_count {
+            Some(WfCause::WrongCount)
+        } else if self.events {
+            Some(WfCause::Limit(LimitName::Events, limits.events))
+        } else if self.threads {
+            Some(WfCause::Limit(LimitName::Threads, limits.threads))
+        } else if self.objects {
+            Some(WfCause::Limit(LimitName::Objects, limits.objects))
+        } else {
+            None
+        }
     }
 }
 
 impl Roster {
-    ghost use Rattle.std.specs.Prelude.{◌≡◌, ◌<◌, ◌^◌, ◌+◌, List, IfOk, IfErr, OnOk, MatchOption, IfSome, true, false};
+    ghost use Rattle.std.specs.Prelude.{◌≡◌, ◌<◌, ◌^◌, ◌+◌, List, IfOk, IfErr, OnOk, false};
     ghost use Rattle.rd_event.specs.declared.items.Line.{Line as LineOf};
     ghost use Rattle.rd_wf.specs.Kinds.{Kind, methods_at};
-    ghost use Rattle.rd_wf.specs.MayFollow.{threads_of, joined_of, is_among, place};
-    ghost use Rattle.rd_wf.specs.Roster.{StandsFor, FindsMethod, FindsObject, Permits, Forbids, thread_count, object_count};
+    ghost use Rattle.rd_wf.specs.Roster.{StandsFor, Permits, Forbids, found_method, found_object, found_thread, thread_count, object_count};
 
-    fn known(&self, name: &Name) -> Option<Known>
-        ensures within { IfSome result (λ known. known.thread < thread_count self.now) }
-        ensures value { (kinds : List Kind) (lines : List LineOf) → StandsFor kinds self.now lines → MatchOption result
-            (is_among (threads_of lines) name.now ≡ false)
-            (λ known. (is_among (threads_of lines) name.now ≡ true) × (known.thread ≡ place (threads_of lines) name.now)
-            × (known.joined ≡ is_among (joined_of lines) name.now)) }
+    fn find_thread(&self, name: &Name) -> FoundThread
+        ensures value { (kinds : List Kind) (lines : List LineOf) → StandsFor kinds self.now lines → result ≡ found_thread lines name.now }
+        ensures within { result.unknown ≡ false → result.number < thread_count self.now }
     {
-        let (thread, _, joined) = self.threads.get_full(name)?;
-        Some(Known {
-            thread: thread as u32,
-            joined: *joined,
-        })
+        match self.threads.get_full(name) {
+            None => FoundThread {
+                number: self.threads.len() as u32,
+                unknown: true,
+                joined: false,
+            },
+            Some((number, _, joined)) => FoundThread {
+                number: number as u32,
+                unknown: false,
+                joined: *joined,
+            },
+        }
     }
 
-    fn declared(&self, name: &Name) -> Option<Declared>
-        ensures { (kinds : List Kind) (lines : List LineOf) → StandsFor kinds self.now lines → FindsObject kinds lines name.now result }
+    fn find_object(&self, name: &Name) -> FoundObject
+        ensures { (kinds : List Kind) (lines : List LineOf) → StandsFor kinds self.now lines → result ≡ found_object kinds lines name.now }
     {
-        let (object, _, kind) = self.objects.get_full(name)?;
-        Some(Declared {
-            object: object as u32,
-            kind: *kind,
-        })
+        match self.objects.get_full(name) {
+            None => FoundObject {
+                number: self.objects.len() as u32,
+                unknown: true,
+                kind: self.kinds.len() as u32,
+            },
+            Some((number, _, kind)) => FoundObject {
+                number: number as u32,
+                unknown: false,
+                kind: *kind,
+            },
+        }
     }
 
-    fn method(&self, kind: u32, name: &Name) -> Option<Method>
-        ensures { (kinds : List Kind) (lines : List LineOf) → StandsFor kinds self.now lines → FindsMethod (methods_at kinds kind) name.now result }
+    fn find_method(&self, kind: u32, name: &Name) -> Method
+        ensures { (kinds : List Kind) (lines : List LineOf) → StandsFor kinds self.now lines → result ≡ found_method (methods_at kinds kind) name.now }
     {
-        let (_, methods) = self.kinds.get_index(kind as usize)?;
-        methods.find(name)
+        match self.kinds.get_index(kind as usize) {
+            None => Method {
+                number: 0,
+                unknown: true,
+                slots: 0,
+            },
+            Some((_, methods)) => methods.find(name),
+        }
     }
 
     pub(super) fn judge_root(&self, name: &Name, limits: &Limits) -> Result<u32, WfCause>
@@ -92,20 +182,18 @@ impl Roster {
         ensures room { OnOk result (thread_count self.now + 1 < 2 ^ 32) }
         ensures err { IfErr result (Forbids self.now limits.now (Line.Thread name.now)) }
     {
-        if !self.header {
-            return Err(WfCause::HeaderFirst);
-        }
-        if self.events > 0 {
-            return Err(WfCause::LateRoot);
-        }
-        if self.threads.contains_key(name) {
-            return Err(WfCause::NameTaken);
-        }
         let thread = self.threads.len() as u32;
-        if let Some(cause) = limit_cause(thread, LimitName::Threads, limits.threads) {
-            return Err(cause);
+        let broken = Broken {
+            header_first: !self.header,
+            late_root: self.events > 0,
+            name_taken: self.threads.contains_key(name),
+            threads: limits.threads <= thread,
+            ..UNBROKEN
+        };
+        match broken.first(limits) {
+            Some(cause) => Err(cause),
+            None => Ok(thread),
         }
-        Ok(thread)
     }
 
     pub(super) fn judge_object(
@@ -118,23 +206,23 @@ impl Roster {
         ensures room { OnOk result (object_count self.now + 1 < 2 ^ 32) }
         ensures err { IfErr result (Forbids self.now limits.now (Line.Object name.now kind.now)) }
     {
-        if !self.header {
-            return Err(WfCause::HeaderFirst);
-        }
-        if self.objects.contains_key(name) {
-            return Err(WfCause::NameTaken);
-        }
-        let Some(kind) = self.kinds.get_index_of(kind) else {
-            return Err(WfCause::UnknownKind);
-        };
         let object = self.objects.len() as u32;
-        if let Some(cause) = limit_cause(object, LimitName::Objects, limits.objects) {
-            return Err(cause);
+        let found = self.kinds.get_index_of(kind);
+        let kind = found.unwrap_or(self.kinds.len());
+        let broken = Broken {
+            header_first: !self.header,
+            name_taken: self.objects.contains_key(name),
+            unknown_kind: found.is_none(),
+            objects: limits.objects <= object,
+            ..UNBROKEN
+        };
+        match broken.first(limits) {
+            Some(cause) => Err(cause),
+            None => Ok(Declared {
+                object,
+                kind: kind as u32,
+            }),
         }
-        Ok(Declared {
-            object,
-            kind: kind as u32,
-        })
     }
 
     pub(super) fn judge_fork(
@@ -148,29 +236,24 @@ impl Roster {
         ensures room { OnOk result ((thread_count self.now + 1 < 2 ^ 32) × (self.now.events + 1 < 2 ^ 32)) }
         ensures err { IfErr result (Forbids self.now limits.now (Line.Event (LineEvent.Fork thread.now child.now))) }
     {
-        if !self.header {
-            return Err(WfCause::HeaderFirst);
-        }
-        if self.threads.contains_key(child) {
-            return Err(WfCause::NameTaken);
-        }
-        let Some(actor) = self.known(thread) else {
-            return Err(WfCause::UnknownThread);
+        let actor = self.find_thread(thread);
+        let new = self.threads.len() as u32;
+        let broken = Broken {
+            header_first: !self.header,
+            name_taken: self.threads.contains_key(child),
+            unknown_thread: actor.unknown,
+            thread_ended: actor.joined,
+            events: limits.events <= self.events,
+            threads: limits.threads <= new,
+            ..UNBROKEN
         };
-        if actor.joined {
-            return Err(WfCause::ThreadEnded);
+        match broken.first(limits) {
+            Some(cause) => Err(cause),
+            None => Ok(Pair {
+                thread: actor.number,
+                child: new,
+            }),
         }
-        if let Some(cause) = limit_cause(self.events, LimitName::Events, limits.events) {
-            return Err(cause);
-        }
-        let child = self.threads.len() as u32;
-        if let Some(cause) = limit_cause(child, LimitName::Threads, limits.threads) {
-            return Err(cause);
-        }
-        Ok(Pair {
-            thread: actor.thread,
-            child,
-        })
     }
 
     pub(super) fn judge_join(
@@ -184,28 +267,23 @@ impl Roster {
         ensures room { IfOk result (λ pair. (pair.child < thread_count self.now) × (self.now.events + 1 < 2 ^ 32)) }
         ensures err { IfErr result (Forbids self.now limits.now (Line.Event (LineEvent.Join thread.now child.now))) }
     {
-        if !self.header {
-            return Err(WfCause::HeaderFirst);
-        }
-        let Some(actor) = self.known(thread) else {
-            return Err(WfCause::UnknownThread);
+        let actor = self.find_thread(thread);
+        let awaited = self.find_thread(child);
+        let broken = Broken {
+            header_first: !self.header,
+            unknown_thread: actor.unknown | awaited.unknown,
+            thread_ended: actor.joined,
+            own_thread: child == thread,
+            events: limits.events <= self.events,
+            ..UNBROKEN
         };
-        let Some(awaited) = self.known(child) else {
-            return Err(WfCause::UnknownThread);
-        };
-        if actor.joined {
-            return Err(WfCause::ThreadEnded);
+        match broken.first(limits) {
+            Some(cause) => Err(cause),
+            None => Ok(Pair {
+                thread: actor.number,
+                child: awaited.number,
+            }),
         }
-        if child == thread {
-            return Err(WfCause::OwnThread);
-        }
-        if let Some(cause) = limit_cause(self.events, LimitName::Events, limits.events) {
-            return Err(cause);
-        }
-        Ok(Pair {
-            thread: actor.thread,
-            child: awaited.thread,
-        })
     }
 
     pub(super) fn judge_call(
@@ -221,32 +299,27 @@ impl Roster {
         ensures room { OnOk result (self.now.events + 1 < 2 ^ 32) }
         ensures err { IfErr result (Forbids self.now limits.now (Line.Event (LineEvent.Call thread.now object.now method.now slots.now))) }
     {
-        if !self.header {
-            return Err(WfCause::HeaderFirst);
-        }
-        let Some(actor) = self.known(thread) else {
-            return Err(WfCause::UnknownThread);
+        let actor = self.find_thread(thread);
+        let object = self.find_object(object);
+        let method = self.find_method(object.kind, method);
+        let broken = Broken {
+            header_first: !self.header,
+            unknown_thread: actor.unknown,
+            thread_ended: actor.joined,
+            unknown_object: object.unknown,
+            unknown_method: method.unknown,
+            wrong_count: slots.items().len() != usize::from(method.slots),
+            events: limits.events <= self.events,
+            ..UNBROKEN
         };
-        if actor.joined {
-            return Err(WfCause::ThreadEnded);
+        match broken.first(limits) {
+            Some(cause) => Err(cause),
+            None => Ok(Numbers {
+                thread: actor.number,
+                object: object.number,
+                kind: object.kind,
+                method: method.number,
+            }),
         }
-        let Some(declared) = self.declared(object) else {
-            return Err(WfCause::UnknownObject);
-        };
-        let Some(method) = self.method(declared.kind, method) else {
-            return Err(WfCause::UnknownMethod);
-        };
-        if slots.items().len() != usize::from(method.slots) {
-            return Err(WfCause::WrongCount);
-        }
-        if let Some(cause) = limit_cause(self.events, LimitName::Events, limits.events) {
-            return Err(cause);
-        }
-        Ok(Numbers {
-            thread: actor.thread,
-            object: declared.object,
-            kind: declared.kind,
-            method: method.number,
-        })
     }
 }
