@@ -79,6 +79,13 @@ impl Bytes {
         }
     }
 
+    /// Takes all bytes away, and keeps their memory for the next ones.
+    pub fn clear(&mut self)
+        ensures { self.new ≡ [] }
+    {
+        self.held.clear();
+    }
+
     /// Puts a byte last. After want of memory the text is as before.
     pub fn push(&mut self, byte: u8) -> Result<(), NoMemory>
         ensures ok { OnOk result (self.new ≡ self.old ++ byte ∷ []) }

@@ -233,7 +233,7 @@ module _ (kinds : List Kind) where
 
   module _ (start now : Check) (tracker : List Tracked) (before : List Entry) (entry : Entry) (checks : Checks kinds start before now) (tracks : Tracks kinds tracker (items before ++ entry.item ∷ [])) where
     abbrev new : Check
-    new = record { alloc = now.alloc; tracker = tracker; detector = now.detector; races = now.races }
+    new = record { text = now.text; tracker = tracker; detector = now.detector; races = now.races }
 
     tracks_now : Tracks kinds tracker (items (before ++ entry ∷ []))
     tracks_now = subst (Tracks kinds tracker) (sym (items_more before entry)) tracks

@@ -3,7 +3,7 @@ ghost use Rattle.std.specs.Prelude.{◌≡◌, ◌+◌, ◌≤◌, List, ◌∷�
 
 use crate::analysis::{Analysis, Halt};
 use crate::writing::write_race;
-use rd_base::Steps;
+use rd_base::{Bytes, Steps};
 use rd_detect::Detector;
 use rd_event::{Call, Event, Line};
 use rd_hb::{Stamp, Tracker};
@@ -15,7 +15,8 @@ use std::sync::ledger::Ledger;
 /// Keeps the clocks of the threads and the calls, counts the calls that are reported, and writes each race.
 #[derive(Debug, Drop)]
 pub struct Check {
-    alloc: Global,
+    /// the last line that told of a race, kept for its memory
+    text: Bytes,
     tracker: Tracker,
     detector: Detector,
     pub races: u64,
@@ -44,7 +45,7 @@ impl Check {
             return Err(Halt::NoMemory);
         };
         Ok(Check {
-            alloc,
+            text: Bytes::new(alloc),
             tracker: Tracker::new(alloc),
             detector,
             races: 0,
@@ -86,7 +87,7 @@ impl Check {
             return Ok(());
         };
         self.races += 1;
-        write_race(self.alloc, line, earlier, out)
+        write_race(&mut self.text, line, earlier, out)
     }
 
     /// Hands the next root to the tracker.

@@ -60,17 +60,17 @@ fn append_cause(text: &mut Bytes, cause: TraceCause) -> Result<(), NoMemory>
     }
 }
 
-/// The line that tells of a race, by the numbers of its two lines.
-pub fn race_line(alloc: Global, later: u64, earlier: u64) -> Result<Bytes, NoMemory>
-    ensures { IfOk result (λ text. text ≡ race_line later earlier) }
+/// Makes the text the line that tells of a race, by the numbers of its two lines. What it was before is lost, and its memory is used
+/// again. After want of memory it may be anything.
+pub fn race_line(text: &mut Bytes, later: u64, earlier: u64) -> Result<(), NoMemory>
+    ensures { OnOk result (text.new ≡ race_line later earlier) }
 {
-    let mut text = Bytes::new(alloc);
+    text.clear();
     text.append(b"race line ")?;
-    append_number(&mut text, later)?;
+    append_number(text, later)?;
     text.append(b" with line ")?;
-    append_number(&mut text, earlier)?;
-    text.append(b"\n")?;
-    Ok(text)
+    append_number(text, earlier)?;
+    text.append(b"\n")
 }
 
 /// The line that tells how many calls are reported.

@@ -6,8 +6,8 @@ ghost use Rattle.rd_run.specs.Output.{race_line};
 
 use crate::analysis::Halt;
 use crate::texts::race_line;
+use rd_base::Bytes;
 use rd_io::{Sink, write_all};
-use std::alloc::Global;
 
 /// Hands a line to the output.
 pub fn write_line<S: Sink>(out: &mut S, line: &[u8]) -> Result<(), Halt>
@@ -22,14 +22,19 @@ pub fn write_line<S: Sink>(out: &mut S, line: &[u8]) -> Result<(), Halt>
     }
 }
 
-/// Writes that the call on a line races with the one on an earlier line.
-pub fn write_race<S: Sink>(alloc: Global, later: u64, earlier: u64, out: &mut S) -> Result<(), Halt>
+/// Writes that the call on a line races with the one on an earlier line, in the memory of a text that is lost.
+pub fn write_race<S: Sink>(
+    text: &mut Bytes,
+    later: u64,
+    earlier: u64,
+    out: &mut S,
+) -> Result<(), Halt>
     ensures ok { OnOk result (Appends (S.written out.old) (S.written out.new) (race_line later earlier)) }
     ensures front { OnErr result (WritesFront (S.written out.old) (S.written out.new) [] (race_line later earlier)) }
     ensures fault { TellsFault (S.faults out.old) (S.faults out.new) (S.at_fault out.new) (S.written out.new) result }
 {
-    match race_line(alloc, later, earlier) {
-        Ok(line) => write_line(out, line.items()),
+    match race_line(text, later, earlier) {
+        Ok(()) => write_line(out, text.items()),
         Err(_) => Err(Halt::NoMemory),
     }
 }
