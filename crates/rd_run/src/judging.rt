@@ -68,6 +68,7 @@ pub fn judge(
     requires { AreUsable limits.now }
 
     // what the bytes say may follow, and is told in numbers
+    ensures says { OnOk result (item_of bytes.now ≡ Some line.new) }
     ensures judged { OnOk result ((kinds : List Kind) (before : List Item) → StandsFor kinds roster.old before →
         judged kinds limits.now before bytes.now ≡ Ok line.new) }
     ensures follows { OnOk result ((kinds : List Kind) (before : List Item) → StandsFor kinds roster.old before →

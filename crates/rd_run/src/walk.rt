@@ -1,6 +1,7 @@
 //! The walk over the lines of a trace.
-ghost use Rattle.std.specs.Prelude.{◌≡◌, ◌≢◌, ◌⊎◌, ℕ, ◌+◌, ◌-◌, ◌<◌, ◌≤◌, ◌^◌, List, [], ◌∷◌, ◌++◌, Ok, Err, Some, None, length, IfOk, OnErr};
+ghost use Rattle.std.specs.Prelude.{◌≡◌, ◌≢◌, ◌⊎◌, ℕ, ◌+◌, ◌-◌, ◌<◌, ◌≤◌, ◌^◌, List, [], ◌∷◌, ◌++◌, Ok, Err, Some, None, length, IfOk, IfErr, OnErr};
 ghost use Rattle.rd_base.specs.Limits.{AreUsable};
+ghost use Rattle.rd_event.specs.Reading.{item_of};
 ghost use Rattle.rd_event.specs.declared.items.Line.{Line as Item};
 ghost use Rattle.rd_io.specs.Inputs.{Goes, Takes, Rose};
 ghost use Rattle.rd_io.specs.LineReader.{fresh};
@@ -94,7 +95,8 @@ fn take_line<A: Analysis, S: Sink, L: Ledger>(
     ensures silent { IfOk result (λ refused. (cause : TraceCause) → refused ≡ Some cause →
         (out.new ≡ out.old) × (walker.new.analysis ≡ walker.old.analysis) × (steps.new ≡ steps.old)) }
 
-    // or memory runs out in reading it, or in what is done with it, or a write fails
+    // or memory runs out in reading it, or in what is done with it, or a write fails; memory runs out only where the bytes say an item
+    ensures memory { IfErr result (λ halt. halt ≡ Halt.NoMemory → (item : Item) × (item_of bytes.now ≡ Some item)) }
     ensures halted { OnErr result ((kinds : List Kind) (start : A) (before : List Entry) → StandsFor kinds walker.old.roster (items before) →
         A.leads kinds start before walker.old.analysis → ((S.written out.new ≡ S.written out.old) × (steps.new ≡ steps.old))
         ⊎ ((item : Item) × (judged kinds walker.old.limits (items before) bytes.now ≡ Ok item)

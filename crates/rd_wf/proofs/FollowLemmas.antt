@@ -1,5 +1,5 @@
 -- The tests of the rules tell which rule a line breaks first.
-use Rattle.std.proofs.Common.{◌≡◌, ◌≢◌, ◌↔◌, ◌⊎◌, inl, inr, ℕ, zero, suc, ◌<◌, ◌≤◌, Bool, true, false, not, cond, ◌==◌, ◌&&◌, ltb, leb, List, [], ◌∷◌, take, Option, Some, None, is_some, IsSome, IfSome, IsSomeAnd, IsTrue, Contains, MatchOption, length, Decides, refl, sym, ap, subst, ◌∙◌, arith, true≢false}
+use Rattle.std.proofs.Common.{◌≡◌, ◌≢◌, ◌↔◌, inl, inr, ℕ, zero, suc, ◌<◌, ◌≤◌, Bool, true, false, not, cond, ◌==◌, ◌&&◌, ltb, leb, List, [], ◌∷◌, take, Option, Some, None, is_some, IsSome, IfSome, IsSomeAnd, IsTrue, Contains, MatchOption, length, Decides, refl, sym, ap, subst, ◌∙◌, arith, true≢false}
 use Rattle.std.specs.Prelude.{All, find, slice_get}
 use Rattle.std.specs.Cmp.Lexicographic.{bytes_decides, nat_list_eq_equiv}
 use Rattle.std.proofs.lemmas.Bool.Decides.{Decides-and, Decides-or, Decides-not, Decides-eqb, Decides-ltb, Decides-like, not_from_Decides, nat_tests}

@@ -14,7 +14,7 @@ use Rattle.std.proofs.lemmas.Bool.{false_from_ne_true, ltb-false}
 use Rattle.std.proofs.Math.Bool.{not-not}
 use Rattle.indexmap.specs.IndexMap.{get_by, index_map_len, index_of_by, insert_entry}
 use Rattle.indexmap.proofs.CallerLemmas.{insert_entry-new}
-use Rattle.std.proofs.lemmas.Option.{slice_get-map}
+use Rattle.std.proofs.lemmas.Option.{slice_get-map, same_Some}
 use Rattle.indexmap.specs.Layout.{set_value_at}
 use Rattle.rd_base.specs.declared.limits.Limits.{Limits}
 use Rattle.rd_base.specs.declared.values.Value.{Value}
@@ -33,7 +33,7 @@ use Rattle.rd_wf.specs.declared.methods.Methods.{Methods}
 use Rattle.rd_wf.specs.declared.roster.judge.FoundObject.{FoundObject}
 use Rattle.rd_wf.specs.declared.roster.judge.FoundThread.{FoundThread}
 use Rattle.rd_wf.proofs.FollowLemmas.{among_decides, follows_from_none, broken_from_some}
-use Rattle.rd_wf.specs.MayFollow.{begun_name, joined_name, is_header, is_event, threads_of, joined_of, objects_of, headers, events, same_name, is_among, place, kind_number, methods_of, object_kinds, slots_of, first_broken, MayFollow, IsBrokenFirst, takes_memory}
+use Rattle.rd_wf.specs.MayFollow.{begun_name, joined_name, is_header, is_event, threads_of, joined_of, objects_of, headers, events, same_name, is_among, place, methods_of, object_kinds, first_broken, MayFollow, IsBrokenFirst, takes_memory}
 use Rattle.rd_wf.specs.Kinds.{Kind, Method, kind_names, method_names, methods_at, slots_at}
 use Rattle.rd_wf.specs.Roster.{StandsFor, kind_entry, method_entry, methods_in, thread_entry, object_entry, thread_count, object_count, found_method, found_thread, found_object, Accepts, Refuses}
 
@@ -390,82 +390,68 @@ module _ (kinds : List Kind) (old : Roster) (lines : List Line) (stands : Stands
     object_total = sym (length-map new.objects.entries (λ e. e.0)) ∙ ap length (ap keys_of objects ∙ keys-objects kinds (lines ++ line ∷ []));
   }
 
-  -- a line that neither begins nor joins a thread leaves them
-  same_threads : begun_name line ≡ None → threads_of (lines ++ line ∷ []) ≡ threads_of lines
-  same_threads e = filter_map-append begun_name lines (line ∷ []) ∙ ap (λ o. threads_of lines ++ cons_option o []) e ∙ append-nil (threads_of lines)
+  -- a begun thread goes last and is not joined, and a declared object goes last
+  begun_entries : (begun : Option (List ℕ)) → ((name : List ℕ) → begun ≡ Some name → is_among (threads_of lines) name ≡ false)
+      → flagged (is_among (joined_of lines)) (cons_option begun []) ≡ flagged (λ name. false) (cons_option begun [])
+  begun_entries None fresh = refl
+  begun_entries (Some name) fresh = λ i. (name, not_joined kinds old lines stands name (fresh name refl) i) ∷ []
 
-  same_joined : joined_name line ≡ None → joined_of (lines ++ line ∷ []) ≡ joined_of lines
-  same_joined e = filter_map-append joined_name lines (line ∷ []) ∙ ap (λ o. joined_of lines ++ cons_option o []) e ∙ append-nil (joined_of lines)
+  no_join : (new : Roster) → joined_name line ≡ None → ((name : List ℕ) → begun_name line ≡ Some name → is_among (threads_of lines) name ≡ false)
+      → new.kinds.entries ≡ old.kinds.entries → new.header ≡ (old.header || is_header line) → new.events ≡ old.events + cond (is_event line) 1 0
+      → new.threads.entries ≡ old.threads.entries ++ flagged (λ name. false) (cons_option (begun_name line) [])
+      → new.objects.entries ≡ old.objects.entries ++ cons_option (object_entry kinds line) [] → StandsFor kinds new (lines ++ line ∷ [])
+  no_join new joins fresh same_kinds header events threads objects =
+      let more : threads_of (lines ++ line ∷ []) ≡ threads_of lines ++ cons_option (begun_name line) [] = filter_map-append begun_name lines (line ∷ []) in
+      let same : joined_of (lines ++ line ∷ []) ≡ joined_of lines =
+      filter_map-append joined_name lines (line ∷ []) ∙ ap (λ o. joined_of lines ++ cons_option o []) joins ∙ append-nil (joined_of lines) in
+      let entries : map (thread_entry (lines ++ line ∷ [])) (threads_of (lines ++ line ∷ []))
+      ≡ map (thread_entry lines) (threads_of lines) ++ flagged (λ name. false) (cons_option (begun_name line) []) =
+      (λ i. flagged (is_among (same i)) (more i)) ∙ map-append (thread_entry lines) (threads_of lines) (cons_option (begun_name line) [])
+      ∙ ap (λ es. map (thread_entry lines) (threads_of lines) ++ es) (begun_entries (begun_name line) fresh) in
+      grown new same_kinds header events
+      (threads ∙ ap (λ es. es ++ flagged (λ name. false) (cons_option (begun_name line) [])) stands.thread_entries ∙ sym entries)
+      (objects ∙ ap (λ es. es ++ cons_option (object_entry kinds line) []) stands.object_entries ∙ sym (filter_map-append (object_entry kinds) lines (line ∷ [])))
+      (λ name h. subst (λ names. Contains names name) (sym more)
+      (Contains-append_left (threads_of lines) (cons_option (begun_name line) []) name (stands.joined_begun name (subst (λ names. Contains names name) same h))))
 
-  same_objects : object_entry kinds line ≡ None → filter_map (object_entry kinds) (lines ++ line ∷ []) ≡ filter_map (object_entry kinds) lines
-  same_objects e = filter_map-append (object_entry kinds) lines (line ∷ []) ∙ ap (λ o. filter_map (object_entry kinds) lines ++ cons_option o []) e ∙ append-nil _
-
-  quiet_entries : begun_name line ≡ None → joined_name line ≡ None → map (thread_entry (lines ++ line ∷ [])) (threads_of (lines ++ line ∷ [])) ≡ map (thread_entry lines) (threads_of lines)
-  quiet_entries begins joins = λ i. flagged (is_among (same_joined joins i)) (same_threads begins i)
-
-  quiet_begun : begun_name line ≡ None → joined_name line ≡ None → (name : List ℕ) → Contains (joined_of (lines ++ line ∷ [])) name → Contains (threads_of (lines ++ line ∷ [])) name
-  quiet_begun begins joins name h =
-      subst (λ names. Contains names name) (sym (same_threads begins)) (stands.joined_begun name (subst (λ names. Contains names name) (same_joined joins) h))
-
-  -- a begun thread goes last, and is not joined
-  new_entries : (name : List ℕ) → begun_name line ≡ Some name → joined_name line ≡ None → is_among (threads_of lines) name ≡ false
-      → map (thread_entry (lines ++ line ∷ [])) (threads_of (lines ++ line ∷ [])) ≡ map (thread_entry lines) (threads_of lines) ++ (name, false) ∷ []
-  new_entries name begins joins fresh =
-      let threads : threads_of (lines ++ line ∷ []) ≡ threads_of lines ++ name ∷ [] =
-      filter_map-append begun_name lines (line ∷ []) ∙ ap (λ o. threads_of lines ++ cons_option o []) begins in
-      (λ i. flagged (is_among (same_joined joins i)) (threads i))
-      ∙ map-append (thread_entry lines) (threads_of lines) (name ∷ [])
-      ∙ ap (λ b. map (thread_entry lines) (threads_of lines) ++ (name, b) ∷ []) (not_joined kinds old lines stands name fresh)
-
-  new_begun : (name : List ℕ) → begun_name line ≡ Some name → joined_name line ≡ None → (other : List ℕ) → Contains (joined_of (lines ++ line ∷ [])) other → Contains (threads_of (lines ++ line ∷ [])) other
-  new_begun name begins joins other h =
-      let threads : threads_of (lines ++ line ∷ []) ≡ threads_of lines ++ name ∷ [] =
-      filter_map-append begun_name lines (line ∷ []) ∙ ap (λ o. threads_of lines ++ cons_option o []) begins in
-      subst (λ names. Contains names other) (sym threads)
-      (Contains-append_left (threads_of lines) (name ∷ []) other (stands.joined_begun other (subst (λ names. Contains names other) (same_joined joins) h)))
+-- where a name is new, so is each name that is the same
+new_name : (threads : List (List ℕ)) (name : List ℕ) → is_among threads name ≡ false → (other : List ℕ) → Some name ≡ Some other → is_among threads other ≡ false
+new_name threads name fresh other e = subst (λ n. is_among threads n ≡ false) (same_Some name other e) fresh
 
 module _ (kinds : List Kind) (old new : Roster) (lines : List Line) (stands : StandsFor kinds old lines) (same_kinds : new.kinds.entries ≡ old.kinds.entries) where
   pub after_skip : new.header ≡ old.header → new.events ≡ old.events → new.threads.entries ≡ old.threads.entries → new.objects.entries ≡ old.objects.entries
       → StandsFor kinds new (lines ++ Skip ∷ [])
-  after_skip header events threads objects = grown kinds old lines stands Skip new same_kinds (header ∙ sym (or-false old.header)) (events ∙ sym (add-zero old.events))
-      (threads ∙ stands.thread_entries ∙ sym (quiet_entries kinds old lines stands Skip refl refl))
-      (objects ∙ stands.object_entries ∙ sym (same_objects kinds old lines stands Skip refl)) (quiet_begun kinds old lines stands Skip refl refl)
+  after_skip header events threads objects = no_join kinds old lines stands Skip new refl (λ name e. cc) same_kinds (header ∙ sym (or-false old.header))
+      (events ∙ sym (add-zero old.events)) (threads ∙ sym (append-nil _)) (objects ∙ sym (append-nil _))
 
   pub after_header : (version : ℕ) → new.header ≡ true → new.events ≡ old.events → new.threads.entries ≡ old.threads.entries → new.objects.entries ≡ old.objects.entries
       → StandsFor kinds new (lines ++ Header version ∷ [])
-  after_header version header events threads objects = grown kinds old lines stands (Header version) new same_kinds (header ∙ or-true old.header) (events ∙ sym (add-zero old.events))
-      (threads ∙ stands.thread_entries ∙ sym (quiet_entries kinds old lines stands (Header version) refl refl))
-      (objects ∙ stands.object_entries ∙ sym (same_objects kinds old lines stands (Header version) refl)) (quiet_begun kinds old lines stands (Header version) refl refl)
+  after_header version header events threads objects = no_join kinds old lines stands (Header version) new refl (λ name e. cc) same_kinds (header ∙ or-true old.header)
+      (events ∙ sym (add-zero old.events)) (threads ∙ sym (append-nil _)) (objects ∙ sym (append-nil _))
 
   pub after_root : (name : List ℕ) → is_among (threads_of lines) name ≡ false → new.header ≡ old.header → new.events ≡ old.events
       → new.threads.entries ≡ old.threads.entries ++ (name, false) ∷ [] → new.objects.entries ≡ old.objects.entries
       → StandsFor kinds new (lines ++ Thread name ∷ [])
-  after_root name fresh header events threads objects = grown kinds old lines stands (Thread name) new same_kinds (header ∙ sym (or-false old.header)) (events ∙ sym (add-zero old.events))
-      (threads ∙ ap (λ es. es ++ (name, false) ∷ []) stands.thread_entries ∙ sym (new_entries kinds old lines stands (Thread name) name refl refl fresh))
-      (objects ∙ stands.object_entries ∙ sym (same_objects kinds old lines stands (Thread name) refl)) (new_begun kinds old lines stands (Thread name) name refl refl)
+  after_root name fresh header events threads objects = no_join kinds old lines stands (Thread name) new refl (new_name (threads_of lines) name fresh) same_kinds
+      (header ∙ sym (or-false old.header)) (events ∙ sym (add-zero old.events)) threads (objects ∙ sym (append-nil _))
 
   pub after_object : (name kind : List ℕ) → new.header ≡ old.header → new.events ≡ old.events → new.threads.entries ≡ old.threads.entries
       → new.objects.entries ≡ old.objects.entries ++ (name, place (kind_names kinds) kind) ∷ []
       → StandsFor kinds new (lines ++ Object name kind ∷ [])
-  after_object name kind header events threads objects = grown kinds old lines stands (Object name kind) new same_kinds (header ∙ sym (or-false old.header)) (events ∙ sym (add-zero old.events))
-      (threads ∙ stands.thread_entries ∙ sym (quiet_entries kinds old lines stands (Object name kind) refl refl))
-      (objects ∙ ap (λ es. es ++ (name, place (kind_names kinds) kind) ∷ []) stands.object_entries ∙ sym (filter_map-append (object_entry kinds) lines (Object name kind ∷ [])))
-      (quiet_begun kinds old lines stands (Object name kind) refl refl)
+  after_object name kind header events threads objects = no_join kinds old lines stands (Object name kind) new refl (λ name e. cc) same_kinds
+      (header ∙ sym (or-false old.header)) (events ∙ sym (add-zero old.events)) (threads ∙ sym (append-nil _)) objects
 
   pub after_fork : (thread child : List ℕ) → is_among (threads_of lines) child ≡ false → new.header ≡ old.header → new.events ≡ old.events + 1
       → new.threads.entries ≡ old.threads.entries ++ (child, false) ∷ [] → new.objects.entries ≡ old.objects.entries
       → StandsFor kinds new (lines ++ Event (Fork thread child) ∷ [])
-  after_fork thread child fresh header events threads objects = grown kinds old lines stands (Event (Fork thread child)) new same_kinds (header ∙ sym (or-false old.header)) events
-      (threads ∙ ap (λ es. es ++ (child, false) ∷ []) stands.thread_entries ∙ sym (new_entries kinds old lines stands (Event (Fork thread child)) child refl refl fresh))
-      (objects ∙ stands.object_entries ∙ sym (same_objects kinds old lines stands (Event (Fork thread child)) refl)) (new_begun kinds old lines stands (Event (Fork thread child)) child refl refl)
+  after_fork thread child fresh header events threads objects = no_join kinds old lines stands (Event (Fork thread child)) new refl (new_name (threads_of lines) child fresh) same_kinds
+      (header ∙ sym (or-false old.header)) events threads (objects ∙ sym (append-nil _))
 
   pub after_call : (thread object method : List ℕ) (slots : List Value) → new.header ≡ old.header → new.events ≡ old.events + 1
       → new.threads.entries ≡ old.threads.entries → new.objects.entries ≡ old.objects.entries → StandsFor kinds new (lines ++ Event (Call thread object method slots) ∷ [])
   after_call thread object method slots header events threads objects =
-      let line : Line = Event (Call thread object method slots) in
-      grown kinds old lines stands line new same_kinds (header ∙ sym (or-false old.header)) events
-      (threads ∙ stands.thread_entries ∙ sym (quiet_entries kinds old lines stands line refl refl))
-      (objects ∙ stands.object_entries ∙ sym (same_objects kinds old lines stands line refl)) (quiet_begun kinds old lines stands line refl refl)
+      no_join kinds old lines stands (Event (Call thread object method slots)) new refl (λ name e. cc) same_kinds
+      (header ∙ sym (or-false old.header)) events (threads ∙ sym (append-nil _)) (objects ∙ sym (append-nil _))
 
   pub after_join : (thread child : List ℕ) → is_among (threads_of lines) child ≡ true → IsDistinct same_name (keys_of old.threads.entries)
       → new.header ≡ old.header → new.events ≡ old.events + 1
@@ -474,13 +460,13 @@ module _ (kinds : List Kind) (old new : Roster) (lines : List Line) (stands : St
   after_join thread child known distinct header events threads objects =
       let line : Line = Event (Join thread child) in
       let more : joined_of (lines ++ line ∷ []) ≡ joined_of lines ++ child ∷ [] = filter_map-append joined_name lines (line ∷ []) in
-      let same : threads_of (lines ++ line ∷ []) ≡ threads_of lines = same_threads kinds old lines stands line refl in
+      let same : threads_of (lines ++ line ∷ []) ≡ threads_of lines = filter_map-append begun_name lines (line ∷ []) ∙ append-nil (threads_of lines) in
       let apart : IsDistinct same_name (threads_of lines) = subst (IsDistinct same_name) (thread_keys kinds old lines stands) distinct in
       let entries : map (thread_entry (lines ++ line ∷ [])) (threads_of (lines ++ line ∷ [])) ≡ flagged (λ n. is_among (joined_of lines) n || (same_name n child || false)) (threads_of lines) =
       (λ i. flagged (is_among (more i)) (same i)) ∙ (λ i. flagged (λ n. list_any-append (same_name n) (joined_of lines) (child ∷ []) i) (threads_of lines)) in
       grown kinds old lines stands line new same_kinds (header ∙ sym (or-false old.header)) events
       (threads ∙ ap (λ es. set_value_at es (place (threads_of lines) child) true) stands.thread_entries ∙ marked (is_among (joined_of lines)) child (threads_of lines) apart known ∙ sym entries)
-      (objects ∙ stands.object_entries ∙ sym (same_objects kinds old lines stands line refl))
+      (objects ∙ stands.object_entries ∙ sym (filter_map-append (object_entry kinds) lines (line ∷ []) ∙ append-nil _))
       (λ name there. subst (λ names. Contains names name) (sym same)
       (elim (Contains-push_cases (joined_of lines) child name (subst (λ names. Contains names name) more there)) [
         | inl before ↦ stands.joined_begun name before
