@@ -1,0 +1,81 @@
+//! Runs `check` over each trace of the examples, and says how it ended and whether it wrote what stands in the file beside
+//! the trace.
+#![tactic(auto)]
+
+ghost use Rattle.std.specs.Prelude.{◌≡◌, ◌<◌};
+
+use rd_base::{Limits, Steps, Word};
+use rd_io::{MemoryInputs, MemorySink};
+use rd_run::{Status, run};
+use std::alloc::Global;
+use std::fs;
+use std::marker::Brand;
+use std::process::ExitCode;
+use std::rt::Files;
+use std::sync::ledger::{Blank, Ledger};
+
+/// The traces, each with what `check` writes for it.
+const EXAMPLES: [(&str, &str); 15] = [
+    ("a_lock.trace", "a_lock.out"),
+    ("a_race_is_no_order.trace", "a_race_is_no_order.out"),
+    ("comments.trace", "comments.out"),
+    ("cut_off.trace", "cut_off.out"),
+    ("fork_too_late.trace", "fork_too_late.out"),
+    ("forgotten_joins.trace", "forgotten_joins.out"),
+    ("four_writes.trace", "four_writes.out"),
+    ("joins_itself.trace", "joins_itself.out"),
+    ("lost_update.trace", "lost_update.out"),
+    ("message.trace", "message.out"),
+    ("name_twice.trace", "name_twice.out"),
+    ("read_after_join.trace", "read_after_join.out"),
+    ("swaps.trace", "swaps.out"),
+    ("tasks.trace", "tasks.out"),
+    ("updates_in_turn.trace", "updates_in_turn.out"),
+];
+
+/// `check` over inputs in memory.
+fn check<L: Ledger>(
+    alloc: Global,
+    words: &[Word],
+    inputs: &mut MemoryInputs,
+    out: &mut MemorySink,
+    blank: Blank,
+) -> Status
+    requires name { blank.name ≡ L.name }
+    requires parts { blank.parts ≡ L.parts }
+    requires some { 0 < blank.parts }
+{
+    let mut steps = Steps::<L>::new(blank);
+    run(alloc, words, inputs, out, &Limits::standard(), &mut steps)
+}
+
+/// Runs one example. None where a file can't be read, memory runs out or writing fails.
+fn example<R: Files + Alloc<A = Global> + Print>(rt: &R, trace: &str, wanted: &str) -> Option<()> {
+    let alloc = rt.alloc();
+    let bytes = fs::read(rt, trace).ok()?;
+    let wanted = fs::read(rt, wanted).ok()?;
+    let mut inputs = MemoryInputs::new(alloc, &[]).ok()?;
+    let name = Word::from_bytes(alloc, trace.as_bytes()).ok()?;
+    inputs.add(&name, &bytes, 4096).ok()?;
+    let mut out = MemorySink::new(alloc, 4096, &[]).ok()?;
+    let mut words = Vec::new(alloc);
+    words.push(Word::from_bytes(alloc, b"check").ok()?).ok()?;
+    words.push(name).ok()?;
+    let status = check::<Brand>(alloc, &words, &mut inputs, &mut out, Blank::new(1));
+    let verdict = if out.written() == wanted.as_slice() {
+        "as wanted"
+    } else {
+        "otherwise"
+    };
+    rt.println(format_args!("{trace}: status {}, {verdict}", status.code()))
+        .ok()
+}
+
+fn main(rt: HostRuntime) -> ExitCode {
+    for (trace, wanted) in EXAMPLES {
+        if example(&rt, trace, wanted).is_none() {
+            return ExitCode::FAILURE;
+        }
+    }
+    ExitCode::SUCCESS
+}
