@@ -1,6 +1,6 @@
 -- Racing by tests, for what has to be computed. Which calls commute is told by a test. `law_of_races` says that these agree with
 -- the definitions.
-use Rattle.std.specs.Prelude.{ℕ, zero, suc, ◌==◌, nat_lt, Bool, true, false, not, ◌&&◌, if◌then◌else◌, List, Option, Some, None, IsTrue, slice_get}
+use Rattle.std.specs.Prelude.{ℕ, zero, suc, ◌==◌, nat_lt, Bool, false, not, ◌&&◌, if◌then◌else◌, List, Option, Some, None, IsTrue, slice_get}
 use Rattle.rd_event.specs.declared.events.Call.{Call as CallOf}
 use Rattle.rd_event.specs.declared.events.Event.{Event}
 use Rattle.rd_event.specs.declared.events.Event.TheVariants.{Call}

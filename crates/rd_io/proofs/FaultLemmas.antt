@@ -1,9 +1,9 @@
 -- The lines behind which a read fails are the first of those of all bytes.
-use Rattle.std.proofs.Common.{◌≡◌, ℕ, ◌+◌, ◌-◌, ◌<◌, ◌≤◌, ◌⊎◌, inl, inr, Bool, true, false, cond, List, [], ◌∷◌, ◌++◌, take, length, eqb, ltb, leb, sym, ap, subst, ◌∙◌, refl, arith}
+use Rattle.std.proofs.Common.{◌≡◌, ℕ, ◌+◌, ◌-◌, ◌<◌, ◌≤◌, inl, inr, Bool, true, false, cond, List, [], ◌∷◌, ◌++◌, take, length, eqb, ltb, leb, sym, ap, subst, ◌∙◌, refl, arith}
 use Rattle.std.proofs.lemmas.Bool.{cases_lt, le-ltb, lt-ltb}
 use Rattle.std.proofs.lemmas.List.{length-append, take-append-le, take_all}
 use Rattle.std.proofs.Math.Seq.{take-append-add}
-use Rattle.rd_io.specs.Lines.{IsFrontOf, Stop, Parts, Reading, ending_of, lines_of, parts_of, reading, with_byte}
+use Rattle.rd_io.specs.Lines.{IsFrontOf, Stop, Parts, Reading, lines_of, parts_of, reading, with_byte}
 use Rattle.rd_io.specs.Lines.Stop.{fault}
 use Rattle.rd_io.specs.Lines.Ending.{at_end, bytes_limit, faulted, line_too_long, no_final_newline}
 use Rattle.rd_io.specs.Lines.Parts.{rest, part}
@@ -49,15 +49,15 @@ front_lines limit stop past (rest bytes) whole (more, is) =
     elim (cases_lt (length bytes) limit) [
       | inl short ↦ subst (λ lines. IsFrontOf lines (lines_of limit stop past whole)) (sym (lines_rest limit fault false bytes short)) tt
       | inr long ↦
-        let long_too : limit ≤ length (first_of whole) = omega (arith, ap length is, length-append bytes more) in
-        subst (λ lines. IsFrontOf lines (lines_of limit stop past whole)) (sym (lines_long limit fault false (rest bytes) long)) (lines_long limit stop past whole long_too)
+          let long_too : limit ≤ length (first_of whole) = omega (arith, ap length is, length-append bytes more) in
+          subst (λ lines. IsFrontOf lines (lines_of limit stop past whole)) (sym (lines_long limit fault false (rest bytes) long)) (lines_long limit stop past whole long_too)
     ]
 front_lines limit stop past (part bytes parts) whole (later, is, begins) =
     elim (cases_lt (length bytes) limit) [
       | inl short ↦ subst (λ lines. IsFrontOf lines (lines_of limit stop past whole)) (sym (lines_line limit fault false bytes parts short))
-        (lines_of limit stop past later, ap (lines_of limit stop past) is ∙ lines_line limit stop past bytes later short, front_lines limit stop past parts later begins)
+          (lines_of limit stop past later, ap (lines_of limit stop past) is ∙ lines_line limit stop past bytes later short, front_lines limit stop past parts later begins)
       | inr long ↦ subst (λ lines. IsFrontOf lines (lines_of limit stop past whole)) (sym (lines_long limit fault false (part bytes parts) long))
-        (ap (lines_of limit stop past) is ∙ lines_long limit stop past (part bytes later) long)
+          (ap (lines_of limit stop past) is ∙ lines_long limit stop past (part bytes later) long)
     ]
 
 -- past the limit on bytes the stop is of no account
@@ -71,21 +71,21 @@ unfolding reading
 front_reading limit room stop bytes more =
     elim (cases_lt room (length bytes)) [
       | inl past ↦
-        let past_too : room < length (bytes ++ more) = omega (arith, length-append bytes more) in
-        let left : lines_of limit fault (ltb room (length bytes)) (parts_of (take room bytes)) ≡ lines_of limit fault true (parts_of (take room bytes))
-            = ap (λ b. lines_of limit fault b (parts_of (take room bytes))) (lt-ltb room (length bytes) past) in
-        let right : lines_of limit stop (ltb room (length (bytes ++ more))) (parts_of (take room (bytes ++ more))) ≡ lines_of limit stop true (parts_of (take room bytes))
-            = ap (λ b. lines_of limit stop b (parts_of (take room (bytes ++ more)))) (lt-ltb room (length (bytes ++ more)) past_too)
-            ∙ ap (λ bs. lines_of limit stop true (parts_of bs)) (take-append-le room bytes more (omega arith)) in
-        subst (IsFrontOf (lines_of limit fault (ltb room (length bytes)) (parts_of (take room bytes))))
-        (left ∙ same_past limit fault stop (parts_of (take room bytes)) ∙ sym right)
-        (front_same (lines_of limit fault (ltb room (length bytes)) (parts_of (take room bytes))))
+          let past_too : room < length (bytes ++ more) = omega (arith, length-append bytes more) in
+          let left : lines_of limit fault (ltb room (length bytes)) (parts_of (take room bytes)) ≡ lines_of limit fault true (parts_of (take room bytes))
+          = ap (λ b. lines_of limit fault b (parts_of (take room bytes))) (lt-ltb room (length bytes) past) in
+          let right : lines_of limit stop (ltb room (length (bytes ++ more))) (parts_of (take room (bytes ++ more))) ≡ lines_of limit stop true (parts_of (take room bytes))
+          = ap (λ b. lines_of limit stop b (parts_of (take room (bytes ++ more)))) (lt-ltb room (length (bytes ++ more)) past_too)
+          ∙ ap (λ bs. lines_of limit stop true (parts_of bs)) (take-append-le room bytes more (omega arith)) in
+          subst (IsFrontOf (lines_of limit fault (ltb room (length bytes)) (parts_of (take room bytes))))
+          (left ∙ same_past limit fault stop (parts_of (take room bytes)) ∙ sym right)
+          (front_same (lines_of limit fault (ltb room (length bytes)) (parts_of (take room bytes))))
       | inr within ↦
-        let left : lines_of limit fault (ltb room (length bytes)) (parts_of (take room bytes)) ≡ lines_of limit fault false (parts_of bytes)
-            = ap (λ b. lines_of limit fault b (parts_of (take room bytes))) (le-ltb room (length bytes) within) ∙ ap (λ bs. lines_of limit fault false (parts_of bs)) (take_all room bytes within) in
-        let exact : room ≡ length bytes + (room - length bytes) = omega arith in
-        let front : take room (bytes ++ more) ≡ bytes ++ take (room - length bytes) more = ap (λ n. take n (bytes ++ more)) exact ∙ take-append-add bytes more (room - length bytes) in
-        subst (λ lines. IsFrontOf lines (lines_of limit stop (ltb room (length (bytes ++ more))) (parts_of (take room (bytes ++ more))))) (sym left)
-        (subst (λ bs. IsFrontOf (lines_of limit fault false (parts_of bytes)) (lines_of limit stop (ltb room (length (bytes ++ more))) (parts_of bs))) (sym front)
-        (front_lines limit stop (ltb room (length (bytes ++ more))) (parts_of bytes) (parts_of (bytes ++ take (room - length bytes) more)) (parts_begin bytes (take (room - length bytes) more))))
+          let left : lines_of limit fault (ltb room (length bytes)) (parts_of (take room bytes)) ≡ lines_of limit fault false (parts_of bytes)
+          = ap (λ b. lines_of limit fault b (parts_of (take room bytes))) (le-ltb room (length bytes) within) ∙ ap (λ bs. lines_of limit fault false (parts_of bs)) (take_all room bytes within) in
+          let exact : room ≡ length bytes + (room - length bytes) = omega arith in
+          let front : take room (bytes ++ more) ≡ bytes ++ take (room - length bytes) more = ap (λ n. take n (bytes ++ more)) exact ∙ take-append-add bytes more (room - length bytes) in
+          subst (λ lines. IsFrontOf lines (lines_of limit stop (ltb room (length (bytes ++ more))) (parts_of (take room (bytes ++ more))))) (sym left)
+          (subst (λ bs. IsFrontOf (lines_of limit fault false (parts_of bytes)) (lines_of limit stop (ltb room (length (bytes ++ more))) (parts_of bs))) (sym front)
+          (front_lines limit stop (ltb room (length (bytes ++ more))) (parts_of bytes) (parts_of (bytes ++ take (room - length bytes) more)) (parts_begin bytes (take (room - length bytes) more))))
     ]

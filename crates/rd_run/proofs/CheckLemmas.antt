@@ -1,10 +1,10 @@
 -- What the tracker and the detector of a check hold of one line more.
-use Rattle.std.proofs.Common.{◌≡◌, ◌≢◌, ◌<◌, ◌≤◌, ◌⊎◌, inl, inr, ℕ, ◌+◌, ◌-◌, ◌*◌, ◌==◌, ◌||◌, Bool, true, false, cond, ltb, List, [], ◌∷◌, ◌++◌, length, Option, Some, None, is_some, Result, Ok, Err, OnOk, refl, sym, ap, subst, ◌∙◌, arith, true≢false}
+use Rattle.std.proofs.Common.{◌≡◌, ◌≢◌, ◌<◌, ◌≤◌, ◌⊎◌, inl, inr, ℕ, ◌+◌, ◌*◌, ◌==◌, ◌||◌, Bool, true, false, cond, ltb, List, [], ◌∷◌, ◌++◌, length, Some, None, is_some, Result, Ok, Err, OnOk, refl, sym, ap, subst, ◌∙◌, arith, true≢false}
 use Rattle.std.specs.List.{cons_option}
 use Rattle.std.proofs.lemmas.Bool.{cases_eq, cases_lt, eq-eqb, ne_eqb, lt-ltb, le-ltb}
 use Rattle.std.proofs.lemmas.List.{append-nil, length-append}
 use Rattle.std.proofs.lemmas.List.Sums.{sum_by_push}
-use Rattle.std.proofs.lemmas.Option.{none-some, same_Some, slice_get_within}
+use Rattle.std.proofs.lemmas.Option.{none-some, same_Some}
 use Rattle.rd_base.specs.declared.limits.Limits.{Limits}
 use Rattle.rd_event.specs.declared.events.Call.{Call as CallOf}
 use Rattle.rd_event.specs.declared.events.Event.{Event as Numbered}
@@ -31,10 +31,8 @@ use Rattle.rd_wf.specs.Kinds.{Kind}
 use Rattle.rd_wf.specs.MayFollow.{MayFollow, accepted_of, begun_name, call_count, events, is_call, is_event, is_root, is_skip, numbered_event, threads_of}
 use Rattle.rd_run.specs.Output.{entry_events, event_numbers, race_texts, races_of, text_with}
 use Rattle.rd_detect.specs.RaceTests.{latest_of}
-use Rattle.rd_wf.specs.Roster.{StandsFor as StandsForLines}
 use Rattle.rd_run.specs.Walk.{Entry, items, line_bound}
 use Rattle.rd_run.specs.declared.checking.Check.{Check}
-use Rattle.rd_detect.specs.declared.detector.Seen.{Seen}
 use Rattle.rd_wf.specs.declared.roster.Roster.{Roster}
 use Rattle.rd_wf.specs.declared.causes.Accepted.{Accepted}
 use Rattle.rd_wf.specs.declared.causes.Accepted.TheVariants as accepted

@@ -41,7 +41,7 @@ module _ (kinds : List Kind) (limits : Limits) where
       by : (r : Result Line TraceCause)
           → ((item : Line) → IsCutOf (walk kinds limits (before ++ item ∷ []) (number + 1) more) (walk kinds limits (before ++ item ∷ []) (number + 1) later))
           → IsCutOf (goes_or_ends number r (λ item. walk kinds limits (before ++ item ∷ []) (number + 1) more))
-            (goes_or_ends number r (λ item. walk kinds limits (before ++ item ∷ []) (number + 1) later))
+          (goes_or_ends number r (λ item. walk kinds limits (before ++ item ∷ []) (number + 1) later))
       by (Ok item) go =
           cut_more (record { number = number; item = item }) (walk kinds limits (before ++ item ∷ []) (number + 1) more)
           (walk kinds limits (before ++ item ∷ []) (number + 1) later) (go item)
@@ -59,7 +59,7 @@ module _ (kinds : List Kind) (limits : Limits) where
     cut_text walked whole (inl same) = ([], ap (λ w. (check_outcome commuting kinds w).text) (sym same) ∙ sym (append-nil (check_outcome commuting kinds walked).text))
     cut_text walked whole (inr (entries, later, cut, is)) =
         let texts : (check_outcome commuting kinds walked).text ≡ race_texts commuting kinds entries ++ []
-            = ap (λ w. (check_outcome commuting kinds w).text) cut ∙ ap (λ (o : Outcome). o.text) (outcome_at Commuting commuting tells kinds entries Fault) in
+        = ap (λ w. (check_outcome commuting kinds w).text) cut ∙ ap (λ (o : Outcome). o.text) (outcome_at Commuting commuting tells kinds entries Fault) in
         let front = front_outcome Commuting commuting tells kinds entries later (race_texts commuting kinds entries) [] (sym (append-nil (race_texts commuting kinds entries))) in
         subst (λ text. IsFront text (check_outcome commuting kinds whole).text) (sym (texts ∙ append-nil (race_texts commuting kinds entries)))
         (subst (λ w. IsFront (race_texts commuting kinds entries) (check_outcome commuting kinds w).text) (sym is) front)

@@ -1,5 +1,5 @@
 -- What `check` writes and answers, in the words of accepted lines and of races.
-use Rattle.std.proofs.Common.{◌≡◌, ◌<◌, ◌^◌, ◌⊎◌, inl, inr, ℕ, zero, suc, ◌+◌, Bool, true, false, cond, IsTrue, MatchOption, List, [], ◌∷◌, ◌++◌, length, Option, Some, None, is_some, Result, Ok, Err, Decides, refl, sym, ap, subst, ◌∙◌, arith, true≢false}
+use Rattle.std.proofs.Common.{◌≡◌, ◌<◌, ◌^◌, inl, inr, ℕ, zero, suc, ◌+◌, Bool, true, false, cond, MatchOption, List, [], ◌∷◌, ◌++◌, length, Option, Some, None, is_some, Result, Ok, Err, Decides, refl, sym, subst, ◌∙◌, arith, true≢false}
 use Rattle.rd_base.specs.Limits.{AreUsable}
 use Rattle.rd_base.specs.declared.limits.Limits.{Limits}
 use Rattle.rd_detect.proofs.RaceLemmas.{latest_is}
@@ -20,11 +20,11 @@ use Rattle.rd_wf.specs.MayFollow.{first_broken}
 use Rattle.rd_wf.specs.declared.causes.WfCause.{WfCause}
 use Rattle.rd_run.proofs.AcceptedLemmas.{trace_accepted}
 use Rattle.rd_run.proofs.ReportLemmas.{texts_report}
-use Rattle.rd_run.specs.Output.{check_outcome, entry_events, event_numbers, race_texts, races_before, races_of}
+use Rattle.rd_run.specs.Output.{check_outcome, entry_events, race_texts, races_before, races_of}
 use Rattle.rd_run.specs.Reports.{IsAcceptedLine, IsChecked, IsRefusedLine, IsWalk, SaysBuilt}
-use Rattle.rd_run.specs.Walk.{Entry, Walked, ended, ends, goes, accepted_or, ending_of, entries_of, goes_or_ends, is_unbuilt, is_unbuilt_item, items, judged, judged_item, trace_of, walk}
+use Rattle.rd_run.specs.Walk.{Walked, accepted_or, ending_of, entries_of, goes_or_ends, is_unbuilt, is_unbuilt_item, items, judged, judged_item, trace_of, walk}
 use Rattle.rd_run.specs.declared.endings.TraceCause.{TraceCause}
-use Rattle.rd_run.specs.declared.endings.TraceCause.TheVariants.{NotBuilt, BadLine, Wf}
+use Rattle.rd_run.specs.declared.endings.TraceCause.TheVariants.{NotBuilt, BadLine}
 
 -- ---- the accepted lines
 

@@ -10,11 +10,10 @@ use Rattle.rd_detect.specs.Register.{Commute}
 use Rattle.rd_detect.specs.RegisterTests.{commutes}
 use Rattle.rd_event.specs.declared.events.Call.{Call}
 use Rattle.rd_io.specs.Inputs.{Source, Takes, IsOpened, IsNotOpened, Rose, next_count, file_of}
-use Rattle.rd_io.specs.Lines.{Stop}
 use Rattle.rd_io.specs.Lines.Stop.{end, fault}
 use Rattle.rd_wf.specs.Kinds.{Kind, register_alone}
 use Rattle.rd_run.specs.Commands.{Checked}
-use Rattle.rd_run.specs.Output.{Outcome, IsOutput, IsFront, Runs, OpensOnly, TakesOnly, race_texts, texts_before, races_of, races_before, ending_text, check_status, check_outcome, input_of, outcome_of, walk_of, walk_on}
+use Rattle.rd_run.specs.Output.{Outcome, IsOutput, IsFront, Runs, OpensOnly, race_texts, texts_before, races_of, ending_text, check_status, check_outcome, input_of, outcome_of, walk_of, walk_on}
 use Rattle.rd_run.specs.Output.Command.{check}
 use Rattle.rd_run.specs.Progress.{IsRead}
 use Rattle.rd_run.specs.Walk.{Entry, Walked, ends, after, entries_of, ending_of, trace_of, step_bound}

@@ -121,11 +121,11 @@ impl Check {
         ensures written { OnOk result ((kinds : List Kind) (start : Check) (before : List Entry) (item : LineOf) → Checks kinds start before self.old →
             IsNextLine kinds self.old.tracker (items before) item (Accepted.Event event.now) → place ≡ length (entry_events kinds before) →
             WritesBetween (S.written out.old) (S.written out.new) (race_texts commutes kinds before)
-                (race_texts commutes kinds (before ++ record { number = number; item = item } ∷ []))) }
+            (race_texts commutes kinds (before ++ record { number = number; item = item } ∷ []))) }
         ensures halted { OnErr result ((kinds : List Kind) (start : Check) (before : List Entry) (item : LineOf) → Checks kinds start before self.old →
             IsNextLine kinds self.old.tracker (items before) item (Accepted.Event event.now) → place ≡ length (entry_events kinds before) →
             WritesFront (S.written out.old) (S.written out.new) (race_texts commutes kinds before)
-                (race_texts commutes kinds (before ++ record { number = number; item = item } ∷ []))) }
+            (race_texts commutes kinds (before ++ record { number = number; item = item } ∷ []))) }
         ensures cost { (kinds : List Kind) (start : Check) (before : List Entry) (item : LineOf) → Checks kinds start before self.old →
             IsNextLine kinds self.old.tracker (items before) item (Accepted.Event event.now) → steps.new ≤ steps.old + line_bound (items before) item }
         ensures fault { TellsFault (S.faults out.old) (S.faults out.new) (S.at_fault out.new) (S.written out.new) result }

@@ -1,7 +1,7 @@
 //! How the lines of a trace end.
 
-use rd_wf::WfCause;
 use rd_base::LimitName;
+use rd_wf::WfCause;
 
 /// Why a line is refused.
 #[derive(Clone, Copy, Debug, PartialEq, Eq)]

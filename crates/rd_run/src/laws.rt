@@ -53,5 +53,5 @@ pub fn law_of_checks()
 pub fn law_of_faults()
     ensures { (kinds : List Kind) (limits : Limits) (stop : Stop) (bytes more : List ℕ) →
         IsFront (check_outcome commutes kinds (trace_of kinds limits fault bytes)).text
-            (check_outcome commutes kinds (trace_of kinds limits stop (bytes ++ more))).text }
+        (check_outcome commutes kinds (trace_of kinds limits stop (bytes ++ more))).text }
 {}

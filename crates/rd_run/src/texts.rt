@@ -3,9 +3,9 @@ ghost use Rattle.std.specs.Prelude.{◌≡◌, ◌++◌, codes, decimal, IfOk, O
 ghost use Rattle.rd_run.specs.Output.{limit_text, cause_text, limit_cause_text, wf_text, race_line, races_line, refused_line};
 
 use crate::endings::TraceCause;
-use rd_wf::WfCause;
 use itoa::Buffer;
 use rd_base::{Bytes, LimitName, NoMemory};
+use rd_wf::WfCause;
 use std::alloc::Global;
 
 #[tactic(auto, unfolding(crate::specs::Output::limit_text))]

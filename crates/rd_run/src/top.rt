@@ -166,7 +166,7 @@ fn check_opened<I: Inputs, S: Sink, L: Ledger>(
         × (steps.new ≤ steps.old + step_bound entries)
         × IsRead walker.limits taken (length entries)
         × Goes (I.told inputs.old) (I.told inputs.new)
-            (λ old new. Takes old new taken × Checked (kinds_in walker.roster) walker.limits taken new.held entries part result) }
+        (λ old new. Takes old new taken × Checked (kinds_in walker.roster) walker.limits taken new.held entries part result) }
     ensures input_fault { result ≡ Status.InputFault → Rose (I.faults inputs.old) (I.faults inputs.new) }
     ensures calm { result ≢ Status.InputFault → I.faults inputs.new ≡ I.faults inputs.old }
     ensures fault { StatusTellsFault (S.faults out.old) (S.faults out.new) (S.at_fault out.new) (S.written out.new) result }

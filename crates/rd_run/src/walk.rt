@@ -85,7 +85,7 @@ fn take_line<A: Analysis, S: Sink, L: Ledger>(
         × StandsFor kinds walker.new.roster (items before ++ item ∷ [])
         × A.leads kinds start (before ++ record { number = number; item = item } ∷ []) walker.new.analysis
         × WritesBetween (S.written out.old) (S.written out.new)
-            (A.text kinds start before) (A.text kinds start (before ++ record { number = number; item = item } ∷ []))
+        (A.text kinds start before) (A.text kinds start (before ++ record { number = number; item = item } ∷ []))
         × (steps.new ≤ steps.old + line_bound (items before) item)) }
 
     // or refused, and all else is as before
@@ -101,7 +101,7 @@ fn take_line<A: Analysis, S: Sink, L: Ledger>(
         A.leads kinds start before walker.old.analysis → ((S.written out.new ≡ S.written out.old) × (steps.new ≡ steps.old))
         ⊎ ((item : Item) × (judged kinds walker.old.limits (items before) bytes.now ≡ Ok item)
         × WritesFront (S.written out.old) (S.written out.new)
-            (A.text kinds start before) (A.text kinds start (before ++ record { number = number; item = item } ∷ []))
+        (A.text kinds start before) (A.text kinds start (before ++ record { number = number; item = item } ∷ []))
         × (steps.new ≤ steps.old + line_bound (items before) item))) }
     ensures fault { TellsFault (S.faults out.old) (S.faults out.new) (S.at_fault out.new) (S.written out.new) result }
 {
@@ -113,9 +113,14 @@ fn take_line<A: Analysis, S: Sink, L: Ledger>(
         &walker.limits,
     ) {
         Ok(accepted) => {
-            let Err(halt) = walker
-                .analysis
-                .accept(number, &walker.line, &accepted, &walker.roster, out, steps)
+            let Err(halt) = walker.analysis.accept(
+                number,
+                &walker.line,
+                &accepted,
+                &walker.roster,
+                out,
+                steps,
+            )
             else {
                 return Ok(None);
             };
@@ -148,7 +153,7 @@ pub fn walk_lines<A: Analysis, I: Inputs, S: Sink, L: Ledger>(
         × (steps.new ≤ steps.old + step_bound entries)
         × IsRead walker.old.limits taken (length entries)
         × Goes (I.told inputs.old) (I.told inputs.new)
-            (λ old new. Takes old new taken × WalksTo (kinds_in walker.old.roster) walker.old.limits taken new.held entries ending)) }
+        (λ old new. Takes old new taken × WalksTo (kinds_in walker.old.roster) walker.old.limits taken new.held entries ending)) }
 
     // or some of them
     ensures halted { OnErr result ((entries : List Entry) × (taken : List ℕ)

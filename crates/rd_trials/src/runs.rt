@@ -2,15 +2,14 @@
 ghost use Rattle.std.specs.Prelude.{◌≡◌, ◌<◌, ◌≤◌};
 ghost use Rattle.rd_base.specs.Limits.{AreUsable};
 
-use rd_run::{Status, run};
-use rd_io::{MemoryInputs, MemorySink};
 use rd_base::{Limits, NoMemory, Steps, Word};
+use rd_io::{MemoryInputs, MemorySink};
+use rd_run::{Status, run};
 use std::alloc::Global;
 use std::marker::Brand;
 use std::process::Abort;
 use std::sync::ledger::{Blank, Ledger};
 use std::test::Fail;
-
 
 /// One register, one fork and one join.
 const FORK_AND_JOIN: &[u8] =

@@ -6,7 +6,7 @@ use Rattle.rd_detect.specs.RegisterTests.{commutes}
 use Rattle.rd_wf.specs.Roster.{kinds_in}
 use Rattle.rd_run.specs.Output.{ending_text, check_status, races_of, race_texts, IsOutput, Outcome}
 use Rattle.rd_run.specs.declared.endings.Ending.TheVariants.{Fault}
-use Rattle.rd_run.proofs.OutputLemmas.{behind, halted_tells, status_behind}
+use Rattle.rd_run.proofs.OutputLemmas.{behind}
 use Rattle.rd_run.proofs.RunLemmas.{outcome_at}
 use Rattle.rd_run.proofs.top.check_opened.Goals as goal
 

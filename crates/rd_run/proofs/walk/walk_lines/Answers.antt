@@ -1,4 +1,4 @@
-use Rattle.std.proofs.Common.{◌≡◌, ◌≤◌, ◌+◌, List, [], ◌∷◌, ◌++◌, length, Ok, Err, refl, sym, ap, ◌∙◌, subst, inl, inr, arith}
+use Rattle.std.proofs.Common.{◌≡◌, ◌+◌, [], ◌∷◌, ◌++◌, length, Ok, Err, refl, sym, ap, ◌∙◌, subst, inl, inr, arith}
 use Rattle.std.proofs.lemmas.List.{append_assoc, append-nil, length-append}
 use Rattle.rd_io.specs.Sinks.{Appends}
 use Rattle.rd_io.specs.Inputs.{Source}
@@ -8,7 +8,7 @@ use Rattle.rd_io.proofs.SinkLemmas.{appends_none, appends_on}
 use Rattle.rd_io.proofs.AdvanceLemmas.{takes_none, takes_on, takes_then}
 use Rattle.rd_wf.specs.Roster.{StandsFor, kinds_in}
 use Rattle.rd_run.specs.Walk.{Entry, items, bound_from, ended}
-use Rattle.rd_run.specs.Progress.{IsCut, WalksTo, ending_for}
+use Rattle.rd_run.specs.Progress.{WalksTo, ending_for}
 use Rattle.rd_run.specs.declared.endings.Ending.TheVariants.{Refused}
 use Rattle.rd_run.proofs.WalkLemmas.{items_more, bound_more}
 use Rattle.rd_run.proofs.ContinueLemmas.{continues_fresh, walks_end, walks_refused, continues_line, walks_to_refusal, walks_on, walks_further}

@@ -64,8 +64,11 @@ pub detect-requires-clause-few : goal.detect-requires-clause-few
 detect-requires-clause-few g c =
     let (kinds, start, before, item, checks, next, last) = c.requires in
     let entry : Entry = record { number = c.args.number; item = item } in
-    omega (arith, call_races kinds start c.args.self.now before entry checks c.in-Call.call
-    (called_line kinds start c.args.self.now before entry c.args.event.now c.in-Call.call c.in-Call.is checks next))
+    omega (
+      arith,
+      call_races kinds start c.args.self.now before entry checks c.in-Call.call
+          (called_line kinds start c.args.self.now before entry c.args.event.now c.in-Call.call c.in-Call.is checks next),
+    )
 
 pub returns-clause-checks : goal.returns-clause-checks
 returns-clause-checks g c =

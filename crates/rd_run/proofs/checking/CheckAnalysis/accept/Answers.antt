@@ -1,4 +1,4 @@
-use Rattle.std.proofs.Common.{◌≡◌, ◌≢◌, ◌⊎◌, ℕ, ◌+◌, ◌-◌, List, [], ◌∷◌, ◌++◌, length, Result, Ok, Err, OnErr, refl, subst, sym, ◌∙◌, arith, inl, inr}
+use Rattle.std.proofs.Common.{◌≡◌, ◌≢◌, ◌⊎◌, ℕ, ◌-◌, List, [], ◌∷◌, ◌++◌, length, Result, Ok, Err, OnErr, refl, subst, sym, ◌∙◌, arith, inl, inr}
 use Rattle.std.proofs.lemmas.List.{append-nil}
 use Rattle.std.proofs.lemmas.Result.{on_ok_weaker, on_err_weaker}
 use Rattle.rd_io.proofs.SinkLemmas.{appends_none}
@@ -28,8 +28,11 @@ pub overflow_sub-events : goal.overflow_sub-events
 overflow_sub-events g c =
     let (kinds, start, before, checks, next) = c.requires in
     let line = subst (IsNextEntry kinds c.args.roster.now before c.args._line.now) c.in-Event.is next in
-    omega (arith, event_place kinds start c.args.self.now before c.args._line.now c.args.roster.now c.in-Event.event checks line c.events.result
-    (c.events.ensures kinds (items before ++ c.args._line.now ∷ []) next.stands))
+    omega (
+      arith,
+      event_place kinds start c.args.self.now before c.args._line.now c.args.roster.now c.in-Event.event checks line c.events.result
+          (c.events.ensures kinds (items before ++ c.args._line.now ∷ []) next.stands),
+    )
 
 -- the event is the next one, at its place
 module _ (kinds : List Kind) (start now : Check) (before : List Entry) (item : Line) (roster : Roster) (numbers : Accepted) (e : Numbered) (is : numbers ≡ accepted.Event e)
