@@ -16,7 +16,7 @@ use Rattle.rd_event.specs.declared.items.LineEvent.TheVariants.{Fork, Join, Call
 use Rattle.rd_event.specs.declared.reading.LineRefused.{LineRefused}
 use Rattle.rd_event.specs.declared.reading.LineRefused.TheVariants.{BadLine}
 use Rattle.rd_event.specs.Items.{IsEvent, LineInRange, words_apart, event_spelling, spelling, Says}
-use Rattle.rd_event.specs.Reading.{is_space, names_of, is_call, call_read, event_with, item_with, item_of}
+use Rattle.rd_event.specs.Reading.{is_space, names_of, is_call_keyword, call_read, event_with, item_with, item_of}
 use Rattle.rd_event.proofs.CallLemmas.{CallSaid, call_said, call_found}
 use Rattle.rd_event.proofs.WordLemmas.{NameSaid, NamesSaid, cut_joined, name_said, names_said, name_found, names_found}
 
@@ -91,7 +91,7 @@ line_said bytes =
     (λ item said. (said.0, subst (λ all. Says all item) (sym (cut_joined bytes said.2)) said.1)))
 
 -- the item of a call
-pub call_item : (keyword rest : List ℕ) → is_call keyword ≡ true
+pub call_item : (keyword rest : List ℕ) → is_call_keyword keyword ≡ true
     → item_with keyword rest ≡ option_map (λ event. Event event) (call_read rest)
 unfolding item_with event_with
 call_item keyword rest same = rw ((bytes_decides keyword (codes "call")).0 same) refl

@@ -1,4 +1,4 @@
--- `slots_of` finds the slots of a call exactly in their spelling.
+-- `slots_read` finds the slots of a call exactly in their spelling.
 use Rattle.std.proofs.Common.{◌≡◌, ℕ, zero, suc, ◌-◌, ◌<◌, ◌≤◌, true, false, List, [], ◌∷◌, ◌++◌, length, refl, sym, ◌∙◌, ap, codes, Option, Some, None, IfSome, option_map, option_and_then, is_some, arith, append_assoc, length-append, bytes_eq, pos, negsuc}
 use Rattle.std.specs.Prelude.{⊤}
 use Rattle.std.specs.Fmt.{digits}
@@ -14,37 +14,37 @@ use Rattle.rd_base.specs.ReadingValues.{integer_of, value_of}
 use Rattle.rd_base.proofs.FoundLemmas.{if_some, map_found, then_found, each_by_recursion, each_from_recursion}
 use Rattle.rd_base.proofs.ValueLemmas.{value_found, found_said as value_said}
 use Rattle.rd_event.specs.Items.{AreSlots, words_apart, slots_spelling}
-use Rattle.rd_event.specs.ReadingSlots.{first_value, other_values, slots_of}
+use Rattle.rd_event.specs.ReadingSlots.{first_value, other_values, slots_read}
 use Rattle.rd_event.proofs.CutLemmas.{values_joined, value_before, value_behind, arrow_before, arrow_behind}
 
 -- Steps of the loop that reads the slots.
 abbrev SoFar : List ℕ → List Value → List ℕ → Type 0
-SoFar bytes slots rest = slots_of 7 bytes ≡ option_map (λ more. slots ++ more) (slots_of (7 - length slots) rest)
+SoFar bytes slots rest = slots_read 7 bytes ≡ option_map (λ more. slots ++ more) (slots_read (7 - length slots) rest)
 
-no_room : (bytes : List ℕ) → slots_of 0 bytes ≡ None
-unfolding slots_of
+no_room : (bytes : List ℕ) → slots_read 0 bytes ≡ None
+unfolding slots_read
 no_room bytes = refl
 
 slots_at_arrow : (room : ℕ) (bytes : List ℕ) → bytes_eq (first_value bytes) (codes "->") ≡ true
-    → slots_of (suc room) bytes ≡ option_map (λ result. result ∷ []) (value_of (other_values bytes))
-unfolding slots_of
+    → slots_read (suc room) bytes ≡ option_map (λ result. result ∷ []) (value_of (other_values bytes))
+unfolding slots_read
 slots_at_arrow room bytes arrow = rw arrow refl
 
 slots_at_argument : (room : ℕ) (bytes : List ℕ) → bytes_eq (first_value bytes) (codes "->") ≡ false
-    → slots_of (suc room) bytes
-    ≡ option_and_then (λ argument. option_map (λ slots. argument ∷ slots) (slots_of room (other_values bytes))) (value_of (first_value bytes))
-unfolding slots_of
+    → slots_read (suc room) bytes
+    ≡ option_and_then (λ argument. option_map (λ slots. argument ∷ slots) (slots_read room (other_values bytes))) (value_of (first_value bytes))
+unfolding slots_read
 slots_at_argument room bytes arrow = rw arrow refl
 
 with_room : (bytes : List ℕ) (slots : List Value) (rest : List ℕ) → SoFar bytes slots rest → length slots < 7
-    → slots_of 7 bytes ≡ option_map (λ more. slots ++ more) (slots_of (suc (6 - length slots)) rest)
+    → slots_read 7 bytes ≡ option_map (λ more. slots ++ more) (slots_read (suc (6 - length slots)) rest)
 with_room bytes slots rest so_far room =
     let count : 7 - length slots ≡ suc (6 - length slots) = omega arith in
-    so_far ∙ ap (λ n. option_map (λ more. slots ++ more) (slots_of n rest)) count
+    so_far ∙ ap (λ n. option_map (λ more. slots ++ more) (slots_read n rest)) count
 
 pub result_read : (bytes : List ℕ) (slots : List Value) (rest : List ℕ) (result : Value) → SoFar bytes slots rest → length slots < 7
     → bytes_eq (first_value rest) (codes "->") ≡ true → value_of (other_values rest) ≡ Some result
-    → slots_of 7 bytes ≡ Some (slots ++ result ∷ [])
+    → slots_read 7 bytes ≡ Some (slots ++ result ∷ [])
 result_read bytes slots rest result so_far room arrow found =
     with_room bytes slots rest so_far room
     ∙ ap (option_map (λ more. slots ++ more))
@@ -52,7 +52,7 @@ result_read bytes slots rest result so_far room arrow found =
 
 pub result_refused : (bytes : List ℕ) (slots : List Value) (rest : List ℕ) → SoFar bytes slots rest → length slots < 7
     → bytes_eq (first_value rest) (codes "->") ≡ true → value_of (other_values rest) ≡ None
-    → slots_of 7 bytes ≡ None
+    → slots_read 7 bytes ≡ None
 result_refused bytes slots rest so_far room arrow none =
     with_room bytes slots rest so_far room
     ∙ ap (option_map (λ more. slots ++ more))
@@ -60,12 +60,12 @@ result_refused bytes slots rest so_far room arrow none =
 
 pub argument_refused : (bytes : List ℕ) (slots : List Value) (rest : List ℕ) → SoFar bytes slots rest → length slots < 7
     → bytes_eq (first_value rest) (codes "->") ≡ false → value_of (first_value rest) ≡ None
-    → slots_of 7 bytes ≡ None
+    → slots_read 7 bytes ≡ None
 argument_refused bytes slots rest so_far room arrow none =
     with_room bytes slots rest so_far room
     ∙ ap (option_map (λ more. slots ++ more))
     (slots_at_argument (6 - length slots) rest arrow
-    ∙ ap (option_and_then (λ argument. option_map (λ slots. argument ∷ slots) (slots_of (6 - length slots) (other_values rest)))) none)
+    ∙ ap (option_and_then (λ argument. option_map (λ slots. argument ∷ slots) (slots_read (6 - length slots) (other_values rest)))) none)
 
 map_twice : (slots : List Value) (argument : Value) (found : Option (List Value))
     → option_map (λ more. slots ++ more) (option_map (λ more. argument ∷ more) found)
@@ -81,14 +81,14 @@ argument_read bytes slots rest argument so_far room arrow found =
     with_room bytes slots rest so_far room
     ∙ ap (option_map (λ more. slots ++ more))
     (slots_at_argument (6 - length slots) rest arrow
-    ∙ ap (option_and_then (λ argument. option_map (λ slots. argument ∷ slots) (slots_of (6 - length slots) (other_values rest)))) found)
-    ∙ map_twice slots argument (slots_of (6 - length slots) (other_values rest))
-    ∙ ap (λ n. option_map (λ more. (slots ++ argument ∷ []) ++ more) (slots_of n (other_values rest))) count
+    ∙ ap (option_and_then (λ argument. option_map (λ slots. argument ∷ slots) (slots_read (6 - length slots) (other_values rest)))) found)
+    ∙ map_twice slots argument (slots_read (6 - length slots) (other_values rest))
+    ∙ ap (λ n. option_map (λ more. (slots ++ argument ∷ []) ++ more) (slots_read n (other_values rest))) count
 
-pub too_many : (bytes : List ℕ) (slots : List Value) (rest : List ℕ) → SoFar bytes slots rest → 7 ≤ length slots → slots_of 7 bytes ≡ None
+pub too_many : (bytes : List ℕ) (slots : List Value) (rest : List ℕ) → SoFar bytes slots rest → 7 ≤ length slots → slots_read 7 bytes ≡ None
 too_many bytes slots rest so_far full =
     let none : 7 - length slots ≡ 0 = omega arith in
-    so_far ∙ ap (λ n. option_map (λ more. slots ++ more) (slots_of n rest)) none ∙ ap (option_map (λ more. slots ++ more)) (no_room rest)
+    so_far ∙ ap (λ n. option_map (λ more. slots ++ more) (slots_read n rest)) none ∙ ap (option_map (λ more. slots ++ more)) (no_room rest)
 
 -- Steps of the test that bytes spell slots.
 with_one : (room : ℕ) → 0 < room → room ≡ suc (room - 1)
@@ -108,26 +108,26 @@ none_behind : {A B C : Type 0} (f : A → B → C) (first : Option A) (others : 
 none_behind f (Some x) others none = cc
 none_behind f None others none = refl
 
-pub tested_without_room : (room : ℕ) (bytes : List ℕ) → room ≡ 0 → is_some (slots_of room bytes) ≡ false
-tested_without_room room bytes none = ap (λ n. is_some (slots_of n bytes)) none ∙ ap is_some (no_room bytes)
+pub tested_without_room : (room : ℕ) (bytes : List ℕ) → room ≡ 0 → is_some (slots_read room bytes) ≡ false
+tested_without_room room bytes none = ap (λ n. is_some (slots_read n bytes)) none ∙ ap is_some (no_room bytes)
 
 pub tested_at_arrow : (room : ℕ) (bytes : List ℕ) → 0 < room → bytes_eq (first_value bytes) (codes "->") ≡ true
-    → is_some (slots_of room bytes) ≡ is_some (value_of (other_values bytes))
+    → is_some (slots_read room bytes) ≡ is_some (value_of (other_values bytes))
 tested_at_arrow room bytes some arrow =
-    ap (λ n. is_some (slots_of n bytes)) (with_one room some) ∙ ap is_some (slots_at_arrow (room - 1) bytes arrow)
+    ap (λ n. is_some (slots_read n bytes)) (with_one room some) ∙ ap is_some (slots_at_arrow (room - 1) bytes arrow)
     ∙ some_made (λ result. result ∷ []) (value_of (other_values bytes))
 
 pub tested_at_argument : (room : ℕ) (bytes : List ℕ) → 0 < room → bytes_eq (first_value bytes) (codes "->") ≡ false
-    → is_some (value_of (first_value bytes)) ≡ true → is_some (slots_of room bytes) ≡ is_some (slots_of (room - 1) (other_values bytes))
+    → is_some (value_of (first_value bytes)) ≡ true → is_some (slots_read room bytes) ≡ is_some (slots_read (room - 1) (other_values bytes))
 tested_at_argument room bytes some arrow value =
-    ap (λ n. is_some (slots_of n bytes)) (with_one room some) ∙ ap is_some (slots_at_argument (room - 1) bytes arrow)
-    ∙ some_behind (λ argument slots. argument ∷ slots) (value_of (first_value bytes)) (slots_of (room - 1) (other_values bytes)) value
+    ap (λ n. is_some (slots_read n bytes)) (with_one room some) ∙ ap is_some (slots_at_argument (room - 1) bytes arrow)
+    ∙ some_behind (λ argument slots. argument ∷ slots) (value_of (first_value bytes)) (slots_read (room - 1) (other_values bytes)) value
 
 pub tested_at_no_value : (room : ℕ) (bytes : List ℕ) → 0 < room → bytes_eq (first_value bytes) (codes "->") ≡ false
-    → is_some (value_of (first_value bytes)) ≡ false → is_some (slots_of room bytes) ≡ false
+    → is_some (value_of (first_value bytes)) ≡ false → is_some (slots_read room bytes) ≡ false
 tested_at_no_value room bytes some arrow none =
-    ap (λ n. is_some (slots_of n bytes)) (with_one room some) ∙ ap is_some (slots_at_argument (room - 1) bytes arrow)
-    ∙ none_behind (λ argument slots. argument ∷ slots) (value_of (first_value bytes)) (slots_of (room - 1) (other_values bytes)) none
+    ap (λ n. is_some (slots_read n bytes)) (with_one room some) ∙ ap is_some (slots_at_argument (room - 1) bytes arrow)
+    ∙ none_behind (λ argument slots. argument ∷ slots) (value_of (first_value bytes)) (slots_read (room - 1) (other_values bytes)) none
 
 -- what a passed test found, and that a failed one found nothing
 pub slots_there : {A : Type 0} (found : Option A) → is_some found ≡ true → (x : A) × (found ≡ Some x)
@@ -151,7 +151,7 @@ no_arrow value range =
 
 -- slots are found in their spelling
 slots_found_in : (slots : List Value) (room : ℕ) → 1 ≤ length slots → length slots ≤ room → AllByRecursion IsValue slots
-    → slots_of room (slots_spelling slots) ≡ Some slots
+    → slots_read room (slots_spelling slots) ≡ Some slots
 slots_found_in [] room some few each = absurd (omega arith)
 slots_found_in (slot ∷ slots) zero some few each = absurd (omega arith)
 slots_found_in (result ∷ []) (suc room) some few each =
@@ -164,7 +164,7 @@ slots_found_in (argument ∷ slot ∷ slots) (suc room) some few each =
     slots_at_argument room (slots_spelling (argument ∷ slot ∷ slots)) (ap (λ word. bytes_eq word (codes "->")) before ∙ no_arrow argument each.0)
     ∙ rw (before, behind, value_found argument each.0, more) refl
 
-pub slots_found : (slots : List Value) → AreSlots slots → slots_of 7 (slots_spelling slots) ≡ Some slots
+pub slots_found : (slots : List Value) → AreSlots slots → slots_read 7 (slots_spelling slots) ≡ Some slots
 slots_found slots are = slots_found_in slots 7 are.some are.few (each_by_recursion _ slots are.each)
 
 -- and only there
@@ -212,19 +212,19 @@ argument_said room bytes argument slots found rest =
     let all = said_apart bytes (value_spelling argument) (slots_spelling slots) said.1 (sym rest.3) some in
     (omega arith, omega (arith, rest.1), (said.0, rest.2), one_more argument slots rest.0 ∙ all.0, all.1)
 
-slots_said_in : (room : ℕ) (bytes : List ℕ) → IfSome (slots_of room bytes) (SlotsSaid room bytes)
-unfolding slots_of
+slots_said_in : (room : ℕ) (bytes : List ℕ) → IfSome (slots_read room bytes) (SlotsSaid room bytes)
+unfolding slots_read
 slots_said_in zero bytes = tt
 slots_said_in (suc room) bytes =
     let Said : List Value → Type 0 = SlotsSaid (suc room) bytes in
     if_some Said _ _ _
     (λ arrow. map_found Said (λ result. result ∷ []) (value_of (other_values bytes)) (λ result found. result_said room bytes result arrow found))
     (then_found Said _ (value_of (first_value bytes)) (λ argument found.
-    map_found Said (λ slots. argument ∷ slots) (slots_of room (other_values bytes)) (λ slots more.
+    map_found Said (λ slots. argument ∷ slots) (slots_read room (other_values bytes)) (λ slots more.
     argument_said room bytes argument slots found
     (MatchOption-at_some ⊤ (SlotsSaid room (other_values bytes)) slots more (slots_said_in room (other_values bytes))))))
 
-pub slots_said : (bytes : List ℕ) (slots : List Value) → slots_of 7 bytes ≡ Some slots
+pub slots_said : (bytes : List ℕ) (slots : List Value) → slots_read 7 bytes ≡ Some slots
     → AreSlots slots × (slots_spelling slots ≡ bytes) × (0 < length bytes)
 slots_said bytes slots found =
     let said = MatchOption-at_some ⊤ (SlotsSaid 7 bytes) slots found (slots_said_in 7 bytes) in

@@ -11,7 +11,7 @@ use Rattle.rd_event.specs.declared.items.LineEvent.TheVariants.{Fork, Join, Call
 use Rattle.rd_event.specs.declared.reading.Pair.{Pair}
 use Rattle.rd_event.specs.declared.reading.Pair.TheVariants.{Object as ObjectPair, Fork as ForkPair, Join as JoinPair}
 use Rattle.rd_event.specs.Items.{is_skipped}
-use Rattle.rd_event.specs.ReadingSlots.{slots_of}
+use Rattle.rd_event.specs.ReadingSlots.{slots_read}
 
 abbrev pub is_space : ℕ → Bool
 is_space byte = byte == 32
@@ -35,7 +35,7 @@ call_read rest =
     let found_thread = name_of (before_first is_space rest) in
     let found_object = name_of (before_first is_space names) in
     let found_method = name_of (before_first is_space words) in
-    let found_slots = slots_of 7 (after_first is_space words) in
+    let found_slots = slots_read 7 (after_first is_space words) in
     option_and_then (λ thread. option_and_then (λ object. option_and_then (λ method.
     option_map (λ slots. Call thread object method slots) found_slots) found_method) found_object) found_thread
 
@@ -46,15 +46,15 @@ pair_item ForkPair names = Event (Fork names.0 names.1)
 pair_item JoinPair names = Event (Join names.0 names.1)
 
 -- the keyword of a call
-abbrev pub is_call : List ℕ → Bool
-is_call keyword = bytes_eq keyword (codes "call")
+abbrev pub is_call_keyword : List ℕ → Bool
+is_call_keyword keyword = bytes_eq keyword (codes "call")
 
 -- the event of a line with this keyword and these bytes after the space behind it
 unfoldable pub event_with : List ℕ → List ℕ → Option LineEvent
 event_with keyword rest =
     if bytes_eq keyword (codes "fork") then option_map (λ names. Fork names.0 names.1) (names_of rest)
     else if bytes_eq keyword (codes "join") then option_map (λ names. Join names.0 names.1) (names_of rest)
-    else if is_call keyword then call_read rest
+    else if is_call_keyword keyword then call_read rest
     else None
 
 -- the item of such a line

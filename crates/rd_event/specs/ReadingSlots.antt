@@ -32,9 +32,9 @@ abbrev pub other_values : List ℕ → List ℕ
 other_values bytes = drop (value_length Outside bytes + 1) bytes
 
 -- the arguments, then the result behind an arrow: at most so many values
-unfoldable pub slots_of : ℕ → List ℕ → Option (List Value)
-slots_of zero bytes = None
-slots_of (suc room) bytes =
-    let others = slots_of room (other_values bytes) in
+unfoldable pub slots_read : ℕ → List ℕ → Option (List Value)
+slots_read zero bytes = None
+slots_read (suc room) bytes =
+    let others = slots_read room (other_values bytes) in
     if bytes_eq (first_value bytes) (codes "->") then option_map (λ result. result ∷ []) (value_of (other_values bytes))
     else option_and_then (λ argument. option_map (λ slots. argument ∷ slots) others) (value_of (first_value bytes))

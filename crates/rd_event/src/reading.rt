@@ -6,7 +6,7 @@ ghost use Rattle.rd_base.specs.Names.{IsName, is_name_byte};
 ghost use Rattle.rd_event.specs.declared.items.Line.{Line};
 ghost use Rattle.std.specs.Str.{bytes_eq};
 ghost use Rattle.rd_event.specs.Items.{is_skipped, LineInRange, Says, spelling};
-ghost use Rattle.rd_event.specs.Reading.{is_space, name_of, names_of, is_call, call_read, pair_item, event_with, item_with, item_of};
+ghost use Rattle.rd_event.specs.Reading.{is_space, name_of, names_of, is_call_keyword, call_read, pair_item, event_with, item_with, item_of};
 
 use crate::items::{Line, LineEvent};
 use crate::slots::slots;
@@ -168,7 +168,7 @@ fn read_call(alloc: Global, rest: &[u8], line: &mut Line) -> Result<(), LineRefu
 // Reads a line that is no call, with this keyword and these bytes after the space behind it.
 #[tactic(auto, unfolding(crate::specs::Reading::event_with, crate::specs::Reading::item_with))]
 fn read_other(keyword: &[u8], rest: &[u8], line: &mut Line) -> Result<(), LineRefused>
-    requires { is_call keyword.now ≡ false }
+    requires { is_call_keyword keyword.now ≡ false }
     ensures item { OnOk result (item_with keyword.now rest.now ≡ Some line.new) }
     ensures none { OnErr result (item_with keyword.now rest.now ≡ None) }
     ensures refused { IfErr result (λ e. e ≡ LineRefused.BadLine) }
@@ -201,7 +201,7 @@ fn read_item(alloc: Global, bytes: &[u8], line: &mut Line) -> Result<(), LineRef
     ensures item { OnOk result (item_of bytes.now ≡ Some line.new) }
     ensures none { IfErr result (λ e. e ≡ LineRefused.BadLine → item_of bytes.now ≡ None) }
     ensures memory { IfErr result (λ e. e ≡ LineRefused.NoMemory → (item : Line) × (item_of bytes.now ≡ Some item)) }
-    ensures call { IfErr result (λ e. e ≡ LineRefused.NoMemory → IsTrue (is_call (before_first is_space bytes.now))) }
+    ensures call { IfErr result (λ e. e ≡ LineRefused.NoMemory → IsTrue (is_call_keyword (before_first is_space bytes.now))) }
 {
     if is_skipped(bytes) {
         *line = Line::Skip;
@@ -222,7 +222,7 @@ pub fn read_into(alloc: Global, bytes: &[u8], line: &mut Line) -> Result<(), Lin
     ensures item { OnOk result (item_of bytes.now ≡ Some line.new) }
     ensures none { IfErr result (λ e. e ≡ LineRefused.BadLine → item_of bytes.now ≡ None) }
     ensures memory { IfErr result (λ e. e ≡ LineRefused.NoMemory → (item : Line) × (item_of bytes.now ≡ Some item)) }
-    ensures call { IfErr result (λ e. e ≡ LineRefused.NoMemory → IsTrue (is_call (before_first is_space bytes.now))) }
+    ensures call { IfErr result (λ e. e ≡ LineRefused.NoMemory → IsTrue (is_call_keyword (before_first is_space bytes.now))) }
 {
     read_item(alloc, bytes, line)
 }
@@ -236,7 +236,7 @@ pub fn read_line(alloc: Global, bytes: &[u8]) -> Result<Line, LineRefused>
     ensures item { IfOk result (λ item. item_of bytes.now ≡ Some item) }
     ensures none { IfErr result (λ e. e ≡ LineRefused.BadLine → item_of bytes.now ≡ None) }
     ensures memory { IfErr result (λ e. e ≡ LineRefused.NoMemory → (item : Line) × (item_of bytes.now ≡ Some item)) }
-    ensures call { IfErr result (λ e. e ≡ LineRefused.NoMemory → IsTrue (is_call (before_first is_space bytes.now))) }
+    ensures call { IfErr result (λ e. e ≡ LineRefused.NoMemory → IsTrue (is_call_keyword (before_first is_space bytes.now))) }
 {
     let mut line = Line::Skip;
     match read_into(alloc, bytes, &mut line) {

@@ -2,7 +2,7 @@
 ghost use Rattle.std.specs.Prelude.{◌≡◌, List, Some, None, is_some, IfOk, IfErr};
 ghost use Rattle.rd_base.specs.declared.values.Value.{Value};
 ghost use Rattle.rd_event.specs.declared.slots.Place.TheVariants.{Outside};
-ghost use Rattle.rd_event.specs.ReadingSlots.{is_end, next_place, value_length, first_value, other_values, slots_of};
+ghost use Rattle.rd_event.specs.ReadingSlots.{is_end, next_place, value_length, first_value, other_values, slots_read};
 
 use crate::reading::{LineRefused, is};
 use rd_base::{Slots, ValueRefused, is_value, read_value};
@@ -80,7 +80,7 @@ fn cut_value(bytes: &[u8]) -> (&[u8], &[u8])
 // Do the bytes spell at most so many values: arguments, then a result behind an arrow? It takes no memory.
 #[tactic(auto, using(crate::proofs::SlotLemmas::tested_without_room, crate::proofs::SlotLemmas::tested_at_arrow, crate::proofs::SlotLemmas::tested_at_argument, crate::proofs::SlotLemmas::tested_at_no_value))]
 fn are_slots(room: u8, bytes: &[u8]) -> bool
-    ensures { result ≡ is_some (slots_of room bytes.now) }
+    ensures { result ≡ is_some (slots_read room bytes.now) }
 {
     if room == 0 {
         return false;
@@ -98,8 +98,8 @@ fn are_slots(room: u8, bytes: &[u8]) -> bool
 // Why a call with these bytes behind its names is refused where memory is: `NoMemory` only if they spell slots.
 #[cold]
 fn want_of_memory(bytes: &[u8]) -> LineRefused
-    ensures none { result ≡ LineRefused.BadLine → slots_of 7 bytes.now ≡ None }
-    ensures memory { result ≡ LineRefused.NoMemory → (slots : List Value) × (slots_of 7 bytes.now ≡ Some slots) }
+    ensures none { result ≡ LineRefused.BadLine → slots_read 7 bytes.now ≡ None }
+    ensures memory { result ≡ LineRefused.NoMemory → (slots : List Value) × (slots_read 7 bytes.now ≡ Some slots) }
 {
     if are_slots(7, bytes) {
         LineRefused::NoMemory
@@ -110,9 +110,9 @@ fn want_of_memory(bytes: &[u8]) -> LineRefused
 
 // The arguments and the result, at most 7 values, that the bytes spell.
 pub(crate) fn slots(alloc: Global, bytes: &[u8]) -> Result<Slots, LineRefused>
-    ensures slots { IfOk result (λ slots. slots_of 7 bytes.now ≡ Some slots) }
-    ensures none { IfErr result (λ e. e ≡ LineRefused.BadLine → slots_of 7 bytes.now ≡ None) }
-    ensures memory { IfErr result (λ e. e ≡ LineRefused.NoMemory → (slots : List Value) × (slots_of 7 bytes.now ≡ Some slots)) }
+    ensures slots { IfOk result (λ slots. slots_read 7 bytes.now ≡ Some slots) }
+    ensures none { IfErr result (λ e. e ≡ LineRefused.BadLine → slots_read 7 bytes.now ≡ None) }
+    ensures memory { IfErr result (λ e. e ≡ LineRefused.NoMemory → (slots : List Value) × (slots_read 7 bytes.now ≡ Some slots)) }
 {
     let mut values = Vec::new(alloc);
     let mut rest = bytes;

@@ -1,7 +1,7 @@
 -- What the answers of the reader of lines say of the lines to come.
 use Rattle.std.proofs.Common.{◌≡◌, ◌≢◌, ℕ, ◌+◌, ◌≤◌, List, [], ◌∷◌, ◌++◌, length, Result, Ok, Err, sym, ap, ◌∙◌, refl, arith}
 use Rattle.std.proofs.lemmas.List.{append-nil}
-use Rattle.rd_io.specs.Lines.{Stop, ending_of}
+use Rattle.rd_io.specs.Lines.{Stop, rest_ending}
 use Rattle.rd_io.specs.Lines.Stop.{end, fault}
 use Rattle.rd_io.specs.Lines.Ending.{line_too_long, bytes_limit}
 use Rattle.rd_io.specs.Lines.Reading.{stops, line}
@@ -25,7 +25,7 @@ tells_past : (old : Reader) (bytes : List ℕ) → IsPast (with_more old bytes)
 tells_past old bytes h stop more = left_more old bytes stop more ∙ left_past (with_more old bytes) h stop more
 
 tells_stop : (old : Reader) (bytes : List ℕ) → IsShort (with_more old bytes) → (stop : Stop)
-    → left old stop bytes ≡ stops (ending_of stop (old.pending ++ bytes))
+    → left old stop bytes ≡ stops (rest_ending stop (old.pending ++ bytes))
 tells_stop old bytes h stop =
     ap (left old stop) (sym (append-nil bytes)) ∙ left_more old bytes stop [] ∙ left_short (with_more old bytes) h stop
 
@@ -78,7 +78,7 @@ module _ (old new : Reader) (bytes : List ℕ) (past : length (old.pending ++ by
           let (answer, reader) = well is in
           rw answer (
             record {
-              tells = tells_stop old bytes h end ∙ ap (λ p. stops (ending_of end p)) is;
+              tells = tells_stop old bytes h end ∙ ap (λ p. stops (rest_ending end p)) is;
               leaves = reader;
               past = past;
               fits = fits;
@@ -96,7 +96,7 @@ module _ (old new : Reader) (bytes : List ℕ) (past : length (old.pending ++ by
           let (answer, reader) = rest some in
           rw answer (
             record {
-              tells = (tells_stop old bytes h end ∙ ap (λ p. stops (ending_of end p)) is, ap (λ (r : Reader). r.line) reader);
+              tells = (tells_stop old bytes h end ∙ ap (λ p. stops (rest_ending end p)) is, ap (λ (r : Reader). r.line) reader);
               leaves = reader;
               past = past;
               fits = fits;

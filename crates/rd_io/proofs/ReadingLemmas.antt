@@ -3,7 +3,7 @@ use Rattle.std.proofs.Common.{◌≡◌, ◌≢◌, ℕ, suc, ◌+◌, ◌-◌, 
 use Rattle.std.proofs.lemmas.List.{append_assoc, append-nil, length-append, length-take, take-append-le, take_all}
 use Rattle.std.proofs.lemmas.Bool.Decides.{nat_tests}
 use Rattle.std.proofs.Math.Seq.{take-append-add}
-use Rattle.rd_io.specs.Lines.{Stop, Parts, with_byte, parts_of, ending_of, lines_of, reading}
+use Rattle.rd_io.specs.Lines.{Stop, Parts, with_byte, parts_of, rest_ending, lines_of, reading}
 use Rattle.rd_io.specs.Lines.Ending.{line_too_long, bytes_limit}
 use Rattle.rd_io.specs.Lines.Reading.{stops, line}
 use Rattle.rd_io.specs.Lines.Parts.{rest, part}
@@ -50,7 +50,7 @@ pub lines_long : (limit : ℕ) (stop : Stop) (past : Bool) (p : Parts) → limit
 unfolding lines_of first_of
 lines_long limit stop past (rest bytes) l =
     let t : leb limit (length bytes) ≡ true = grind (arith, nat_tests) in
-    ap (λ b. cond b (stops line_too_long) (cond past (stops bytes_limit) (stops (ending_of stop bytes)))) t
+    ap (λ b. cond b (stops line_too_long) (cond past (stops bytes_limit) (stops (rest_ending stop bytes)))) t
 lines_long limit stop past (part bytes more) l =
     let t : leb limit (length bytes) ≡ true = grind (arith, nat_tests) in
     ap (λ b. cond b (stops line_too_long) (line bytes (lines_of limit stop past more))) t
@@ -63,11 +63,11 @@ lines_line limit stop past bytes p l =
     ap (λ b. cond b (stops line_too_long) (line bytes (lines_of limit stop past p))) t
 
 pub lines_rest : (limit : ℕ) (stop : Stop) (past : Bool) (bytes : List ℕ) → length bytes < limit
-    → lines_of limit stop past (rest bytes) ≡ cond past (stops bytes_limit) (stops (ending_of stop bytes))
+    → lines_of limit stop past (rest bytes) ≡ cond past (stops bytes_limit) (stops (rest_ending stop bytes))
 unfolding lines_of
 lines_rest limit stop past bytes l =
     let t : leb limit (length bytes) ≡ false = grind (arith, nat_tests) in
-    ap (λ b. cond b (stops line_too_long) (cond past (stops bytes_limit) (stops (ending_of stop bytes)))) t
+    ap (λ b. cond b (stops line_too_long) (cond past (stops bytes_limit) (stops (rest_ending stop bytes)))) t
 
 take_over : (front : List ℕ) (b : ℕ) (back : List ℕ) (n : ℕ) → take (length front + 1 + n) (front ++ b ∷ back) ≡ front ++ b ∷ take n back
 take_over [] b back n = let e : 0 + 1 + n ≡ suc n = omega arith in ap (λ k. take k (b ∷ back)) e
@@ -125,7 +125,7 @@ left_past r h stop more =
     ∙ lines_rest r.limit stop true (take r.room r.pending) (omega (arith, h.short, size))
 
 -- at the end of the bytes the pending ones are the rest
-pub left_short : (r : Reader) → IsShort r → (stop : Stop) → left r stop [] ≡ stops (ending_of stop r.pending)
+pub left_short : (r : Reader) → IsShort r → (stop : Stop) → left r stop [] ≡ stops (rest_ending stop r.pending)
 unfolding reading
 left_short r h stop =
     let past : ltb r.room (length r.pending) ≡ false = let w = h.within in grind (arith, nat_tests) in

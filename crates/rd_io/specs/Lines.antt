@@ -34,10 +34,10 @@ parts_of [] = rest []
 parts_of (byte ∷ bytes) = if byte == 10 then part [] (parts_of bytes) else with_byte byte (parts_of bytes)
 
 -- how lines end behind which this rest is left, where no limit is passed
-abbrev pub ending_of : Stop → List ℕ → Ending
-ending_of fault bytes = faulted
-ending_of end [] = at_end
-ending_of end (byte ∷ bytes) = no_final_newline
+abbrev pub rest_ending : Stop → List ℕ → Ending
+rest_ending fault bytes = faulted
+rest_ending end [] = at_end
+rest_ending end (byte ∷ bytes) = no_final_newline
 
 -- The lines are the parts up to the first that has, without its line feed, as many bytes as the limit on a line
 -- (`limit`) or more. Behind them the first of these holds: a part or a rest is so long; there are bytes past the limit
@@ -46,7 +46,7 @@ unfoldable pub lines_of : ℕ → Stop → Bool → Parts → Reading
 lines_of limit stop past (part bytes more) =
     if nat_le limit (length bytes) then stops line_too_long else line bytes (lines_of limit stop past more)
 lines_of limit stop past (rest bytes) =
-    if nat_le limit (length bytes) then stops line_too_long else (if past then stops bytes_limit else stops (ending_of stop bytes))
+    if nat_le limit (length bytes) then stops line_too_long else (if past then stops bytes_limit else stops (rest_ending stop bytes))
 
 -- the lines of bytes with a limit on the bytes of a line and one on all bytes (`room`)
 unfoldable pub reading : ℕ → ℕ → Stop → List ℕ → Reading
