@@ -9,13 +9,7 @@ use rd_event::Call;
 fn are_equal(a: &Value, b: &Value) -> bool
     ensures { IsTrue result ↔ (a.now ≡ b.now) }
 {
-    match (a, b) {
-        (Value::Nil, Value::Nil) => true,
-        (Value::Bool(a), Value::Bool(b)) => a == b,
-        (Value::Int(a), Value::Int(b)) => a == b,
-        (Value::Text(a), Value::Text(b)) => a.items() == b.items(),
-        _ => false,
-    }
+    a == b
 }
 
 fn keeps(slots: &[Value]) -> bool
