@@ -6,13 +6,13 @@ use Rattle.std.proofs.lemmas.Option.{slice_get_within}
 use Rattle.rd_event.specs.declared.events.Call.{Call as CallOf}
 use Rattle.rd_event.specs.declared.events.Event.{Event}
 use Rattle.rd_event.specs.declared.events.Event.TheVariants.{Call}
-use Rattle.rd_hb.specs.Clock.{component}
+use Rattle.rd_clock.specs.Clock.{component}
 use Rattle.rd_hb.specs.EventClocks.{OwnNumber}
-use Rattle.rd_hb.specs.Order.{call_in, Reaches}
+use Rattle.rd_order.specs.Order.{call_in, Reaches}
 use Rattle.rd_hb.specs.Tracker.{IsStamp}
-use Rattle.rd_hb.specs.declared.clock.Stamp.{Stamp}
+use Rattle.rd_clock.specs.declared.clock.Stamp.{Stamp}
 use Rattle.rd_hb.proofs.ClockLemmas.{clock_tells, own_number_longer}
-use Rattle.rd_hb.proofs.OrderLemmas.{at_front, at_end, length_more}
+use Rattle.rd_order.proofs.OrderLemmas.{at_front, at_end, length_more}
 use Rattle.rd_detect.specs.Detect.{IsAnswer, IsNewest, IsSeen, Meets, StandsFor}
 use Rattle.rd_detect.specs.Races.{Racing}
 use Rattle.rd_detect.specs.declared.detector.Seen.{Seen}

@@ -8,7 +8,7 @@ use Rattle.std.proofs.lemmas.Option.{none-some, same_Some}
 use Rattle.rd_event.specs.declared.events.Call.{Call as CallOf}
 use Rattle.rd_event.specs.declared.events.Event.{Event}
 use Rattle.rd_event.specs.declared.events.Event.TheVariants.{Fork, Join, Call}
-use Rattle.rd_hb.proofs.OrderLemmas.{at_end, at_front, reaches_decides, reaches_longer, reaches_shorter}
+use Rattle.rd_order.proofs.OrderLemmas.{at_end, at_front, reaches_decides, reaches_longer, reaches_shorter}
 use Rattle.rd_detect.specs.RaceTests.{are_apart, is_racing, last_below, latest_of}
 use Rattle.rd_detect.specs.Races.{Racing, Reported, IsLatest}
 

@@ -3,10 +3,10 @@ use Rattle.std.specs.Prelude.{◌≡◌, ℕ, ◌<◌, ◌≤◌, List, [], ◌�
 use Rattle.rd_event.specs.declared.events.Call.{Call as CallOf}
 use Rattle.rd_event.specs.declared.events.Event.{Event}
 use Rattle.rd_event.specs.declared.events.Event.TheVariants.{Call}
-use Rattle.rd_hb.specs.Clock.{component}
+use Rattle.rd_clock.specs.Clock.{component}
 use Rattle.rd_hb.specs.EventClocks.{OwnNumber}
 use Rattle.rd_hb.specs.Tracker.{IsStamp}
-use Rattle.rd_hb.specs.declared.clock.Stamp.{Stamp}
+use Rattle.rd_clock.specs.declared.clock.Stamp.{Stamp}
 use Rattle.rd_detect.specs.Races.{Reported, IsLatest}
 use Rattle.rd_detect.specs.declared.detector.Seen.{Seen}
 

@@ -4,7 +4,7 @@ use Rattle.std.specs.Prelude.{ℕ, zero, suc, ◌==◌, nat_lt, Bool, false, not
 use Rattle.rd_event.specs.declared.events.Call.{Call as CallOf}
 use Rattle.rd_event.specs.declared.events.Event.{Event}
 use Rattle.rd_event.specs.declared.events.Event.TheVariants.{Call}
-use Rattle.rd_hb.specs.OrderTests.{reaches}
+use Rattle.rd_order.specs.OrderTests.{reaches}
 
 -- the calls that pass a test of commuting
 abbrev pub Passing : (CallOf → CallOf → Bool) → CallOf → CallOf → Type 0

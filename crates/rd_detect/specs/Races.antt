@@ -3,7 +3,7 @@ use Rattle.std.specs.Prelude.{◌≡◌, ℕ, ◌≤◌, List, Some, slice_get}
 use Rattle.rd_event.specs.declared.events.Call.{Call as CallOf}
 use Rattle.rd_event.specs.declared.events.Event.{Event}
 use Rattle.rd_event.specs.declared.events.Event.TheVariants.{Call}
-use Rattle.rd_hb.specs.Order.{Unordered}
+use Rattle.rd_order.specs.Order.{Unordered}
 
 -- the calls at two places, the first earlier, are on one object, unordered, and don't commute
 pub record Racing (Commuting : CallOf → CallOf → Type 0) (es : List Event) (i j : ℕ) : Type 0 where

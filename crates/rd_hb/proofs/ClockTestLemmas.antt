@@ -6,11 +6,11 @@ use Rattle.std.proofs.lemmas.Bool.Decides.{Decides-and, Decides-or, Decides-eqb,
 use Rattle.std.proofs.lemmas.Option.{none-some, same_Some}
 use Rattle.rd_event.specs.declared.events.Event.{Event}
 use Rattle.rd_hb.specs.ClockTests.{count_below, is_of, clock_at}
-use Rattle.rd_hb.specs.Counts.{Counts}
+use Rattle.rd_order.specs.Counts.{Counts}
 use Rattle.rd_hb.specs.EventClocks.{IsOf, IsClock}
-use Rattle.rd_hb.specs.Order.{thread_of, Reaches}
-use Rattle.rd_hb.specs.OrderTests.{reaches}
-use Rattle.rd_hb.proofs.OrderLemmas.{reaches_decides}
+use Rattle.rd_order.specs.Order.{thread_of, Reaches}
+use Rattle.rd_order.specs.OrderTests.{reaches}
+use Rattle.rd_order.proofs.OrderLemmas.{reaches_decides}
 
 -- of the numbers below n, as many have P as pass the test for it
 pub counts_by_test : (test : ℕ → Bool) (P : ℕ → Type 0) → ((k : ℕ) → Decides (test k) (P k)) → (n : ℕ) → Counts P n (count_below test n)

@@ -4,11 +4,11 @@ use Rattle.std.specs.Prelude.{slice_get}
 use Rattle.std.proofs.lemmas.Bool.{cases_lt}
 use Rattle.std.proofs.lemmas.Option.{slice_get_within, same_Some, none-some}
 use Rattle.rd_event.specs.declared.events.Event.{Event}
-use Rattle.rd_hb.specs.Order.{thread_of, forked_thread, joined_thread, hold_taken, Linked, same_thread, begins, ends, spans, hands_over, Reaches}
+use Rattle.rd_order.specs.Order.{thread_of, forked_thread, joined_thread, hold_taken, Linked, same_thread, begins, ends, spans, hands_over, Reaches}
 use Rattle.rd_hb.specs.EventClocks.{IsOf}
 use Rattle.rd_hb.specs.Knows.{Carries, Knows}
-use Rattle.rd_hb.proofs.CountsLemmas.{Front}
-use Rattle.rd_hb.proofs.OrderLemmas.{at_front, at_end, edge_reaches, length_more, reaches_joined, reaches_last, reaches_longer, reaches_rises, reaches_shorter}
+use Rattle.rd_order.proofs.CountsLemmas.{Front}
+use Rattle.rd_order.proofs.OrderLemmas.{at_front, at_end, edge_reaches, length_more, reaches_joined, reaches_last, reaches_longer, reaches_rises, reaches_shorter}
 use Rattle.rd_hb.proofs.ClockLemmas.{is_of_longer, is_of_shorter, is_of_within, own_reaches}
 
 -- ---- carrying on

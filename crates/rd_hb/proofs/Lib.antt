@@ -1,11 +1,7 @@
+pub mod CarryLemmas
 pub mod ClockLemmas
 pub mod ClockTestLemmas
-pub mod CountsLemmas
-pub mod EventListLemmas
-pub mod ImpliedLemmas
 pub mod KnowsLemmas
-pub mod OrderLemmas
-pub mod PathLemmas
 pub mod TrackLemmas
 pub mod TrackerLemmas
 pub mod TrackerTestLemmas

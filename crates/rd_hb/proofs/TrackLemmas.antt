@@ -4,16 +4,16 @@ use Rattle.std.specs.Prelude.{if◌then◌else◌}
 use Rattle.std.proofs.lemmas.Bool.{cases_eq, eq-eqb, ne_eqb}
 use Rattle.std.proofs.lemmas.Bool.Decides.{not_from_Decides}
 use Rattle.rd_event.specs.declared.events.Event.{Event}
-use Rattle.rd_hb.specs.Order.{thread_of, forked_thread, joined_thread, hold_taken, Reaches}
-use Rattle.rd_hb.specs.Counts.{Counts}
+use Rattle.rd_order.specs.Order.{thread_of, forked_thread, joined_thread, hold_taken, Reaches}
+use Rattle.rd_order.specs.Counts.{Counts}
 use Rattle.rd_hb.specs.EventClocks.{IsOf, OwnNumber, IsClock}
 use Rattle.rd_hb.specs.Knows.{Carries, Knows, KnownCount}
 use Rattle.rd_hb.specs.Tracker.{met, clock_after, known_after}
-use Rattle.rd_hb.proofs.CountsLemmas.{counts_bound, counts_cut, counts_like, counts_max, counts_more, counts_none, counts_same}
-use Rattle.rd_hb.specs.OrderTests.{is_this}
-use Rattle.rd_hb.specs.EventLists.{Known, MayHappen, WellFormed}
-use Rattle.rd_hb.proofs.EventListLemmas.{idle_root_carries_nothing, unknown_carries_nothing}
-use Rattle.rd_hb.proofs.OrderLemmas.{length_more, this_decides}
+use Rattle.rd_order.proofs.CountsLemmas.{counts_bound, counts_cut, counts_like, counts_max, counts_more, counts_none, counts_same}
+use Rattle.rd_order.specs.OrderTests.{is_this}
+use Rattle.rd_order.specs.EventLists.{Known, MayHappen, WellFormed}
+use Rattle.rd_hb.proofs.CarryLemmas.{idle_root_carries_nothing, unknown_carries_nothing}
+use Rattle.rd_order.proofs.OrderLemmas.{length_more, this_decides}
 use Rattle.rd_hb.proofs.ClockLemmas.{is_of_longer, is_of_shorter}
 use Rattle.rd_hb.proofs.KnowsLemmas.{alone_reached, join_reached, actor_knows, child_knows, knows_front, knows_longer, last_is_of, last_thread, nothing_known, other_carries, other_knows}
 

@@ -9,19 +9,20 @@ use Rattle.std.proofs.lemmas.List.Sums.{sum_by_push}
 use Rattle.rd_event.specs.declared.events.Call.{Call as CallOf}
 use Rattle.rd_event.specs.declared.events.Event.{Event}
 use Rattle.rd_event.specs.declared.events.Event.TheVariants.{Fork, Join, Call}
-use Rattle.rd_hb.proofs.OrderLemmas.{at_end}
+use Rattle.rd_order.proofs.OrderLemmas.{at_end}
 use Rattle.rd_hb.proofs.TrackLemmas.{clock_step, known_step, known_bound, known_own, own_number_new}
 use Rattle.rd_hb.specs.EventClocks.{IsClock, IsOf, OwnNumber}
-use Rattle.rd_hb.specs.EventLists.{forks, joins, Known, MayHappen, IsBounded, WellFormed}
+use Rattle.rd_order.specs.EventLists.{forks, joins, Known, MayHappen, IsBounded, WellFormed}
 use Rattle.rd_hb.specs.Knows.{Knows, KnownCount}
-use Rattle.rd_hb.proofs.CountsLemmas.{counts_all, counts_le}
-use Rattle.rd_hb.proofs.EventListLemmas.{few_known, forks_more, formed_more, known_more}
-use Rattle.rd_hb.specs.Order.{thread_of, forked_thread, joined_thread, hold_taken}
-use Rattle.rd_hb.specs.OrderTests.{is_this}
-use Rattle.rd_hb.specs.declared.clock.Stamp.{Stamp}
-use Rattle.rd_hb.specs.Clock.{component, IsTick}
+use Rattle.rd_order.proofs.CountsLemmas.{counts_all, counts_le}
+use Rattle.rd_order.proofs.EventListLemmas.{few_known, forks_more, formed_more, known_more}
+use Rattle.rd_order.specs.Order.{thread_of, forked_thread, joined_thread, hold_taken}
+use Rattle.rd_order.specs.OrderTests.{is_this}
+use Rattle.rd_clock.specs.declared.clock.Stamp.{Stamp}
+use Rattle.rd_clock.specs.Clock.{component, IsTick}
 use Rattle.rd_hb.specs.declared.tracker.Tracked.{Tracked}
-use Rattle.rd_hb.specs.Tracker.{tracked, no_thread, known_to, clock_after, known_after, threads_after, AreTracked, IsBegun, IsCounted, IsLearnt, IsNextEvent, IsStamp, IsTracked, StandsFor}
+use Rattle.rd_hb.specs.Tracker.{tracked, no_thread, known_to, clock_after, known_after, AreTracked, IsBegun, IsCounted, IsLearnt, IsNextEvent, IsStamp, IsTracked, StandsFor}
+use Rattle.rd_order.specs.EventLists.{threads_after}
 
 -- ---- one thread is changed, or added
 

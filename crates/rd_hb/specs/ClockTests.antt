@@ -1,8 +1,8 @@
 -- Clocks by tests, for what has to be computed.
 use Rattle.std.specs.Prelude.{ℕ, zero, suc, ◌==◌, Bool, false, ◌&&◌, ◌||◌, if◌then◌else◌, List, length, Option, Some, None, slice_get}
 use Rattle.rd_event.specs.declared.events.Event.{Event}
-use Rattle.rd_hb.specs.Order.{thread_of}
-use Rattle.rd_hb.specs.OrderTests.{reaches}
+use Rattle.rd_order.specs.Order.{thread_of}
+use Rattle.rd_order.specs.OrderTests.{reaches}
 
 -- how many numbers below n pass
 abbrev pub count_below : (ℕ → Bool) → ℕ → ℕ

@@ -1,8 +1,8 @@
 -- Vector clocks: Fidge 1988 and Mattern 1989.
 use Rattle.std.specs.Prelude.{◌≡◌, ◌⊎◌, ℕ, suc, List, length, Some, slice_get}
 use Rattle.rd_event.specs.declared.events.Event.{Event}
-use Rattle.rd_hb.specs.Counts.{Counts}
-use Rattle.rd_hb.specs.Order.{thread_of, Reaches}
+use Rattle.rd_order.specs.Counts.{Counts}
+use Rattle.rd_order.specs.Order.{thread_of, Reaches}
 
 -- the event at place i is of thread t
 abbrev pub IsOf : List Event → ℕ → ℕ → Type 0

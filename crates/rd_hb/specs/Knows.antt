@@ -1,8 +1,8 @@
 -- What a thread knows after a list of events: what the clock counts that it carries on (Fidge 1988 and Mattern 1989).
 use Rattle.std.specs.Prelude.{◌≡◌, ◌⊎◌, ℕ, List, length, Some, slice_get}
 use Rattle.rd_event.specs.declared.events.Event.{Event}
-use Rattle.rd_hb.specs.Order.{forked_thread, Reaches}
-use Rattle.rd_hb.specs.Counts.{Counts}
+use Rattle.rd_order.specs.Order.{forked_thread, Reaches}
+use Rattle.rd_order.specs.Counts.{Counts}
 use Rattle.rd_hb.specs.EventClocks.{IsOf}
 
 -- thread t carries on from place m: its event is of t, or forks t

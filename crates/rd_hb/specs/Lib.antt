@@ -1,10 +1,5 @@
-pub mod Clock
 pub mod ClockTests
-pub mod Counts
 pub mod EventClocks
-pub mod EventLists
 pub mod Knows
-pub mod Order
-pub mod OrderTests
 pub mod TestTraces
 pub mod Tracker

@@ -1,14 +1,14 @@
 -- What a tracker holds of a list of events: this project's profile.
-use Rattle.std.specs.Prelude.{◌≡◌, ◌≢◌, ◌↔◌, ℕ, ◌+◌, ◌*◌, ◌<◌, ◌≤◌, ◌==◌, max, Bool, false, ◌||◌, IsTrue, if◌then◌else◌, List, [], ◌∷◌, ◌++◌, length, Option, None, Some, is_some, slice_get, slice_index_or}
+use Rattle.std.specs.Prelude.{◌≡◌, ◌≢◌, ◌↔◌, ℕ, ◌+◌, ◌*◌, ◌<◌, ◌≤◌, ◌==◌, max, Bool, false, ◌||◌, IsTrue, if◌then◌else◌, List, [], ◌∷◌, ◌++◌, length, Option, None, Some, slice_get, slice_index_or}
 use Rattle.rd_event.specs.declared.events.Event.{Event}
 use Rattle.rd_event.specs.declared.events.Event.TheVariants.{Call}
-use Rattle.rd_hb.specs.Clock.{component, IsTick, IsJoin}
+use Rattle.rd_clock.specs.Clock.{component, IsTick, IsJoin}
 use Rattle.rd_hb.specs.EventClocks.{OwnNumber, IsClock}
-use Rattle.rd_hb.specs.EventLists.{Known, WellFormed, joins}
+use Rattle.rd_order.specs.EventLists.{Known, WellFormed, joins}
 use Rattle.rd_hb.specs.Knows.{KnownCount}
-use Rattle.rd_hb.specs.Order.{thread_of, forked_thread, joined_thread}
-use Rattle.rd_hb.specs.OrderTests.{is_this}
-use Rattle.rd_hb.specs.declared.clock.Stamp.{Stamp}
+use Rattle.rd_order.specs.Order.{thread_of, forked_thread, joined_thread}
+use Rattle.rd_order.specs.OrderTests.{is_this}
+use Rattle.rd_clock.specs.declared.clock.Stamp.{Stamp}
 use Rattle.rd_hb.specs.declared.tracker.Tracked.{Tracked}
 
 -- ---- what threads know, by numbers: f t u is the number of events of u that t knows
@@ -59,10 +59,6 @@ pub record StandsFor (threads : List Tracked) (roots : ℕ → Bool) (es : List 
   pub joined : (t : ℕ) → IsTrue (tracked threads t).joined ↔ (0 < joins es t)
 
 -- ---- a step
-
--- how many threads are known after an event
-abbrev pub threads_after : Event → ℕ → ℕ
-threads_after e count = if is_some (forked_thread e) then count + 1 else count
 
 -- the bound on the steps of an event, by the number of threads that are known once it is done
 abbrev pub event_bound : Event → ℕ → ℕ

@@ -1,10 +1,8 @@
-//! Happens-before: the order of the events of a trace, and the vector clocks that tell it.
+//! Happens-before: the vector clocks of events, which tell their order, and a tracker that computes them.
 #![tactic(auto)]
 
-mod clock;
-mod order;
+mod clocks;
 mod tracker;
 
-pub use clock::{Clock, Stamp};
-pub use order::{examples_of_order, law_of_clocks, law_of_lists, law_of_reaching};
+pub use clocks::{examples_of_clocks, law_of_clocks};
 pub use tracker::Tracker;

@@ -2,13 +2,14 @@
 ghost use Rattle.std.specs.Prelude.{◌≡◌, ◌≢◌, ℕ, ◌+◌, ◌*◌, ◌<◌, ◌≤◌, Bool, false, ◌==◌, max, ◌||◌, if◌then◌else◌, List, [], ◌∷◌, ◌++◌, length, Some, None, IfOk, OnOk, OnErr};
 ghost use Rattle.rd_event.specs.declared.events.Event.{Event as EventOf};
 ghost use Rattle.rd_event.specs.declared.events.Event.TheVariants as event;
-ghost use Rattle.rd_hb.specs.Order.{thread_of, forked_thread, joined_thread};
-ghost use Rattle.rd_hb.specs.Clock.{component, IsJoin, IsTick};
-ghost use Rattle.rd_hb.specs.Tracker.{IsBegun, IsCounted, IsLearnt, IsNextEvent, IsStamp, StandsFor, event_bound, known_to, threads_after, tracked};
+ghost use Rattle.rd_order.specs.Order.{thread_of, forked_thread, joined_thread};
+ghost use Rattle.rd_clock.specs.Clock.{component, IsJoin, IsTick};
+ghost use Rattle.rd_hb.specs.Tracker.{IsBegun, IsCounted, IsLearnt, IsNextEvent, IsStamp, StandsFor, event_bound, known_to, tracked};
+ghost use Rattle.rd_order.specs.EventLists.{threads_after};
 ghost use Rattle.rd_hb.specs.declared.tracker.Tracked.{Tracked as TrackedOf};
 
-use crate::clock::{Clock, Stamp};
 use rd_base::{NoMemory, Steps};
+use rd_clock::{Clock, Stamp};
 use rd_event::Event;
 use std::alloc::Global;
 use std::marker::Model;

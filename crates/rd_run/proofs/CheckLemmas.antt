@@ -13,10 +13,11 @@ use Rattle.rd_event.specs.declared.items.Line.{Line}
 use Rattle.rd_event.specs.declared.items.Line.TheVariants.{Skip, Header, Thread, Object, Event}
 use Rattle.rd_event.specs.declared.items.LineEvent.{LineEvent}
 use Rattle.rd_event.specs.declared.items.LineEvent.TheVariants.{Fork, Join, Call}
-use Rattle.rd_hb.specs.EventLists.{WellFormed}
-use Rattle.rd_hb.specs.Order.{forked_thread}
-use Rattle.rd_hb.specs.Tracker.{IsNextEvent, IsStamp, StandsFor, event_bound, threads_after}
-use Rattle.rd_hb.specs.declared.clock.Stamp.{Stamp}
+use Rattle.rd_order.specs.EventLists.{WellFormed}
+use Rattle.rd_order.specs.Order.{forked_thread}
+use Rattle.rd_hb.specs.Tracker.{IsNextEvent, IsStamp, StandsFor, event_bound}
+use Rattle.rd_order.specs.EventLists.{threads_after}
+use Rattle.rd_clock.specs.declared.clock.Stamp.{Stamp}
 use Rattle.rd_hb.specs.declared.tracker.Tracked.{Tracked}
 use Rattle.rd_detect.proofs.DetectLemmas.{stands_quiet}
 use Rattle.rd_wf.proofs.EventsLemmas.{all_roots, events_more, no_events, roots_more, threads_more, told_more}

@@ -10,7 +10,7 @@ use Rattle.rd_event.specs.Reading.{item_of}
 use Rattle.rd_event.specs.declared.events.Call.{Call}
 use Rattle.rd_event.specs.declared.events.Event.{Event}
 use Rattle.rd_event.specs.declared.items.Line.{Line}
-use Rattle.rd_hb.specs.Counts.{Counts}
+use Rattle.rd_order.specs.Counts.{Counts}
 use Rattle.rd_io.specs.Lines.{Stop, Reading, reading}
 use Rattle.rd_io.specs.Lines.Reading.{stops, line}
 use Rattle.rd_wf.proofs.EventsLemmas.{accepted_told}

@@ -12,8 +12,8 @@ use Rattle.rd_event.specs.declared.events.Event.TheVariants.{Call}
 use Rattle.rd_event.specs.declared.items.Line.{Line}
 use Rattle.rd_event.specs.declared.items.Line.TheVariants.{Skip, Header, Thread, Object, Event}
 use Rattle.rd_event.specs.declared.items.LineEvent.{LineEvent}
-use Rattle.rd_hb.proofs.OrderLemmas.{at_end, at_front, length_more}
-use Rattle.rd_hb.specs.declared.clock.Stamp.{Stamp}
+use Rattle.rd_order.proofs.OrderLemmas.{at_end, at_front, length_more}
+use Rattle.rd_clock.specs.declared.clock.Stamp.{Stamp}
 use Rattle.rd_wf.proofs.EventsLemmas.{events_more}
 use Rattle.rd_detect.proofs.RaceLemmas.{latest_is, latest_longer, latest_none, latest_some}
 use Rattle.rd_run.proofs.WalkLemmas.{items_more}

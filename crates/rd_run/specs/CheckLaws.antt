@@ -2,7 +2,7 @@
 use Rattle.std.specs.Prelude.{◌≡◌, List, [], length}
 use Rattle.std.proofs.Common.{refl, sym, ap, subst, arith, true≢false}
 use Rattle.std.proofs.lemmas.Option.{none-some}
-use Rattle.rd_hb.specs.EventLists.{forks, joins}
+use Rattle.rd_order.specs.EventLists.{forks, joins}
 use Rattle.rd_hb.specs.Tracker.{StandsFor}
 use Rattle.rd_detect.specs.Detect.{StandsFor as Detects}
 use Rattle.rd_detect.specs.RegisterTests.{commutes}

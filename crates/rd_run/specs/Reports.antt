@@ -6,8 +6,8 @@ use Rattle.rd_event.specs.Items.{LineInRange, Says}
 use Rattle.rd_event.specs.declared.events.Call.{Call}
 use Rattle.rd_event.specs.declared.events.Event.{Event}
 use Rattle.rd_event.specs.declared.items.Line.{Line}
-use Rattle.rd_hb.specs.Counts.{Counts}
-use Rattle.rd_hb.specs.EventLists.{WellFormed}
+use Rattle.rd_order.specs.Counts.{Counts}
+use Rattle.rd_order.specs.EventLists.{WellFormed}
 use Rattle.rd_io.specs.Lines.{Stop, Reading, reading}
 use Rattle.rd_io.specs.Lines.Reading.{stops, line}
 use Rattle.rd_wf.specs.Events.{roots_of}

@@ -5,7 +5,7 @@ ghost use Rattle.rd_base.specs.declared.limits.Limits.{Limits};
 ghost use Rattle.rd_detect.specs.Races.{Reported};
 ghost use Rattle.rd_detect.specs.Register.{Commute};
 ghost use Rattle.rd_detect.specs.RegisterTests.{commutes};
-ghost use Rattle.rd_hb.specs.EventLists.{WellFormed};
+ghost use Rattle.rd_order.specs.EventLists.{WellFormed};
 ghost use Rattle.rd_io.specs.Lines.{Stop};
 ghost use Rattle.rd_io.specs.Lines.Stop.{fault};
 ghost use Rattle.rd_run.specs.Output.{IsFront, check_outcome, entry_events, event_numbers, race_texts, races_of};

@@ -18,10 +18,10 @@ use Rattle.rd_event.specs.declared.events.Event.TheVariants as numbered
 use Rattle.rd_event.specs.declared.items.Line.{Line}
 use Rattle.rd_event.specs.declared.items.Line.TheVariants.{Skip, Header, Thread, Object, Event}
 use Rattle.rd_event.specs.declared.items.LineEvent.TheVariants.{Fork, Join, Call}
-use Rattle.rd_hb.proofs.EventListLemmas.{few_known, formed_more, may_call, may_fork, may_join}
-use Rattle.rd_hb.specs.EventLists.{calls, Follow, forks, is_call_on, joins, IsBounded, Known, MayHappen}
-use Rattle.rd_hb.specs.Order.{call_in, forked_thread, joined_thread}
-use Rattle.rd_hb.specs.OrderTests.{is_this}
+use Rattle.rd_order.proofs.EventListLemmas.{few_known, formed_more, may_call, may_fork, may_join}
+use Rattle.rd_order.specs.EventLists.{calls, Follow, forks, is_call_on, joins, IsBounded, Known, MayHappen}
+use Rattle.rd_order.specs.Order.{call_in, forked_thread, joined_thread}
+use Rattle.rd_order.specs.OrderTests.{is_this}
 use Rattle.rd_wf.proofs.FollowLemmas.{Meets, among_decides, met}
 use Rattle.rd_wf.specs.NoLines.{told_none}
 use Rattle.rd_wf.specs.Events.{AreAccepted, AreAcceptedFrom, AreTold, IsTold, event_of, events_from, events_of, root_count, roots_of}

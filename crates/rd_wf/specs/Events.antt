@@ -6,7 +6,7 @@ use Rattle.rd_base.specs.declared.limits.Limits.{Limits}
 use Rattle.rd_event.specs.declared.items.Line.{Line}
 use Rattle.rd_event.specs.declared.items.Line.TheVariants.{Event}
 use Rattle.rd_event.specs.declared.events.Event.{Event as Numbered}
-use Rattle.rd_hb.specs.EventLists.{Known, WellFormed, calls, joins}
+use Rattle.rd_order.specs.EventLists.{Known, WellFormed, calls, joins}
 use Rattle.rd_wf.specs.Kinds.{Kind}
 use Rattle.rd_wf.specs.MayFollow.{MayFollow, events, is_root, joined_of, numbered_event, object_kinds, place, threads_of}
 

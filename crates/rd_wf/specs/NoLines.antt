@@ -3,8 +3,8 @@ use Rattle.std.specs.Prelude.{◌≡◌, ℕ, zero, suc, List, []}
 use Rattle.std.proofs.Common.{inl, inr, refl, arith}
 use Rattle.std.proofs.lemmas.Bool.Decides.{Decides-ltb}
 use Rattle.std.proofs.lemmas.Option.{none-some}
-use Rattle.rd_hb.specs.Counts.{Counts}
-use Rattle.rd_hb.specs.EventLists.{calls, forks, joins, Known}
+use Rattle.rd_order.specs.Counts.{Counts}
+use Rattle.rd_order.specs.EventLists.{calls, forks, joins, Known}
 use Rattle.rd_wf.specs.Events.{AreTold, events_of, roots_of}
 use Rattle.rd_wf.specs.Kinds.{Kind}
 

@@ -1,10 +1,11 @@
 ghost use Rattle.std.specs.Prelude.{◌≡◌, ℕ, ◌<◌, Bool, IfOk, [], length};
 ghost use Rattle.rd_hb.specs.Tracker.{StandsFor};
-ghost use Rattle.rd_hb.specs.TestTraces.{sample_call, one_root, two_roots, MayTakeAll};
+ghost use Rattle.rd_hb.specs.TestTraces.{MayTakeAll};
+ghost use Rattle.rd_order.specs.TestLists.{sample_call, one_root, two_roots};
 
 use super::Tracker;
-use crate::clock::Stamp;
 use rd_base::{NoMemory, Slots, Steps};
+use rd_clock::Stamp;
 use rd_event::{Call, Event};
 use std::alloc::Global;
 use std::marker::Brand;

@@ -3,7 +3,7 @@ use Rattle.rd_hb.specs.Tracker.{AreTracked, IsBegun, tracked}
 use Rattle.rd_hb.specs.declared.tracker.Tracked.{Tracked}
 use Rattle.rd_hb.proofs.TrackerLemmas.{keeps_push, begins_push}
 use Rattle.std.proofs.lemmas.List.{get_or_past}
-use Rattle.rd_hb.specs.Clock.{IsTick}
+use Rattle.rd_clock.specs.Clock.{IsTick}
 use Rattle.rd_hb.proofs.tracker.Tracker.begin.Goals as goal
 
 pub invariant_of-self-2 : goal.invariant_of-self-2

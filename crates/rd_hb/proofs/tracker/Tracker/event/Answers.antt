@@ -1,8 +1,9 @@
 use Rattle.std.proofs.Common.{◌<◌, ◌≤◌, ◌+◌, ℕ, Bool, List, [], ◌∷◌, ◌++◌, length, IfOk, OnOk, refl, sym, ap, subst, arith}
 use Rattle.rd_event.specs.declared.events.Event.{Event as EventOf}
 use Rattle.rd_event.specs.declared.events.Event.TheVariants as event
-use Rattle.rd_hb.specs.Order.{thread_of, forked_thread, joined_thread}
-use Rattle.rd_hb.specs.Tracker.{IsNextEvent, IsStamp, StandsFor, event_bound, threads_after}
+use Rattle.rd_order.specs.Order.{thread_of, forked_thread, joined_thread}
+use Rattle.rd_hb.specs.Tracker.{IsNextEvent, IsStamp, StandsFor, event_bound}
+use Rattle.rd_order.specs.EventLists.{threads_after}
 use Rattle.rd_hb.proofs.TrackerLemmas.{next_below, next_child, next_inside, next_joined, own_most, ok_call, ok_fork, ok_join, ok_stamp, ok_stands}
 use Rattle.rd_hb.proofs.tracker.Tracker.event.Goals as goal
 

@@ -1,6 +1,6 @@
 use Rattle.std.proofs.Common.{refl, ap, subst, sym, ◌∙◌, cond}
 use Rattle.std.proofs.lemmas.Bool.{eq-eqb, ne_eqb}
-use Rattle.rd_hb.specs.Clock.{IsJoin}
+use Rattle.rd_clock.specs.Clock.{IsJoin}
 use Rattle.rd_hb.specs.Tracker.{tracked}
 use Rattle.rd_hb.proofs.tracker.Tracker.join.Goals as goal
 

@@ -1,4 +1,4 @@
-use Rattle.rd_hb.specs.TestTraces.{two_roots}
+use Rattle.rd_order.specs.TestLists.{two_roots}
 use Rattle.rd_hb.proofs.TrackerTestLemmas.{idle_child_may}
 use Rattle.rd_hb.proofs.tracker.tests.idle_child.Goals as goal
 

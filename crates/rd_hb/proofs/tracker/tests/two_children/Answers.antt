@@ -1,4 +1,4 @@
-use Rattle.rd_hb.specs.TestTraces.{one_root}
+use Rattle.rd_order.specs.TestLists.{one_root}
 use Rattle.rd_hb.proofs.TrackerTestLemmas.{family_may}
 use Rattle.rd_hb.proofs.tracker.tests.two_children.Goals as goal
 

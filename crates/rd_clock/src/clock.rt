@@ -1,0 +1,147 @@
+//! Vector clocks.
+ghost use Rattle.std.specs.Prelude.{◌≡◌, ℕ, ◌+◌, ◌*◌, ◌<◌, ◌≤◌, ◌↔◌, max, length, IfOk, OnOk, OnErr, IsTrue, []};
+ghost use Rattle.rd_clock.specs.Clock.{component, IsTick, IsJoin};
+
+use rd_base::{NoMemory, Steps};
+use std::alloc::Global;
+use std::marker::Model;
+use std::sync::ledger::Ledger;
+
+/// How many events of each thread are counted: a vector clock (Fidge 1988, Mattern 1989). Contracts see it as the list of its
+/// components, one for each thread from 0. The length of the list is its room, and the component of a thread past the
+/// end is 0.
+#[derive(Debug, Drop)]
+pub struct Clock {
+    components: Vec<u32>,
+}
+
+impl Model for Clock {
+    ghost use Rattle.std.specs.Prelude.{List, ℕ};
+
+    ghost Value = { List ℕ };
+
+    ghost view = { λ c. c.components.items };
+}
+
+impl Clock {
+    /// The clock that counts nothing, without room. It takes no memory.
+    pub fn new(alloc: Global) -> Clock
+        ensures { result ≡ [] }
+    {
+        Clock {
+            components: Vec::new(alloc),
+        }
+    }
+
+    /// Makes room for the threads below that number. Every component is as before, and after want of memory all is.
+    pub fn reserve(&mut self, threads: u32) -> Result<(), NoMemory>
+        ensures room { OnOk result (length self.new ≡ max (length self.old) threads) }
+        ensures kept { (thread : ℕ) → component self.new thread ≡ component self.old thread }
+        ensures err { OnErr result (self.new ≡ self.old) }
+    {
+        let room = threads as usize;
+        let old = self.components.len();
+        if old < room {
+            self.components.reserve(room - old)?;
+            self.components.resize(room, 0)?;
+        }
+        Ok(())
+    }
+
+    /// An equal clock.
+    pub fn copy(&self, alloc: Global) -> Result<Clock, NoMemory>
+        ensures { IfOk result (λ clock. clock ≡ self.now) }
+    {
+        Ok(Clock {
+            components: Vec::from_slice(alloc, self.components.as_slice())?,
+        })
+    }
+
+    /// A clock that counts the same, with room for the threads below that number, in one allocation.
+    pub fn copy_with_room(&self, alloc: Global, threads: u32) -> Result<Clock, NoMemory>
+        ensures room { IfOk result (λ clock. length clock ≡ max (length self.now) threads) }
+        ensures kept { IfOk result (λ clock. (thread : ℕ) → component clock thread ≡ component self.now thread) }
+    {
+        let room = self.components.len().max(threads as usize);
+        let mut copy = Clock {
+            components: Vec::with_capacity(alloc, room)?,
+        };
+        copy.components
+            .extend_from_slice(self.components.as_slice())?;
+        copy.reserve(threads)?;
+        Ok(copy)
+    }
+
+    /// Becomes equal to another clock, which has just the same room. It takes no memory.
+    pub fn assign_reserved(&mut self, other: &Clock)
+        requires { length other.now ≡ length self.old }
+        ensures { self.new ≡ other.now }
+    {
+        self.components
+            .as_mut_slice()
+            .copy_from_slice(other.components.as_slice());
+    }
+
+    /// The component of a thread. It takes no memory and one step.
+    pub fn get<L: Ledger>(&self, thread: u32, steps: &mut Steps<L>) -> u32
+        ensures value { result ≡ component self.now thread }
+        ensures cost { steps.new ≡ steps.old + 1 }
+    {
+        steps.tick();
+        let place = thread as usize;
+        if place < self.components.len() {
+            self.components[place]
+        } else {
+            0
+        }
+    }
+
+    /// Whether the component of a thread is at least that number. It takes no memory and one step.
+    pub fn covers<L: Ledger>(&self, thread: u32, number: u32, steps: &mut Steps<L>) -> bool
+        ensures value { IsTrue result ↔ (number ≤ component self.now thread) }
+        ensures cost { steps.new ≡ steps.old + 1 }
+    {
+        number <= self.get(thread, steps)
+    }
+
+    /// Adds one to the component of a thread, for which there is room. It takes no memory and one step.
+    pub fn tick<L: Ledger>(&mut self, thread: u32, steps: &mut Steps<L>)
+        requires room { thread < length self.old }
+        requires below { component self.old thread < 4294967295 }
+        ensures ticked { IsTick self.old self.new thread }
+        ensures room { length self.new ≡ length self.old }
+        ensures cost { steps.new ≡ steps.old + 1 }
+    {
+        steps.tick();
+        self.components[thread as usize] += 1;
+    }
+
+    /// Sets each component to the greater of the two clocks'. There is room for the threads of the other. It takes no
+    /// memory, and one or two steps for each thread that the other has room for.
+    pub fn join_reserved<L: Ledger>(&mut self, other: &Clock, steps: &mut Steps<L>)
+        requires { length other.now ≤ length self.old }
+        ensures joined { IsJoin self.old other.now self.new }
+        ensures room { length self.new ≡ length self.old }
+        ensures some_cost { steps.old + length other.now ≤ steps.new }
+        ensures cost { steps.new ≤ steps.old + 2 * length other.now }
+    {
+        let theirs = other.components.as_slice();
+        let ours = self.components.as_mut_slice();
+        for i in 0..theirs.len() {
+            steps.tick();
+            ours[i] = ours[i].max(theirs[i]);
+        }
+    }
+}
+
+/// Where an event stands: its thread, its own number in that thread, from 1, and its clock, which counts for each thread the
+/// events that are this one or reach it.
+#[derive(Debug, Drop)]
+pub struct Stamp {
+    pub thread: u32,
+    pub number: u32,
+    pub clock: Clock,
+}
+
+#[cfg(test)]
+mod tests;

@@ -1,0 +1,6 @@
+//! Vector clocks and stamps.
+#![tactic(auto)]
+
+mod clock;
+
+pub use clock::{Clock, Stamp};

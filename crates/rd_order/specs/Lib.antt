@@ -1,0 +1,5 @@
+pub mod Counts
+pub mod EventLists
+pub mod Order
+pub mod OrderTests
+pub mod TestLists

@@ -1,0 +1,61 @@
+//! The laws of the order of events: what its definitions say, proved for every list of events.
+ghost use Rattle.std.specs.Prelude.{◌≡◌, ◌≢◌, ◌↔◌, ℕ, ◌<◌, ◌≤◌, ◌==◌, Bool, true, List, [], ◌∷◌, ◌++◌, length, take, Some, IsTrue, slice_get};
+ghost use Rattle.rd_event.specs.declared.events.Call.{Call as CallOf};
+ghost use Rattle.rd_event.specs.declared.events.Event.{Event};
+ghost use Rattle.rd_event.specs.declared.events.Event.TheVariants.{Fork, Join, Call};
+ghost use Rattle.rd_order.specs.Order.{Edge, Reaches, Unordered};
+ghost use Rattle.rd_order.specs.OrderTests.{reaches};
+ghost use Rattle.rd_order.specs.EventLists.{IsBounded, MayHappen, WellFormed, implied_roots};
+
+/// Reaching is the least transitive relation that holds each edge. It leads to later places alone, a
+/// test tells it, and events that are appended leave it as it is.
+pub fn law_of_reaching()
+    ensures edges { (es : List Event) (i j : ℕ) → Edge es i j → Reaches es i j }
+    ensures joins { (es : List Event) (i j k : ℕ) →
+        Reaches es i j → Reaches es j k → Reaches es i k }
+    ensures least { (es : List Event) (p : ℕ → ℕ → Bool) → ((i j : ℕ) → Edge es i j → IsTrue (p i j)) →
+        ((i j k : ℕ) → IsTrue (p i j) → IsTrue (p j k) → IsTrue (p i k)) →
+        (i j : ℕ) → Reaches es i j → IsTrue (p i j) }
+    ensures rises { (es : List Event) (i j : ℕ) → Reaches es i j → i < j }
+    ensures inside { (es : List Event) (i j : ℕ) → Reaches es i j → j < length es }
+    ensures test { (es : List Event) (i j : ℕ) → (IsTrue (reaches es i j) ↔ Reaches es i j) }
+    ensures growth { (es fs : List Event) (i j : ℕ) → j < length es →
+        (Reaches (es ++ fs) i j ↔ Reaches es i j) }
+{}
+
+/// A list is well-formed exactly where each event may follow the events in front of it, and the bounds
+/// hold. So it is with one event more exactly where that event may follow the list, within the bounds.
+/// What is well-formed by some roots is so by those that it implies.
+pub fn law_of_lists()
+    ensures places { (roots : ℕ → Bool) (es : List Event) →
+        (WellFormed roots es ↔ (((j : ℕ) (e : Event) → slice_get es j ≡ Some e → MayHappen roots (take j es) e)
+        × IsBounded roots es)) }
+    ensures growth { (roots : ℕ → Bool) (es : List Event) (e : Event) →
+        (WellFormed roots (es ++ e ∷ [])
+        ↔ (WellFormed roots es × MayHappen roots es e × IsBounded roots (es ++ e ∷ []))) }
+    ensures implied { (roots : ℕ → Bool) (es : List Event) →
+        WellFormed roots es → WellFormed (implied_roots es) es }
+{}
+
+/// Short lists in which an order holds or doesn't, and which are well-formed or not.
+pub fn examples_of_order()
+    ensures same_thread { Edge (Fork 0 1 ∷ Fork 0 2 ∷ []) 0 1 }
+    ensures begins { Edge (Fork 0 1 ∷ Fork 1 2 ∷ []) 0 1 }
+    ensures ends { Edge (Fork 1 2 ∷ Join 0 1 ∷ []) 0 1 }
+    // A fork reaches a join of its child that is of another thread, where the child does nothing.
+    ensures spans { Reaches (Fork 0 1 ∷ Fork 2 3 ∷ Join 2 1 ∷ []) 0 2 }
+    ensures by_two_edges { Reaches (Fork 0 1 ∷ Fork 1 2 ∷ Join 2 3 ∷ []) 0 2 }
+    ensures apart { Unordered (Fork 0 1 ∷ Fork 2 3 ∷ []) 0 1 }
+    // The thread that joins is ordered behind the one that it joins, and not the other way round.
+    ensures not_back { Unordered (Join 0 1 ∷ Fork 1 2 ∷ []) 0 1 }
+    ensures well_formed { WellFormed (λ t. t == 0) (Fork 0 1 ∷ Fork 1 2 ∷ Join 0 1 ∷ Join 0 2 ∷ []) }
+    ensures too_many_roots { ¬ (WellFormed (λ t. true) []) }
+    ensures unknown_actor { ¬ (WellFormed (λ t. t == 0) (Fork 1 2 ∷ [])) }
+    ensures unknown_joined { ¬ (WellFormed (λ t. t == 0) (Join 0 1 ∷ [])) }
+    ensures forked_twice { ¬ (WellFormed (λ t. t == 0) (Fork 0 1 ∷ Fork 0 1 ∷ [])) }
+    ensures acts_after_its_end { ¬ (WellFormed (λ t. t == 0) (Fork 0 1 ∷ Join 0 1 ∷ Fork 1 2 ∷ [])) }
+    ensures joins_itself { ¬ (WellFormed (λ t. t == 0) (Join 0 0 ∷ [])) }
+    ensures one_call { (call : CallOf) → call.thread ≡ 0 → WellFormed (λ t. t == 0) (Call call ∷ []) }
+    ensures two_kinds { (call other : CallOf) → call.object ≡ other.object → call.kind ≢ other.kind →
+        ¬ (WellFormed (λ t. t == 0) (Call call ∷ Call other ∷ [])) }
+{}

@@ -1,0 +1,6 @@
+//! The order of the events of a trace: edges, what reaches what, and well-formed lists of events.
+#![tactic(auto)]
+
+mod laws;
+
+pub use laws::{examples_of_order, law_of_lists, law_of_reaching};
