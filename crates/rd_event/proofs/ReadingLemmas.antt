@@ -12,7 +12,7 @@ use Rattle.rd_base.proofs.FoundLemmas.{if_some, map_some}
 use Rattle.rd_event.specs.declared.items.Line.{Line}
 use Rattle.rd_event.specs.declared.items.Line.TheVariants.{Skip, Header, Thread, Object, Event}
 use Rattle.rd_event.specs.declared.items.LineEvent.{LineEvent}
-use Rattle.rd_event.specs.declared.items.LineEvent.TheVariants.{Fork, Join, Call}
+use Rattle.rd_event.specs.declared.items.LineEvent.TheVariants.{Fork, Join, Acquire, Release, Call}
 use Rattle.rd_event.specs.declared.reading.LineRefused.{LineRefused}
 use Rattle.rd_event.specs.declared.reading.LineRefused.TheVariants.{BadLine}
 use Rattle.rd_event.specs.Items.{IsEvent, LineInRange, words_apart, event_spelling, spelling, Says}
@@ -48,10 +48,12 @@ event_said keyword rest =
     let Said : LineEvent → Type 0 = EventSaid keyword rest in
     if_some Said _ _ _ (λ same. map_some _ Said _ _ (two_names_said keyword (codes "fork") rest same) (λ names said. said))
     (if_some Said _ _ _ (λ same. map_some _ Said _ _ (two_names_said keyword (codes "join") rest same) (λ names said. said))
+    (if_some Said _ _ _ (λ same. map_some _ Said _ _ (two_names_said keyword (codes "acquire") rest same) (λ names said. said))
+    (if_some Said _ _ _ (λ same. map_some _ Said _ _ (two_names_said keyword (codes "release") rest same) (λ names said. said))
     (if_some Said _ (call_read rest) _
     (λ same. IfSome_then (call_read rest) {P = CallSaid rest} {Q = Said} (call_said rest)
     (λ event said. (said.0, ap (λ word. word ++ 32 ∷ rest) ((bytes_decides keyword (codes "call")).0 same) ∙ said.1, said.2)))
-    tt))
+    tt))))
 
 abbrev ItemSaid : List ℕ → List ℕ → Line → Type 0
 ItemSaid keyword rest item = LineInRange item × Says (keyword ++ 32 ∷ rest) item × (0 < length rest)
@@ -116,6 +118,12 @@ line_found bytes (Event (Fork thread child)) range says =
 line_found bytes (Event (Join thread child)) range says =
     rw says (ap (λ found. option_map (λ event. Event event) (option_map (λ names. Join names.0 names.1) found))
     (names_found thread child range.0 range.1))
+line_found bytes (Event (Acquire thread lock)) range says =
+    rw says (ap (λ found. option_map (λ event. Event event) (option_map (λ names. Acquire names.0 names.1) found))
+    (names_found thread lock range.0 range.1))
+line_found bytes (Event (Release thread lock)) range says =
+    rw says (ap (λ found. option_map (λ event. Event event) (option_map (λ names. Release names.0 names.1) found))
+    (names_found thread lock range.0 range.1))
 line_found bytes (Event (Call thread object method slots)) range says =
     rw says (ap (option_map (λ event. Event event)) (call_found thread object method slots range.0 range.1 range.2 range.3))
 

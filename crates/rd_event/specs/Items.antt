@@ -7,7 +7,7 @@ use Rattle.rd_base.specs.Spelling.{IsValue, spelling as value_spelling}
 use Rattle.rd_event.specs.declared.items.Line.{Line}
 use Rattle.rd_event.specs.declared.items.Line.TheVariants.{Skip, Header, Thread, Object, Event}
 use Rattle.rd_event.specs.declared.items.LineEvent.{LineEvent}
-use Rattle.rd_event.specs.declared.items.LineEvent.TheVariants.{Fork, Join, Call}
+use Rattle.rd_event.specs.declared.items.LineEvent.TheVariants.{Fork, Join, Acquire, Release, Call}
 
 -- the arguments of a call, at most 6, then its result
 pub record AreSlots (slots : List Value) : Type 0 where
@@ -19,6 +19,8 @@ pub record AreSlots (slots : List Value) : Type 0 where
 abbrev pub IsEvent : LineEvent → Type 0
 IsEvent (Fork thread child) = IsName thread × IsName child
 IsEvent (Join thread child) = IsName thread × IsName child
+IsEvent (Acquire thread lock) = IsName thread × IsName lock
+IsEvent (Release thread lock) = IsName thread × IsName lock
 IsEvent (Call thread object method slots) = IsName thread × IsName object × IsName method × AreSlots slots
 
 abbrev pub LineInRange : Line → Type 0
@@ -32,6 +34,8 @@ LineInRange (Event event) = IsEvent event
 abbrev pub HasFewSlots : LineEvent → Type 0
 HasFewSlots (Fork thread child) = Unit {0}
 HasFewSlots (Join thread child) = Unit {0}
+HasFewSlots (Acquire thread lock) = Unit {0}
+HasFewSlots (Release thread lock) = Unit {0}
 HasFewSlots (Call thread object method slots) = (1 ≤ length slots) × (length slots ≤ 7)
 
 abbrev pub IsSpellable : Line → Type 0
@@ -54,6 +58,8 @@ slots_spelling (argument ∷ slot ∷ slots) = words_apart (value_spelling argum
 abbrev pub event_spelling : LineEvent → List ℕ
 event_spelling (Fork thread child) = codes "fork " ++ words_apart thread child
 event_spelling (Join thread child) = codes "join " ++ words_apart thread child
+event_spelling (Acquire thread lock) = codes "acquire " ++ words_apart thread lock
+event_spelling (Release thread lock) = codes "release " ++ words_apart thread lock
 event_spelling (Call thread object method slots) =
     codes "call " ++ words_apart thread (words_apart object (words_apart method (slots_spelling slots)))
 

@@ -7,9 +7,9 @@ use Rattle.rd_base.specs.Names.{is_name}
 use Rattle.rd_event.specs.declared.items.Line.{Line}
 use Rattle.rd_event.specs.declared.items.Line.TheVariants.{Skip, Header, Thread, Object, Event}
 use Rattle.rd_event.specs.declared.items.LineEvent.{LineEvent}
-use Rattle.rd_event.specs.declared.items.LineEvent.TheVariants.{Fork, Join, Call}
+use Rattle.rd_event.specs.declared.items.LineEvent.TheVariants.{Fork, Join, Acquire, Release, Call}
 use Rattle.rd_event.specs.declared.reading.Pair.{Pair}
-use Rattle.rd_event.specs.declared.reading.Pair.TheVariants.{Object as ObjectPair, Fork as ForkPair, Join as JoinPair}
+use Rattle.rd_event.specs.declared.reading.Pair.TheVariants.{Object as ObjectPair, Fork as ForkPair, Join as JoinPair, Acquire as AcquirePair, Release as ReleasePair}
 use Rattle.rd_event.specs.Items.{is_skipped}
 use Rattle.rd_event.specs.ReadingSlots.{slots_read}
 
@@ -44,6 +44,8 @@ abbrev pub pair_item : Pair → List ℕ × List ℕ → Line
 pair_item ObjectPair names = Object names.0 names.1
 pair_item ForkPair names = Event (Fork names.0 names.1)
 pair_item JoinPair names = Event (Join names.0 names.1)
+pair_item AcquirePair names = Event (Acquire names.0 names.1)
+pair_item ReleasePair names = Event (Release names.0 names.1)
 
 -- the keyword of a call
 abbrev pub is_call_keyword : List ℕ → Bool
@@ -54,6 +56,8 @@ unfoldable pub event_with : List ℕ → List ℕ → Option LineEvent
 event_with keyword rest =
     if bytes_eq keyword (codes "fork") then option_map (λ names. Fork names.0 names.1) (names_of rest)
     else if bytes_eq keyword (codes "join") then option_map (λ names. Join names.0 names.1) (names_of rest)
+    else if bytes_eq keyword (codes "acquire") then option_map (λ names. Acquire names.0 names.1) (names_of rest)
+    else if bytes_eq keyword (codes "release") then option_map (λ names. Release names.0 names.1) (names_of rest)
     else if is_call_keyword keyword then call_read rest
     else None
 

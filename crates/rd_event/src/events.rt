@@ -31,13 +31,17 @@ impl Call {
     }
 }
 
-/// An event of a trace, by numbers.
+/// An event of a trace, by numbers. A lock has the place, from 0, of the line that first acquired it among all such first lines.
 #[derive(Debug, Drop, PartialEq, Eq)]
 pub enum Event {
     /// the thread begins the child
     Fork { thread: u32, child: u32 },
     /// the thread waits for the end of the child
     Join { thread: u32, child: u32 },
+    /// the thread takes the lock
+    Acquire { thread: u32, lock: u32 },
+    /// the thread gives the lock back
+    Release { thread: u32, lock: u32 },
     /// the thread calls a method of an object
     Call(Call),
 }
@@ -55,6 +59,14 @@ impl Event {
             Event::Join { thread, child } => Event::Join {
                 thread: *thread,
                 child: *child,
+            },
+            Event::Acquire { thread, lock } => Event::Acquire {
+                thread: *thread,
+                lock: *lock,
+            },
+            Event::Release { thread, lock } => Event::Release {
+                thread: *thread,
+                lock: *lock,
             },
             Event::Call(call) => Event::Call(call.copy(alloc)?),
         })

@@ -15,6 +15,16 @@ pub enum LineEvent {
         thread: Name,
         child: Name,
     },
+    /// `acquire T L`: thread T takes lock L
+    Acquire {
+        thread: Name,
+        lock: Name,
+    },
+    /// `release T L`: thread T gives lock L back
+    Release {
+        thread: Name,
+        lock: Name,
+    },
     /// `call T O M A -> R`: thread T calls method M of object O with the arguments A, a space behind each, and has the result R
     Call {
         thread: Name,

@@ -78,6 +78,46 @@ enum Pair {
     Object,
     Fork,
     Join,
+    Acquire,
+    Release,
+}
+
+// Puts what such a line says of its names into `line`.
+fn put_pair(pair: Pair, first: Name, second: Name, line: &mut Line)
+    ensures { line.new ≡ pair_item pair (first, second) }
+{
+    match pair {
+        Pair::Object => {
+            *line = Line::Object {
+                name: first,
+                kind: second,
+            };
+        }
+        Pair::Fork => {
+            *line = Line::Event(LineEvent::Fork {
+                thread: first,
+                child: second,
+            });
+        }
+        Pair::Join => {
+            *line = Line::Event(LineEvent::Join {
+                thread: first,
+                child: second,
+            });
+        }
+        Pair::Acquire => {
+            *line = Line::Event(LineEvent::Acquire {
+                thread: first,
+                lock: second,
+            });
+        }
+        Pair::Release => {
+            *line = Line::Event(LineEvent::Release {
+                thread: first,
+                lock: second,
+            });
+        }
+    }
 }
 
 // Reads such a line with these bytes after the space behind its keyword.
@@ -94,29 +134,8 @@ fn read_pair(pair: Pair, rest: &[u8], line: &mut Line) -> Result<(), LineRefused
     let Ok(second) = Name::from_bytes(second) else {
         return Err(LineRefused::BadLine);
     };
-    match pair {
-        Pair::Object => {
-            *line = Line::Object {
-                name: first,
-                kind: second,
-            };
-            Ok(())
-        }
-        Pair::Fork => {
-            *line = Line::Event(LineEvent::Fork {
-                thread: first,
-                child: second,
-            });
-            Ok(())
-        }
-        Pair::Join => {
-            *line = Line::Event(LineEvent::Join {
-                thread: first,
-                child: second,
-            });
-            Ok(())
-        }
-    }
+    put_pair(pair, first, second, line);
+    Ok(())
 }
 
 // Reads the line of a root thread with these bytes after the space behind its keyword.
@@ -165,7 +184,7 @@ fn read_call(alloc: Global, rest: &[u8], line: &mut Line) -> Result<(), LineRefu
     Ok(())
 }
 
-// Reads a line that is no call, with this keyword and these bytes after the space behind it.
+// Reads a line that is no call, with this keyword and these bytes after the space behind it. The frequent keywords come first.
 #[tactic(auto, unfolding(crate::specs::Reading::event_with, crate::specs::Reading::item_with))]
 fn read_other(keyword: &[u8], rest: &[u8], line: &mut Line) -> Result<(), LineRefused>
     requires { is_call_keyword keyword.now ≡ false }
@@ -173,24 +192,30 @@ fn read_other(keyword: &[u8], rest: &[u8], line: &mut Line) -> Result<(), LineRe
     ensures none { OnErr result (item_with keyword.now rest.now ≡ None) }
     ensures refused { IfErr result (λ e. e ≡ LineRefused.BadLine) }
 {
-    if is(keyword, "rdtrace") {
-        if is(rest, "1") {
-            *line = Line::Header { version: 1 };
-            return Ok(());
-        }
-        return Err(LineRefused::BadLine);
+    if is(keyword, "acquire") {
+        return read_pair(Pair::Acquire, rest, line);
     }
-    if is(keyword, "thread") {
-        return read_thread(rest, line);
-    }
-    if is(keyword, "object") {
-        return read_pair(Pair::Object, rest, line);
+    if is(keyword, "release") {
+        return read_pair(Pair::Release, rest, line);
     }
     if is(keyword, "fork") {
         return read_pair(Pair::Fork, rest, line);
     }
     if is(keyword, "join") {
         return read_pair(Pair::Join, rest, line);
+    }
+    if is(keyword, "object") {
+        return read_pair(Pair::Object, rest, line);
+    }
+    if is(keyword, "thread") {
+        return read_thread(rest, line);
+    }
+    if is(keyword, "rdtrace") {
+        if is(rest, "1") {
+            *line = Line::Header { version: 1 };
+            return Ok(());
+        }
+        return Err(LineRefused::BadLine);
     }
     Err(LineRefused::BadLine)
 }

@@ -77,6 +77,8 @@ fn append_event(text: &mut Bytes, event: &LineEvent) -> Result<(), NoMemory>
     match event {
         LineEvent::Fork { thread, child } => append_names(text, b"fork ", thread, child),
         LineEvent::Join { thread, child } => append_names(text, b"join ", thread, child),
+        LineEvent::Acquire { thread, lock } => append_names(text, b"acquire ", thread, lock),
+        LineEvent::Release { thread, lock } => append_names(text, b"release ", thread, lock),
         LineEvent::Call {
             thread,
             object,

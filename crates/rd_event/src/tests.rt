@@ -43,6 +43,20 @@ fn reads_each_item(rt: HostRuntime) -> Result<(), Fail> {
                 child: name("b")?,
             }),
         ),
+        (
+            "acquire p l",
+            Line::Event(LineEvent::Acquire {
+                thread: name("p")?,
+                lock: name("l")?,
+            }),
+        ),
+        (
+            "release p l",
+            Line::Event(LineEvent::Release {
+                thread: name("p")?,
+                lock: name("l")?,
+            }),
+        ),
     ];
     for (text, want) in rows {
         let line = read_line(rt.alloc(), text.as_bytes())?;
@@ -63,6 +77,8 @@ fn reads_into_a_line_that_is_kept(rt: HostRuntime) -> Result<(), Fail> {
         "rdtrace 1",
         "call p x read -> \"b\"",
         "join p q",
+        "acquire p l",
+        "release p l",
     ] {
         read_into(rt.alloc(), text.as_bytes(), &mut line)?;
         let want = read_line(rt.alloc(), text.as_bytes())?;
@@ -98,6 +114,23 @@ fn refuses_what_is_no_item(rt: HostRuntime) {
         "fork a  b",
         "fork a b\r",
         "join  b",
+        "acquire",
+        "acquire p",
+        "acquire p l m",
+        "acquire  p l",
+        "acquire p  l",
+        "acquire p l ",
+        "acquires p l",
+        "Acquire p l",
+        "release",
+        "release p",
+        "release p l m",
+        "release  p l",
+        "release p l ",
+        "release p \"l\"",
+        "release p l/",
+        "releases p l",
+        "Release p l",
         " # x",
         " ",
     ] {
@@ -269,12 +302,43 @@ fn spells_each_line_as_it_was(rt: HostRuntime) -> Result<(), Fail> {
         "object o register",
         "fork a b",
         "join a b",
+        "acquire p l",
+        "release p l",
         "call a x write 7 -> nil",
         "call main x read -> 7",
         "call a d put \"k -> \\\"x\" 1 -> nil",
         "call a d put -9223372036854775808 -> 9223372036854775807",
         "call a d put \"\\x00\\xff \\\\\" -> \"\"",
         "call a d put 1 2 3 4 5 6 -> true",
+    ] {
+        let line = read_line(rt.alloc(), text.as_bytes())?;
+        assert_eq!(rt;
+            spell(rt.alloc(), &line)?.items(),
+            text.as_bytes(),
+            "at {text:?}"
+        );
+    }
+    Ok(())
+}
+
+#[test]
+fn spells_a_trace_with_a_lock_as_it_was(rt: HostRuntime) -> Result<(), Fail> {
+    for text in [
+        "rdtrace 1",
+        "thread main",
+        "object d dictionary",
+        "fork main a",
+        "fork main b",
+        "acquire a l",
+        "call a d put \"x\" 1 -> nil",
+        "release a l",
+        "acquire b l",
+        "call b d put \"y\" 2 -> nil",
+        "release b l",
+        "join main a",
+        "join main b",
+        "call main d size -> 2",
+        "call p x write 1 -> nil",
     ] {
         let line = read_line(rt.alloc(), text.as_bytes())?;
         assert_eq!(rt;
@@ -311,19 +375,49 @@ fn copies_are_equal(rt: HostRuntime) -> Result<(), Fail> {
         )?,
     };
     assert_eq!(rt; call.copy(alloc)?, call);
+    let event = Event::Call(call);
+    assert_eq!(rt; event.copy(alloc)?, event);
+    Ok(())
+}
+
+fn put(alloc: Global, thread: u32, key: &str, number: i64) -> Result<Event, Fail> {
+    let key = Value::Text(Text::from_bytes(alloc, key.as_bytes())?);
+    Ok(Event::Call(Call {
+        thread,
+        object: 0,
+        kind: 0,
+        method: 0,
+        slots: slots(alloc, &[key, Value::Int(number), Value::Nil])?,
+    }))
+}
+
+#[test]
+fn copies_of_events_with_a_lock_are_equal(rt: HostRuntime) -> Result<(), Fail> {
+    let alloc = rt.alloc();
     let events = [
         Event::Fork {
             thread: 0,
             child: 1,
         },
+        Event::Acquire { thread: 1, lock: 0 },
+        put(alloc, 1, "x", 1)?,
+        Event::Release { thread: 1, lock: 0 },
+        put(alloc, 2, "y", 2)?,
         Event::Join {
             thread: 0,
             child: 1,
         },
-        Event::Call(call),
+        Event::Call(Call {
+            thread: 0,
+            object: 0,
+            kind: 0,
+            method: 3,
+            slots: slots(alloc, &[Value::Int(2)])?,
+        }),
     ];
-    for event in events {
-        assert_eq!(rt; event.copy(alloc)?, event);
+    for event in &events {
+        assert_eq!(rt; event.copy(alloc)?, *event, "at {event:?}");
     }
+    assert_eq!(rt; events[1] == events[3], false);
     Ok(())
 }

@@ -1,7 +1,9 @@
 pub mod CountsLemmas
 pub mod EventListLemmas
 pub mod ExampleLemmas
+pub mod HoldLemmas
 pub mod ImpliedLemmas
+pub mod LockLemmas
 pub mod OrderLemmas
 pub mod PathLemmas
 pub mod TestListLemmas

@@ -1,8 +1,8 @@
 -- Which events of a list come before which, however the threads run. Places are counted from 0.
-use Rattle.std.specs.Prelude.{◌≡◌, ℕ, ◌<◌, List, [], ◌∷◌, Option, Some, None, slice_get}
+use Rattle.std.specs.Prelude.{◌≡◌, ◌⊎◌, ℕ, ◌<◌, List, [], ◌∷◌, Option, Some, None, slice_get}
 use Rattle.rd_event.specs.declared.events.Call.{Call as CallOf}
 use Rattle.rd_event.specs.declared.events.Event.{Event}
-use Rattle.rd_event.specs.declared.events.Event.TheVariants.{Fork, Join, Call}
+use Rattle.rd_event.specs.declared.events.Event.TheVariants.{Fork, Join, Acquire, Release, Call}
 
 -- ---- what an event says
 
@@ -10,24 +10,32 @@ use Rattle.rd_event.specs.declared.events.Event.TheVariants.{Fork, Join, Call}
 abbrev pub thread_of : Event → ℕ
 thread_of (Fork thread child) = thread
 thread_of (Join thread child) = thread
+thread_of (Acquire thread lock) = thread
+thread_of (Release thread lock) = thread
 thread_of (Call call) = call.thread
 
 -- the thread that it begins
 abbrev pub forked_thread : Event → Option ℕ
 forked_thread (Fork thread child) = Some child
 forked_thread (Join thread child) = None
+forked_thread (Acquire thread lock) = None
+forked_thread (Release thread lock) = None
 forked_thread (Call call) = None
 
 -- the thread for whose end it waits
 abbrev pub joined_thread : Event → Option ℕ
 joined_thread (Fork thread child) = None
 joined_thread (Join thread child) = Some child
+joined_thread (Acquire thread lock) = None
+joined_thread (Release thread lock) = None
 joined_thread (Call call) = None
 
 -- the call that it is
 abbrev pub call_in : Event → Option CallOf
 call_in (Fork thread child) = None
 call_in (Join thread child) = None
+call_in (Acquire thread lock) = None
+call_in (Release thread lock) = None
 call_in (Call call) = Some call
 
 -- what a thread takes, and later gives back: a lock for itself
@@ -38,17 +46,25 @@ pub data Hold : Type 0 where
 abbrev pub Against : Hold → Hold → Type 0
 Against (exclusive lock) (exclusive other) = lock ≡ other
 
--- the hold that an event takes
+-- the hold that an event takes: to acquire a lock is to take it for itself
 abbrev pub hold_taken : Event → Option Hold
 hold_taken (Fork thread child) = None
 hold_taken (Join thread child) = None
+hold_taken (Acquire thread lock) = Some (exclusive lock)
+hold_taken (Release thread lock) = None
 hold_taken (Call call) = None
 
 -- the hold that it gives back
 abbrev pub hold_given : Event → Option Hold
 hold_given (Fork thread child) = None
 hold_given (Join thread child) = None
+hold_given (Acquire thread lock) = None
+hold_given (Release thread lock) = Some (exclusive lock)
 hold_given (Call call) = None
+
+-- the event takes the hold or gives it back
+abbrev pub Uses : Event → Hold → Type 0
+Uses e hold = (hold_taken e ≡ Some hold) ⊎ (hold_given e ≡ Some hold)
 
 -- ---- edges
 

@@ -3,9 +3,9 @@ ghost use Rattle.std.specs.Prelude.{◌≡◌, ◌≢◌, ◌↔◌, ℕ, ◌<�
 ghost use Rattle.rd_event.specs.declared.events.Call.{Call as CallOf};
 ghost use Rattle.rd_event.specs.declared.events.Event.{Event};
 ghost use Rattle.rd_event.specs.declared.events.Event.TheVariants.{Fork, Join, Call};
-ghost use Rattle.rd_order.specs.Order.{Edge, Reaches, Unordered};
+ghost use Rattle.rd_order.specs.Order.{Against, Edge, Hold, Reaches, Unordered, Uses};
 ghost use Rattle.rd_order.specs.OrderTests.{reaches};
-ghost use Rattle.rd_order.specs.EventLists.{IsBounded, MayHappen, WellFormed, implied_roots};
+ghost use Rattle.rd_order.specs.EventLists.{IsBounded, MayHappen, WellFormed, givings, implied_roots, takings};
 
 /// Reaching is the least transitive relation that holds each edge. It leads to later places alone, a
 /// test tells it, and events that are appended leave it as it is.
@@ -35,6 +35,16 @@ pub fn law_of_lists()
         ↔ (WellFormed roots es × MayHappen roots es e × IsBounded roots (es ++ e ∷ []))) }
     ensures implied { (roots : ℕ → Bool) (es : List Event) →
         WellFormed roots es → WellFormed (implied_roots es) es }
+{}
+
+/// The lock rule: of two events that take or give back holds against one another, such as two on one lock, the earlier reaches the
+/// later. A hold is given back at most as often as it was taken, and while a thread has it no other thread has one against it.
+pub fn law_of_locks()
+    ensures order { (roots : ℕ → Bool) (es : List Event) (i j : ℕ) (a b : Event) (h k : Hold) → WellFormed roots es → i < j →
+        slice_get es i ≡ Some a → slice_get es j ≡ Some b → Uses a h → Uses b k → Against h k → Reaches es i j }
+    ensures covered { (roots : ℕ → Bool) (es : List Event) (t : ℕ) (h : Hold) → WellFormed roots es → givings es t h ≤ takings es t h }
+    ensures alone { (roots : ℕ → Bool) (es : List Event) (t u : ℕ) (h k : Hold) → WellFormed roots es → Against h k → t ≢ u →
+        givings es t h < takings es t h → takings es u k ≡ givings es u k }
 {}
 
 /// Short lists in which an order holds or doesn't, and which are well-formed or not.

@@ -3,4 +3,4 @@
 
 mod laws;
 
-pub use laws::{examples_of_order, law_of_lists, law_of_reaching};
+pub use laws::{examples_of_order, law_of_lists, law_of_locks, law_of_reaching};
