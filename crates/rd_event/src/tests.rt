@@ -310,21 +310,6 @@ fn spells_each_line_as_it_was(rt: HostRuntime) -> Result<(), Fail> {
         "call a d put -9223372036854775808 -> 9223372036854775807",
         "call a d put \"\\x00\\xff \\\\\" -> \"\"",
         "call a d put 1 2 3 4 5 6 -> true",
-    ] {
-        let line = read_line(rt.alloc(), text.as_bytes())?;
-        assert_eq!(rt;
-            spell(rt.alloc(), &line)?.items(),
-            text.as_bytes(),
-            "at {text:?}"
-        );
-    }
-    Ok(())
-}
-
-#[test]
-fn spells_a_trace_with_a_lock_as_it_was(rt: HostRuntime) -> Result<(), Fail> {
-    for text in [
-        "rdtrace 1",
         "thread main",
         "object d dictionary",
         "fork main a",
@@ -332,9 +317,7 @@ fn spells_a_trace_with_a_lock_as_it_was(rt: HostRuntime) -> Result<(), Fail> {
         "acquire a l",
         "call a d put \"x\" 1 -> nil",
         "release a l",
-        "acquire b l",
         "call b d put \"y\" 2 -> nil",
-        "release b l",
         "join main a",
         "join main b",
         "call main d size -> 2",
@@ -418,6 +401,6 @@ fn copies_of_events_with_a_lock_are_equal(rt: HostRuntime) -> Result<(), Fail> {
     for event in &events {
         assert_eq!(rt; event.copy(alloc)?, *event, "at {event:?}");
     }
-    assert_eq!(rt; events[1] == events[3], false);
+    assert!(rt; events[1] != events[3]);
     Ok(())
 }

@@ -1,5 +1,6 @@
 -- Well-formed lists of events: this project's profile. Which threads no event begins is told by a test, `roots`.
-use Rattle.std.specs.Prelude.{◌≡◌, ◌≢◌, ◌⊎◌, ℕ, ◌<◌, ◌≤◌, ◌==◌, nat_lt, Bool, false, ◌+◌, ◌&&◌, ◌||◌, if◌then◌else◌, List, [], ◌∷◌, ◌++◌, length, Option, Some, None, is_some, IsTrue, count_by}
+use Rattle.std.specs.Prelude.{◌≡◌, ◌≢◌, ◌⊎◌, ℕ, ◌<◌, ◌≤◌, ◌==◌, nat_lt, Bool, false, ◌+◌, ◌&&◌, ◌||◌, if◌then◌else◌, List, [], ◌∷◌, ◌++◌, length, Option, Some, None, is_some, IsTrue, IfSome, All, count_by}
+use Rattle.rd_ecl.specs.Kinds.{Kind, methods_at, slots_at}
 use Rattle.rd_event.specs.declared.events.Call.{Call as CallOf}
 use Rattle.rd_event.specs.declared.events.Event.{Event}
 use Rattle.rd_order.specs.Counts.{Counts}
@@ -79,6 +80,17 @@ pub record IsBounded (roots : ℕ → Bool) (es : List Event) : Type 0 where
 pub record WellFormed (roots : ℕ → Bool) (es : List Event) : Type 0 where
   pub follow : Follow roots [] es
   pub bounded : IsBounded roots es
+
+-- the call is of one of these kinds and of a method of it, and has as many slots as the method
+pub record IsCallOf (kinds : List Kind) (call : CallOf) : Type 0 where
+  pub kind : call.kind < length kinds
+  pub method : call.method < length (methods_at kinds call.kind)
+  pub slots : length call.slots ≡ slots_at (methods_at kinds call.kind) call.method
+
+-- a well-formed list whose calls are of the kinds of a specification
+pub record WellFormedWith (kinds : List Kind) (roots : ℕ → Bool) (es : List Event) : Type 0 where
+  pub formed : WellFormed roots es
+  pub fit : All (λ e. IfSome (call_in e) (IsCallOf kinds)) es
 
 -- how many threads are known after an event
 abbrev pub threads_after : Event → ℕ → ℕ

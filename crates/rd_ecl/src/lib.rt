@@ -1,0 +1,12 @@
+//! Specifications of kinds of objects: the methods of each kind.
+#![tactic(auto)]
+
+mod kinds;
+mod names;
+mod specifications;
+#[cfg(test)]
+mod tests;
+
+pub use kinds::{KindDraft, KindSpec, Method};
+pub use names::Names;
+pub use specifications::Spec;

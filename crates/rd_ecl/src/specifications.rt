@@ -1,0 +1,59 @@
+//! The kinds of objects that a run knows.
+ghost use Rattle.std.specs.Prelude.{◌≡◌, [], ◌∷◌, ◌++◌, All, OnOk, OnErr, IfErr};
+ghost use Rattle.rd_ecl.specs.Specified.{IsKind};
+
+use crate::kinds::KindSpec;
+use rd_base::NoMemory;
+use std::alloc::Global;
+use std::marker::Model;
+
+/// A specification: kinds, which are numbered in their order. Contracts see it as the list of the kinds.
+#[derive(Debug, Drop)]
+pub struct Spec {
+    kinds: Vec<KindSpec>,
+}
+
+impl Model for Spec {
+    ghost use Rattle.std.specs.Prelude.{List, All};
+    ghost use Rattle.rd_ecl.specs.Specified.{SpecifiedKind, IsKind};
+
+    ghost Value = { List SpecifiedKind };
+
+    ghost view = { λ s. s.kinds.items };
+
+    ghost invariant = { λ s. All IsKind s.kinds.items };
+}
+
+impl Spec {
+    /// No kinds. It takes no memory.
+    pub fn empty(alloc: Global) -> Spec
+        ensures { result ≡ [] }
+    {
+        Spec {
+            kinds: Vec::new(alloc),
+        }
+    }
+
+    /// The kinds. It takes no memory.
+    pub fn kinds(&self) -> &[KindSpec]
+        ensures value { result.now ≡ self.now }
+        ensures valid { All IsKind self.now }
+    {
+        self.kinds.as_slice()
+    }
+
+    /// Puts a kind last. After want of memory the specification is as before, and the kind comes back.
+    pub fn push(&mut self, kind: KindSpec) -> Result<(), (KindSpec, NoMemory)>
+        ensures ok { OnOk result (self.new ≡ self.old ++ kind ∷ []) }
+        ensures err { OnErr result (self.new ≡ self.old) }
+        ensures back { IfErr result (λ refused. refused.0 ≡ kind) }
+    {
+        // its clause says what the specification promises of each kind
+        let _methods = kind.methods();
+        if self.kinds.reserve(1).is_err() {
+            return Err((kind, NoMemory));
+        }
+        self.kinds.push_reserved(kind);
+        Ok(())
+    }
+}
