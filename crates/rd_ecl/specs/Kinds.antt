@@ -1,5 +1,5 @@
 -- Kinds of objects and their methods, as a trace knows them: this project's profile.
-use Rattle.std.specs.Prelude.{ℕ, List, [], ◌∷◌, length, map, slice_get, unwrap_or, option_map}
+use Rattle.std.specs.Prelude.{ℕ, List, [], length, map, slice_get, unwrap_or, option_map}
 use Rattle.rd_ecl.specs.declared.kinds.Method.{Method as SpecifiedMethod}
 use Rattle.rd_ecl.specs.Specified.{SpecifiedKind}
 

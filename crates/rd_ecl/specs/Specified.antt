@@ -1,7 +1,6 @@
 -- What a specification says of kinds: this project's profile.
-use Rattle.std.specs.Prelude.{ℕ, ◌<◌, ◌≤◌, nat_eq, not, List, [], ◌∷◌, ◌++◌, length, map, All, IsTrue}
-use Rattle.std.specs.List.{IsDistinct, list_all}
-use Rattle.std.specs.Cmp.Lexicographic.{pointwise}
+use Rattle.std.specs.Prelude.{ℕ, ◌<◌, ◌≤◌, not, List, [], ◌∷◌, ◌++◌, length, map, All, AllPairs, ◌≢◌, IsTrue}
+use Rattle.std.specs.List.{list_all}
 use Rattle.rd_ecl.specs.declared.kinds.Method.{Method}
 use Rattle.rd_ecl.specs.Variables.{AreVariables, are_different, is_among, is_variable}
 
@@ -19,7 +18,7 @@ names_of methods = map (λ method. method.name) methods
 -- the methods of a kind: at most 16, no two of one name
 pub record AreMethods (methods : List Method) : Type 0 where
   pub few : length methods ≤ 16
-  pub different : IsDistinct (pointwise nat_eq) (names_of methods)
+  pub different : AllPairs (λ x y. x ≢ y) (names_of methods)
   pub each : All IsMethod methods
 
 abbrev pub IsKind : SpecifiedKind → Type 0

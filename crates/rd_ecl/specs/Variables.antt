@@ -1,6 +1,6 @@
 -- The variables of a method: this project's profile.
-use Rattle.std.specs.Prelude.{ℕ, ◌<◌, ◌≤◌, ◌==◌, ◌||◌, ◌&&◌, Bool, true, not, nat_lt, nat_le, nat_eq, List, [], ◌∷◌, length, codes, slice_index, IsTrue, All, Contains}
-use Rattle.std.specs.List.{AllPass, IsDistinct, list_all, list_any}
+use Rattle.std.specs.Prelude.{ℕ, ◌<◌, ◌≤◌, ◌==◌, ◌||◌, ◌&&◌, Bool, true, not, nat_lt, nat_le, nat_eq, List, [], ◌∷◌, length, codes, slice_index, IsTrue, All, AllPairs, Contains, ◌≢◌}
+use Rattle.std.specs.List.{AllPass, list_all, list_any}
 use Rattle.std.specs.Cmp.Lexicographic.{pointwise}
 use Rattle.rd_base.specs.Names.{is_letter_or_digit}
 
@@ -28,7 +28,7 @@ pub record IsVariable (bytes : List ℕ) : Type 0 where
 pub record AreVariables (variables : List (List ℕ)) : Type 0 where
   pub some : 1 ≤ length variables
   pub few : length variables ≤ 7
-  pub different : IsDistinct (pointwise nat_eq) variables
+  pub different : AllPairs (λ x y. x ≢ y) variables
   pub each : All IsVariable variables
 
 -- is a name among these?

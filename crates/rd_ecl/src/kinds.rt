@@ -1,5 +1,6 @@
 //! A kind of objects and its methods.
-ghost use Rattle.std.specs.Prelude.{◌≡◌, [], ◌∷◌, ◌++◌, IfOk, OnOk, OnErr};
+ghost use Rattle.std.specs.Prelude.{◌≡◌, ◌≢◌, ◌↔◌, ℕ, List, [], ◌∷◌, ◌++◌, IfOk, OnOk, OnErr, IsTrue, AllPairs, Contains};
+ghost use Rattle.rd_ecl.specs.Variables.{IsVariable, is_variable, is_among, are_different};
 ghost use Rattle.rd_ecl.specs.Specified.{AreMethods, MayAdd, with_method};
 
 use crate::names::Names;
@@ -15,7 +16,7 @@ pub struct Method {
     pub variables: Names,
 }
 
-/// What a specification says of a kind. Contracts see it as its name and its methods.
+/// A kind of objects: its name, and at most 16 methods of different names. Contracts see it as the name and the methods.
 #[derive(Debug, Drop)]
 pub struct KindSpec {
     name: Name,
@@ -49,7 +50,7 @@ impl KindSpec {
     }
 }
 
-/// What will be a `KindSpec`. Contracts see it as the name and the methods so far.
+/// A kind that is being made. Contracts see it as a kind: its name and the methods so far.
 #[derive(Debug, Drop)]
 pub struct KindDraft {
     name: Name,
@@ -77,7 +78,9 @@ impl KindDraft {
         })
     }
 
-    /// Puts a method last. After want of memory the draft is as before.
+    /// Puts a method last. Its name is new in the draft, which has fewer than 16 methods, and there are 1 to 7 different
+    /// variables: each has 1 to 64 letters, digits and `_`, begins with a letter, and is none of the words `true`, `false`,
+    /// `nil`, `not`, `and`, `or` and `when`. After want of memory the draft is as before.
     pub fn method(&mut self, name: Name, variables: Names) -> Result<(), NoMemory>
         requires { MayAdd self.old name variables }
         ensures ok { OnOk result (self.new ≡ with_method self.old (record { name = name; variables = variables })) }
@@ -97,3 +100,10 @@ impl KindDraft {
         }
     }
 }
+
+/// The law of variables: the tests of a variable, of a name among others, and of names that differ find exactly these.
+pub fn law_of_variables()
+    ensures variable { (bytes : List ℕ) → (IsTrue (is_variable bytes) ↔ IsVariable bytes) }
+    ensures among { (name : List ℕ) (names : List (List ℕ)) → (IsTrue (is_among name names) ↔ Contains names name) }
+    ensures different { (names : List (List ℕ)) → (IsTrue (are_different names) ↔ AllPairs (λ x y. x ≢ y) names) }
+{}

@@ -7,6 +7,6 @@ mod specifications;
 #[cfg(test)]
 mod tests;
 
-pub use kinds::{KindDraft, KindSpec, Method};
+pub use kinds::{KindDraft, KindSpec, Method, law_of_variables};
 pub use names::Names;
 pub use specifications::Spec;

@@ -1,5 +1,6 @@
-ghost use Rattle.std.specs.Prelude.{◌≡◌, List, [], ◌∷◌, codes, IfOk};
+ghost use Rattle.std.specs.Prelude.{◌≡◌, [], ◌∷◌, length, codes, IfOk};
 ghost use Rattle.rd_ecl.specs.Kinds.{kinds_of};
+ghost use Rattle.rd_ecl.specs.Specified.{names_of};
 
 use super::*;
 use rd_base::{Name, NoMemory};
@@ -48,8 +49,12 @@ fn seven(alloc: Global) -> Result<Names, NoMemory>
     Ok(names)
 }
 
-fn full(alloc: Global) -> Result<KindSpec, NoMemory> {
-    let mut kind = KindDraft::new(alloc, Name::from_bytes(b"full").unwrap())?;
+// A kind with 8 methods.
+fn half(alloc: Global) -> Result<KindDraft, NoMemory>
+    ensures count { IfOk result (λ kind. length kind.methods ≡ 8) }
+    ensures names { IfOk result (λ kind. names_of kind.methods ≡ codes "m0" ∷ codes "m1" ∷ codes "m2" ∷ codes "m3" ∷ codes "m4" ∷ codes "m5" ∷ codes "m6" ∷ codes "m7" ∷ []) }
+{
+    let mut kind = KindDraft::new(alloc, Name::from_bytes(b"whole").unwrap())?;
     kind.method(Name::from_bytes(b"m0").unwrap(), seven(alloc)?)?;
     kind.method(Name::from_bytes(b"m1").unwrap(), seven(alloc)?)?;
     kind.method(Name::from_bytes(b"m2").unwrap(), seven(alloc)?)?;
@@ -58,6 +63,12 @@ fn full(alloc: Global) -> Result<KindSpec, NoMemory> {
     kind.method(Name::from_bytes(b"m5").unwrap(), seven(alloc)?)?;
     kind.method(Name::from_bytes(b"m6").unwrap(), seven(alloc)?)?;
     kind.method(Name::from_bytes(b"m7").unwrap(), seven(alloc)?)?;
+    Ok(kind)
+}
+
+// A kind with 16 methods, the most that there may be.
+fn whole(alloc: Global) -> Result<KindSpec, NoMemory> {
+    let mut kind = half(alloc)?;
     kind.method(Name::from_bytes(b"m8").unwrap(), seven(alloc)?)?;
     kind.method(Name::from_bytes(b"m9").unwrap(), seven(alloc)?)?;
     kind.method(Name::from_bytes(b"true").unwrap(), seven(alloc)?)?;
@@ -86,7 +97,7 @@ fn flag(alloc: Global) -> Result<KindSpec, NoMemory>
 fn kinds_of_a_specification(rt: HostRuntime) -> Result<(), Fail> {
     let mut spec = register(rt.alloc())?;
     assert!(rt; spec.push(flag(rt.alloc())?).is_ok());
-    assert!(rt; spec.push(full(rt.alloc())?).is_ok());
+    assert!(rt; spec.push(whole(rt.alloc())?).is_ok());
     let rows = [
         (
             b"register".as_slice(),
@@ -96,7 +107,7 @@ fn kinds_of_a_specification(rt: HostRuntime) -> Result<(), Fail> {
             b"prev".as_slice(),
         ),
         (b"flag", 1, b"set", 1, b"done"),
-        (b"full", 16, b"last", 7, b"x9"),
+        (b"whole", 16, b"last", 7, b"x9"),
     ];
     assert_eq!(rt; spec.kinds().len(), rows.len());
     for (kind, (name, methods, last, variables, result)) in spec.kinds().iter().zip(rows) {

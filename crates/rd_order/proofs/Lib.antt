@@ -6,4 +6,5 @@ pub mod ImpliedLemmas
 pub mod LockLemmas
 pub mod OrderLemmas
 pub mod PathLemmas
+pub mod StepLemmas
 pub mod TestListLemmas

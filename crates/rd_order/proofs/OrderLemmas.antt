@@ -1,9 +1,9 @@
 -- Edges and reaching: their tests, and what they are in a list with more events.
 use Rattle.std.proofs.Common.{◌≡◌, ◌⊎◌, inl, inr, ℕ, zero, suc, ◌<◌, ◌≤◌, ◌==◌, Bool, List, [], ◌∷◌, ◌++◌, length, Option, Some, None, Decides, sym, ◌∙◌, ap, subst, refl, arith, length-append}
-use Rattle.std.specs.Prelude.{slice_get}
+use Rattle.std.specs.Prelude.{slice_get, slice_index_or}
 use Rattle.std.proofs.lemmas.Bool.{cases_lt}
 use Rattle.std.proofs.lemmas.Bool.Decides.{Decides-and, Decides-or, Decides-eqb, Decides-ltb, Decides-like}
-use Rattle.std.proofs.lemmas.Option.{slice_get_within, same_Some, none-some}
+use Rattle.std.proofs.lemmas.Option.{slice_get_within, slice_get-get_or, same_Some, none-some}
 use Rattle.rd_event.specs.declared.events.Event.{Event}
 use Rattle.rd_order.specs.Order.{thread_of, forked_thread, joined_thread, Hold, exclusive, Against, hold_taken, hold_given, Linked, same_thread, begins, ends, spans, hands_over, Edge, Reaches}
 use Rattle.rd_order.specs.OrderTests.{is_this, is_same, is_against, is_handed, is_linked, are_linked, is_edge, any_below, reaches_within, reaches}
@@ -165,6 +165,17 @@ edge_decides es i j =
     (λ x. record { rises = x.0; a = x.1.0; b = x.1.1; at_i = x.1.2; at_j = x.1.3; linked = x.1.4 })
     (λ edge. (edge.rises, (edge.a, edge.b, edge.at_i, edge.at_j, edge.linked)))
     (Decides-and _ _ (Decides-ltb i j) (are_linked_decides (slice_get es i) (slice_get es j)))
+
+-- two events of a list are linked exactly where there is an edge from the earlier place to the later one
+pub edge_told : (es : List Event) (i j : ℕ) (a b : Event) → i < j → i < length es → j < length es → a ≡ slice_index_or es i a → b ≡ slice_index_or es j b
+    → Decides (is_linked a b) (Edge es i j)
+edge_told es i j a b rises inside_i inside_j is_a is_b =
+    let at_i : slice_get es i ≡ Some a = slice_get-get_or es i a inside_i ∙ ap Some (sym is_a) in
+    let at_j : slice_get es j ≡ Some b = slice_get-get_or es j b inside_j ∙ ap Some (sym is_b) in
+    Decides-like (is_linked a b)
+    (λ l. record { rises = rises; a = a; b = b; at_i = at_i; at_j = at_j; linked = l })
+    (λ edge. subst (λ v. Linked v b) (same_Some edge.a a (sym edge.at_i ∙ at_i)) (subst (λ v. Linked edge.a v) (same_Some edge.b b (sym edge.at_j ∙ at_j)) edge.linked))
+    (linked_decides a b)
 
 any_decides : (test : ℕ → Bool) (P : ℕ → Type 0) (n : ℕ) → ((k : ℕ) → k < n → Decides (test k) (P k)) → Decides (any_below test n) ((k : ℕ) × (k < n) × P k)
 any_decides test P zero each = (λ h. cc, λ x. absurd (omega (arith, x.1)))

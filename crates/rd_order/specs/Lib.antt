@@ -2,4 +2,5 @@ pub mod Counts
 pub mod EventLists
 pub mod Order
 pub mod OrderTests
+pub mod Paths
 pub mod TestLists

@@ -1,5 +1,5 @@
 -- Which events of a list come before which, however the threads run. Places are counted from 0.
-use Rattle.std.specs.Prelude.{◌≡◌, ◌⊎◌, ℕ, ◌<◌, List, [], ◌∷◌, Option, Some, None, slice_get}
+use Rattle.std.specs.Prelude.{◌≡◌, ◌⊎◌, ℕ, ◌<◌, List, [], ◌∷◌, ◌++◌, Option, Some, None, slice_get}
 use Rattle.rd_event.specs.declared.events.Call.{Call as CallOf}
 use Rattle.rd_event.specs.declared.events.Event.{Event}
 use Rattle.rd_event.specs.declared.events.Event.TheVariants.{Fork, Join, Acquire, Release, Call}
@@ -102,6 +102,10 @@ Leads E i (k ∷ ks) j = E i k × Leads E k ks j
 -- place i reaches place j: one edge after another leads from i to j (Lamport 1978: happens before)
 abbrev pub Reaches : List Event → ℕ → ℕ → Type 0
 Reaches es i j = (inner : List ℕ) × Leads (Edge es) i inner j
+
+-- the places are a path from i to j: i first, j last, and an edge from each to the next. So they rise
+abbrev pub IsPath : List Event → ℕ → List ℕ → ℕ → Type 0
+IsPath es i places j = (inner : List ℕ) × (places ≡ i ∷ inner ++ j ∷ []) × Leads (Edge es) i inner j
 
 -- the earlier place doesn't reach the later one (Lamport 1978: concurrent)
 abbrev pub Unordered : List Event → ℕ → ℕ → Type 0
