@@ -7,11 +7,11 @@ use Rattle.std.proofs.lemmas.List.Sums.{sum_by-cons, sum_by-take-le, sum_by_push
 use Rattle.std.proofs.lemmas.Option.{none-some, same_Some}
 use Rattle.rd_event.specs.declared.events.Call.{Call as CallOf}
 use Rattle.rd_event.specs.declared.events.Event.{Event}
-use Rattle.rd_event.specs.declared.events.Event.TheVariants.{Fork, Join, Call}
+use Rattle.rd_event.specs.declared.events.Event.TheVariants.{Fork, Join, Acquire, Release, Call}
 use Rattle.rd_order.specs.Counts.{Counts}
-use Rattle.rd_order.specs.Order.{forked_thread}
+use Rattle.rd_order.specs.Order.{forked_thread, Hold, exclusive, Against}
 use Rattle.rd_order.specs.OrderTests.{is_this}
-use Rattle.rd_order.specs.EventLists.{calls, forks, joins, Known, MayHappen, Follow, IsBounded, WellFormed}
+use Rattle.rd_order.specs.EventLists.{calls, forks, givings, joins, takings, Known, MayHappen, Follow, IsBounded, WellFormed}
 use Rattle.rd_order.proofs.CountsLemmas.{counts_all, counts_below, counts_within}
 
 -- ---- places
@@ -180,4 +180,41 @@ may_call roots before call known running one_kind = record {
   free = λ h k is. absurd (none-some h is);
   held = λ h is. absurd (none-some h is);
   one_kind = λ other is. subst (λ d. (kind : ℕ) → kind ≢ d.kind → calls before d.object kind ≡ 0) (same_Some call other is) one_kind;
+}
+
+-- ---- events that take a lock or give it back
+
+-- the lock of a hold
+unfoldable pub lock_in : Hold → ℕ
+lock_in (exclusive lock) = lock
+
+pub may_acquire : (roots : ℕ → Bool) (before : List Event) (t lock : ℕ) → Known roots before t → joins before t ≡ 0
+    → ((u : ℕ) → u ≢ t → takings before u (exclusive lock) ≡ givings before u (exclusive lock)) → MayHappen roots before (Acquire t lock)
+unfolding lock_in
+may_acquire roots before t lock known running others = record {
+  fresh = λ v is. absurd (none-some v is);
+  known_actor = known;
+  known_joined = λ v is. absurd (none-some v is);
+  running = running;
+  other_joined = λ v is. absurd (none-some v is);
+  free = free;
+  held = λ h is. absurd (none-some h is);
+  one_kind = λ call is. absurd (none-some call is);
+}
+  where
+    free : (h k : Hold) → Some (exclusive lock) ≡ Some h → Against h k → (u : ℕ) → u ≢ t → takings before u k ≡ givings before u k
+    free (exclusive a) (exclusive b) is against u other =
+        subst (λ m. takings before u (exclusive m) ≡ givings before u (exclusive m)) (ap lock_in (same_Some (exclusive lock) (exclusive a) is) ∙ against) (others u other)
+
+pub may_release : (roots : ℕ → Bool) (before : List Event) (t lock : ℕ) → Known roots before t → joins before t ≡ 0
+    → givings before t (exclusive lock) < takings before t (exclusive lock) → MayHappen roots before (Release t lock)
+may_release roots before t lock known running has = record {
+  fresh = λ v is. absurd (none-some v is);
+  known_actor = known;
+  known_joined = λ v is. absurd (none-some v is);
+  running = running;
+  other_joined = λ v is. absurd (none-some v is);
+  free = λ h k is. absurd (none-some h is);
+  held = λ h is. subst (λ k. givings before t k < takings before t k) (same_Some (exclusive lock) h is) has;
+  one_kind = λ call is. absurd (none-some call is);
 }

@@ -10,12 +10,9 @@ use Rattle.rd_event.specs.declared.events.Event.{Event}
 use Rattle.rd_event.specs.declared.events.Event.TheVariants.{Fork, Join, Acquire, Release, Call}
 use Rattle.rd_order.specs.Order.{thread_of, Hold, exclusive, Against, hold_taken, hold_given}
 use Rattle.rd_order.specs.EventLists.{is_hold, takings, givings, MayHappen, Follow, WellFormed}
-use Rattle.rd_order.proofs.EventListLemmas.{formed_front}
+use Rattle.rd_order.proofs.EventListLemmas.{formed_front, lock_in}
 
 -- ---- holds
-
-lock_in : Hold → ℕ
-lock_in (exclusive lock) = lock
 
 -- the test tells whether it is this hold
 pub hold_decides : (o : Option Hold) (h : Hold) → Decides (is_hold o h) (o ≡ Some h)

@@ -1,8 +1,8 @@
 //! The laws of the order of events: what its definitions say, proved for every list of events.
-ghost use Rattle.std.specs.Prelude.{◌≡◌, ◌≢◌, ◌↔◌, ℕ, ◌<◌, ◌≤◌, ◌==◌, Bool, true, List, [], ◌∷◌, ◌++◌, length, take, Some, IsTrue, slice_get};
+ghost use Rattle.std.specs.Prelude.{◌≡◌, ◌≢◌, ◌↔◌, ℕ, ◌<◌, ◌≤◌, ◌==◌, ◌||◌, Bool, true, List, [], ◌∷◌, ◌++◌, length, take, Some, IsTrue, slice_get};
 ghost use Rattle.rd_event.specs.declared.events.Call.{Call as CallOf};
 ghost use Rattle.rd_event.specs.declared.events.Event.{Event};
-ghost use Rattle.rd_event.specs.declared.events.Event.TheVariants.{Fork, Join, Call};
+ghost use Rattle.rd_event.specs.declared.events.Event.TheVariants.{Fork, Join, Acquire, Release, Call};
 ghost use Rattle.rd_order.specs.Order.{Against, Edge, Hold, Reaches, Unordered, Uses};
 ghost use Rattle.rd_order.specs.OrderTests.{reaches};
 ghost use Rattle.rd_order.specs.EventLists.{IsBounded, MayHappen, WellFormed, givings, implied_roots, takings};
@@ -54,6 +54,10 @@ pub fn examples_of_order()
     ensures ends { Edge (Fork 1 2 ∷ Join 0 1 ∷ []) 0 1 }
     // A fork reaches a join of its child that is of another thread, where the child does nothing.
     ensures spans { Reaches (Fork 0 1 ∷ Fork 2 3 ∷ Join 2 1 ∷ []) 0 2 }
+    // A release comes before the acquires of its lock behind it, and an acquire before no other thread's.
+    ensures hands_over { Edge (Release 0 5 ∷ Acquire 1 5 ∷ []) 0 1 }
+    ensures another_lock { Unordered (Release 0 5 ∷ Acquire 1 6 ∷ []) 0 1 }
+    ensures acquired_twice { Unordered (Acquire 0 5 ∷ Acquire 1 5 ∷ []) 0 1 }
     ensures by_two_edges { Reaches (Fork 0 1 ∷ Fork 1 2 ∷ Join 2 3 ∷ []) 0 2 }
     ensures apart { Unordered (Fork 0 1 ∷ Fork 2 3 ∷ []) 0 1 }
     // The thread that joins is ordered behind the one that it joins, and not the other way round.
@@ -68,4 +72,10 @@ pub fn examples_of_order()
     ensures one_call { (call : CallOf) → call.thread ≡ 0 → WellFormed (λ t. t == 0) (Call call ∷ []) }
     ensures two_kinds { (call other : CallOf) → call.object ≡ other.object → call.kind ≢ other.kind →
         ¬ (WellFormed (λ t. t == 0) (Call call ∷ Call other ∷ [])) }
+    // A lock may be acquired again by the thread that has it, and is free where that thread released it as often.
+    ensures acquired_again { WellFormed (λ t. t == 0) (Acquire 0 5 ∷ Acquire 0 5 ∷ Release 0 5 ∷ Release 0 5 ∷ []) }
+    ensures held_by_another { ¬ (WellFormed (λ t. (t == 0) || (t == 1)) (Acquire 0 5 ∷ Acquire 1 5 ∷ [])) }
+    ensures released_once { ¬ (WellFormed (λ t. (t == 0) || (t == 1)) (Acquire 0 5 ∷ Acquire 0 5 ∷ Release 0 5 ∷ Acquire 1 5 ∷ [])) }
+    ensures not_held { ¬ (WellFormed (λ t. t == 0) (Release 0 5 ∷ [])) }
+    ensures released_twice { ¬ (WellFormed (λ t. t == 0) (Acquire 0 5 ∷ Release 0 5 ∷ Release 0 5 ∷ [])) }
 {}

@@ -80,12 +80,7 @@ fn step(events: &[Event], steps: &[Option<u32>], place: u32, j: u32) -> Option<u
 }
 
 // The step of each place from j down to i.
-fn steps(
-    alloc: Global,
-    events: &[Event],
-    i: u32,
-    j: u32,
-) -> Result<Vec<Option<u32>>, NoMemory>
+fn steps(alloc: Global, events: &[Event], i: u32, j: u32) -> Result<Vec<Option<u32>>, NoMemory>
     requires inside { j < length events.now }
     requires below { i < j }
     ensures count { IfOk result (λ steps. length steps.items ≡ j - i + 1) }

@@ -25,7 +25,7 @@ use Rattle.rd_order.specs.OrderTests.{is_this}
 use Rattle.rd_wf.proofs.FollowLemmas.{Meets, among_decides, met}
 use Rattle.rd_wf.specs.NoLines.{told_none}
 use Rattle.rd_wf.specs.Events.{AreAccepted, AreAcceptedFrom, AreTold, IsTold, event_of, events_from, events_of, root_count, roots_of}
-use Rattle.rd_wf.specs.Kinds.{Kind, kind_names}
+use Rattle.rd_ecl.specs.Kinds.{Kind, kind_names}
 use Rattle.rd_wf.specs.MayFollow.{MayFollow, begun_name, declared_kind, events, is_among, is_event, is_root, is_skip, joined_name, joined_of, kind_number, method_number, object_kinds, objects_of, place, same_name, threads_of}
 
 -- ---- places of names

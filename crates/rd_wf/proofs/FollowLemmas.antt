@@ -14,7 +14,7 @@ use Rattle.rd_event.specs.declared.items.Line.TheVariants.{Skip, Thread, Object,
 use Rattle.rd_event.specs.declared.items.LineEvent.TheVariants.{Fork, Join}
 use Rattle.rd_wf.specs.declared.causes.WfCause.{WfCause}
 use Rattle.rd_wf.specs.declared.causes.WfCause.TheVariants.{HeaderFirst, LateRoot, NameTaken, UnknownThread, ThreadEnded, OwnThread, UnknownKind, UnknownObject, UnknownMethod, WrongCount, Limit}
-use Rattle.rd_wf.specs.Kinds.{Kind, kind_names, method_names}
+use Rattle.rd_ecl.specs.Kinds.{Kind, kind_names, method_names}
 use Rattle.rd_wf.specs.MayFollow.{SpelledCall, line_call, methods_of, slots_of, is_skip, is_header, is_root, is_event, begun_name, acting_name, joined_name, declared_name, kind_name, threads_of, joined_of, objects_of, headers, events, Rule, causes, MayFollow, IsBrokenFirst, same_name, is_among, passes, is_broken, first_broken}
 
 -- ---- tests of names

@@ -34,7 +34,7 @@ use Rattle.rd_wf.specs.declared.roster.judge.FoundObject.{FoundObject}
 use Rattle.rd_wf.specs.declared.roster.judge.FoundThread.{FoundThread}
 use Rattle.rd_wf.proofs.FollowLemmas.{among_decides, follows_from_none, broken_from_some}
 use Rattle.rd_wf.specs.MayFollow.{begun_name, joined_name, is_header, is_event, threads_of, joined_of, objects_of, headers, events, same_name, is_among, place, methods_of, object_kinds, first_broken, MayFollow, IsBrokenFirst, takes_memory}
-use Rattle.rd_wf.specs.Kinds.{Kind, Method, kind_names, method_names, methods_at, slots_at}
+use Rattle.rd_ecl.specs.Kinds.{Kind, Method, kind_names, method_names, methods_at, slots_at}
 use Rattle.rd_wf.specs.Roster.{StandsFor, kind_entry, method_entry, methods_in, thread_entry, object_entry, thread_count, object_count, found_method, found_thread, found_object, Accepts, Refuses}
 
 -- ---- look-ups

@@ -1,14 +1,15 @@
 -- The events of accepted lines by numbers, and what lines and events say of one another: this project's profile.
-use Rattle.std.specs.Prelude.{◌≡◌, ◌↔◌, ℕ, ◌<◌, ◌≤◌, ◌^◌, nat_lt, Bool, List, [], ◌∷◌, ◌++◌, length, Option, Some, None, Contains, count_by, slice_get}
+use Rattle.std.specs.Prelude.{◌≡◌, ◌↔◌, ℕ, ◌<◌, ◌≤◌, ◌^◌, nat_lt, Bool, List, [], ◌∷◌, ◌++◌, length, Option, Some, None, IfSome, All, Contains, count_by, slice_get}
 use Rattle.std.specs.List.{cons_option}
 use Rattle.rd_base.specs.Limits.{AreUsable}
 use Rattle.rd_base.specs.declared.limits.Limits.{Limits}
 use Rattle.rd_event.specs.declared.items.Line.{Line}
 use Rattle.rd_event.specs.declared.items.Line.TheVariants.{Event}
 use Rattle.rd_event.specs.declared.events.Event.{Event as Numbered}
-use Rattle.rd_order.specs.EventLists.{Known, WellFormed, calls, joins}
-use Rattle.rd_wf.specs.Kinds.{Kind}
-use Rattle.rd_wf.specs.MayFollow.{MayFollow, events, is_root, joined_of, numbered_event, object_kinds, place, threads_of}
+use Rattle.rd_order.specs.EventLists.{IsCallOf, Known, WellFormed, calls, givings, joins, takings}
+use Rattle.rd_order.specs.Order.{call_in, exclusive}
+use Rattle.rd_ecl.specs.Kinds.{Kind}
+use Rattle.rd_wf.specs.MayFollow.{MayFollow, acquires, events, is_root, joined_of, locks_of, numbered_event, object_kinds, place, releases, threads_of}
 
 -- ---- roots and events
 
@@ -68,6 +69,17 @@ pub record IsTold (roots : ℕ → Bool) (es : List Numbered) (count : ℕ) (thr
   -- the kind of a call's object is that of the call
   pub one_kind : (object kind : ℕ) → 0 < calls es object kind → slice_get objects object ≡ Some kind
 
--- so it is with the events of these lines
-abbrev pub AreTold : List Kind → List Line → Type 0
-AreTold kinds lines = IsTold (roots_of lines) (events_of kinds lines) (events lines) (threads_of lines) (joined_of lines) (object_kinds kinds lines)
+-- each thread takes and gives back each lock as often as its lines say, by their places; no thread and no lock without a name
+-- is used; and each lock's name has one place
+pub record AreUsed (es : List Numbered) (threads locks : List (List ℕ)) (took gave : List ℕ → List ℕ → ℕ) : Type 0 where
+  pub taken : (t l : ℕ) (thread lock : List ℕ) → slice_get threads t ≡ Some thread → slice_get locks l ≡ Some lock → takings es t (exclusive l) ≡ took thread lock
+  pub given : (t l : ℕ) (thread lock : List ℕ) → slice_get threads t ≡ Some thread → slice_get locks l ≡ Some lock → givings es t (exclusive l) ≡ gave thread lock
+  pub no_thread : (t l : ℕ) → length threads ≤ t → (takings es t (exclusive l) ≡ 0) × (givings es t (exclusive l) ≡ 0)
+  pub no_lock : (t l : ℕ) → length locks ≤ l → (takings es t (exclusive l) ≡ 0) × (givings es t (exclusive l) ≡ 0)
+  pub places : (l : ℕ) (lock : List ℕ) → slice_get locks l ≡ Some lock → place locks lock ≡ l
+
+-- so it is with the events of these lines, and their calls are of the kinds
+pub record AreTold (kinds : List Kind) (lines : List Line) : Type 0 where
+  pub told : IsTold (roots_of lines) (events_of kinds lines) (events lines) (threads_of lines) (joined_of lines) (object_kinds kinds lines)
+  pub used : AreUsed (events_of kinds lines) (threads_of lines) (locks_of lines) (acquires lines) (releases lines)
+  pub fit : All (λ e. IfSome (call_in e) (IsCallOf kinds)) (events_of kinds lines)

@@ -1,20 +1,20 @@
 -- Which line may follow the accepted lines of a trace: this project's profile. What was accepted is
 -- told by lists and counts over the lines.
-use Rattle.std.specs.Prelude.{◌≡◌, ◌≢◌, ◌↔◌, ◌⊎◌, ℕ, ◌<◌, nat_eq, nat_lt, nat_le, ◌==◌, Bool, true, false, ◌&&◌, ◌||◌, not, if◌then◌else◌, List, [], ◌∷◌, take, find, All, length, Option, Some, None, is_some, IsSome, IfSome, IsTrue, Contains, filter_map, count_by, slice_get, unwrap_or}
-use Rattle.std.specs.List.{list_any, position_or_len}
+use Rattle.std.specs.Prelude.{◌≡◌, ◌≢◌, ◌↔◌, ◌⊎◌, ℕ, ◌+◌, ◌<◌, nat_eq, nat_lt, nat_le, ◌==◌, Bool, true, false, ◌&&◌, ◌||◌, not, if◌then◌else◌, List, [], ◌∷◌, ◌++◌, map, take, find, All, length, Option, Some, None, is_some, IsSome, IfSome, IsTrue, Contains, filter_map, count_by, slice_get, unwrap_or}
+use Rattle.std.specs.List.{list_any, position_or_len, range_with_len}
 use Rattle.std.specs.Cmp.Lexicographic.{pointwise}
 use Rattle.rd_base.specs.declared.limits.Limits.{Limits}
 use Rattle.rd_base.specs.declared.values.Value.{Value}
-use Rattle.rd_base.specs.declared.limits.LimitName.TheVariants.{Events, Threads, Objects}
+use Rattle.rd_base.specs.declared.limits.LimitName.TheVariants.{Events, Threads, Locks, Objects, Depth}
 use Rattle.rd_event.specs.declared.items.Line.{Line}
 use Rattle.rd_event.specs.declared.items.Line.TheVariants.{Skip, Header, Thread, Object, Event}
 use Rattle.rd_event.specs.declared.items.LineEvent.{LineEvent}
-use Rattle.rd_event.specs.declared.items.LineEvent.TheVariants.{Fork, Join, Call}
+use Rattle.rd_event.specs.declared.items.LineEvent.TheVariants.{Fork, Join, Acquire, Release, Call}
 use Rattle.rd_event.specs.declared.events.Event as event
 use Rattle.rd_event.specs.declared.events.Event.TheVariants as numbered
-use Rattle.rd_wf.specs.Kinds.{Kind, Method, kind_names, method_names, methods_at, slots_at}
+use Rattle.rd_ecl.specs.Kinds.{Kind, Method, kind_names, method_names, methods_at, slots_at}
 use Rattle.rd_wf.specs.declared.causes.WfCause.{WfCause}
-use Rattle.rd_wf.specs.declared.causes.WfCause.TheVariants.{HeaderFirst, LateRoot, NameTaken, UnknownThread, ThreadEnded, OwnThread, UnknownKind, UnknownObject, UnknownMethod, WrongCount, Limit}
+use Rattle.rd_wf.specs.declared.causes.WfCause.TheVariants.{HeaderFirst, LateRoot, NameTaken, UnknownThread, ThreadEnded, OwnThread, UnknownKind, UnknownObject, UnknownMethod, WrongCount, LockHeld, NotHeld, Limit}
 use Rattle.rd_wf.specs.declared.causes.Accepted.{Accepted}
 use Rattle.rd_wf.specs.declared.causes.Accepted.TheVariants as accepted
 
@@ -54,7 +54,19 @@ awaited_name _ = None
 abbrev pub actor_name : LineEvent → List ℕ
 actor_name (Fork thread child) = thread
 actor_name (Join thread child) = thread
+actor_name (Acquire thread lock) = thread
+actor_name (Release thread lock) = thread
 actor_name (Call thread object method slots) = thread
+
+-- the lock that an event acquires
+abbrev pub acquired_lock : LineEvent → Option (List ℕ)
+acquired_lock (Acquire thread lock) = Some lock
+acquired_lock _ = None
+
+-- the lock that an event releases
+abbrev pub released_lock : LineEvent → Option (List ℕ)
+released_lock (Release thread lock) = Some lock
+released_lock _ = None
 
 -- a call, by the names of its object and method, and with its arguments and result
 pub record SpelledCall : Type 0 where
@@ -83,6 +95,16 @@ abbrev pub joined_name : Line → Option (List ℕ)
 joined_name (Event event) = awaited_name event
 joined_name _ = None
 
+-- the lock that it acquires
+abbrev pub acquired_name : Line → Option (List ℕ)
+acquired_name (Event event) = acquired_lock event
+acquired_name _ = None
+
+-- the lock that it releases
+abbrev pub released_name : Line → Option (List ℕ)
+released_name (Event event) = released_lock event
+released_name _ = None
+
 -- the object that it declares
 abbrev pub declared_name : Line → Option (List ℕ)
 declared_name (Object name kind) = Some name
@@ -102,15 +124,24 @@ line_call _ = None
 abbrev pub is_call : Line → Bool
 is_call line = is_some (line_call line)
 
--- to accept it takes memory: it begins a thread, declares an object, or is a call
+-- to accept it takes memory: it begins a thread, acquires a lock, declares an object, or is a call
 abbrev pub takes_memory : Line → Bool
-takes_memory line = is_some (begun_name line) || (is_some (declared_name line) || is_call line)
+takes_memory line = is_some (begun_name line) || (is_some (acquired_name line) || (is_some (declared_name line) || is_call line))
 
 -- ---- names and their places
 
 -- two names are the same
 abbrev pub same_name : List ℕ → List ℕ → Bool
 same_name = pointwise nat_eq
+
+-- the name is among these
+abbrev pub is_among : List (List ℕ) → List ℕ → Bool
+is_among names name = list_any (same_name name) names
+
+-- there is one, and it passes the test
+abbrev pub passes : {X : Type 0} → Option X → (X → Bool) → Bool
+passes None test = false
+passes (Some x) test = test x
 
 -- the place of a name, from 0: the number of those before it
 abbrev pub place : List (List ℕ) → List ℕ → ℕ
@@ -125,6 +156,34 @@ threads_of before = filter_map begun_name before
 -- the threads that were joined, in the order of the joins
 abbrev pub joined_of : List Line → List (List ℕ)
 joined_of before = filter_map joined_name before
+
+-- these locks, and the one that the line acquires where it isn't among them
+abbrev pub with_lock : List (List ℕ) → Option (List ℕ) → List (List ℕ)
+with_lock locks None = locks
+with_lock locks (Some lock) = if is_among locks lock then locks else locks ++ lock ∷ []
+
+-- these locks, and those that lines acquire, in the order in which each is acquired first
+abbrev pub with_locks : List (List ℕ) → List Line → List (List ℕ)
+with_locks locks [] = locks
+with_locks locks (line ∷ lines) = with_locks (with_lock locks (acquired_name line)) lines
+
+-- the locks, in the order of the lines that acquired each first
+abbrev pub locks_of : List Line → List (List ℕ)
+locks_of before = with_locks [] before
+
+-- a line of this thread that acquires this lock, and one that releases it
+abbrev pub is_acquire_of : List ℕ → List ℕ → Line → Bool
+is_acquire_of thread lock line = passes (acting_name line) (same_name thread) && passes (acquired_name line) (same_name lock)
+
+abbrev pub is_release_of : List ℕ → List ℕ → Line → Bool
+is_release_of thread lock line = passes (acting_name line) (same_name thread) && passes (released_name line) (same_name lock)
+
+-- how often the thread acquired the lock, and how often it released it
+unfoldable pub acquires : List Line → List ℕ → List ℕ → ℕ
+acquires before thread lock = count_by (is_acquire_of thread lock) before
+
+unfoldable pub releases : List Line → List ℕ → List ℕ → ℕ
+releases before thread lock = count_by (is_release_of thread lock) before
 
 -- the objects, in the order of their lines
 abbrev pub objects_of : List Line → List (List ℕ)
@@ -191,40 +250,46 @@ Rule kinds before line UnknownKind = IfSome (kind_name line) (Contains (kind_nam
 Rule kinds before line UnknownObject = IfSome (line_call line) (λ call. Contains (objects_of before) call.object)
 Rule kinds before line UnknownMethod = IfSome (line_call line) (λ call. Contains (method_names (methods_of kinds before call.object)) call.method)
 Rule kinds before line WrongCount = IfSome (line_call line) (λ call. length call.slots ≡ slots_of kinds before call)
--- no count that the line raises passes its limit
+-- the thread with this number isn't another one that has the acquired lock: it released the lock as often as it acquired it
+Rule kinds before line (LockHeld holder) = IfSome (acquired_name line) (λ lock. IfSome (slice_get (threads_of before) holder) (λ thread.
+    acting_name line ≢ Some thread → acquires before thread lock ≡ releases before thread lock))
+-- the acting thread has the released lock: it acquired the lock more often than it released it
+Rule kinds before line NotHeld = IfSome (released_name line) (λ lock. IfSome (acting_name line) (λ thread.
+    releases before thread lock < acquires before thread lock))
+-- no count that the line raises passes its limit. A lock is counted where it is acquired first, and depth is how often
+-- the acting thread has acquired the lock and not released it
 Rule kinds before line (Limit Events most) = IsTrue (is_event line) → events before < most
 Rule kinds before line (Limit Threads most) = IsSome (begun_name line) → length (threads_of before) < most
+Rule kinds before line (Limit Locks most) = IfSome (acquired_name line) (λ lock. ¬ (Contains (locks_of before) lock) → length (locks_of before) < most)
 Rule kinds before line (Limit Objects most) = IsSome (declared_name line) → length (objects_of before) < most
+Rule kinds before line (Limit Depth most) = IfSome (acquired_name line) (λ lock. IfSome (acting_name line) (λ thread.
+    acquires before thread lock < most + releases before thread lock))
 Rule kinds before line (Limit name most) = Unit {0}
 
+-- that a thread has the lock, for each thread, in the order of their numbers
+abbrev pub holders : List Line → List WfCause
+holders before = map LockHeld (range_with_len 0 (length (threads_of before)))
+
 -- the causes in the order in which they are told
-abbrev pub causes : Limits → List WfCause
-causes limits =
+abbrev pub causes : Limits → List Line → List WfCause
+causes limits before =
     HeaderFirst ∷ LateRoot ∷ NameTaken ∷ UnknownThread ∷ ThreadEnded ∷ OwnThread ∷ UnknownKind ∷ UnknownObject ∷ UnknownMethod ∷ WrongCount
-    ∷ Limit Events limits.events ∷ Limit Threads limits.threads ∷ Limit Objects limits.objects ∷ []
+    ∷ holders before ++ NotHeld
+    ∷ Limit Events limits.events ∷ Limit Threads limits.threads ∷ Limit Locks limits.locks ∷ Limit Objects limits.objects ∷ Limit Depth limits.depth ∷ []
 
 -- the line may follow: it is skipped, or it meets the rule of each cause
 abbrev pub MayFollow : List Kind → Limits → List Line → Line → Type 0
-MayFollow kinds limits before line = (line ≡ Skip) ⊎ All (Rule kinds before line) (causes limits)
+MayFollow kinds limits before line = (line ≡ Skip) ⊎ All (Rule kinds before line) (causes limits before)
 
 -- the line isn't skipped, it breaks the rule of this cause, and it meets those of the causes in front of it
 pub record IsBrokenFirst (kinds : List Kind) (limits : Limits) (before : List Line) (line : Line) (cause : WfCause) : Type 0 where
   pub counted : line ≢ Skip
   pub place : ℕ
-  pub listed : slice_get (causes limits) place ≡ Some cause
+  pub listed : slice_get (causes limits before) place ≡ Some cause
   pub broken : ¬ (Rule kinds before line cause)
-  pub others : All (Rule kinds before line) (take place (causes limits))
+  pub others : All (Rule kinds before line) (take place (causes limits before))
 
 -- ---- the same by tests, for what has to be computed
-
--- the name is among these
-abbrev pub is_among : List (List ℕ) → List ℕ → Bool
-is_among names name = list_any (same_name name) names
-
--- there is one, and it passes the test
-abbrev pub passes : {X : Type 0} → Option X → (X → Bool) → Bool
-passes None test = false
-passes (Some x) test = test x
 
 -- the line breaks the rule of the cause
 abbrev pub is_broken : List Kind → List Line → Line → WfCause → Bool
@@ -239,21 +304,30 @@ is_broken kinds before line UnknownKind = passes (kind_name line) (λ kind. not 
 is_broken kinds before line UnknownObject = passes (line_call line) (λ call. not (is_among (objects_of before) call.object))
 is_broken kinds before line UnknownMethod = passes (line_call line) (λ call. not (is_among (method_names (methods_of kinds before call.object)) call.method))
 is_broken kinds before line WrongCount = passes (line_call line) (λ call. not (length call.slots == slots_of kinds before call))
+is_broken kinds before line (LockHeld holder) = passes (acquired_name line) (λ lock. passes (slice_get (threads_of before) holder) (λ thread.
+    not (passes (acting_name line) (same_name thread)) && not (acquires before thread lock == releases before thread lock)))
+is_broken kinds before line NotHeld = passes (released_name line) (λ lock. passes (acting_name line) (λ thread.
+    nat_le (acquires before thread lock) (releases before thread lock)))
 is_broken kinds before line (Limit Events most) = is_event line && nat_le most (events before)
 is_broken kinds before line (Limit Threads most) = is_some (begun_name line) && nat_le most (length (threads_of before))
+is_broken kinds before line (Limit Locks most) = passes (acquired_name line) (λ lock. not (is_among (locks_of before) lock)) && nat_le most (length (locks_of before))
 is_broken kinds before line (Limit Objects most) = is_some (declared_name line) && nat_le most (length (objects_of before))
+is_broken kinds before line (Limit Depth most) = passes (acquired_name line) (λ lock. passes (acting_name line) (λ thread.
+    nat_le (most + releases before thread lock) (acquires before thread lock)))
 is_broken kinds before line (Limit name most) = false
 
 -- the first cause whose rule the line breaks, if it breaks any
 unfoldable pub first_broken : List Kind → Limits → List Line → Line → Option WfCause
-first_broken kinds limits before line = if is_skip line then None else find (is_broken kinds before line) (causes limits)
+first_broken kinds limits before line = if is_skip line then None else find (is_broken kinds before line) (causes limits before)
 
 -- ---- numbers
 
--- an event by numbers. The thread that it begins has the next one
+-- an event by numbers. The thread that it begins has the next one, and so has a lock that is acquired for the first time
 abbrev pub numbered_event : List Kind → List Line → LineEvent → event.Event
 numbered_event kinds before (Fork thread child) = numbered.Fork (place (threads_of before) thread) (length (threads_of before))
 numbered_event kinds before (Join thread child) = numbered.Join (place (threads_of before) thread) (place (threads_of before) child)
+numbered_event kinds before (Acquire thread lock) = numbered.Acquire (place (threads_of before) thread) (place (locks_of before) lock)
+numbered_event kinds before (Release thread lock) = numbered.Release (place (threads_of before) thread) (place (locks_of before) lock)
 numbered_event kinds before (Call thread object method slots) =
     numbered.Call (record {
       thread = place (threads_of before) thread;

@@ -6,7 +6,7 @@ use Rattle.std.proofs.lemmas.Option.{none-some}
 use Rattle.rd_order.specs.Counts.{Counts}
 use Rattle.rd_order.specs.EventLists.{calls, forks, joins, Known}
 use Rattle.rd_wf.specs.Events.{AreTold, events_of, roots_of}
-use Rattle.rd_wf.specs.Kinds.{Kind}
+use Rattle.rd_ecl.specs.Kinds.{Kind}
 
 -- no thread is known
 none_known : (kinds : List Kind) (n c : ℕ) → Counts (Known (roots_of []) (events_of kinds [])) n c → c ≡ 0

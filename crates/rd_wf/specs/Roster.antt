@@ -1,27 +1,31 @@
 -- What a roster holds of the accepted lines of a trace: this project's profile.
-use Rattle.std.specs.Prelude.{◌≡◌, ℕ, Bool, nat_lt, not, if◌then◌else◌, List, [], ◌∷◌, ◌++◌, map, length, Contains, filter_map, Option, Some, None, IsTrue}
-use Rattle.indexmap.specs.IndexMap.{index_map_len}
+use Rattle.std.specs.Prelude.{◌≡◌, ℕ, ◌+◌, ◌<◌, ◌==◌, Bool, false, nat_lt, not, if◌then◌else◌, List, [], ◌∷◌, ◌++◌, map, length, Contains, filter_map, Option, Some, None, unwrap_or, IsTrue}
+use Rattle.indexmap.specs.IndexMap.{get_by, index_map_len}
 use Rattle.rd_base.specs.declared.limits.Limits.{Limits}
 use Rattle.rd_event.specs.declared.items.Line.{Line}
 use Rattle.rd_event.specs.declared.items.Line.TheVariants.{Object}
 use Rattle.rd_wf.specs.declared.causes.Accepted.{Accepted}
-use Rattle.rd_base.specs.declared.limits.LimitName.TheVariants.{Events, Threads, Objects}
+use Rattle.rd_base.specs.declared.limits.LimitName.TheVariants.{Events, Threads, Locks, Objects, Depth}
 use Rattle.rd_wf.specs.declared.causes.WfCause.{WfCause}
-use Rattle.rd_wf.specs.declared.causes.WfCause.TheVariants.{HeaderFirst, LateRoot, NameTaken, UnknownThread, ThreadEnded, OwnThread, UnknownKind, UnknownObject, UnknownMethod, WrongCount, Limit}
+use Rattle.rd_wf.specs.declared.causes.WfCause.TheVariants.{HeaderFirst, LateRoot, NameTaken, UnknownThread, ThreadEnded, OwnThread, UnknownKind, UnknownObject, UnknownMethod, WrongCount, LockHeld, NotHeld, Limit}
 use Rattle.rd_wf.specs.declared.causes.WfRefused.{WfRefused}
 use Rattle.rd_wf.specs.declared.causes.WfRefused.TheVariants.{Cause, NoMemory}
 use Rattle.rd_wf.specs.declared.roster.Roster.{Roster}
 use Rattle.rd_wf.specs.declared.roster.judge.Broken.{Broken}
+use Rattle.rd_wf.specs.declared.roster.Lock.{Lock}
 use Rattle.rd_wf.specs.declared.roster.judge.FoundObject.{FoundObject}
 use Rattle.rd_wf.specs.declared.roster.judge.FoundThread.{FoundThread}
 use Rattle.rd_wf.specs.declared.methods.Method.{Method as Found}
 use Rattle.rd_wf.specs.declared.methods.Methods.{Methods}
-use Rattle.rd_wf.specs.MayFollow.{threads_of, joined_of, objects_of, headers, events, is_among, kind_number, place, first_broken, accepted_of, takes_memory}
-use Rattle.rd_wf.specs.Kinds.{Kind, Method, kind_names, method_names, slots_at}
+use Rattle.rd_wf.specs.MayFollow.{threads_of, joined_of, locks_of, objects_of, acquires, releases, headers, events, is_among, passes, same_name, kind_number, place, first_broken, accepted_of, takes_memory}
+use Rattle.rd_ecl.specs.Kinds.{Kind, Method, kind_names, method_names, slots_at}
 
--- how many threads and objects the roster numbers
+-- how many threads, locks and objects the roster numbers
 abbrev pub thread_count : Roster → ℕ
 thread_count roster = index_map_len roster.threads
+
+abbrev pub lock_count : Roster → ℕ
+lock_count roster = index_map_len roster.locks
 
 abbrev pub object_count : Roster → ℕ
 object_count roster = index_map_len roster.objects
@@ -34,6 +38,18 @@ thread_entry lines name = (name, is_among (joined_of lines) name)
 abbrev pub object_entry : List Kind → Line → Option (List ℕ × ℕ)
 object_entry kinds (Object name kind) = Some (name, place (kind_names kinds) kind)
 object_entry kinds _ = None
+
+-- a lock that no thread has
+abbrev pub free_lock : Lock
+free_lock = record { holder = 0; depth = 0 }
+
+-- what the roster holds of the lock of that name
+abbrev pub lock_in : Roster → List ℕ → Lock
+lock_in roster name = unwrap_or (get_by (same_name name) roster.locks) free_lock
+
+-- how often the thread with this number acquired the lock and didn't release it
+abbrev pub depth_of : Lock → ℕ → ℕ
+depth_of lock thread = if thread == lock.holder then lock.depth else 0
 
 -- the methods that a roster's table says, and the kind that an entry of its kinds says
 abbrev pub method_entry : List ℕ × ℕ → Method
@@ -73,23 +89,26 @@ found_object kinds lines name = record {
 
 -- ---- the rules that a line breaks
 
--- the cause of the first flag
-abbrev pub first_of : Broken → Limits → Option WfCause
-first_of broken limits =
-    if broken.header_first then Some HeaderFirst
-    else if broken.late_root then Some LateRoot
-    else if broken.name_taken then Some NameTaken
-    else if broken.unknown_thread then Some UnknownThread
-    else if broken.thread_ended then Some ThreadEnded
-    else if broken.own_thread then Some OwnThread
-    else if broken.unknown_kind then Some UnknownKind
-    else if broken.unknown_object then Some UnknownObject
-    else if broken.unknown_method then Some UnknownMethod
-    else if broken.wrong_count then Some WrongCount
-    else if broken.events then Some (Limit Events limits.events)
-    else if broken.threads then Some (Limit Threads limits.threads)
-    else if broken.objects then Some (Limit Objects limits.objects)
-    else None
+-- the flag of a cause
+abbrev pub flag : Broken → WfCause → Bool
+flag broken HeaderFirst = broken.header_first
+flag broken LateRoot = broken.late_root
+flag broken NameTaken = broken.name_taken
+flag broken UnknownThread = broken.unknown_thread
+flag broken ThreadEnded = broken.thread_ended
+flag broken OwnThread = broken.own_thread
+flag broken UnknownKind = broken.unknown_kind
+flag broken UnknownObject = broken.unknown_object
+flag broken UnknownMethod = broken.unknown_method
+flag broken WrongCount = broken.wrong_count
+flag broken (LockHeld holder) = passes broken.held_by (λ other. other == holder)
+flag broken NotHeld = broken.not_held
+flag broken (Limit Events most) = broken.events
+flag broken (Limit Threads most) = broken.threads
+flag broken (Limit Locks most) = broken.locks
+flag broken (Limit Objects most) = broken.objects
+flag broken (Limit Depth most) = broken.depth
+flag broken (Limit name most) = false
 
 -- ---- what a roster holds
 
@@ -107,10 +126,15 @@ pub record StandsFor (kinds : List Kind) (roster : Roster) (lines : List Line) :
   -- the threads in their order, each with whether it is joined, and the objects in theirs, each with its kind
   pub thread_entries : roster.threads.entries ≡ map (thread_entry lines) (threads_of lines)
   pub object_entries : roster.objects.entries ≡ filter_map (object_entry kinds) lines
+  -- the locks in their order; each, and none that isn't among them, with how often threads acquired it and didn't release it
+  pub lock_names : map (λ entry. entry.0) roster.locks.entries ≡ locks_of lines
+  pub lock_depths : (lock thread : List ℕ) → acquires lines thread lock ≡ releases lines thread lock + depth_of (lock_in roster lock) (place (threads_of lines) thread)
+  pub holders_begun : (lock : List ℕ) → 0 < (lock_in roster lock).depth → (lock_in roster lock).holder < length (threads_of lines)
   -- each joined thread was begun
   pub joined_begun : (name : List ℕ) → Contains (joined_of lines) name → Contains (threads_of lines) name
   -- so the numbers go up to these counts
   pub thread_total : thread_count roster ≡ length (threads_of lines)
+  pub lock_total : lock_count roster ≡ length (locks_of lines)
   pub object_total : object_count roster ≡ length (objects_of lines)
 
 -- after any lines that the roster stands for, this line may follow, and is this in numbers

@@ -5,8 +5,8 @@ use rd_event::Event;
 use std::alloc::AllocFailed;
 use thiserror::Error;
 
-/// What an accepted line is in numbers: threads and objects from 0, in the order of the lines that
-/// began or declared them, and kinds by their places among the kinds.
+/// What an accepted line is in numbers: threads, locks and objects from 0, in the order of the lines that
+/// began, first acquired or declared them, and kinds by their places among the kinds.
 #[derive(Debug, Drop, PartialEq, Eq)]
 pub enum Accepted {
     /// a skipped line, or the header
@@ -52,6 +52,12 @@ pub enum WfCause {
     /// the call has another number of slots than its method
     #[error("the number of arguments is wrong")]
     WrongCount,
+    /// the acquired lock is held by another thread, with this number
+    #[error("another thread holds the lock")]
+    LockHeld(u32),
+    /// the acting thread doesn't hold the released lock
+    #[error("the thread doesn't hold the lock")]
+    NotHeld,
     /// one more would pass this limit, which is the number
     #[error("one more would pass a limit")]
     Limit(LimitName, u32),

@@ -4,7 +4,7 @@ ghost use Rattle.rd_base.specs.declared.limits.Limits.{Limits as LimitsOf};
 ghost use Rattle.rd_event.specs.declared.items.Line.{Line as LineOf};
 ghost use Rattle.rd_order.specs.EventLists.{Known, WellFormed, calls, joins};
 ghost use Rattle.rd_wf.specs.Events.{AreAccepted, events_of, roots_of};
-ghost use Rattle.rd_wf.specs.Kinds.{Kind};
+ghost use Rattle.rd_ecl.specs.Kinds.{Kind};
 ghost use Rattle.rd_wf.specs.MayFollow.{IsBrokenFirst, MayFollow, events, first_broken, joined_of, object_kinds, threads_of};
 
 use crate::causes::WfCause;

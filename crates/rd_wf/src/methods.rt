@@ -4,6 +4,7 @@ ghost use Rattle.indexmap.specs.IndexMap.{index_map_len};
 
 use indexmap::IndexMap;
 use rd_base::{Name, NoMemory};
+use rd_ecl::KindSpec;
 use std::alloc::Global;
 
 /// The methods of a kind, by name, in their order. There are at most 255.
@@ -24,18 +25,18 @@ pub struct Method {
 }
 
 impl Methods {
-    ghost use Rattle.std.specs.Prelude.{◌≡◌, IfOk};
-    ghost use Rattle.rd_wf.specs.Kinds.{register_methods};
+    ghost use Rattle.std.specs.Prelude.{◌≡◌, map, IfOk};
+    ghost use Rattle.rd_ecl.specs.Kinds.{method_of};
     ghost use Rattle.rd_wf.specs.Roster.{found_method, methods_in};
 
-    /// The methods of a register: read, write and swap.
-    pub fn of_register(alloc: Global) -> Result<Methods, NoMemory>
-        ensures { IfOk result (λ methods. methods_in methods ≡ register_methods) }
+    /// The methods of a kind.
+    pub fn of(alloc: Global, kind: &KindSpec) -> Result<Methods, NoMemory>
+        ensures { IfOk result (λ methods. methods_in methods ≡ map method_of kind.now.methods) }
     {
         let mut slots = IndexMap::new(alloc);
-        slots.insert(Name::from_bytes(b"read").unwrap(), 1u8)?;
-        slots.insert(Name::from_bytes(b"write").unwrap(), 2u8)?;
-        slots.insert(Name::from_bytes(b"swap").unwrap(), 2u8)?;
+        for method in kind.methods() {
+            slots.insert(method.name.copy(), method.variables.items().len() as u8)?;
+        }
         Ok(Methods { slots })
     }
 

@@ -9,8 +9,17 @@ use crate::methods::Methods;
 use indexmap::IndexMap;
 use judge::Declared;
 use rd_base::{Limits, Name, NoMemory, Slots};
+use rd_ecl::Spec;
 use rd_event::{Call, Event, Line, LineEvent};
 use std::alloc::Global;
+
+/// What is held of a lock: the number of the thread that acquired it last, and how often that thread acquired it and hasn't
+/// released it.
+#[derive(Clone, Copy, Debug)]
+struct Lock {
+    holder: u32,
+    depth: u32,
+}
 
 /// The accepted lines of a trace, as names with numbers, flags and counts. It says of the next line
 /// whether it may follow.
@@ -22,10 +31,12 @@ pub struct Roster {
     events: u32,
     /// each with whether it was joined
     threads: IndexMap<Name, bool>,
+    locks: IndexMap<Name, Lock>,
     /// each with the number of its kind
     objects: IndexMap<Name, u32>,
     ghost few_kinds: { index_map_len kinds < 2 ^ 32 },
     ghost few_threads: { index_map_len threads < 2 ^ 32 },
+    ghost few_locks: { index_map_len locks < 2 ^ 32 },
     ghost few_objects: { index_map_len objects < 2 ^ 32 },
 }
 
@@ -33,24 +44,29 @@ impl Roster {
     ghost use Rattle.std.specs.Prelude.{◌≡◌, ◌<◌, ◌≤◌, List, [], ◌∷◌, ◌++◌, IfOk, IfErr, OnOk, OnErr, IsTrue, length, slice_get};
     ghost use Rattle.rd_base.specs.Limits.{AreUsable};
     ghost use Rattle.rd_event.specs.declared.items.Line.{Line as LineOf};
-    ghost use Rattle.rd_wf.specs.MayFollow.{IsBrokenFirst, MayFollow, first_broken, accepted_of, threads_of, objects_of, headers, events, takes_memory};
-    ghost use Rattle.rd_wf.specs.Kinds.{Kind, register_alone};
-    ghost use Rattle.rd_wf.specs.Roster.{StandsFor, Accepts, Refuses, thread_count, object_count};
+    ghost use Rattle.rd_wf.specs.MayFollow.{IsBrokenFirst, MayFollow, first_broken, accepted_of, same_name, threads_of, locks_of, objects_of, headers, events, takes_memory};
+    ghost use Rattle.std.specs.List.{IsDistinct};
+    ghost use Rattle.rd_ecl.specs.Kinds.{Kind, kind_names, kinds_of};
+    ghost use Rattle.rd_wf.specs.Roster.{StandsFor, Accepts, Refuses, thread_count, lock_count, object_count};
 
-    /// The roster of no lines. Its one kind is `register`, with the number 0.
-    pub fn new(alloc: Global) -> Result<Roster, NoMemory>
-        ensures { IfOk result (λ roster. StandsFor register_alone roster []) }
+    /// The roster of no lines. It keeps the names of the kinds, which differ, and of their methods, and how many slots each
+    /// method has. A kind's number is its place in the specification.
+    pub fn new(alloc: Global, spec: &Spec) -> Result<Roster, NoMemory>
+        requires few { length spec.now < 2 ^ 32 }
+        requires different { IsDistinct same_name (kind_names (kinds_of spec.now)) }
+        ensures { IfOk result (λ roster. StandsFor (kinds_of spec.now) roster []) }
     {
-        let register = Name::from_bytes(b"register").unwrap();
-        let methods = Methods::of_register(alloc)?;
         let mut kinds = IndexMap::new(alloc);
-        kinds.insert(register, methods)?;
+        for kind in spec.kinds() {
+            kinds.insert(kind.name().copy(), Methods::of(alloc, kind)?)?;
+        }
         Ok(Roster {
             alloc,
             kinds,
             header: false,
             events: 0,
             threads: IndexMap::new(alloc),
+            locks: IndexMap::new(alloc),
             objects: IndexMap::new(alloc),
         })
     }
@@ -149,6 +165,63 @@ impl Roster {
     }
 
     #[inline(never)]
+    fn accept_acquire(
+        &mut self,
+        thread: &Name,
+        lock: &Name,
+        limits: &Limits,
+    ) -> Result<Accepted, WfRefused>
+        ensures ok { IfOk result (Accepts self.old self.new limits.now (Line.Event (LineEvent.Acquire thread.now lock.now))) }
+        ensures refused { IfErr result (Refuses self.old self.new limits.now (Line.Event (LineEvent.Acquire thread.now lock.now))) }
+    {
+        match self.judge_acquire(thread, lock, limits) {
+            Err(cause) => Err(WfRefused::Cause(cause)),
+            Ok(used) => {
+                let held = Lock {
+                    holder: used.thread,
+                    depth: used.depth + 1,
+                };
+                if used.unknown {
+                    self.locks.insert(lock.copy(), held)?;
+                } else {
+                    *self.locks.get_index_mut(used.lock as usize).unwrap() = held;
+                }
+                self.events += 1;
+                Ok(Accepted::Event(Event::Acquire {
+                    thread: used.thread,
+                    lock: used.lock,
+                }))
+            }
+        }
+    }
+
+    #[inline(never)]
+    fn accept_release(
+        &mut self,
+        thread: &Name,
+        lock: &Name,
+        limits: &Limits,
+    ) -> Result<Accepted, WfRefused>
+        ensures ok { IfOk result (Accepts self.old self.new limits.now (Line.Event (LineEvent.Release thread.now lock.now))) }
+        ensures refused { IfErr result (Refuses self.old self.new limits.now (Line.Event (LineEvent.Release thread.now lock.now))) }
+    {
+        match self.judge_release(thread, lock, limits) {
+            Err(cause) => Err(WfRefused::Cause(cause)),
+            Ok(used) => {
+                *self.locks.get_index_mut(used.lock as usize).unwrap() = Lock {
+                    holder: used.thread,
+                    depth: used.depth - 1,
+                };
+                self.events += 1;
+                Ok(Accepted::Event(Event::Release {
+                    thread: used.thread,
+                    lock: used.lock,
+                }))
+            }
+        }
+    }
+
+    #[inline(never)]
     fn accept_call(
         &mut self,
         thread: &Name,
@@ -190,6 +263,12 @@ impl Roster {
             ),
             Line::Event(LineEvent::Join { thread, child }) => self.accept_join(
                 thread, child, limits,
+            ),
+            Line::Event(LineEvent::Acquire { thread, lock }) => self.accept_acquire(
+                thread, lock, limits,
+            ),
+            Line::Event(LineEvent::Release { thread, lock }) => self.accept_release(
+                thread, lock, limits,
             ),
             Line::Event(
                 LineEvent::Call {
@@ -251,12 +330,28 @@ impl Roster {
         self.objects.get_index(object as usize).unwrap().0
     }
 
+    /// The name of the lock with this number, which is below `locks()`. It takes no memory.
+    pub fn lock_name(&self, lock: u32) -> &Name
+        requires { lock < lock_count self.now }
+        ensures { (kinds : List Kind) (lines : List LineOf) → StandsFor kinds self.now lines → slice_get (locks_of lines) lock ≡ Some result.now }
+    {
+        self.locks.get_index(lock as usize).unwrap().0
+    }
+
     /// How many threads were begun. It takes no memory.
     pub fn threads(&self) -> u32
         ensures count { result ≡ thread_count self.now }
         ensures history { (kinds : List Kind) (lines : List LineOf) → StandsFor kinds self.now lines → result ≡ length (threads_of lines) }
     {
         self.threads.len() as u32
+    }
+
+    /// How many locks were acquired, each counted once. It takes no memory.
+    pub fn locks(&self) -> u32
+        ensures count { result ≡ lock_count self.now }
+        ensures history { (kinds : List Kind) (lines : List LineOf) → StandsFor kinds self.now lines → result ≡ length (locks_of lines) }
+    {
+        self.locks.len() as u32
     }
 
     /// How many objects were declared. It takes no memory.

@@ -1,7 +1,7 @@
 //! Whether a line may follow the accepted lines, by what a roster holds of them.
 ghost use Rattle.std.specs.Prelude.{◌≡◌, false, IfNone};
 
-use super::Roster;
+use super::{Lock, Roster};
 use crate::causes::{Accepted, WfCause};
 use crate::methods::Method;
 use rd_base::{LimitName, Limits, Name, Slots};
@@ -22,6 +22,52 @@ pub(super) struct FoundObject {
     number: u32,
     unknown: bool,
     kind: u32,
+}
+
+/// What a look-up of a lock's name finds: its number, which is the next one where it was not acquired, and what is held of it.
+#[derive(Clone, Copy)]
+pub(super) struct FoundLock {
+    number: u32,
+    unknown: bool,
+    lock: Lock,
+}
+
+/// A lock that no thread has.
+const FREE: Lock = Lock {
+    holder: 0,
+    depth: 0,
+};
+
+/// The numbers of a thread and of a lock, whether the lock is new, and how often the thread has acquired it and not released it.
+#[derive(Clone, Copy)]
+pub(super) struct Used {
+    pub(super) thread: u32,
+    pub(super) lock: u32,
+    pub(super) unknown: bool,
+    pub(super) depth: u32,
+}
+
+impl Lock {
+    ghost use Rattle.std.specs.Prelude.{◌≡◌, ◌<◌, ◌≢◌, Bool, nat_lt, ◌==◌, ◌&&◌, not, if◌then◌else◌, Some, None};
+    ghost use Rattle.rd_wf.specs.Roster.{depth_of};
+
+    /// How often the thread has acquired the lock and not released it.
+    fn depth_of(self, thread: u32) -> u32
+        ensures { result ≡ depth_of self thread }
+    {
+        if thread == self.holder { self.depth } else { 0 }
+    }
+
+    /// The thread that has the lock, if it is another one.
+    fn held_by_other(self, thread: u32) -> Option<u32>
+        ensures { result ≡ (if nat_lt 0 self.depth && not (thread == self.holder) then Some self.holder else None) }
+    {
+        if self.depth > 0 && thread != self.holder {
+            Some(self.holder)
+        } else {
+            None
+        }
+    }
 }
 
 /// The number of a new object, and that of its kind.
@@ -60,9 +106,14 @@ pub(super) struct Broken {
     unknown_object: bool,
     unknown_method: bool,
     wrong_count: bool,
+    /// the other thread that has the acquired lock
+    held_by: Option<u32>,
+    not_held: bool,
     events: bool,
     threads: bool,
+    locks: bool,
     objects: bool,
+    depth: bool,
 }
 
 /// No rule is broken.
@@ -77,19 +128,27 @@ const UNBROKEN: Broken = Broken {
     unknown_object: false,
     unknown_method: false,
     wrong_count: false,
+    held_by: None,
+    not_held: false,
     events: false,
     threads: false,
+    locks: false,
     objects: false,
+    depth: false,
 };
 
 impl Broken {
     ghost use Rattle.std.specs.Prelude.{◌≡◌};
-    ghost use Rattle.rd_wf.specs.Roster.{first_of};
+    ghost use Rattle.std.specs.Prelude.{◌<◌, List, IfSome, find, length};
+    ghost use Rattle.rd_event.specs.declared.items.Line.{Line as LineOf};
+    ghost use Rattle.rd_wf.specs.MayFollow.{causes, threads_of};
+    ghost use Rattle.rd_wf.specs.Roster.{flag};
 
     /// The cause of the first rule that is broken.
     fn first(&self, limits: &Limits) -> Option<WfCause>
-        ensures first { result ≡ first_of self.now limits.now }
-        ensures room { IfNone result ((self.now.events ≡ false) × (self.now.threads ≡ false) × (self.now.objects ≡ false)) }
+        ensures first { (before : List LineOf) → IfSome self.now.held_by (λ holder. holder < length (threads_of before)) →
+            result ≡ find (flag self.now) (causes limits.now before) }
+        ensures room { IfNone result ((self.now.events ≡ false) × (self.now.threads ≡ false) × (self.now.locks ≡ false) × (self.now.objects ≡ false) × (self.now.depth ≡ false)) }
     {
         if self.header_first {
             Some(WfCause::HeaderFirst)
@@ -111,12 +170,20 @@ impl Broken {
             Some(WfCause::UnknownMethod)
         } else if self.wrong_count {
             Some(WfCause::WrongCount)
+        } else if let Some(holder) = self.held_by {
+            Some(WfCause::LockHeld(holder))
+        } else if self.not_held {
+            Some(WfCause::NotHeld)
         } else if self.events {
             Some(WfCause::Limit(LimitName::Events, limits.events))
         } else if self.threads {
             Some(WfCause::Limit(LimitName::Threads, limits.threads))
+        } else if self.locks {
+            Some(WfCause::Limit(LimitName::Locks, limits.locks))
         } else if self.objects {
             Some(WfCause::Limit(LimitName::Objects, limits.objects))
+        } else if self.depth {
+            Some(WfCause::Limit(LimitName::Depth, limits.depth))
         } else {
             None
         }
@@ -124,10 +191,11 @@ impl Broken {
 }
 
 impl Roster {
-    ghost use Rattle.std.specs.Prelude.{◌≡◌, ◌<◌, ◌^◌, ◌+◌, List, IfOk, IfErr, OnOk, false};
+    ghost use Rattle.std.specs.Prelude.{◌≡◌, ◌<◌, ◌^◌, ◌+◌, List, IfOk, IfErr, OnOk, false, not};
     ghost use Rattle.rd_event.specs.declared.items.Line.{Line as LineOf};
-    ghost use Rattle.rd_wf.specs.Kinds.{Kind, methods_at};
-    ghost use Rattle.rd_wf.specs.Roster.{StandsFor, Permits, Forbids, found_method, found_object, found_thread, thread_count, object_count};
+    ghost use Rattle.rd_ecl.specs.Kinds.{Kind, methods_at};
+    ghost use Rattle.rd_wf.specs.Roster.{StandsFor, Permits, Forbids, depth_of, found_method, found_object, found_thread, lock_in, thread_count, lock_count, object_count};
+    ghost use Rattle.rd_wf.specs.MayFollow.{is_among, locks_of, place};
 
     fn find_thread(&self, name: &Name) -> FoundThread
         ensures value { (kinds : List Kind) (lines : List LineOf) → StandsFor kinds self.now lines → result ≡ found_thread lines name.now }
@@ -143,6 +211,26 @@ impl Roster {
                 number: number as u32,
                 unknown: false,
                 joined: *joined,
+            },
+        }
+    }
+
+    fn find_lock(&self, name: &Name) -> FoundLock
+        ensures number { (kinds : List Kind) (lines : List LineOf) → StandsFor kinds self.now lines →
+            (result.number ≡ place (locks_of lines) name.now) × (result.unknown ≡ not (is_among (locks_of lines) name.now)) }
+        ensures lock { result.lock ≡ lock_in self.now name.now }
+        ensures within { result.unknown ≡ false → result.number < lock_count self.now }
+    {
+        match self.locks.get_full(name) {
+            None => FoundLock {
+                number: self.locks.len() as u32,
+                unknown: true,
+                lock: FREE,
+            },
+            Some((number, _, lock)) => FoundLock {
+                number: number as u32,
+                unknown: false,
+                lock: *lock,
             },
         }
     }
@@ -282,6 +370,77 @@ impl Roster {
             None => Ok(Pair {
                 thread: actor.number,
                 child: awaited.number,
+            }),
+        }
+    }
+
+    pub(super) fn judge_acquire(
+        &self,
+        thread: &Name,
+        lock: &Name,
+        limits: &Limits,
+    ) -> Result<Used, WfCause>
+        ensures ok { IfOk result (λ used. Permits self.now limits.now (Line.Event (LineEvent.Acquire thread.now lock.now))
+            (Accepted.Event (Event.Acquire used.thread used.lock))) }
+        ensures lock { IfOk result (λ used. used.depth ≡ depth_of (lock_in self.now lock.now) used.thread) }
+        ensures room { IfOk result (λ used. (used.unknown ≡ false → used.lock < lock_count self.now) × (self.now.events + 1 < 2 ^ 32)
+            × (used.depth + 1 < 2 ^ 32) × (lock_count self.now + 1 < 2 ^ 32)) }
+        ensures err { IfErr result (Forbids self.now limits.now (Line.Event (LineEvent.Acquire thread.now lock.now))) }
+    {
+        let actor = self.find_thread(thread);
+        let found = self.find_lock(lock);
+        let depth = found.lock.depth_of(actor.number);
+        let broken = Broken {
+            header_first: !self.header,
+            unknown_thread: actor.unknown,
+            thread_ended: actor.joined,
+            held_by: found.lock.held_by_other(actor.number),
+            events: limits.events <= self.events,
+            locks: found.unknown && limits.locks <= found.number,
+            depth: limits.depth <= depth,
+            ..UNBROKEN
+        };
+        match broken.first(limits) {
+            Some(cause) => Err(cause),
+            None => Ok(Used {
+                thread: actor.number,
+                lock: found.number,
+                unknown: found.unknown,
+                depth,
+            }),
+        }
+    }
+
+    pub(super) fn judge_release(
+        &self,
+        thread: &Name,
+        lock: &Name,
+        limits: &Limits,
+    ) -> Result<Used, WfCause>
+        ensures ok { IfOk result (λ used. Permits self.now limits.now (Line.Event (LineEvent.Release thread.now lock.now))
+            (Accepted.Event (Event.Release used.thread used.lock))) }
+        ensures lock { IfOk result (λ used. used.depth ≡ depth_of (lock_in self.now lock.now) used.thread) }
+        ensures room { IfOk result (λ used. (used.lock < lock_count self.now) × (self.now.events + 1 < 2 ^ 32) × (0 < used.depth)) }
+        ensures err { IfErr result (Forbids self.now limits.now (Line.Event (LineEvent.Release thread.now lock.now))) }
+    {
+        let actor = self.find_thread(thread);
+        let found = self.find_lock(lock);
+        let depth = found.lock.depth_of(actor.number);
+        let broken = Broken {
+            header_first: !self.header,
+            unknown_thread: actor.unknown,
+            thread_ended: actor.joined,
+            not_held: depth == 0,
+            events: limits.events <= self.events,
+            ..UNBROKEN
+        };
+        match broken.first(limits) {
+            Some(cause) => Err(cause),
+            None => Ok(Used {
+                thread: actor.number,
+                lock: found.number,
+                unknown: found.unknown,
+                depth,
             }),
         }
     }

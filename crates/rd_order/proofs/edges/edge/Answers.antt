@@ -1,4 +1,3 @@
-use Rattle.std.specs.Prelude.{IsTrue, Bool, ◌≡◌}
 use Rattle.std.proofs.Common.{subst, sym, Decides}
 use Rattle.rd_order.specs.Order.{Edge}
 use Rattle.rd_order.proofs.OrderLemmas.{edge_told}

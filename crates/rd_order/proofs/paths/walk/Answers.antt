@@ -1,4 +1,4 @@
-use Rattle.std.proofs.Common.{◌≡◌, sym, subst, ◌∙◌, arith}
+use Rattle.std.proofs.Common.{sym, subst, ◌∙◌, arith}
 use Rattle.rd_order.specs.Paths.{IsStep}
 use Rattle.rd_order.proofs.StepLemmas.{Trail, start, no_trail, step_at, trail_is_path, went_on}
 use Rattle.rd_order.proofs.paths.walk.Goals as goal
@@ -20,7 +20,7 @@ returns-in_default-clause-none c =
 pub loop-place-preserved : goal.loop-place-preserved
 loop-place-preserved c =
     let step = subst (IsStep c.args.events.now c.args.j c.loop-place.place) c.in-Some.is
-        (step_at c.args.events.now c.args.i c.args.j c.loop-place.place c.args.steps.now c.requires.known c.loop-place.auto.place c.loop-place-test.true c.requires.count) in
+    (step_at c.args.events.now c.args.i c.args.j c.loop-place.place c.args.steps.now c.requires.known c.loop-place.auto.place c.loop-place-test.true c.requires.count) in
     record {
       ahead = omega (arith, step.0.rises);
       most = step.2;
@@ -32,5 +32,5 @@ loop-place-preserved c =
 pub returns-clause-some : goal.returns-clause-some
 returns-clause-some c =
     let path = trail_is_path c.args.events.now c.args.i c.args.j c.loop-place.next c.loop-place.places c.requires.below
-        (omega (arith, c.loop-place-test.false, c.loop-place.invariant.ahead, c.loop-place.invariant.most)) c.loop-place.invariant.trail in
+    (omega (arith, c.loop-place-test.false, c.loop-place.invariant.ahead, c.loop-place.invariant.most)) c.loop-place.invariant.trail in
     (path.0, c.in_ok-push-2.ensures.ok ∙ path.1, path.2)

@@ -1,4 +1,4 @@
-use Rattle.std.proofs.Common.{◌≡◌, ◌≤◌, length}
+use Rattle.std.proofs.Common.{◌≤◌}
 use Rattle.rd_order.proofs.StepLemmas.{Trail}
 use Rattle.rd_order.proofs.paths.walk.Given as goal
 
