@@ -10,6 +10,11 @@ pub record IsTick (old new : List ℕ) (thread : ℕ) : Type 0 where
   pub ticked : component new thread ≡ component old thread + 1
   pub others : (other : ℕ) → other ≢ thread → component new other ≡ component old other
 
+-- at least that number for the thread, and the same for each other
+pub record IsRaise (old new : List ℕ) (thread number : ℕ) : Type 0 where
+  pub raised : component new thread ≡ max (component old thread) number
+  pub others : (other : ℕ) → other ≢ thread → component new other ≡ component old other
+
 -- the greater of the two for each thread
 abbrev pub IsJoin : List ℕ → List ℕ → List ℕ → Type 0
 IsJoin old other new = (thread : ℕ) → component new thread ≡ max (component old thread) (component other thread)

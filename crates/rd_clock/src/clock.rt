@@ -1,6 +1,6 @@
 //! Vector clocks.
 ghost use Rattle.std.specs.Prelude.{◌≡◌, ℕ, ◌+◌, ◌*◌, ◌<◌, ◌≤◌, ◌↔◌, max, length, IfOk, OnOk, OnErr, IsTrue, []};
-ghost use Rattle.rd_clock.specs.Clock.{component, IsTick, IsJoin};
+ghost use Rattle.rd_clock.specs.Clock.{component, IsTick, IsRaise, IsJoin};
 
 use rd_base::{NoMemory, Steps};
 use std::alloc::Global;
@@ -114,6 +114,18 @@ impl Clock {
     {
         steps.tick();
         self.components[thread as usize] += 1;
+    }
+
+    /// Makes the component of a thread at least that number. There is room for the thread. It takes no memory and one step.
+    pub fn raise<L: Ledger>(&mut self, thread: u32, number: u32, steps: &mut Steps<L>)
+        requires { thread < length self.old }
+        ensures raised { IsRaise self.old self.new thread number }
+        ensures room { length self.new ≡ length self.old }
+        ensures cost { steps.new ≡ steps.old + 1 }
+    {
+        steps.tick();
+        let place = thread as usize;
+        self.components[place] = self.components[place].max(number);
     }
 
     /// Sets each component to the greater of the two clocks'. There is room for the threads of the other. It takes no

@@ -1,55 +1,35 @@
--- What one event makes of the threads that a tracker holds.
-use Rattle.std.proofs.Common.{◌≡◌, ◌≢◌, ◌≤◌, ◌<◌, ◌↔◌, inl, inr, ℕ, ◌+◌, ◌==◌, max, Bool, true, false, IsTrue, ◌||◌, List, [], ◌∷◌, ◌++◌, length, Option, Some, None, Result, Ok, Err, IfOk, OnOk, refl, sym, ◌∙◌, ap, subst, arith, slice_index_or, slice_set}
-use Rattle.std.specs.Prelude.{if◌then◌else◌, is_some, unwrap_or}
-use Rattle.std.proofs.lemmas.Bool.{cases_eq, cases_lt, eq-eqb, ne_eqb}
-use Rattle.std.proofs.lemmas.List.{get_or-set_other, get_or_append_left, get_or_default, get_or_past, length-append}
-use Rattle.std.proofs.lemmas.Grind.{get_or-set_at}
-use Rattle.std.proofs.Math.Seq.{get_or-append_seam}
+-- What one event makes of what a tracker holds.
+use Rattle.std.proofs.Common.{◌≡◌, ◌≢◌, ◌⊎◌, ◌≤◌, ◌<◌, ◌↔◌, inl, inr, ℕ, ◌+◌, ◌==◌, max, Bool, true, false, IsTrue, ◌||◌, List, [], ◌∷◌, ◌++◌, take, length, Option, Some, None, Result, Ok, Err, IfOk, OnOk, refl, sym, ◌∙◌, ap, subst, arith, cond}
+use Rattle.std.specs.Prelude.{if◌then◌else◌, is_some, unwrap_or, slice_get}
+use Rattle.std.proofs.lemmas.Bool.{cases_Bool, cases_eq, eq-eqb, ne_eqb}
+use Rattle.std.proofs.lemmas.Bool.Decides.{not_from_Decides}
+use Rattle.std.proofs.lemmas.List.{get_or_past, length-append}
 use Rattle.std.proofs.lemmas.List.Sums.{sum_by_push}
+use Rattle.std.proofs.lemmas.Option.{none-some, same_Some}
 use Rattle.rd_event.specs.declared.events.Call.{Call as CallOf}
 use Rattle.rd_event.specs.declared.events.Event.{Event}
-use Rattle.rd_event.specs.declared.events.Event.TheVariants.{Fork, Join, Call}
-use Rattle.rd_order.proofs.OrderLemmas.{at_end}
-use Rattle.rd_hb.proofs.TrackLemmas.{clock_step, known_step, known_bound, known_own, own_number_new}
-use Rattle.rd_hb.specs.EventClocks.{IsClock, IsOf, OwnNumber}
-use Rattle.rd_order.specs.EventLists.{forks, joins, Known, MayHappen, IsBounded, WellFormed}
-use Rattle.rd_hb.specs.Knows.{Knows, KnownCount}
-use Rattle.rd_order.proofs.CountsLemmas.{counts_all, counts_le}
-use Rattle.rd_order.proofs.EventListLemmas.{few_known, forks_more, formed_more, known_more}
-use Rattle.rd_order.specs.Order.{thread_of, forked_thread, joined_thread, hold_taken}
-use Rattle.rd_order.specs.OrderTests.{is_this}
-use Rattle.rd_clock.specs.declared.clock.Stamp.{Stamp}
+use Rattle.rd_event.specs.declared.events.Event.TheVariants.{Fork, Join, Acquire, Release, Call}
 use Rattle.rd_clock.specs.Clock.{component, IsTick}
+use Rattle.rd_clock.specs.declared.clock.Stamp.{Stamp}
+use Rattle.rd_order.specs.EventLists.{forks, joins, Known, MayHappen, IsBounded, WellFormed, threads_after, is_hold}
+use Rattle.rd_order.specs.Order.{thread_of, forked_thread, joined_thread, exclusive, hold_given}
+use Rattle.rd_order.specs.OrderTests.{is_this}
+use Rattle.rd_order.proofs.CountsLemmas.{counts_all, counts_le}
+use Rattle.rd_order.proofs.EventListLemmas.{few_known, forks_more, formed_more, known_later, known_more, may_follow_at}
+use Rattle.rd_order.proofs.HoldLemmas.{hold_decides}
+use Rattle.rd_order.proofs.OrderLemmas.{at_end}
+use Rattle.rd_hb.specs.EventClocks.{IsClock, IsOf, OwnNumber}
+use Rattle.rd_hb.specs.Knows.{Carries, GivesBack, Knows, KnownCount}
 use Rattle.rd_hb.specs.declared.tracker.Tracked.{Tracked}
-use Rattle.rd_hb.specs.Tracker.{tracked, no_thread, known_to, clock_after, known_after, AreTracked, IsBegun, IsCounted, IsLearnt, IsNextEvent, IsStamp, IsTracked, StandsFor}
-use Rattle.rd_order.specs.EventLists.{threads_after}
+use Rattle.rd_hb.specs.Tracker.{Tracking, brought, clock_after, clock_of, handed_after, handed_by, known_after, known_to, no_thread, released, tracked, IsLastRelease, IsNextEvent, IsRelease, IsStamp, StandsFor}
+use Rattle.rd_hb.specs.TrackerParts.{IsAlike, IsBegun, IsCounted, IsHeard, IsLearnt, IsReleased}
+use Rattle.rd_hb.proofs.ClockLemmas.{is_of_within, is_of_longer, own_number_longer}
+use Rattle.rd_hb.proofs.KeptLemmas.{tracked_push}
+use Rattle.rd_hb.proofs.KnowsLemmas.{gives_longer, gives_within, last_is_of, other_gives}
+use Rattle.rd_hb.proofs.NewsLemmas.{child_heard, covers_known, lock_heard}
+use Rattle.rd_hb.proofs.TrackLemmas.{clock_step, handed_step, same_lock, known_step, known_bound, known_own, own_number_new}
 
--- ---- one thread is changed, or added
-
-pub tracked_set : (threads : List Tracked) (i t : ℕ) (x : Tracked) → i < length threads
-    → tracked (slice_set threads i x) t ≡ (if t == i then x else tracked threads t)
-tracked_set threads i t x inside =
-    elim (cases_eq t i) [
-      | inl same ↦ rw (eq-eqb t i same) (get_or-set_at threads i t x no_thread same inside)
-      | inr other ↦ rw (ne_eqb t i other) (get_or-set_other threads i t x no_thread other)
-    ]
-
-pub tracked_push : (threads : List Tracked) (x : Tracked) (t : ℕ)
-    → tracked (threads ++ x ∷ []) t ≡ (if t == length threads then x else tracked threads t)
-tracked_push threads x t =
-    elim (cases_eq t (length threads)) [
-      | inl same ↦ rw (eq-eqb t (length threads) same) (subst (λ i. tracked (threads ++ x ∷ []) i ≡ x) (sym same) (get_or-append_seam threads x [] no_thread))
-      | inr other ↦ rw (ne_eqb t (length threads) other) (elim (cases_lt t (length threads)) [
-        | inl before ↦ get_or_append_left threads (x ∷ []) no_thread t before
-        | inr past ↦ get_or_past (threads ++ x ∷ []) t no_thread (omega (arith, past, other, length-append threads (x ∷ []))) ∙ sym (get_or_past threads t no_thread past)
-      ])
-    ]
-
--- what is read at the place of an older thread
-pub read_pushed : (pushed threads : List Tracked) (x : Tracked) (i : ℕ) (read : Tracked) → pushed ≡ threads ++ x ∷ [] → i < length threads
-    → read ≡ slice_index_or pushed i read → read ≡ tracked threads i
-read_pushed pushed threads x i read is inside value =
-    value ∙ ap (λ ts. slice_index_or ts i read) is ∙ get_or_append_left threads (x ∷ []) read i inside ∙ get_or_default threads i read no_thread inside
+-- ---- clocks
 
 -- a clock after a tick
 pub ticked : (old new : List ℕ) (t u : ℕ) → IsTick old new t → component new u ≡ (if u == t then component old u + 1 else component old u)
@@ -59,44 +39,75 @@ ticked old new t u is =
       | inr other ↦ rw (ne_eqb u t other) (is.others u other)
     ]
 
--- a tick of a clock that counts the same
-pub tick_over : (old same new : List ℕ) (t : ℕ) → ((u : ℕ) → component same u ≡ component old u) → IsTick same new t → IsTick old new t
-tick_over old same new t alike is = record {
-  ticked = is.ticked ∙ ap (λ n. n + 1) (alike t);
-  others = λ u other. is.others u other ∙ alike u;
-}
+-- ---- the state
 
--- ---- what holds of each thread
+or_false : (b : Bool) → b ≡ (b || false)
+or_false true = refl
+or_false false = refl
 
-as_tracked : (threads : List Tracked) (t : ℕ) (x : Tracked) → tracked threads t ≡ x
-    → t < length x.clock → length x.clock ≤ length threads → x.events ≡ component x.clock t → IsTracked threads t
-as_tracked threads t x is own room events = record { own = rw is own; room = rw is room; events = rw is events }
+or_true : (b : Bool) → IsTrue (b || true)
+or_true true = refl
+or_true false = refl
 
-pub keeps_push : (threads : List Tracked) (x : Tracked) → AreTracked threads → length threads < 4294967295
-    → length threads < length x.clock → length x.clock ≤ length threads + 1 → x.events ≡ component x.clock (length threads) → AreTracked (threads ++ x ∷ [])
-keeps_push threads x kept few own room events = record {
-  each = λ t known. elim (cases_eq t (length threads)) [
-    | inl same ↦ as_tracked (threads ++ x ∷ []) t x (tracked_push threads x t ∙ rw (eq-eqb t (length threads) same) refl)
-        (omega (arith, same, own)) (omega (arith, room, total)) (subst (λ v. x.events ≡ component x.clock v) (sym same) events)
-    | inr other ↦
-        let was = kept.each t (omega (arith, known, total, other)) in
-        as_tracked (threads ++ x ∷ []) t (tracked threads t) (tracked_push threads x t ∙ rw (ne_eqb t (length threads) other) refl)
-        was.own (omega (arith, was.room, total)) was.events
-  ];
-  few = omega (arith, few, total);
-}
-  where
-    total : length (threads ++ x ∷ []) ≡ length threads + 1
-    total = length-append threads (x ∷ [])
-
--- no thread is known at first
-pub no_threads : StandsFor [] (λ t. false) []
+-- nothing is held at first
+pub no_threads : StandsFor (record { threads = []; locks = [] }) (λ t. false) []
 unfolding forks joins
 no_threads = record {
   known = λ t. (λ inside. absurd (omega arith), λ known. elim known [ inl root ↦ absurd (cc) | inr begun ↦ absurd (omega (arith, begun)) ]);
   clocks = λ t u. refl;
   joined = λ t. (λ marked. absurd (cc), λ some. absurd (omega (arith, some)));
+  locks = λ lock u. refl;
+  releases = λ lock m gives. none-some gives.0 gives.1;
 }
+
+-- a root more is held
+pub root_stands : (old new : Tracking) (roots : ℕ → Bool) (thread : ℕ) (x : Tracked) → thread ≡ length old.threads → new.threads ≡ old.threads ++ x ∷ [] → new.locks ≡ old.locks
+    → ((u : ℕ) → component x.clock u ≡ 0) → x.joined ≡ false → StandsFor old roots [] → StandsFor new (λ t. roots t || (t == thread)) []
+unfolding forks joins
+root_stands old new roots thread x numbered pushed same nothing running stands = record {
+  known = λ t. (there t, back t);
+  clocks = λ t u. elim (cases_eq t (length old.threads)) [
+    | inl last ↦ ap (λ y. component y.clock u) (at_last t last) ∙ nothing u
+    | inr other ↦ ap (λ y. component y.clock u) (at_other t other) ∙ stands.clocks t u
+  ];
+  joined = λ t. elim (cases_eq t (length old.threads)) [
+    | inl last ↦ subst (λ b. IsTrue b ↔ (0 < joins [] t)) (sym (ap (λ y. y.joined) (at_last t last) ∙ running)) (λ marked. absurd (cc), λ some. absurd (omega (arith, some)))
+    | inr other ↦ subst (λ b. IsTrue b ↔ (0 < joins [] t)) (sym (ap (λ y. y.joined) (at_other t other))) (stands.joined t)
+  ];
+  locks = λ lock u. subst (λ l. KnownCount [] (GivesBack [] lock) u (handed_by l lock u)) (sym same) (stands.locks lock u);
+  releases = λ lock. subst (λ l. IsLastRelease [] lock (released l lock)) (sym same) (stands.releases lock);
+}
+  where
+    at : (t : ℕ) → tracked new.threads t ≡ (if t == length old.threads then x else tracked old.threads t)
+    at t = ap (λ ts. tracked ts t) pushed ∙ tracked_push old.threads x t
+
+    at_last : (t : ℕ) → t ≡ length old.threads → tracked new.threads t ≡ x
+    at_last t last = subst (λ b. tracked new.threads t ≡ (if b then x else tracked old.threads t)) (eq-eqb t (length old.threads) last) (at t)
+
+    at_other : (t : ℕ) → t ≢ length old.threads → tracked new.threads t ≡ tracked old.threads t
+    at_other t other = subst (λ b. tracked new.threads t ≡ (if b then x else tracked old.threads t)) (ne_eqb t (length old.threads) other) (at t)
+
+    total : length new.threads ≡ length old.threads + 1
+    total = ap length pushed ∙ length-append old.threads (x ∷ [])
+
+    there : (t : ℕ) → t < length new.threads → Known (λ v. roots v || (v == thread)) [] t
+    there t inside = elim (cases_eq t thread) [
+      | inl last ↦ inl (rw (eq-eqb t thread last) (or_true (roots t)))
+      | inr other ↦ elim ((stands.known t).0 (omega (arith, inside, total, other, numbered))) [
+        | inl root ↦ inl (rw root refl)
+        | inr begun ↦ absurd (omega (arith, begun))
+      ]
+    ]
+
+    old_root : (t : ℕ) → t ≢ thread → IsTrue (roots t || (t == thread)) → IsTrue (roots t)
+    old_root t other root = or_false (roots t) ∙ subst (λ b. IsTrue (roots t || b)) (ne_eqb t thread other) root
+
+    back : (t : ℕ) → Known (λ v. roots v || (v == thread)) [] t → t < length new.threads
+    back t (inr begun) = absurd (omega (arith, begun))
+    back t (inl root) = elim (cases_eq t thread) [
+      | inl last ↦ omega (arith, last, total, numbered)
+      | inr other ↦ omega (arith, total, (stands.known t).1 (inl (old_root t other root)))
+    ]
 
 -- ---- a thread is begun
 
@@ -112,102 +123,112 @@ begins_push old thread child clock numbered ticks = record {
     new : tracked (old ++ record { clock = clock; events = 0; joined = false } ∷ []) child ≡ record { clock = clock; events = 0; joined = false }
     new = tracked_push old (record { clock = clock; events = 0; joined = false }) child ∙ rw (eq-eqb child (length old) numbered) refl
 
--- ---- what an event makes of the threads, by numbers
-
-pub record Tracks (e : Event) (old new : List Tracked) (stamp : Stamp) : Type 0 where
-  pub thread : stamp.thread ≡ thread_of e
-  pub number : stamp.number ≡ known_to old (thread_of e) (thread_of e) + 1
-  pub clock : (u : ℕ) → component stamp.clock u ≡ clock_after e (known_to old) u
-  pub known : (t u : ℕ) → known_to new t u ≡ known_after e (known_to old) t u
-  pub count : length new ≡ threads_after e (length old)
-  pub joined : (t : ℕ) → (tracked new t).joined ≡ ((tracked old t).joined || is_this (joined_thread e) t)
-
-or_false : (b : Bool) → b ≡ (b || false)
-or_false true = refl
-or_false false = refl
-
--- one that is counted alone
-pub call_tracks : (call : CallOf) (old new : List Tracked) (stamp : Stamp) → IsCounted call.thread old new stamp → Tracks (Call call) old new stamp
-call_tracks call old new stamp is = record {
-  thread = is.thread_is;
-  number = is.number;
-  clock = λ u. ticked (tracked old call.thread).clock stamp.clock call.thread u is.clock;
-  known = λ t u. elim (cases_eq t call.thread) [
-    | inl same ↦ rw (eq-eqb t call.thread same) (ap (λ v. known_to new v u) same ∙ ticked (tracked old call.thread).clock (tracked new call.thread).clock call.thread u is.own)
-    | inr other ↦ rw (ne_eqb t call.thread other) (ap (λ x. component x.clock u) (is.others t other))
-  ];
-  count = is.count;
-  joined = λ t. elim (cases_eq t call.thread) [
-    | inl same ↦ ap (λ v. (tracked new v).joined) same ∙ is.joined ∙ ap (λ v. (tracked old v).joined) (sym same) ∙ or_false (tracked old t).joined
-    | inr other ↦ ap (λ x. x.joined) (is.others t other) ∙ or_false (tracked old t).joined
-  ];
-}
-
--- a fork
-pub fork_tracks : (thread child : ℕ) (old middle new : List Tracked) (stamp : Stamp) → thread < length old → child ≡ length old
-    → IsBegun thread child old middle → IsCounted thread middle new stamp → Tracks (Fork thread child) old new stamp
-fork_tracks thread child old middle new stamp inside numbered begun is = record {
-  thread = is.thread_is;
-  number = is.number ∙ ap (λ x. component x.clock thread + 1) (begun.others thread apart);
-  clock = λ u. ticked (tracked old thread).clock stamp.clock thread u (subst (λ x. IsTick x.clock stamp.clock thread) (begun.others thread apart) is.clock);
-  known = λ t u. elim (cases_eq t thread) [
-    | inl same ↦ rw (eq-eqb t thread same) (ap (λ v. known_to new v u) same
-        ∙ ticked (tracked old thread).clock (tracked new thread).clock thread u (subst (λ x. IsTick x.clock (tracked new thread).clock thread) (begun.others thread apart) is.own))
-    | inr other ↦ rw (ne_eqb t thread other) (elim (cases_eq child t) [
-      | inl last ↦ rw (eq-eqb child t last) (ap (λ x. component x.clock u) (is.others t other) ∙ ap (λ v. known_to middle v u) (sym last)
-          ∙ ticked (tracked old thread).clock (tracked middle child).clock thread u begun.clock)
-      | inr former ↦ rw (ne_eqb child t former) (ap (λ x. component x.clock u) (is.others t other ∙ begun.others t (λ last. former (sym last))))
-    ])
-  ];
-  count = is.count ∙ begun.count;
-  joined = λ t. joined_at t ∙ or_false (tracked old t).joined;
-}
-  where
-    apart : thread ≢ child
-    apart same = absurd (omega (arith, same, inside, numbered))
-
-    middle_at : (t : ℕ) → (tracked middle t).joined ≡ (tracked old t).joined
-    middle_at t = elim (cases_eq t child) [
-      | inl last ↦ ap (λ v. (tracked middle v).joined) last ∙ begun.joined ∙ ap (λ x. x.joined) (sym (get_or_past old t no_thread (omega (arith, last, numbered))))
-      | inr former ↦ ap (λ x. x.joined) (begun.others t former)
-    ]
-
-    joined_at : (t : ℕ) → (tracked new t).joined ≡ (tracked old t).joined
-    joined_at t = elim (cases_eq t thread) [
-      | inl same ↦ ap (λ v. (tracked new v).joined) same ∙ is.joined ∙ middle_at thread ∙ ap (λ v. (tracked old v).joined) (sym same)
-      | inr other ↦ ap (λ x. x.joined) (is.others t other) ∙ middle_at t
-    ]
-
--- a join
-pub join_tracks : (thread child : ℕ) (old middle new : List Tracked) (stamp : Stamp) → known_to old child thread ≤ known_to old thread thread
-    → IsLearnt thread child old middle → IsCounted thread middle new stamp → Tracks (Join thread child) old new stamp
-join_tracks thread child old middle new stamp less learnt is = record {
-  thread = is.thread_is;
-  number = is.number ∙ ap (λ n. n + 1) (learnt.own thread ∙ omega (arith, less));
-  clock = λ u. ticked (tracked middle thread).clock stamp.clock thread u is.clock ∙ met_at u;
-  known = λ t u. elim (cases_eq t thread) [
-    | inl same ↦ rw (eq-eqb t thread same) (ap (λ v. known_to new v u) same ∙ ticked (tracked middle thread).clock (tracked new thread).clock thread u is.own ∙ met_at u)
-    | inr other ↦ rw (ne_eqb t thread other) (ap (λ x. component x.clock u) (is.others t other) ∙ ap (λ clock. component clock u) (learnt.others t other))
-  ];
-  count = is.count ∙ learnt.count;
-  joined = λ t. elim (cases_eq t thread) [
-    | inl same ↦ ap (λ v. (tracked new v).joined) same ∙ is.joined ∙ learnt.joined thread
-        ∙ ap (λ v. (tracked old v).joined || (child == v)) (sym same)
-    | inr other ↦ ap (λ x. x.joined) (is.others t other) ∙ learnt.joined t
-  ];
-}
-  where
-    met_at : (u : ℕ) → (if u == thread then known_to middle thread u + 1 else known_to middle thread u)
-        ≡ (if u == thread then max (known_to old thread u) (known_to old child u) + 1 else max (known_to old thread u) (known_to old child u))
-    met_at u = ap (λ n. if u == thread then n + 1 else n) (learnt.own u)
-
--- ---- the known threads after an event, where those before it have the numbers below one, and a forked thread has that one
-
 abbrev weight : Bool → ℕ
 weight b = if b then 1 else 0
 
 abbrev weighed : Option ℕ → ℕ → ℕ
 weighed o n = if is_some o then n + 1 else n
+
+-- ---- what an event makes of it, by numbers
+
+pub record Tracks (e : Event) (old new : Tracking) (stamp : Stamp) : Type 0 where
+  pub thread : stamp.thread ≡ thread_of e
+  pub number : stamp.number ≡ known_to old.threads (thread_of e) (thread_of e) + 1
+  pub clock : (u : ℕ) → component stamp.clock u ≡ clock_after e (known_to old.threads) (handed_by old.locks) u
+  pub known : (t u : ℕ) → known_to new.threads t u ≡ known_after e (known_to old.threads) (handed_by old.locks) t u
+  pub count : length new.threads ≡ threads_after e (length old.threads)
+  pub joined : (t : ℕ) → (tracked new.threads t).joined ≡ ((tracked old.threads t).joined || is_this (joined_thread e) t)
+  pub given : (lock : ℕ) → hold_given e ≡ Some (exclusive lock) → (last : Stamp) × (released new.locks lock ≡ Some last) × IsAlike last stamp
+  pub others : (lock : ℕ) → hold_given e ≢ Some (exclusive lock) → released new.locks lock ≡ released old.locks lock
+
+-- what becomes of the locks
+abbrev pub LocksAfter : Event → List (Option Stamp) → List (Option Stamp) → Stamp → Type 0
+LocksAfter e old new stamp =
+    ((lock : ℕ) → hold_given e ≡ Some (exclusive lock) → (last : Stamp) × (released new lock ≡ Some last) × IsAlike last stamp)
+    × ((lock : ℕ) → hold_given e ≢ Some (exclusive lock) → released new lock ≡ released old lock)
+
+-- nothing, where no lock is given back
+pub locks_stay : (e : Event) (old new : List (Option Stamp)) (stamp : Stamp) → hold_given e ≡ None → new ≡ old → LocksAfter e old new stamp
+locks_stay e old new stamp none same = (λ lock gives. absurd (none-some (exclusive lock) (sym none ∙ gives)), λ lock other. ap (λ l. released l lock) same)
+
+-- a thread learns what the event takes in, and counts the event, which forks no thread
+pub learnt_tracks : (e : Event) (old new : Tracking) (middle : List Tracked) (other : List ℕ) (stamp : Stamp) → forked_thread e ≡ None
+    → ((u : ℕ) → component other u ≡ brought e (known_to old.threads) (handed_by old.locks) u) → component other (thread_of e) ≤ known_to old.threads (thread_of e) (thread_of e)
+    → IsLearnt (thread_of e) other (joined_thread e) old.threads middle → IsCounted (thread_of e) middle new.threads stamp → LocksAfter e old.locks new.locks stamp
+    → Tracks e old new stamp
+learnt_tracks e old new middle other stamp alone brings less learnt is locks = record {
+  thread = is.thread_is;
+  number = is.number ∙ ap (λ n. n + 1) (learnt.own (thread_of e) ∙ omega (arith, less));
+  clock = λ u. ticked (tracked middle (thread_of e)).clock stamp.clock (thread_of e) u is.clock ∙ met_at u;
+  known = λ t u. elim (cases_eq t (thread_of e)) [
+    | inl same ↦ rw (eq-eqb t (thread_of e) same)
+        (ap (λ v. known_to new.threads v u) same ∙ ticked (tracked middle (thread_of e)).clock (tracked new.threads (thread_of e)).clock (thread_of e) u is.own ∙ met_at u)
+    | inr apart ↦ rw (ne_eqb t (thread_of e) apart, alone) (ap (λ x. component x.clock u) (is.others t apart) ∙ ap (λ clock. component clock u) (learnt.others t apart))
+  ];
+  count = is.count ∙ learnt.count ∙ ap (λ o. weighed o (length old.threads)) (sym alone);
+  joined = λ t. elim (cases_eq t (thread_of e)) [
+    | inl same ↦ ap (λ v. (tracked new.threads v).joined) same ∙ is.joined ∙ learnt.joined (thread_of e)
+        ∙ ap (λ v. (tracked old.threads v).joined || is_this (joined_thread e) v) (sym same)
+    | inr apart ↦ ap (λ x. x.joined) (is.others t apart) ∙ learnt.joined t
+  ];
+  given = locks.0;
+  others = locks.1;
+}
+  where
+    met_at : (u : ℕ) → (if u == thread_of e then known_to middle (thread_of e) u + 1 else known_to middle (thread_of e) u) ≡ clock_after e (known_to old.threads) (handed_by old.locks) u
+    met_at u = ap (λ n. if u == thread_of e then n + 1 else n) (learnt.own u ∙ ap (λ n. max (known_to old.threads (thread_of e) u) n) (brings u))
+
+-- nothing is learnt
+pub nothing_learnt : (thread : ℕ) (threads : List Tracked) → IsLearnt thread [] None threads threads
+nothing_learnt thread threads = record {
+  count = refl;
+  own = λ u. omega arith;
+  others = λ t other. refl;
+  joined = λ t. or_false (tracked threads t).joined;
+}
+
+-- a fork
+pub fork_tracks : (thread child : ℕ) (old new : Tracking) (middle : List Tracked) (stamp : Stamp) → thread < length old.threads → child ≡ length old.threads
+    → IsBegun thread child old.threads middle → IsCounted thread middle new.threads stamp → new.locks ≡ old.locks → Tracks (Fork thread child) old new stamp
+fork_tracks thread child old new middle stamp inside numbered begun is locks = record {
+  thread = is.thread_is;
+  number = is.number ∙ ap (λ x. component x.clock thread + 1) (begun.others thread apart);
+  clock = λ u. ticked (tracked old.threads thread).clock stamp.clock thread u (subst (λ x. IsTick x.clock stamp.clock thread) (begun.others thread apart) is.clock) ∙ met_at u;
+  known = λ t u. elim (cases_eq t thread) [
+    | inl same ↦ rw (eq-eqb t thread same) (ap (λ v. known_to new.threads v u) same
+        ∙ ticked (tracked old.threads thread).clock (tracked new.threads thread).clock thread u (subst (λ x. IsTick x.clock (tracked new.threads thread).clock thread) (begun.others thread apart) is.own)
+        ∙ met_at u)
+    | inr other ↦ rw (ne_eqb t thread other) (elim (cases_eq child t) [
+      | inl last ↦ rw (eq-eqb child t last) (ap (λ x. component x.clock u) (is.others t other) ∙ ap (λ v. known_to middle v u) (sym last)
+          ∙ ticked (tracked old.threads thread).clock (tracked middle child).clock thread u begun.clock ∙ met_at u)
+      | inr former ↦ rw (ne_eqb child t former) (ap (λ x. component x.clock u) (is.others t other ∙ begun.others t (λ last. former (sym last))))
+    ])
+  ];
+  count = is.count ∙ begun.count;
+  joined = λ t. joined_at t ∙ or_false (tracked old.threads t).joined;
+  given = (locks_stay (Fork thread child) old.locks new.locks stamp refl locks).0;
+  others = (locks_stay (Fork thread child) old.locks new.locks stamp refl locks).1;
+}
+  where
+    met_at : (u : ℕ) → (if u == thread then known_to old.threads thread u + 1 else known_to old.threads thread u) ≡ clock_after (Fork thread child) (known_to old.threads) (handed_by old.locks) u
+    met_at u = ap (λ n. if u == thread then n + 1 else n) (let same : known_to old.threads thread u ≡ max (known_to old.threads thread u) 0 = omega arith in same)
+
+    apart : thread ≢ child
+    apart same = absurd (omega (arith, same, inside, numbered))
+
+    middle_at : (t : ℕ) → (tracked middle t).joined ≡ (tracked old.threads t).joined
+    middle_at t = elim (cases_eq t child) [
+      | inl last ↦ ap (λ v. (tracked middle v).joined) last ∙ begun.joined ∙ ap (λ x. x.joined) (sym (get_or_past old.threads t no_thread (omega (arith, last, numbered))))
+      | inr former ↦ ap (λ x. x.joined) (begun.others t former)
+    ]
+
+    joined_at : (t : ℕ) → (tracked new.threads t).joined ≡ (tracked old.threads t).joined
+    joined_at t = elim (cases_eq t thread) [
+      | inl same ↦ ap (λ v. (tracked new.threads v).joined) same ∙ is.joined ∙ middle_at thread ∙ ap (λ v. (tracked old.threads v).joined) (sym same)
+      | inr other ↦ ap (λ x. x.joined) (is.others t other) ∙ middle_at t
+    ]
+
+-- ---- the known threads after an event, where those before it have the numbers below one, and a forked thread has that one
 
 pub known_after_event : (roots : ℕ → Bool) (es : List Event) (e : Event) (threads : ℕ) → ((t : ℕ) → (t < threads) ↔ Known roots es t)
     → ((u : ℕ) → forked_thread e ≡ Some u → u ≡ threads) → (t : ℕ) → (t < threads_after e threads) ↔ Known roots (es ++ e ∷ []) t
@@ -245,15 +266,20 @@ bounded_next roots es e threads known numbered few fits = record {
 
 -- ---- what the tracker stands for then
 
-pub stamp_after : (threads new : List Tracked) (es : List Event) (e : Event) (stamp : Stamp) → hold_taken e ≡ None
-    → ((t u : ℕ) → KnownCount es t u (known_to threads t u)) → Tracks e threads new stamp → IsStamp (es ++ e ∷ []) (length es) stamp
-stamp_after threads new es e stamp free knew is = record {
+pub stamp_after : (old new : Tracking) (es : List Event) (e : Event) (stamp : Stamp)
+    → ((t u : ℕ) → KnownCount es (Carries es t) u (known_to old.threads t u)) → ((lock u : ℕ) → KnownCount es (GivesBack es lock) u (handed_by old.locks lock u))
+    → Tracks e old new stamp → IsStamp (es ++ e ∷ []) (length es) stamp
+stamp_after old new es e stamp threads locks is = record {
   thread = λ f at. is.thread ∙ ap (λ o. thread_of (unwrap_or o e)) (sym (at_end es e) ∙ at);
-  number = subst (λ t. OwnNumber (es ++ e ∷ []) t (length es) stamp.number) (sym is.thread)
-      (subst (λ n. OwnNumber (es ++ e ∷ []) (thread_of e) (length es) n) (sym is.number)
-      (own_number_new es e (known_to threads (thread_of e) (thread_of e)) (knew (thread_of e) (thread_of e))));
-  clock = λ u. subst (λ n. IsClock (es ++ e ∷ []) (length es) u n) (sym (is.clock u)) (clock_step es e (known_to threads) free knew u);
+  number = own_number;
+  clock = λ u. subst (λ n. IsClock (es ++ e ∷ []) (length es) u n) (sym (is.clock u)) (clock_step es e (known_to old.threads) (handed_by old.locks) threads locks u);
 }
+  where
+    own_number : OwnNumber (es ++ e ∷ []) stamp.thread (length es) stamp.number
+    own_number =
+        subst (λ t. OwnNumber (es ++ e ∷ []) t (length es) stamp.number) (sym is.thread)
+        (subst (λ n. OwnNumber (es ++ e ∷ []) (thread_of e) (length es) n) (sym is.number)
+        (own_number_new es e (known_to old.threads (thread_of e) (thread_of e)) (threads (thread_of e) (thread_of e))))
 
 joins_more : (es : List Event) (e : Event) (t : ℕ) → joins (es ++ e ∷ []) t ≡ joins es t + (if is_this (joined_thread e) t then 1 else 0)
 unfolding joins
@@ -264,82 +290,202 @@ joined_more true c n m is more = (λ x. omega (arith, is.0 x, more), λ some. is
 joined_more false true n m is more = (λ x. omega (arith, more), λ some. search)
 joined_more false false n m is more = (λ x. omega (arith, is.0 x, more), λ some. is.1 (omega (arith, some, more)))
 
+-- what the locks know, by numbers
+handed_is : (e : Event) (old new : Tracking) (stamp : Stamp) → Tracks e old new stamp
+    → (lock u : ℕ) → handed_by new.locks lock u ≡ handed_after e (known_to old.threads) (handed_by old.locks) lock u
+handed_is e old new stamp is lock u = elim (cases_Bool (is_hold (hold_given e) (exclusive lock))) [
+  | inl holds ↦
+      (let x = is.given lock ((hold_decides (hold_given e) (exclusive lock)).0 holds) in
+      rw holds (ap (λ o. component (clock_of o) u) x.1 ∙ x.2.clock u ∙ is.clock u))
+  | inr fails ↦ rw fails
+      (ap (λ o. component (clock_of o) u) (is.others lock (not_from_Decides (is_hold (hold_given e) (exclusive lock)) (hold_decides (hold_given e) (exclusive lock)) fails)))
+]
+
+-- the last release of a lock is still the last one where no event gives it back
+release_stays : (es : List Event) (e : Event) (lock : ℕ) (o : Option Stamp) → hold_given e ≢ Some (exclusive lock) → IsLastRelease es lock o → IsLastRelease (es ++ e ∷ []) lock o
+release_stays es e lock None other none = λ m gives. none m (other_gives es e lock other m gives).1
+release_stays es e lock (Some stamp) other (place, is) =
+    let inside : place < length es = gives_within es lock place is.gives in (
+      place,
+      record {
+        gives = gives_longer es (e ∷ []) lock place is.gives;
+        last = λ m gives. is.last m (other_gives es e lock other m gives).1;
+        thread = is_of_longer es (e ∷ []) stamp.thread place is.thread;
+        number = (own_number_longer es (e ∷ []) stamp.thread place stamp.number inside).0 is.number;
+      },
+    )
+
+-- and the event itself is where it does
+release_is_last : (es : List Event) (e : Event) (lock : ℕ) (stamp : Stamp) → hold_given e ≡ Some (exclusive lock) → stamp.thread ≡ thread_of e
+    → OwnNumber (es ++ e ∷ []) stamp.thread (length es) stamp.number → IsLastRelease (es ++ e ∷ []) lock (Some stamp)
+release_is_last es e lock stamp gives same own = (
+  length es,
+  record {
+    gives = (e, at_end es e, gives);
+    last = λ m back. (let inside : m < length (es ++ e ∷ []) = gives_within (es ++ e ∷ []) lock m back in omega (arith, inside, length-append es (e ∷ [])));
+    thread = subst (λ t. IsOf (es ++ e ∷ []) t (length es)) (sym same) (last_is_of es e);
+    number = own;
+  },
+)
+
+releases_after : (old new : Tracking) (roots : ℕ → Bool) (es : List Event) (e : Event) (stamp : Stamp) → StandsFor old roots es → Tracks e old new stamp
+    → (lock : ℕ) → IsLastRelease (es ++ e ∷ []) lock (released new.locks lock)
+releases_after old new roots es e stamp stands is lock = elim (cases_Bool (is_hold (hold_given e) (exclusive lock))) [
+  | inl holds ↦
+      (let gives = (hold_decides (hold_given e) (exclusive lock)).0 holds in
+      let x = is.given lock gives in
+      let own = (stamp_after old new es e stamp stands.clocks stands.locks is).number in
+      subst (IsLastRelease (es ++ e ∷ []) lock) (sym x.1)
+      (release_is_last es e lock x.0 gives (x.2.thread ∙ is.thread)
+      (subst (λ t. OwnNumber (es ++ e ∷ []) t (length es) x.0.number) (sym x.2.thread) (subst (OwnNumber (es ++ e ∷ []) stamp.thread (length es)) (sym x.2.number) own))))
+  | inr fails ↦
+      (let other = not_from_Decides (is_hold (hold_given e) (exclusive lock)) (hold_decides (hold_given e) (exclusive lock)) fails in
+      subst (IsLastRelease (es ++ e ∷ []) lock) (sym (is.others lock other)) (release_stays es e lock (released old.locks lock) other (stands.releases lock)))
+]
+
 -- the list is well-formed before the next event, which may follow it
-next_formed : (threads : List Tracked) (roots : ℕ → Bool) (es : List Event) (e : Event) → IsNextEvent threads roots es e → WellFormed roots es
-next_formed threads roots es e next = ((formed_more roots es e).0 next.formed).0
+next_formed : (old : Tracking) (roots : ℕ → Bool) (es : List Event) (e : Event) → IsNextEvent old roots es e → WellFormed roots es
+next_formed old roots es e next = ((formed_more roots es e).0 next.formed).0
 
-next_follows : (threads : List Tracked) (roots : ℕ → Bool) (es : List Event) (e : Event) → IsNextEvent threads roots es e → MayHappen roots es e
-next_follows threads roots es e next = ((formed_more roots es e).0 next.formed).1
+next_follows : (old : Tracking) (roots : ℕ → Bool) (es : List Event) (e : Event) → IsNextEvent old roots es e → MayHappen roots es e
+next_follows old roots es e next = ((formed_more roots es e).0 next.formed).1
 
-pub stands_after : (threads new : List Tracked) (roots : ℕ → Bool) (es : List Event) (e : Event) (stamp : Stamp) → hold_taken e ≡ None
-    → IsNextEvent threads roots es e → Tracks e threads new stamp → StandsFor new roots (es ++ e ∷ [])
-stands_after threads new roots es e stamp free next is = record {
-  known = λ t. subst (λ n. (t < n) ↔ Known roots (es ++ e ∷ []) t) (sym is.count) (known_after_event roots es e (length threads) next.stands.known next.numbered t);
-  clocks = λ t u. subst (KnownCount (es ++ e ∷ []) t u) (sym (is.known t u))
-      (known_step roots es e (known_to threads) (next_formed threads roots es e next) (next_follows threads roots es e next) free next.stands.clocks t u);
+pub stands_after : (old new : Tracking) (roots : ℕ → Bool) (es : List Event) (e : Event) (stamp : Stamp)
+    → IsNextEvent old roots es e → Tracks e old new stamp → StandsFor new roots (es ++ e ∷ [])
+stands_after old new roots es e stamp next is = record {
+  known = λ t. subst (λ n. (t < n) ↔ Known roots (es ++ e ∷ []) t) (sym is.count) (known_after_event roots es e (length old.threads) next.stands.known next.numbered t);
+  clocks = λ t u. subst (KnownCount (es ++ e ∷ []) (Carries (es ++ e ∷ []) t) u) (sym (is.known t u))
+      (known_step roots es e (known_to old.threads) (handed_by old.locks) (next_formed old roots es e next) (next_follows old roots es e next) next.stands.clocks next.stands.locks t u);
   joined = λ t. subst (λ b. IsTrue b ↔ (0 < joins (es ++ e ∷ []) t)) (sym (is.joined t))
-      (joined_more (tracked threads t).joined (is_this (joined_thread e) t) (joins es t) (joins (es ++ e ∷ []) t) (next.stands.joined t) (joins_more es e t));
+      (joined_more (tracked old.threads t).joined (is_this (joined_thread e) t) (joins es t) (joins (es ++ e ∷ []) t) (next.stands.joined t) (joins_more es e t));
+  locks = λ lock u. subst (KnownCount (es ++ e ∷ []) (GivesBack (es ++ e ∷ []) lock) u) (sym (handed_is e old new stamp is lock u))
+      (handed_step roots es e (known_to old.threads) (handed_by old.locks) next.formed next.stands.clocks next.stands.locks lock u);
+  releases = releases_after old new roots es e stamp next.stands is;
 }
 
 -- ---- what a next event may rely on
 
-pub next_inside : (threads : List Tracked) (roots : ℕ → Bool) (es : List Event) (e : Event) → IsNextEvent threads roots es e → thread_of e < length threads
-next_inside threads roots es e next = (next.stands.known (thread_of e)).1 (next_follows threads roots es e next).known_actor
+pub next_inside : (old : Tracking) (roots : ℕ → Bool) (es : List Event) (e : Event) → IsNextEvent old roots es e → thread_of e < length old.threads
+next_inside old roots es e next = (next.stands.known (thread_of e)).1 (next_follows old roots es e next).known_actor
 
-pub next_joined : (threads : List Tracked) (roots : ℕ → Bool) (es : List Event) (e : Event) (u : ℕ) → IsNextEvent threads roots es e → joined_thread e ≡ Some u → u < length threads
-next_joined threads roots es e u next join = (next.stands.known u).1 ((next_follows threads roots es e next).known_joined u join)
+pub next_joined : (old : Tracking) (roots : ℕ → Bool) (es : List Event) (e : Event) (u : ℕ) → IsNextEvent old roots es e → joined_thread e ≡ Some u → u < length old.threads
+next_joined old roots es e u next join = (next.stands.known u).1 ((next_follows old roots es e next).known_joined u join)
 
-pub next_below : (threads : List Tracked) (roots : ℕ → Bool) (es : List Event) (e : Event) (t u : ℕ) → IsNextEvent threads roots es e → known_to threads t u < 4294967295
-next_below threads roots es e t u next =
-    omega (arith, known_bound es t u (known_to threads t u) (next.stands.clocks t u), next.formed.bounded.few_events, length-append es (e ∷ []))
+-- a thread doesn't join itself, so there are two
+pub next_two : (old : Tracking) (roots : ℕ → Bool) (es : List Event) (e : Event) (u : ℕ) → IsNextEvent old roots es e → joined_thread e ≡ Some u → 2 ≤ length old.threads
+next_two old roots es e u next join =
+    omega (arith, next_inside old roots es e next, next_joined old roots es e u next join, (next_follows old roots es e next).other_joined u join)
+
+pub next_below : (old : Tracking) (roots : ℕ → Bool) (es : List Event) (e : Event) (t u : ℕ) → IsNextEvent old roots es e → known_to old.threads t u < 4294967295
+next_below old roots es e t u next =
+    omega (arith, known_bound es (Carries es t) u (known_to old.threads t u) (next.stands.clocks t u), next.formed.bounded.few_events, length-append es (e ∷ []))
 
 -- a forked thread has a number that fits, with one to spare
-pub next_child : (threads : List Tracked) (roots : ℕ → Bool) (es : List Event) (e : Event) (u : ℕ) → IsNextEvent threads roots es e → forked_thread e ≡ Some u → u < 4294967295
-next_child threads roots es e u next fork =
-    let after = threads_after e (length threads) in
-    let each = known_after_event roots es e (length threads) next.stands.known next.numbered in
+pub next_child : (old : Tracking) (roots : ℕ → Bool) (es : List Event) (e : Event) (u : ℕ) → IsNextEvent old roots es e → forked_thread e ≡ Some u → u < 4294967295
+next_child old roots es e u next fork =
+    let after = threads_after e (length old.threads) in
+    let each = known_after_event roots es e (length old.threads) next.stands.known next.numbered in
     omega (
       arith,
       next.numbered u fork,
-      ap (λ o. weighed o (length threads)) fork,
+      ap (λ o. weighed o (length old.threads)) fork,
       next.formed.bounded.few_threads after after (counts_all (Known roots (es ++ e ∷ [])) after (λ t inside. (each t).0 inside)),
     )
 
--- no thread knows more events of another than that one had
-pub own_most : (threads : List Tracked) (roots : ℕ → Bool) (es : List Event) (t u : ℕ) → StandsFor threads roots es → known_to threads t u ≤ known_to threads u u
-own_most threads roots es t u stands =
-    counts_le (λ k. IsOf es u k × Knows es t k) (IsOf es u) (length es) (known_to threads t u) (known_to threads u u) (λ k l x. x.0)
-    (stands.clocks t u) ((known_own es u (known_to threads u u)).0 (stands.clocks u u))
+-- no thread and no lock knows more events of a thread than that one had
+own_most : (old : Tracking) (roots : ℕ → Bool) (es : List Event) (P : ℕ → Type 0) (u c : ℕ) → StandsFor old roots es → KnownCount es P u c → c ≤ known_to old.threads u u
+own_most old roots es P u c stands counts =
+    counts_le (λ k. IsOf es u k × Knows es P k) (IsOf es u) (length es) c (known_to old.threads u u) (λ k l x. x.0)
+    counts ((known_own es u (known_to old.threads u u)).0 (stands.clocks u u))
+
+pub child_most : (old : Tracking) (roots : ℕ → Bool) (es : List Event) (t u : ℕ) → StandsFor old roots es → known_to old.threads t u ≤ known_to old.threads u u
+child_most old roots es t u stands = own_most old roots es (Carries es t) u (known_to old.threads t u) stands (stands.clocks t u)
+
+pub lock_most : (old : Tracking) (roots : ℕ → Bool) (es : List Event) (lock u : ℕ) → StandsFor old roots es → handed_by old.locks lock u ≤ known_to old.threads u u
+lock_most old roots es lock u stands = own_most old roots es (GivesBack es lock) u (handed_by old.locks lock u) stands (stands.locks lock u)
+
+-- what brings no news
+pub child_no_news : (old : Tracking) (roots : ℕ → Bool) (es : List Event) (e : Event) (t w : ℕ) → IsNextEvent old roots es e
+    → 0 < known_to old.threads w w → known_to old.threads w w ≤ known_to old.threads t w → (u : ℕ) → known_to old.threads w u ≤ known_to old.threads t u
+child_no_news old roots es e t w next =
+    child_heard roots es (Carries es t) w (known_to old.threads t) (known_to old.threads w) (next_formed old roots es e next) (next.stands.clocks t) (next.stands.clocks w)
+
+pub lock_no_news : (old : Tracking) (roots : ℕ → Bool) (es : List Event) (e : Event) (t lock : ℕ) → IsNextEvent old roots es e
+    → IsHeard (released old.locks lock) (tracked old.threads t).clock → (u : ℕ) → handed_by old.locks lock u ≤ known_to old.threads t u
+lock_no_news old roots es e t lock next =
+    lock_heard roots es (Carries es t) lock (released old.locks lock) (tracked old.threads t).clock (next_formed old roots es e next)
+    (next.stands.releases lock) (next.stands.clocks t) (next.stands.locks lock)
+
+-- news comes from another thread, so there are two
+pub lock_news : (old : Tracking) (roots : ℕ → Bool) (es : List Event) (e : Event) (t lock : ℕ) → IsNextEvent old roots es e → t < length old.threads
+    → IsHeard (released old.locks lock) (tracked old.threads t).clock ⊎ (2 ≤ length old.threads)
+lock_news old roots es e t lock next inside = by (released old.locks lock) (next.stands.releases lock)
+  where
+    by : (o : Option Stamp) → IsLastRelease es lock o → IsHeard o (tracked old.threads t).clock ⊎ (2 ≤ length old.threads)
+    by None none = inl tt
+    by (Some stamp) (place, is) = elim (cases_eq stamp.thread t) [
+      | inl same ↦
+          inl ((covers_known es (Carries es t) stamp.thread place stamp.number (known_to old.threads t stamp.thread) is.thread is.number (next.stands.clocks t stamp.thread)).1
+          (inl (inl (subst (λ v. IsOf es v place) same is.thread))))
+      | inr other ↦
+          (let acted : Known roots es stamp.thread =
+          known_later roots es place stamp.thread
+          (subst (Known roots (take place es)) is.thread.2 (may_follow_at roots es place is.thread.0 (next_formed old roots es e next) is.thread.1).known_actor) in
+          let there : stamp.thread < length old.threads = (next.stands.known stamp.thread).1 acted in
+          inr (omega (arith, other, there, inside)))
+    ]
 
 -- ---- the answer
 
-pub ok_stamp : {E : Type 0} (threads new : List Tracked) (e : Event) (result : Result Stamp E) → hold_taken e ≡ None
-    → IfOk result (λ stamp. (roots : ℕ → Bool) (es : List Event) → IsNextEvent threads roots es e → Tracks e threads new stamp)
-    → IfOk result (λ stamp. (roots : ℕ → Bool) (es : List Event) → IsNextEvent threads roots es e → IsStamp (es ++ e ∷ []) (length es) stamp)
-ok_stamp threads new e (Ok stamp) free is = λ roots es next. stamp_after threads new es e stamp free next.stands.clocks (is roots es next)
-ok_stamp threads new e (Err error) free is = tt
+-- by its parts for each event after which this is the next one
+abbrev pub Answers : {E : Type 0} → Tracking → Tracking → Event → Result Stamp E → Type 0
+Answers old new e result = IfOk result (λ stamp. (roots : ℕ → Bool) (es : List Event) → IsNextEvent old roots es e → Tracks e old new stamp)
 
-pub ok_stands : {E : Type 0} (threads new : List Tracked) (e : Event) (result : Result Stamp E) → hold_taken e ≡ None
-    → IfOk result (λ stamp. (roots : ℕ → Bool) (es : List Event) → IsNextEvent threads roots es e → Tracks e threads new stamp)
-    → OnOk result ((roots : ℕ → Bool) (es : List Event) → IsNextEvent threads roots es e → StandsFor new roots (es ++ e ∷ []))
-ok_stands threads new e (Ok stamp) free is = λ roots es next. stands_after threads new roots es e stamp free next (is roots es next)
-ok_stands threads new e (Err error) free is = tt
+pub ok_stamp : {E : Type 0} (old new : Tracking) (e : Event) (result : Result Stamp E) → Answers old new e result
+    → IfOk result (λ stamp. (roots : ℕ → Bool) (es : List Event) → IsNextEvent old roots es e → IsStamp (es ++ e ∷ []) (length es) stamp)
+ok_stamp old new e (Ok stamp) is = λ roots es next. stamp_after old new es e stamp next.stands.clocks next.stands.locks (is roots es next)
+ok_stamp old new e (Err error) is = tt
 
-pub ok_call : {E : Type 0} (threads new : List Tracked) (call : CallOf) (result : Result Stamp E) → IfOk result (IsCounted call.thread threads new)
-    → IfOk result (λ stamp. (roots : ℕ → Bool) (es : List Event) → IsNextEvent threads roots es (Call call) → Tracks (Call call) threads new stamp)
-ok_call threads new call (Ok stamp) is = λ roots es next. call_tracks call threads new stamp is
-ok_call threads new call (Err error) is = tt
+pub ok_stands : {E : Type 0} (old new : Tracking) (e : Event) (result : Result Stamp E) → Answers old new e result
+    → OnOk result ((roots : ℕ → Bool) (es : List Event) → IsNextEvent old roots es e → StandsFor new roots (es ++ e ∷ []))
+ok_stands old new e (Ok stamp) is = λ roots es next. stands_after old new roots es e stamp next (is roots es next)
+ok_stands old new e (Err error) is = tt
 
-pub ok_fork : {E : Type 0} (threads new : List Tracked) (thread child : ℕ) (result : Result Stamp E)
-    → IfOk result (λ stamp. (middle : List Tracked) × IsBegun thread child threads middle × IsCounted thread middle new stamp)
-    → IfOk result (λ stamp. (roots : ℕ → Bool) (es : List Event) → IsNextEvent threads roots es (Fork thread child) → Tracks (Fork thread child) threads new stamp)
-ok_fork threads new thread child (Ok stamp) is = λ roots es next.
-    fork_tracks thread child threads is.0 new stamp (next_inside threads roots es (Fork thread child) next) (next.numbered child refl) is.1 is.2
-ok_fork threads new thread child (Err error) is = tt
+pub ok_call : {E : Type 0} (old new : Tracking) (call : CallOf) (result : Result Stamp E) → IfOk result (IsCounted call.thread old.threads new.threads) → new.locks ≡ old.locks
+    → Answers old new (Call call) result
+ok_call old new call (Ok stamp) is locks = λ roots es next.
+    learnt_tracks (Call call) old new old.threads [] stamp refl (λ u. refl) (omega arith) (nothing_learnt call.thread old.threads) is
+    (locks_stay (Call call) old.locks new.locks stamp refl locks)
+ok_call old new call (Err error) is locks = tt
 
-pub ok_join : {E : Type 0} (threads new : List Tracked) (thread child : ℕ) (result : Result Stamp E)
-    → IfOk result (λ stamp. (middle : List Tracked) × IsLearnt thread child threads middle × IsCounted thread middle new stamp)
-    → IfOk result (λ stamp. (roots : ℕ → Bool) (es : List Event) → IsNextEvent threads roots es (Join thread child) → Tracks (Join thread child) threads new stamp)
-ok_join threads new thread child (Ok stamp) is = λ roots es next.
-    join_tracks thread child threads is.0 new stamp (own_most threads roots es child thread next.stands) is.1 is.2
-ok_join threads new thread child (Err error) is = tt
+pub ok_release : {E : Type 0} (old new : Tracking) (thread lock : ℕ) (result : Result Stamp E) → IfOk result (IsCounted thread old.threads new.threads)
+    → IfOk result (IsReleased lock old.locks new.locks) → Answers old new (Release thread lock) result
+ok_release old new thread lock (Ok stamp) is gives = λ roots es next.
+    learnt_tracks (Release thread lock) old new old.threads [] stamp refl (λ u. refl) (omega arith) (nothing_learnt thread old.threads) is (
+      λ l same. subst (λ m. (last : Stamp) × (released new.locks m ≡ Some last) × IsAlike last stamp) (same_lock lock l (same_Some (exclusive lock) (exclusive l) same)) gives.given,
+      λ l other. gives.others l (λ same. other (ap (λ m. Some (exclusive m)) (sym same))),
+    )
+ok_release old new thread lock (Err error) is gives = tt
+
+pub ok_fork : {E : Type 0} (old new : Tracking) (thread child : ℕ) (result : Result Stamp E)
+    → IfOk result (λ stamp. (middle : List Tracked) × IsBegun thread child old.threads middle × IsCounted thread middle new.threads stamp) → new.locks ≡ old.locks
+    → Answers old new (Fork thread child) result
+ok_fork old new thread child (Ok stamp) is locks = λ roots es next.
+    fork_tracks thread child old new is.0 stamp (next_inside old roots es (Fork thread child) next) (next.numbered child refl) is.1 is.2 locks
+ok_fork old new thread child (Err error) is locks = tt
+
+pub ok_join : {E : Type 0} (old new : Tracking) (thread child : ℕ) (result : Result Stamp E)
+    → IfOk result (λ stamp. (middle : List Tracked) × IsLearnt thread (tracked old.threads child).clock (Some child) old.threads middle × IsCounted thread middle new.threads stamp)
+    → new.locks ≡ old.locks → Answers old new (Join thread child) result
+ok_join old new thread child (Ok stamp) is locks = λ roots es next.
+    learnt_tracks (Join thread child) old new is.0 (tracked old.threads child).clock stamp refl (λ u. refl) (child_most old roots es child thread next.stands) is.1 is.2
+    (locks_stay (Join thread child) old.locks new.locks stamp refl locks)
+ok_join old new thread child (Err error) is locks = tt
+
+pub ok_acquire : {E : Type 0} (old new : Tracking) (thread lock : ℕ) (result : Result Stamp E)
+    → IfOk result (λ stamp. (middle : List Tracked) × IsLearnt thread (clock_of (released old.locks lock)) None old.threads middle × IsCounted thread middle new.threads stamp)
+    → new.locks ≡ old.locks → Answers old new (Acquire thread lock) result
+ok_acquire old new thread lock (Ok stamp) is locks = λ roots es next.
+    learnt_tracks (Acquire thread lock) old new is.0 (clock_of (released old.locks lock)) stamp refl (λ u. refl) (lock_most old roots es lock thread next.stands) is.1 is.2
+    (locks_stay (Acquire thread lock) old.locks new.locks stamp refl locks)
+ok_acquire old new thread lock (Err error) is locks = tt

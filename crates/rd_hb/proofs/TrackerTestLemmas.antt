@@ -7,22 +7,21 @@ use Rattle.rd_event.specs.declared.events.Event.{Event}
 use Rattle.rd_event.specs.declared.events.Event.TheVariants.{Fork, Join}
 use Rattle.rd_order.proofs.EventListLemmas.{formed_front, may_call, may_fork, may_join}
 use Rattle.rd_order.specs.EventLists.{calls, forks, joins, Follow, WellFormed}
-use Rattle.rd_hb.specs.Tracker.{IsNextEvent, StandsFor}
+use Rattle.rd_hb.specs.Tracker.{IsNextEvent, StandsFor, Tracking}
 use Rattle.rd_order.specs.EventLists.{threads_after}
 use Rattle.rd_hb.specs.TestTraces.{MayTakeAll}
 use Rattle.rd_order.proofs.TestListLemmas.{few_by_numbers, new_to_one, new_to_two, numbered_call, one_below, two_below}
 use Rattle.rd_order.specs.TestLists.{sample_call, one_root, two_roots, NextNumbers}
-use Rattle.rd_hb.specs.declared.tracker.Tracked.{Tracked}
 
 -- ---- event by event
 
 -- a tracker took the events before, and the rest has the next numbers
-pub record Took (threads : List Tracked) (roots : ℕ → Bool) (before rest : List Event) : Type 0 where
-  pub stands : StandsFor threads roots before
-  pub numbered : NextNumbers (length threads) rest
+pub record Took (tracking : Tracking) (roots : ℕ → Bool) (before rest : List Event) : Type 0 where
+  pub stands : StandsFor tracking roots before
+  pub numbered : NextNumbers (length tracking.threads) rest
 
-pub took_none : (threads : List Tracked) (roots : ℕ → Bool) (es : List Event) → MayTakeAll threads roots es → Took threads roots [] es
-took_none threads roots es may = record { stands = may.stands; numbered = may.numbered }
+pub took_none : (tracking : Tracking) (roots : ℕ → Bool) (es : List Event) → MayTakeAll tracking roots es → Took tracking roots [] es
+took_none tracking roots es may = record { stands = may.stands; numbered = may.numbered }
 
 cut_at : (es : List Event) (i : ℕ) (e : Event) → i < length es → e ≡ get_or es i e → drop i es ≡ e ∷ drop (i + 1) es
 cut_at es i e inside is = rw (add-one, drop-cons es i e inside) (ap (λ x. x ∷ drop (suc i) es) (sym is))
@@ -30,22 +29,22 @@ cut_at es i e inside is = rw (add-one, drop-cons es i e inside) (ap (λ x. x ∷
 taken_at : (es : List Event) (i : ℕ) (e : Event) → i < length es → e ≡ get_or es i e → take (i + 1) es ≡ take i es ++ e ∷ []
 taken_at es i e inside is = take_more es i e inside ∙ ap (λ x. take i es ++ x ∷ []) (sym is)
 
-pub took_next : (threads : List Tracked) (roots : ℕ → Bool) (es : List Event) (i : ℕ) (e : Event) → WellFormed roots es → i < length es → e ≡ get_or es i e
-    → Took threads roots (take i es) (drop i es) → IsNextEvent threads roots (take i es) e
-took_next threads roots es i e formed inside is took = record {
+pub took_next : (tracking : Tracking) (roots : ℕ → Bool) (es : List Event) (i : ℕ) (e : Event) → WellFormed roots es → i < length es → e ≡ get_or es i e
+    → Took tracking roots (take i es) (drop i es) → IsNextEvent tracking roots (take i es) e
+took_next tracking roots es i e formed inside is took = record {
   stands = took.stands;
   formed = subst (WellFormed roots) (taken_at es i e inside is)
       (formed_front roots (take (i + 1) es) (drop (i + 1) es) (subst (WellFormed roots) (sym (take-append-drop (i + 1) es)) formed));
-  numbered = (subst (NextNumbers (length threads)) (cut_at es i e inside is) took.numbered).0;
+  numbered = (subst (NextNumbers (length tracking.threads)) (cut_at es i e inside is) took.numbered).0;
 }
 
-pub took_more : (threads new : List Tracked) (roots : ℕ → Bool) (es : List Event) (i : ℕ) (e : Event) → i < length es → e ≡ get_or es i e
-    → Took threads roots (take i es) (drop i es) → StandsFor new roots (take i es ++ e ∷ []) → length new ≡ threads_after e (length threads)
+pub took_more : (old new : Tracking) (roots : ℕ → Bool) (es : List Event) (i : ℕ) (e : Event) → i < length es → e ≡ get_or es i e
+    → Took old roots (take i es) (drop i es) → StandsFor new roots (take i es ++ e ∷ []) → length new.threads ≡ threads_after e (length old.threads)
     → Took new roots (take (i + 1) es) (drop (i + 1) es)
-took_more threads new roots es i e inside is took stands count = record {
+took_more old new roots es i e inside is took stands count = record {
   stands = subst (StandsFor new roots) (sym (taken_at es i e inside is)) stands;
   numbered = subst (λ n. NextNumbers n (drop (i + 1) es)) (sym count)
-      (subst (NextNumbers (length threads)) (cut_at es i e inside is) took.numbered).1;
+      (subst (NextNumbers (length old.threads)) (cut_at es i e inside is) took.numbered).1;
 }
 
 -- ---- the traces
@@ -65,8 +64,8 @@ strangers_follow = (
 strangers_numbered : NextNumbers 2 strangers
 strangers_numbered = (λ u is. absurd (none-some u is), (λ u is. absurd (none-some u is), tt))
 
-pub strangers_may : (threads : List Tracked) → StandsFor threads two_roots [] → length threads ≡ 2 → MayTakeAll threads two_roots strangers
-strangers_may threads stands count = record {
+pub strangers_may : (tracking : Tracking) → StandsFor tracking two_roots [] → length tracking.threads ≡ 2 → MayTakeAll tracking two_roots strangers
+strangers_may tracking stands count = record {
   stands = stands;
   formed = record { follow = strangers_follow; bounded = few_by_numbers two_roots 2 strangers two_below strangers_numbered (lit≤ tt) };
   numbered = subst (λ n. NextNumbers n strangers) (sym count) strangers_numbered;
@@ -99,8 +98,8 @@ idle_child_numbered = (
   (λ u is. sym (same_Some 2 u is), (λ u is. absurd (none-some u is), (λ u is. absurd (none-some u is), tt))),
 )
 
-pub idle_child_may : (threads : List Tracked) → StandsFor threads two_roots [] → length threads ≡ 2 → MayTakeAll threads two_roots idle_child
-idle_child_may threads stands count = record {
+pub idle_child_may : (tracking : Tracking) → StandsFor tracking two_roots [] → length tracking.threads ≡ 2 → MayTakeAll tracking two_roots idle_child
+idle_child_may tracking stands count = record {
   stands = stands;
   formed = record { follow = idle_child_follow; bounded = few_by_numbers two_roots 2 idle_child two_below idle_child_numbered (lit≤ tt) };
   numbered = subst (λ n. NextNumbers n idle_child) (sym count) idle_child_numbered;
@@ -150,8 +149,8 @@ family_numbered = (
   ),
 )
 
-pub family_may : (threads : List Tracked) → StandsFor threads one_root [] → length threads ≡ 1 → MayTakeAll threads one_root family
-family_may threads stands count = record {
+pub family_may : (tracking : Tracking) → StandsFor tracking one_root [] → length tracking.threads ≡ 1 → MayTakeAll tracking one_root family
+family_may tracking stands count = record {
   stands = stands;
   formed = record { follow = family_follow; bounded = few_by_numbers one_root 1 family one_below family_numbered (lit≤ tt) };
   numbered = subst (λ n. NextNumbers n family) (sym count) family_numbered;

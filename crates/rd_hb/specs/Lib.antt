@@ -3,3 +3,4 @@ pub mod EventClocks
 pub mod Knows
 pub mod TestTraces
 pub mod Tracker
+pub mod TrackerParts

@@ -3,11 +3,10 @@ use Rattle.std.specs.Prelude.{ℕ, Bool, List, [], length}
 use Rattle.rd_event.specs.declared.events.Event.{Event}
 use Rattle.rd_order.specs.EventLists.{WellFormed}
 use Rattle.rd_order.specs.TestLists.{NextNumbers}
-use Rattle.rd_hb.specs.Tracker.{StandsFor}
-use Rattle.rd_hb.specs.declared.tracker.Tracked.{Tracked}
+use Rattle.rd_hb.specs.Tracker.{StandsFor, Tracking}
 
 -- a tracker that has seen the roots alone may take all these events
-pub record MayTakeAll (threads : List Tracked) (roots : ℕ → Bool) (es : List Event) : Type 0 where
-  pub stands : StandsFor threads roots []
+pub record MayTakeAll (tracking : Tracking) (roots : ℕ → Bool) (es : List Event) : Type 0 where
+  pub stands : StandsFor tracking roots []
   pub formed : WellFormed roots es
-  pub numbered : NextNumbers (length threads) es
+  pub numbered : NextNumbers (length tracking.threads) es

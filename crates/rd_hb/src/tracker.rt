@@ -1,13 +1,16 @@
-//! The clocks of the threads of a trace.
-ghost use Rattle.std.specs.Prelude.{◌≡◌, ◌≢◌, ℕ, ◌+◌, ◌*◌, ◌<◌, ◌≤◌, Bool, false, ◌==◌, max, ◌||◌, if◌then◌else◌, List, [], ◌∷◌, ◌++◌, length, Some, None, IfOk, OnOk, OnErr};
+//! The clocks of the threads of a trace, and of its locks.
+ghost use Rattle.std.specs.Prelude.{◌≡◌, ◌≢◌, ◌⊎◌, ◌↔◌, ℕ, ◌+◌, ◌*◌, ◌<◌, ◌≤◌, Bool, true, false, ◌==◌, max, ◌||◌, if◌then◌else◌, List, [], ◌∷◌, ◌++◌, length, slice_index_or, slice_set, Option, Some, None, IfSome, IfOk, OnOk, OnErr, IsTrue};
 ghost use Rattle.rd_event.specs.declared.events.Event.{Event as EventOf};
 ghost use Rattle.rd_event.specs.declared.events.Event.TheVariants as event;
-ghost use Rattle.rd_order.specs.Order.{thread_of, forked_thread, joined_thread};
-ghost use Rattle.rd_clock.specs.Clock.{component, IsJoin, IsTick};
-ghost use Rattle.rd_hb.specs.Tracker.{IsBegun, IsCounted, IsLearnt, IsNextEvent, IsStamp, StandsFor, event_bound, known_to, tracked};
 ghost use Rattle.rd_order.specs.EventLists.{threads_after};
+ghost use Rattle.rd_clock.specs.Clock.{component, IsJoin, IsTick};
+ghost use Rattle.rd_hb.specs.Tracker.{IsNextEvent, IsStamp, StandsFor, clock_of, event_bound, handed_by, known_to, released, tracked};
+ghost use Rattle.rd_hb.specs.TrackerParts.{IsBegun, IsCounted, IsHeard, IsLearnt, IsReleased, IsShared};
 ghost use Rattle.rd_hb.specs.declared.tracker.Tracked.{Tracked as TrackedOf};
 
+mod locks;
+
+use locks::{Release, SharedClock};
 use rd_base::{NoMemory, Steps};
 use rd_clock::{Clock, Stamp};
 use rd_event::Event;
@@ -23,44 +26,49 @@ struct Tracked {
     joined: bool,
 }
 
-/// The clocks of all threads of a trace, root or forked, by their numbers. Contracts see it as their list.
+/// The clocks of all threads of a trace, root or forked, and of its locks, by their numbers. Contracts see it as the list
+/// of the threads and that of the stamps of the events that last gave back each lock.
 #[derive(Debug, Drop)]
 pub struct Tracker {
     alloc: Global,
     threads: Vec<Tracked>,
+    // the clock that a thread shares with the locks that it gave back since it learnt something, if it gave back one
+    shared: Vec<Option<SharedClock>>,
+    locks: Vec<Option<Release>>,
 }
 
 impl Model for Tracker {
-    ghost use Rattle.std.specs.Prelude.{List};
-    ghost use Rattle.rd_hb.specs.Tracker.{AreTracked};
-    ghost use Rattle.rd_hb.specs.declared.tracker.Tracked.{Tracked};
+    ghost use Rattle.rd_hb.specs.Tracker.{Tracking};
+    ghost use Rattle.rd_hb.specs.TrackerParts.{AreKept};
 
-    ghost Value = { List Tracked };
+    ghost Value = { Tracking };
 
-    ghost view = { λ t. t.threads.items };
+    ghost view = { λ t. record { threads = t.threads.items; locks = t.locks.items } };
 
-    ghost invariant = { λ t. AreTracked t.threads.items };
+    ghost invariant = { λ t. AreKept t.threads.items t.shared.items t.locks.items };
 }
 
 impl Tracker {
     /// A tracker without a thread. It takes no memory.
     #[tactic(auto, using(crate::proofs::TrackerLemmas::no_threads))]
     pub fn new(alloc: Global) -> Tracker
-        ensures empty { result ≡ [] }
+        ensures empty { result ≡ record { threads = []; locks = [] } }
         ensures stands { StandsFor result (λ t. false) [] }
     {
         Tracker {
             alloc,
             threads: Vec::new(alloc),
+            shared: Vec::new(alloc),
+            locks: Vec::new(alloc),
         }
     }
 
     /// Makes a root known, whose number is that of the roots so far. After want of memory all is as before.
     pub fn root(&mut self, thread: u32) -> Result<(), NoMemory>
-        requires numbered { thread ≡ length self.old }
+        requires numbered { thread ≡ length self.old.threads }
         requires below { thread < 4294967295 }
         ensures ok { OnOk result ((roots : ℕ → Bool) → StandsFor self.old roots [] → StandsFor self.new (λ t. roots t || (t == thread)) []) }
-        ensures count { OnOk result (length self.new ≡ length self.old + 1) }
+        ensures count { OnOk result (length self.new.threads ≡ length self.old.threads + 1) }
         ensures err { OnErr result (self.new ≡ self.old) }
     {
         let mut clock = Clock::new(self.alloc);
@@ -86,31 +94,34 @@ impl Tracker {
             IsStamp (es ++ event.now ∷ []) (length es) stamp) }
         ensures stands { OnOk result ((roots : ℕ → Bool) (es : List EventOf) → IsNextEvent self.old roots es event.now →
             StandsFor self.new roots (es ++ event.now ∷ [])) }
-        ensures count { OnOk result (length self.new ≡ threads_after event.now (length self.old)) }
+        ensures count { OnOk result (length self.new.threads ≡ threads_after event.now (length self.old.threads)) }
         ensures err { OnErr result (self.new ≡ self.old) }
-        ensures cost { steps.new ≤ steps.old + event_bound event.now (threads_after event.now (length self.old)) }
+        ensures cost { steps.new ≤ steps.old + event_bound event.now (threads_after event.now (length self.old.threads)) }
     {
         match event {
             Event::Fork { thread, child } => self.fork(*thread, *child, steps),
             Event::Join { thread, child } => self.join(*thread, *child, steps),
+            Event::Acquire { thread, lock } => self.acquire(*thread, *lock, steps),
+            Event::Release { thread, lock } => self.release(*thread, *lock, steps),
             Event::Call(call) => self.alone(call.thread, steps),
         }
     }
 
     /// A copy of a thread's clock.
     fn clock(&self, thread: u32) -> Result<Clock, NoMemory>
-        requires { thread < length self.now }
-        ensures { IfOk result (λ clock. clock ≡ (tracked self.now thread).clock) }
+        requires { thread < length self.now.threads }
+        ensures { IfOk result (λ clock. clock ≡ (tracked self.now.threads thread).clock) }
     {
         self.threads[thread as usize].clock.copy(self.alloc)
     }
 
     /// A thread counts its next event, in its clock and in a copy of it, which becomes the stamp's.
     fn count<L: Ledger>(&mut self, thread: u32, mut copy: Clock, steps: &mut Steps<L>) -> Stamp
-        requires known { thread < length self.old }
-        requires below { known_to self.old thread thread < 4294967295 }
-        requires equal { copy ≡ (tracked self.old thread).clock }
-        ensures counted { IsCounted thread self.old self.new result }
+        requires known { thread < length self.old.threads }
+        requires below { known_to self.old.threads thread thread < 4294967295 }
+        requires equal { copy ≡ (tracked self.old.threads thread).clock }
+        ensures counted { IsCounted thread self.old.threads self.new.threads result }
+        ensures locks { self.new.locks ≡ self.old.locks }
         ensures cost { steps.new ≡ steps.old + 2 }
     {
         let own = &mut self.threads[thread as usize];
@@ -131,12 +142,12 @@ impl Tracker {
         child: u32,
         steps: &mut Steps<L>,
     ) -> Result<Clock, NoMemory>
-        requires known { thread < length self.now }
-        requires numbered { child ≡ length self.now }
+        requires known { thread < length self.now.threads }
+        requires numbered { child ≡ length self.now.threads }
         requires range { child < 4294967295 }
-        requires below { known_to self.now thread thread < 4294967295 }
-        ensures ticked { IfOk result (λ clock. IsTick (tracked self.now thread).clock clock thread) }
-        ensures room { IfOk result (λ clock. length clock ≡ max (length (tracked self.now thread).clock) (child + 1)) }
+        requires below { known_to self.now.threads thread thread < 4294967295 }
+        ensures ticked { IfOk result (λ clock. IsTick (tracked self.now.threads thread).clock clock thread) }
+        ensures room { IfOk result (λ clock. length clock ≡ max (length (tracked self.now.threads thread).clock) (child + 1)) }
         ensures cost { steps.new ≤ steps.old + 1 }
     {
         let own = &self.threads[thread as usize].clock;
@@ -152,11 +163,12 @@ impl Tracker {
         child: u32,
         steps: &mut Steps<L>,
     ) -> Result<(), NoMemory>
-        requires known { thread < length self.old }
-        requires numbered { child ≡ length self.old }
+        requires known { thread < length self.old.threads }
+        requires numbered { child ≡ length self.old.threads }
         requires range { child < 4294967295 }
-        requires below { known_to self.old thread thread < 4294967295 }
-        ensures ok { OnOk result (IsBegun thread child self.old self.new) }
+        requires below { known_to self.old.threads thread thread < 4294967295 }
+        ensures ok { OnOk result (IsBegun thread child self.old.threads self.new.threads) }
+        ensures locks { self.new.locks ≡ self.old.locks }
         ensures err { OnErr result (self.new ≡ self.old) }
         ensures cost { steps.new ≤ steps.old + 1 }
     {
@@ -169,6 +181,33 @@ impl Tracker {
         Ok(())
     }
 
+    /// Whether a joined thread brings no news: it had an event, and another knows its last one.
+    fn is_known<L: Ledger>(&self, thread: u32, child: u32, steps: &mut Steps<L>) -> bool
+        requires known { thread < length self.now.threads }
+        requires awaited { child < length self.now.threads }
+        ensures some { IsTrue result → 0 < known_to self.now.threads child child }
+        ensures covered { IsTrue result → known_to self.now.threads child child ≤ known_to self.now.threads thread child }
+        ensures cost { steps.new ≤ steps.old + 1 }
+    {
+        let events = self.threads[child as usize].events;
+        events > 0
+            && self.threads[thread as usize]
+                .clock
+                .covers(child, events, steps)
+    }
+
+    /// Whether a lock brings no news: no event gave it back, or the thread knows the last one that did.
+    fn is_heard<L: Ledger>(&self, thread: u32, lock: u32, steps: &mut Steps<L>) -> bool
+        requires { thread < length self.now.threads }
+        ensures heard { IsTrue result ↔ IsHeard (released self.now.locks lock) (tracked self.now.threads thread).clock }
+        ensures cost { steps.new ≤ steps.old + 1 }
+    {
+        match self.locks.get(lock as usize) {
+            Some(Some(last)) => last.is_covered(&self.threads[thread as usize].clock, steps),
+            _ => true,
+        }
+    }
+
     /// The clock that counts what either of two threads knows, with room for all threads.
     fn meet<L: Ledger>(
         &self,
@@ -176,11 +215,11 @@ impl Tracker {
         child: u32,
         steps: &mut Steps<L>,
     ) -> Result<Clock, NoMemory>
-        requires known { thread < length self.now }
-        requires awaited { child < length self.now }
-        ensures joined { IfOk result (IsJoin (tracked self.now thread).clock (tracked self.now child).clock) }
-        ensures room { IfOk result (λ clock. length clock ≡ length self.now) }
-        ensures cost { steps.new ≤ steps.old + 2 * length self.now }
+        requires known { thread < length self.now.threads }
+        requires awaited { child < length self.now.threads }
+        ensures joined { IfOk result (IsJoin (tracked self.now.threads thread).clock (tracked self.now.threads child).clock) }
+        ensures room { IfOk result (λ clock. length clock ≡ length self.now.threads) }
+        ensures cost { steps.new ≤ steps.old + 2 * length self.now.threads }
     {
         let own = &self.threads[thread as usize].clock;
         let mut clock = own.copy_with_room(self.alloc, self.threads.len() as u32)?;
@@ -188,31 +227,125 @@ impl Tracker {
         Ok(clock)
     }
 
-    /// A thread begins to know what that clock counts, and another has ended. The thread's own clock takes memory only
-    /// where it has no room yet.
-    fn learn(&mut self, thread: u32, child: u32, clock: &Clock) -> Result<(), NoMemory>
-        requires known { thread < length self.old }
-        requires awaited { child < length self.old }
-        requires room { length clock.now ≡ length self.old }
-        requires own { component clock.now thread ≡ known_to self.old thread thread }
-        ensures count { length self.new ≡ length self.old }
-        ensures learnt { OnOk result ((t : ℕ) → (tracked self.new t).clock ≡ (if t == thread then clock.now else (tracked self.old t).clock)) }
-        ensures joined { OnOk result ((t : ℕ) → (tracked self.new t).joined ≡ ((tracked self.old t).joined || (child == t))) }
+    /// The clock that counts what a thread knows or a lock does, with room for all threads.
+    fn meet_lock<L: Ledger>(
+        &self,
+        thread: u32,
+        lock: u32,
+        steps: &mut Steps<L>,
+    ) -> Result<Clock, NoMemory>
+        requires { thread < length self.now.threads }
+        ensures joined { IfOk result (IsJoin (tracked self.now.threads thread).clock (clock_of (released self.now.locks lock))) }
+        ensures room { IfOk result (λ clock. length clock ≡ length self.now.threads) }
+        ensures cost { steps.new ≤ steps.old + (2 * length self.now.threads + 1) }
+    {
+        let own = &self.threads[thread as usize].clock;
+        let mut clock = own.copy_with_room(self.alloc, self.threads.len() as u32)?;
+        if let Some(Some(last)) = self.locks.get(lock as usize) {
+            last.join_into(&mut clock, steps);
+        }
+        Ok(clock)
+    }
+
+    /// A thread begins to know what that clock counts, and shares its clock no longer. Its own clock takes memory
+    /// only where it has no room yet.
+    fn learn(&mut self, thread: u32, clock: &Clock) -> Result<(), NoMemory>
+        requires known { thread < length self.old.threads }
+        requires room { length clock.now ≡ length self.old.threads }
+        requires own { component clock.now thread ≡ known_to self.old.threads thread thread }
+        ensures count { length self.new.threads ≡ length self.old.threads }
+        ensures own { OnOk result ((tracked self.new.threads thread).clock ≡ clock.now) }
+        ensures others { (t : ℕ) → t ≢ thread → tracked self.new.threads t ≡ tracked self.old.threads t }
+        ensures joined { (tracked self.new.threads thread).joined ≡ (tracked self.old.threads thread).joined }
+        ensures locks { self.new.locks ≡ self.old.locks }
         ensures err { OnErr result (self.new ≡ self.old) }
     {
         let room = self.threads.len() as u32;
         let own = &mut self.threads[thread as usize].clock;
         own.reserve(room)?;
         own.assign_reserved(clock);
-        self.threads[child as usize].joined = true;
+        forget(&mut self.shared, thread as usize);
         Ok(())
     }
 
-    /// An event that begins no thread and waits for none.
+    /// A thread has ended.
+    fn end(&mut self, child: u32)
+        requires { child < length self.old.threads }
+        ensures count { length self.new.threads ≡ length self.old.threads }
+        ensures clocks { (t : ℕ) → (tracked self.new.threads t).clock ≡ (tracked self.old.threads t).clock }
+        ensures joined { (t : ℕ) → (tracked self.new.threads t).joined ≡ ((tracked self.old.threads t).joined || (child == t)) }
+        ensures locks { self.new.locks ≡ self.old.locks }
+    {
+        self.threads[child as usize].joined = true;
+    }
+
+    /// The clock that a thread shares with the locks that it gave back since it learnt something, if it gave back one.
+    fn shared_by(&self, thread: u32) -> Result<Option<SharedClock>, NoMemory>
+        ensures ok { IfOk result (λ held. IfSome held (IsShared self.now.threads thread)) }
+        ensures room { IfOk result (λ held. IfSome held (λ shared. length shared ≤ length self.now.threads)) }
+    {
+        match self.shared.get(thread as usize) {
+            Some(Some(shared)) => Ok(Some(shared.copy()?)),
+            _ => Ok(None),
+        }
+    }
+
+    /// A thread begins to share its clock, as it is now.
+    fn share_anew(&mut self, thread: u32) -> Result<SharedClock, NoMemory>
+        requires { thread < length self.old.threads }
+        ensures ok { IfOk result (IsShared self.old.threads thread) }
+        ensures room { IfOk result (λ shared. length shared ≤ length self.old.threads) }
+        ensures same { self.new ≡ self.old }
+    {
+        let shared = SharedClock::new(self.alloc, self.clock(thread)?)?;
+        let copy = shared.copy()?;
+        grow(&mut self.shared, thread as usize + 1)?;
+        self.shared[thread as usize] = Some(shared);
+        Ok(copy)
+    }
+
+    /// The clock that a thread shares with the locks that it gives back: its own, but at the thread itself.
+    fn share(&mut self, thread: u32) -> Result<SharedClock, NoMemory>
+        requires { thread < length self.old.threads }
+        ensures ok { IfOk result (IsShared self.old.threads thread) }
+        ensures room { IfOk result (λ shared. length shared ≤ length self.old.threads) }
+        ensures same { self.new ≡ self.old }
+    {
+        match self.shared_by(thread)? {
+            Some(shared) => Ok(shared),
+            None => self.share_anew(thread),
+        }
+    }
+
+    /// Makes room for what is held of a lock.
+    fn make_room(&mut self, lock: u32) -> Result<(), NoMemory>
+        ensures room { OnOk result (lock < length self.new.locks) }
+        ensures threads { self.new.threads ≡ self.old.threads }
+        ensures locks { (l : ℕ) → released self.new.locks l ≡ released self.old.locks l }
+        ensures err { OnErr result (self.new ≡ self.old) }
+    {
+        grow(&mut self.locks, lock as usize + 1)
+    }
+
+    /// Holds of a lock that event of a thread, whose clock that is.
+    fn hand(&mut self, lock: u32, shared: SharedClock, thread: u32, number: u32)
+        requires held { lock < length self.old.locks }
+        requires inside { thread < length shared }
+        requires room { length shared ≤ length self.old.threads }
+        requires rises { component shared thread ≤ number }
+        ensures threads { self.new.threads ≡ self.old.threads }
+        ensures given { released self.new.locks lock ≡ Some (record { thread = thread; number = number; clock = slice_set shared thread number }) }
+        ensures others { (l : ℕ) → l ≢ lock → released self.new.locks l ≡ released self.old.locks l }
+    {
+        self.locks[lock as usize] = Some(Release::new(shared, thread, number));
+    }
+
+    /// An event that begins no thread, takes nothing in and gives nothing back.
     fn alone<L: Ledger>(&mut self, thread: u32, steps: &mut Steps<L>) -> Result<Stamp, NoMemory>
-        requires known { thread < length self.old }
-        requires below { known_to self.old thread thread < 4294967295 }
-        ensures ok { IfOk result (IsCounted thread self.old self.new) }
+        requires known { thread < length self.old.threads }
+        requires below { known_to self.old.threads thread thread < 4294967295 }
+        ensures ok { IfOk result (IsCounted thread self.old.threads self.new.threads) }
+        ensures locks { self.new.locks ≡ self.old.locks }
         ensures err { OnErr result (self.new ≡ self.old) }
         ensures cost { steps.new ≤ steps.old + 2 }
     {
@@ -227,17 +360,71 @@ impl Tracker {
         child: u32,
         steps: &mut Steps<L>,
     ) -> Result<Stamp, NoMemory>
-        requires known { thread < length self.old }
-        requires numbered { child ≡ length self.old }
+        requires known { thread < length self.old.threads }
+        requires numbered { child ≡ length self.old.threads }
         requires range { child < 4294967295 }
-        requires below { known_to self.old thread thread < 4294967295 }
-        ensures ok { IfOk result (λ stamp. (middle : List TrackedOf) × IsBegun thread child self.old middle × IsCounted thread middle self.new stamp) }
+        requires below { known_to self.old.threads thread thread < 4294967295 }
+        ensures ok { IfOk result (λ stamp. (middle : List TrackedOf) × IsBegun thread child self.old.threads middle × IsCounted thread middle self.new.threads stamp) }
+        ensures locks { self.new.locks ≡ self.old.locks }
         ensures err { OnErr result (self.new ≡ self.old) }
         ensures cost { steps.new ≤ steps.old + 3 }
     {
         let clock = self.clock(thread)?;
         self.begin(thread, child, steps)?;
         Ok(self.count(thread, clock, steps))
+    }
+
+    /// The clock of a thread once it knows what another knew. Where that is no news it joins nothing: who knows an
+    /// event knows all that reaches it.
+    fn take_in<L: Ledger>(
+        &mut self,
+        thread: u32,
+        child: u32,
+        steps: &mut Steps<L>,
+    ) -> Result<Clock, NoMemory>
+        requires known { thread < length self.old.threads }
+        requires awaited { child < length self.old.threads }
+        requires own { known_to self.old.threads child thread ≤ known_to self.old.threads thread thread }
+        requires heard { 0 < known_to self.old.threads child child → known_to self.old.threads child child ≤ known_to self.old.threads thread child →
+            (u : ℕ) → known_to self.old.threads child u ≤ known_to self.old.threads thread u }
+        ensures ok { IfOk result (λ clock. (tracked self.new.threads thread).clock ≡ clock) }
+        ensures learnt { OnOk result (IsLearnt thread (tracked self.old.threads child).clock None self.old.threads self.new.threads) }
+        ensures locks { self.new.locks ≡ self.old.locks }
+        ensures err { OnErr result (self.new ≡ self.old) }
+        ensures cost { steps.new ≤ steps.old + (2 * length self.old.threads + 1) }
+    {
+        if self.is_known(thread, child, steps) {
+            return self.clock(thread);
+        }
+        let clock = self.meet(thread, child, steps)?;
+        self.learn(thread, &clock)?;
+        Ok(clock)
+    }
+
+    /// The same for a lock.
+    fn take_over<L: Ledger>(
+        &mut self,
+        thread: u32,
+        lock: u32,
+        steps: &mut Steps<L>,
+    ) -> Result<Clock, NoMemory>
+        requires known { thread < length self.old.threads }
+        requires own { handed_by self.old.locks lock thread ≤ known_to self.old.threads thread thread }
+        requires heard { IsHeard (released self.old.locks lock) (tracked self.old.threads thread).clock →
+            (u : ℕ) → handed_by self.old.locks lock u ≤ known_to self.old.threads thread u }
+        requires news { IsHeard (released self.old.locks lock) (tracked self.old.threads thread).clock ⊎ (2 ≤ length self.old.threads) }
+        ensures ok { IfOk result (λ clock. (tracked self.new.threads thread).clock ≡ clock) }
+        ensures learnt { OnOk result (IsLearnt thread (clock_of (released self.old.locks lock)) None self.old.threads self.new.threads) }
+        ensures locks { self.new.locks ≡ self.old.locks }
+        ensures err { OnErr result (self.new ≡ self.old) }
+        ensures cost { steps.new + 2 ≤ steps.old + 4 * length self.old.threads }
+    {
+        if self.is_heard(thread, lock, steps) {
+            return self.clock(thread);
+        }
+        let clock = self.meet_lock(thread, lock, steps)?;
+        self.learn(thread, &clock)?;
+        Ok(clock)
     }
 
     /// A thread waits for the end of another, and from there on knows what that one knew.
@@ -247,17 +434,93 @@ impl Tracker {
         child: u32,
         steps: &mut Steps<L>,
     ) -> Result<Stamp, NoMemory>
-        requires known { thread < length self.old }
-        requires awaited { child < length self.old }
-        requires below { known_to self.old thread thread < 4294967295 }
-        requires own { known_to self.old child thread ≤ known_to self.old thread thread }
-        ensures ok { IfOk result (λ stamp. (middle : List TrackedOf) × IsLearnt thread child self.old middle × IsCounted thread middle self.new stamp) }
+        requires known { thread < length self.old.threads }
+        requires awaited { child < length self.old.threads }
+        requires below { known_to self.old.threads thread thread < 4294967295 }
+        requires own { known_to self.old.threads child thread ≤ known_to self.old.threads thread thread }
+        requires heard { 0 < known_to self.old.threads child child → known_to self.old.threads child child ≤ known_to self.old.threads thread child →
+            (u : ℕ) → known_to self.old.threads child u ≤ known_to self.old.threads thread u }
+        ensures ok { IfOk result (λ stamp. (middle : List TrackedOf) ×
+            IsLearnt thread (tracked self.old.threads child).clock (Some child) self.old.threads middle × IsCounted thread middle self.new.threads stamp) }
+        ensures locks { self.new.locks ≡ self.old.locks }
         ensures err { OnErr result (self.new ≡ self.old) }
-        ensures cost { steps.new ≤ steps.old + (2 * length self.old + 2) }
+        ensures cost { steps.new ≤ steps.old + (2 * length self.old.threads + 3) }
     {
-        let clock = self.meet(thread, child, steps)?;
-        self.learn(thread, child, &clock)?;
+        let clock = self.take_in(thread, child, steps)?;
+        self.end(child);
         Ok(self.count(thread, clock, steps))
+    }
+
+    /// A thread takes a lock, and from there on knows what was known where the lock was last given back.
+    fn acquire<L: Ledger>(
+        &mut self,
+        thread: u32,
+        lock: u32,
+        steps: &mut Steps<L>,
+    ) -> Result<Stamp, NoMemory>
+        requires known { thread < length self.old.threads }
+        requires below { known_to self.old.threads thread thread < 4294967295 }
+        requires own { handed_by self.old.locks lock thread ≤ known_to self.old.threads thread thread }
+        requires heard { IsHeard (released self.old.locks lock) (tracked self.old.threads thread).clock →
+            (u : ℕ) → handed_by self.old.locks lock u ≤ known_to self.old.threads thread u }
+        requires news { IsHeard (released self.old.locks lock) (tracked self.old.threads thread).clock ⊎ (2 ≤ length self.old.threads) }
+        ensures ok { IfOk result (λ stamp. (middle : List TrackedOf) ×
+            IsLearnt thread (clock_of (released self.old.locks lock)) None self.old.threads middle × IsCounted thread middle self.new.threads stamp) }
+        ensures locks { self.new.locks ≡ self.old.locks }
+        ensures err { OnErr result (self.new ≡ self.old) }
+        ensures cost { steps.new ≤ steps.old + 4 * length self.old.threads }
+    {
+        let clock = self.take_over(thread, lock, steps)?;
+        Ok(self.count(thread, clock, steps))
+    }
+
+    /// A thread gives a lock back, of which the stamp of this event is then held. The earlier events that gave it back
+    /// reach this one, so nothing of them is kept.
+    fn release<L: Ledger>(
+        &mut self,
+        thread: u32,
+        lock: u32,
+        steps: &mut Steps<L>,
+    ) -> Result<Stamp, NoMemory>
+        requires known { thread < length self.old.threads }
+        requires below { known_to self.old.threads thread thread < 4294967295 }
+        ensures ok { IfOk result (IsCounted thread self.old.threads self.new.threads) }
+        ensures given { IfOk result (IsReleased lock self.old.locks self.new.locks) }
+        ensures err { OnErr result (self.new ≡ self.old) }
+        ensures cost { steps.new ≤ steps.old + 2 }
+    {
+        let clock = self.clock(thread)?;
+        let shared = self.share(thread)?;
+        self.make_room(lock)?;
+        let stamp = self.count(thread, clock, steps);
+        self.hand(lock, shared, thread, stamp.number);
+        Ok(stamp)
+    }
+}
+
+/// Makes a list at least that long, with nothing at its new places. After want of memory it is as before.
+fn grow<T: Drop>(list: &mut Vec<Option<T>>, room: usize) -> Result<(), NoMemory>
+    ensures room { OnOk result (room ≤ length list.new.items) }
+    ensures kept { (i : ℕ) → slice_index_or list.new.items i None ≡ slice_index_or list.old.items i None }
+    ensures err { OnErr result (list.new.items ≡ list.old.items) }
+{
+    let old = list.len();
+    if old < room {
+        list.reserve(room - old)?;
+        for _ in old..room {
+            list.push_reserved(None);
+        }
+    }
+    Ok(())
+}
+
+/// Drops what stands at a place of a list, if something does.
+fn forget<T: Drop>(list: &mut Vec<Option<T>>, place: usize)
+    ensures gone { slice_index_or list.new.items place None ≡ None }
+    ensures others { (i : ℕ) → i ≢ place → slice_index_or list.new.items i None ≡ slice_index_or list.old.items i None }
+{
+    if place < list.len() {
+        list[place] = None;
     }
 }
 

@@ -50,8 +50,35 @@ fn joins_two_clocks<L: Ledger>(rt: &impl Abort, alloc: Global, blank: Blank) -> 
     Ok(())
 }
 
+fn ticks_and_raises<L: Ledger>(rt: &impl Abort, alloc: Global, blank: Blank) -> Result<(), NoMemory>
+    requires name { blank.name ≡ L.name }
+    requires parts { blank.parts ≡ L.parts }
+    requires some { 0 < blank.parts }
+{
+    let mut steps = Steps::<L>::new(blank);
+    let mut clock = Clock::new(alloc);
+    clock.reserve(3)?;
+    clock.tick(1, &mut steps);
+    let mut copy = clock.copy(alloc)?;
+    has_components(rt, &copy, &[0, 1, 0], &mut steps);
+    assert!(rt; copy.covers(1, 1, &mut steps));
+    assert!(rt; !copy.covers(1, 2, &mut steps));
+    copy.raise(2, 7, &mut steps);
+    copy.raise(1, 0, &mut steps);
+    copy.raise(0, u32::MAX, &mut steps);
+    has_components(rt, &copy, &[u32::MAX, 1, 7], &mut steps);
+    has_components(rt, &clock, &[0, 1, 0], &mut steps);
+    Ok(())
+}
+
 #[test]
 fn clocks(rt: HostRuntime) -> Result<(), Fail> {
     joins_two_clocks::<Brand>(&rt, rt.alloc(), Blank::new(1))?;
+    Ok(())
+}
+
+#[test]
+fn a_tick_a_copy_and_a_raise(rt: HostRuntime) -> Result<(), Fail> {
+    ticks_and_raises::<Brand>(&rt, rt.alloc(), Blank::new(1))?;
     Ok(())
 }

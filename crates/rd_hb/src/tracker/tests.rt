@@ -18,7 +18,7 @@ type Row = (u32, u32, [u32; 3]);
 
 fn with_one_root(alloc: Global) -> Result<Tracker, NoMemory>
     ensures stands { IfOk result (λ tracker. StandsFor tracker one_root []) }
-    ensures count { IfOk result (λ tracker. length tracker ≡ 1) }
+    ensures count { IfOk result (λ tracker. length tracker.threads ≡ 1) }
 {
     let mut tracker = Tracker::new(alloc);
     tracker.root(0)?;
@@ -27,7 +27,7 @@ fn with_one_root(alloc: Global) -> Result<Tracker, NoMemory>
 
 fn with_two_roots(alloc: Global) -> Result<Tracker, NoMemory>
     ensures stands { IfOk result (λ tracker. StandsFor tracker two_roots []) }
-    ensures count { IfOk result (λ tracker. length tracker ≡ 2) }
+    ensures count { IfOk result (λ tracker. length tracker.threads ≡ 2) }
 {
     let mut tracker = with_one_root(alloc)?;
     tracker.root(1)?;

@@ -1,0 +1,83 @@
+-- How a tracker is kept, and the parts of its steps.
+use Rattle.std.specs.Prelude.{◌≡◌, ◌≢◌, ℕ, ◌+◌, ◌<◌, ◌≤◌, false, ◌||◌, List, length, Option, None, Some, slice_index_or}
+use Rattle.rd_clock.specs.Clock.{component, IsTick, IsJoin}
+use Rattle.rd_clock.specs.declared.clock.Stamp.{Stamp}
+use Rattle.rd_order.specs.OrderTests.{is_this}
+use Rattle.rd_hb.specs.Tracker.{tracked, known_to, released}
+use Rattle.rd_hb.specs.declared.tracker.Tracked.{Tracked}
+
+-- ---- what holds between steps
+
+-- the clock of thread t has room for t and not for more threads than there are, and counts the events of t
+pub record IsTracked (threads : List Tracked) (t : ℕ) : Type 0 where
+  pub own : t < length (tracked threads t).clock
+  pub room : length (tracked threads t).clock ≤ length threads
+  pub events : (tracked threads t).events ≡ known_to threads t t
+
+-- so it is with each thread, and their numbers have 32 bits
+pub record AreTracked (threads : List Tracked) : Type 0 where
+  pub each : (t : ℕ) → t < length threads → IsTracked threads t
+  pub few : length threads ≤ 4294967295
+
+-- the clock is that of thread t, but at t itself, where it may be less
+pub record IsShared (threads : List Tracked) (t : ℕ) (clock : List ℕ) : Type 0 where
+  pub own : t < length clock
+  pub room : length clock ≡ length (tracked threads t).clock
+  pub others : (u : ℕ) → u ≢ t → component clock u ≡ known_to threads t u
+  pub less : component clock t ≤ known_to threads t t
+
+-- the clocks that threads share with locks are such, where they share one
+abbrev pub AreShared : List Tracked → List (Option (List ℕ)) → Type 0
+AreShared threads shared = (t : ℕ) (clock : List ℕ) → slice_index_or shared t None ≡ Some clock → IsShared threads t clock
+
+-- no lock's clock has room for more threads than there are
+abbrev pub AreRoomy : List Tracked → List (Option Stamp) → Type 0
+AreRoomy threads locks = (lock : ℕ) (stamp : Stamp) → released locks lock ≡ Some stamp → length stamp.clock ≤ length threads
+
+-- so it is with what a tracker holds
+pub record AreKept (threads : List Tracked) (clocks : List (Option (List ℕ))) (releases : List (Option Stamp)) : Type 0 where
+  pub tracked : AreTracked threads
+  pub shared : AreShared threads clocks
+  pub locks : AreRoomy threads releases
+
+-- the clock covers the thread and own number of what is held of a lock, if that is something
+abbrev pub IsHeard : Option Stamp → List ℕ → Type 0
+IsHeard None clock = Unit {0}
+IsHeard (Some stamp) clock = stamp.number ≤ component clock stamp.thread
+
+-- ---- the parts of a step
+
+-- the thread counted one more event, whose stamp has its clock
+pub record IsCounted (thread : ℕ) (old new : List Tracked) (stamp : Stamp) : Type 0 where
+  pub count : length new ≡ length old
+  pub others : (t : ℕ) → t ≢ thread → tracked new t ≡ tracked old t
+  pub own : IsTick (tracked old thread).clock (tracked new thread).clock thread
+  pub joined : (tracked new thread).joined ≡ (tracked old thread).joined
+  pub thread_is : stamp.thread ≡ thread
+  pub number : stamp.number ≡ known_to old thread thread + 1
+  pub clock : IsTick (tracked old thread).clock stamp.clock thread
+
+-- the next thread is known, with the clock that another has after its next event
+pub record IsBegun (thread child : ℕ) (old new : List Tracked) : Type 0 where
+  pub count : length new ≡ length old + 1
+  pub others : (t : ℕ) → t ≢ child → tracked new t ≡ tracked old t
+  pub clock : IsTick (tracked old thread).clock (tracked new child).clock thread
+  pub joined : (tracked new child).joined ≡ false
+
+-- the thread knows what the other clock counts, and a thread has ended, if one is told
+pub record IsLearnt (thread : ℕ) (other : List ℕ) (ended : Option ℕ) (old new : List Tracked) : Type 0 where
+  pub count : length new ≡ length old
+  pub own : IsJoin (tracked old thread).clock other (tracked new thread).clock
+  pub others : (t : ℕ) → t ≢ thread → (tracked new t).clock ≡ (tracked old t).clock
+  pub joined : (t : ℕ) → (tracked new t).joined ≡ ((tracked old t).joined || is_this ended t)
+
+-- two stamps say the same
+pub record IsAlike (a b : Stamp) : Type 0 where
+  pub thread : a.thread ≡ b.thread
+  pub number : a.number ≡ b.number
+  pub clock : (u : ℕ) → component a.clock u ≡ component b.clock u
+
+-- the stamp is held of the lock, and of each other lock what was
+pub record IsReleased (lock : ℕ) (old new : List (Option Stamp)) (stamp : Stamp) : Type 0 where
+  pub given : (last : Stamp) × (released new lock ≡ Some last) × IsAlike last stamp
+  pub others : (l : ℕ) → l ≢ lock → released new l ≡ released old l

@@ -1,0 +1,100 @@
+//! What is held of a lock.
+ghost use Rattle.std.specs.Prelude.{◌≡◌, ℕ, ◌+◌, ◌*◌, ◌<◌, ◌≤◌, ◌↔◌, length, slice_set, IfOk, IsTrue};
+ghost use Rattle.rd_clock.specs.Clock.{component, IsJoin};
+
+use rd_base::{NoMemory, Steps};
+use rd_clock::Clock;
+use std::alloc::Global;
+use std::marker::Model;
+use std::rc::Rc;
+use std::sync::ledger::Ledger;
+
+/// A clock with several owners, none of which changes it. Contracts see it as the clock.
+#[derive(Debug, Drop)]
+pub(crate) struct SharedClock {
+    clock: Rc<Clock>,
+}
+
+impl Model for SharedClock {
+    ghost use Rattle.std.specs.Prelude.{List, ℕ};
+
+    ghost Value = { List ℕ };
+
+    ghost view = { λ s. s.clock.value };
+}
+
+impl SharedClock {
+    /// The clock, with one owner.
+    pub(crate) fn new(alloc: Global, clock: Clock) -> Result<SharedClock, NoMemory>
+        ensures { IfOk result (λ shared. shared ≡ clock) }
+    {
+        Ok(SharedClock {
+            clock: Rc::new(alloc, clock)?,
+        })
+    }
+
+    /// One owner more. `NoMemory` comes only where there are too many.
+    pub(crate) fn copy(&self) -> Result<SharedClock, NoMemory>
+        ensures { IfOk result (λ shared. shared ≡ self.now) }
+    {
+        Ok(SharedClock {
+            clock: self.clock.clone()?,
+        })
+    }
+}
+
+/// The last event that gave back a lock: its thread and own number, and the clock that the thread shares. The event's clock
+/// is that one with this number at this thread. Contracts see the event's stamp.
+#[derive(Debug, Drop)]
+pub(crate) struct Release {
+    shared: SharedClock,
+    thread: u32,
+    number: u32,
+}
+
+impl Model for Release {
+    ghost use Rattle.std.specs.Prelude.{◌<◌, ◌≤◌, length, slice_set};
+    ghost use Rattle.rd_clock.specs.Clock.{component};
+    ghost use Rattle.rd_clock.specs.declared.clock.Stamp.{Stamp};
+
+    ghost Value = { Stamp };
+
+    ghost view = { λ r. record { thread = r.thread; number = r.number; clock = slice_set r.shared r.thread r.number } };
+
+    ghost invariant = { λ r. (r.thread < length r.shared) × (component r.shared r.thread ≤ r.number) };
+}
+
+impl Release {
+    /// An event of that thread and own number, whose clock counts no more of other threads than the shared one.
+    pub(crate) fn new(shared: SharedClock, thread: u32, number: u32) -> Release
+        requires room { thread < length shared }
+        requires rises { component shared thread ≤ number }
+        ensures { result ≡ record { thread = thread; number = number; clock = slice_set shared thread number } }
+    {
+        Release {
+            shared,
+            thread,
+            number,
+        }
+    }
+
+    /// Whether a clock covers the event. One step.
+    pub(crate) fn is_covered<L: Ledger>(&self, clock: &Clock, steps: &mut Steps<L>) -> bool
+        ensures value { IsTrue result ↔ (self.now.number ≤ component clock.now self.now.thread) }
+        ensures cost { steps.new ≡ steps.old + 1 }
+    {
+        clock.covers(self.thread, self.number, steps)
+    }
+
+    /// Sets each component of a clock to the greater of its own and that of the event's clock. There is room for the
+    /// threads of that clock.
+    pub(crate) fn join_into<L: Ledger>(&self, clock: &mut Clock, steps: &mut Steps<L>)
+        requires { length self.now.clock ≤ length clock.old }
+        ensures joined { IsJoin clock.old self.now.clock clock.new }
+        ensures room { length clock.new ≡ length clock.old }
+        ensures cost { steps.new ≤ steps.old + (2 * length clock.old + 1) }
+    {
+        clock.join_reserved(&self.shared.clock, steps);
+        clock.raise(self.thread, self.number, steps);
+    }
+}
