@@ -1,14 +1,12 @@
 -- The events of accepted lines are a well-formed list.
-use Rattle.std.proofs.Common.{◌≡◌, ◌≢◌, ◌↔◌, ◌⊎◌, inl, inr, ℕ, zero, suc, ◌+◌, ◌<◌, ◌≤◌, ◌==◌, ◌^◌, Bool, true, false, not, cond, ltb, ◌&&◌, ◌||◌, List, [], ◌∷◌, ◌++◌, length, Option, Some, None, is_some, Contains, slice_get, unwrap_or, refl, sym, ap, subst, ◌∙◌, arith, true≢false}
+use Rattle.std.proofs.Common.{◌≡◌, ◌≢◌, ◌↔◌, inl, inr, ℕ, zero, suc, ◌+◌, ◌<◌, ◌≤◌, ◌==◌, ◌^◌, Bool, false, cond, ltb, ◌&&◌, List, [], ◌∷◌, ◌++◌, length, Option, Some, None, is_some, IfSome, All, Contains, slice_get, unwrap_or, refl, sym, ap, subst, ◌∙◌, arith, true≢false}
 use Rattle.std.specs.List.{cons_option}
-use Rattle.std.specs.Cmp.Lexicographic.{bytes_decides}
-use Rattle.std.proofs.lemmas.Bool.{cases_eq, cases_lt, eq-eqb, ne_eqb, false_from_ne_true}
+use Rattle.std.proofs.lemmas.Bool.{cases_eq, cases_lt, eq-eqb, ne_eqb}
 use Rattle.std.proofs.lemmas.Bool.Decides.{Decides-ltb}
-use Rattle.std.proofs.lemmas.List.{append_assoc, append-nil, length-append}
-use Rattle.std.proofs.lemmas.List.Elements.{filter_map-append, Contains-append_left, Contains-push, Contains-push_cases}
-use Rattle.std.proofs.lemmas.List.Folds.{position_or_len_push}
+use Rattle.std.proofs.lemmas.List.{append_assoc, append-nil, length-append, length-map}
+use Rattle.std.proofs.lemmas.List.Elements.{All-append, All-nil, All-push, filter_map-append, Contains-append_left, Contains-push, Contains-push_cases}
 use Rattle.std.proofs.lemmas.List.Sums.{sum_by_push}
-use Rattle.std.proofs.lemmas.Option.{none-some, same_Some, slice_get_within}
+use Rattle.std.proofs.lemmas.Option.{none-some, same_Some, slice_get_within, unwrap_or-slice_get}
 use Rattle.rd_base.specs.Limits.{AreUsable}
 use Rattle.rd_base.specs.declared.limits.Limits.{Limits}
 use Rattle.rd_base.specs.declared.values.Value.{Value}
@@ -17,111 +15,26 @@ use Rattle.rd_event.specs.declared.events.Event.{Event as Numbered}
 use Rattle.rd_event.specs.declared.events.Event.TheVariants as numbered
 use Rattle.rd_event.specs.declared.items.Line.{Line}
 use Rattle.rd_event.specs.declared.items.Line.TheVariants.{Skip, Header, Thread, Object, Event}
-use Rattle.rd_event.specs.declared.items.LineEvent.TheVariants.{Fork, Join, Call}
+use Rattle.rd_event.specs.declared.items.LineEvent.{LineEvent}
+use Rattle.rd_event.specs.declared.items.LineEvent.TheVariants.{Fork, Join, Acquire, Release, Call}
 use Rattle.rd_order.proofs.EventListLemmas.{few_known, formed_more, may_call, may_fork, may_join}
-use Rattle.rd_order.specs.EventLists.{calls, Follow, forks, is_call_on, joins, IsBounded, Known, MayHappen}
-use Rattle.rd_order.specs.Order.{call_in, forked_thread, joined_thread}
+use Rattle.rd_order.specs.EventLists.{calls, Follow, forks, givings, is_call_on, joins, takings, IsBounded, IsCallOf, Known, MayHappen, WellFormedWith}
+use Rattle.rd_order.specs.Order.{Against, Hold, call_in, exclusive, forked_thread, joined_thread}
 use Rattle.rd_order.specs.OrderTests.{is_this}
-use Rattle.rd_wf.proofs.FollowLemmas.{Meets, among_decides, met}
+use Rattle.rd_wf.proofs.FollowLemmas.{Meets, met}
+use Rattle.rd_wf.proofs.UseLemmas.{none_and, once, one_for, used_acquire, used_free, used_held, used_release, used_still, used_thread}
+use Rattle.rd_wf.proofs.PlaceLemmas.{OnePlace, got_left, got_push, one_place_more, place_below, place_named, place_new}
+use Rattle.rd_wf.specs.declared.causes.Accepted.TheVariants as accepted
 use Rattle.rd_wf.specs.NoLines.{told_none}
-use Rattle.rd_wf.specs.Events.{AreAccepted, AreAcceptedFrom, AreTold, IsTold, event_of, events_from, events_of, root_count, roots_of}
-use Rattle.rd_ecl.specs.Kinds.{Kind, kind_names}
-use Rattle.rd_wf.specs.MayFollow.{MayFollow, begun_name, declared_kind, events, is_among, is_event, is_root, is_skip, joined_name, joined_of, kind_number, method_number, object_kinds, objects_of, place, same_name, threads_of}
-
--- ---- places of names
-
--- a name among others is at its place
-at_place : (names : List (List ℕ)) (name : List ℕ) → is_among names name ≡ true → slice_get names (place names name) ≡ Some name
-at_place [] name h = absurd (true≢false (sym h))
-at_place (x ∷ xs) name h = by (same_name name x) refl (at_place xs name)
-  where
-    Named : ℕ → Type 0
-    Named n = slice_get (x ∷ xs) n ≡ Some name
-
-    by : (b : Bool) → same_name name x ≡ b → (is_among xs name ≡ true → slice_get xs (place xs name) ≡ Some name) → Named (cond (not (same_name name x)) (1 + place xs name) 0)
-    by true same rest = subst (λ b. Named (cond (not b) (1 + place xs name) 0)) (sym same) (ap Some (sym ((bytes_decides name x).0 same)))
-    by false other rest =
-        let later : is_among xs name ≡ true = sym (ap (λ b. b || is_among xs name) other) ∙ h in
-        let next : 1 + place xs name ≡ suc (place xs name) = omega arith in
-        subst (λ b. Named (cond (not b) (1 + place xs name) 0)) (sym other) (subst Named (sym next) (rest later))
-
--- one that isn't among them has the place behind them
-past_place : (names : List (List ℕ)) (name : List ℕ) → is_among names name ≡ false → place names name ≡ length names
-past_place [] name h = refl
-past_place (x ∷ xs) name h = by (same_name name x) refl (past_place xs name)
-  where
-    by : (b : Bool) → same_name name x ≡ b → (is_among xs name ≡ false → place xs name ≡ length xs) → cond (not (same_name name x)) (1 + place xs name) 0 ≡ length (x ∷ xs)
-    by true same rest = absurd (true≢false (sym (ap (λ b. b || is_among xs name) same) ∙ h))
-    by false other rest =
-        let later : place xs name ≡ length xs = rest (sym (ap (λ b. b || is_among xs name) other) ∙ h) in
-        subst (λ b. cond (not b) (1 + place xs name) 0 ≡ length (x ∷ xs)) (sym other) (omega arith)
-
-module _ (names : List (List ℕ)) (name : List ℕ) where
-  pub place_named : Contains names name → slice_get names (place names name) ≡ Some name
-  place_named there = at_place names name ((among_decides names name).1 there)
-
-  pub place_below : Contains names name → place names name < length names
-  place_below there = slice_get_within names (place names name) name (place_named there)
-
-  place_new : ¬ (Contains names name) → place names name ≡ length names
-  place_new fresh = past_place names name (false_from_ne_true _ (λ there. fresh ((among_decides names name).0 there)))
-
-  -- a name more leaves the places
-  place_kept : (more : List ℕ) → Contains names name → place (names ++ more ∷ []) name ≡ place names name
-  place_kept more there =
-      let other : place names name ≢ length names = (let below : place names name < length names = place_below there in omega arith) in
-      position_or_len_push (same_name name) names more
-      ∙ ap (λ b. cond b (length names + cond (same_name name more) 0 1) (place names name)) (ne_eqb (place names name) (length names) other)
-
-  -- and a new one goes last
-  place_last : ¬ (Contains names name) → place (names ++ name ∷ []) name ≡ length names
-  place_last fresh =
-      let same : same_name name name ≡ true = (bytes_decides name name).1 refl in
-      position_or_len_push (same_name name) names name
-      ∙ ap (λ b. cond b (length names + cond (same_name name name) 0 1) (place names name)) (eq-eqb (place names name) (length names) (place_new fresh))
-      ∙ ap (λ b. length names + cond b 0 1) same ∙ omega arith
-
-got_left : {X : Type 0} (xs ys : List X) (t : ℕ) (x : X) → slice_get xs t ≡ Some x → slice_get (xs ++ ys) t ≡ Some x
-got_left [] ys t x at = absurd (none-some x at)
-got_left (z ∷ zs) ys zero x at = at
-got_left (z ∷ zs) ys (suc t) x at = got_left zs ys t x at
-
-got_push : (xs : List (List ℕ)) (y : List ℕ) (t : ℕ) (x : List ℕ) → slice_get (xs ++ y ∷ []) t ≡ Some x → (slice_get xs t ≡ Some x) ⊎ ((t ≡ length xs) × (x ≡ y))
-got_push [] y zero x at = inr (refl, sym (same_Some y x at))
-got_push [] y (suc t) x at = absurd (none-some x at)
-got_push (z ∷ zs) y zero x at = inl at
-got_push (z ∷ zs) y (suc t) x at =
-    elim (got_push zs y t x at) [
-      | inl before ↦ inl before
-      | inr last ↦ (let same : t ≡ length zs = last.0 in inr (omega arith, last.1))
-    ]
-
--- a name at a place is among the names
-got_contained : (names : List (List ℕ)) (t : ℕ) (name : List ℕ) → slice_get names t ≡ Some name → is_among names name ≡ true
-got_contained [] t name at = absurd (none-some name at)
-got_contained (x ∷ xs) zero name at = ap (λ b. b || is_among xs name) ((bytes_decides name x).1 (sym (same_Some x name at)))
-got_contained (x ∷ xs) (suc t) name at = or_right (same_name name x) (is_among xs name) (got_contained xs t name at)
-  where
-    or_right : (a b : Bool) → b ≡ true → (a || b) ≡ true
-    or_right true b h = refl
-    or_right false b h = h
+use Rattle.rd_wf.specs.Events.{AreAccepted, AreAcceptedFrom, AreTold, AreUsed, IsTold, event_of, events_from, events_of, root_count, roots_of}
+use Rattle.rd_ecl.specs.Kinds.{Kind, Method, kind_names, method_names}
+use Rattle.rd_wf.specs.MayFollow.{MayFollow, accepted_of, acquired_name, acquires, acting_name, begun_name, declared_kind, events, is_acquire_of, is_event, is_release_of, is_root, is_skip, joined_name, joined_of, kind_number, locks_of, method_number, methods_of, numbered_event, object_kinds, objects_of, passes, place, released_name, releases, same_name, threads_of, with_lock, with_locks}
 
 -- ---- one more name, and one more join
-
--- each name has one place
-abbrev OnePlace : List (List ℕ) → Type 0
-OnePlace names = (t : ℕ) (name : List ℕ) → slice_get names t ≡ Some name → place names name ≡ t
 
 -- the count isn't 0 for the place of each of these names
 abbrev Marks : (ℕ → ℕ) → List (List ℕ) → List (List ℕ) → Type 0
 Marks count names marked = (t : ℕ) → (0 < count t) ↔ ((name : List ℕ) × (slice_get names t ≡ Some name) × Contains marked name)
-
-one_place_more : (names : List (List ℕ)) (name : List ℕ) → OnePlace names → ¬ (Contains names name) → OnePlace (names ++ name ∷ [])
-one_place_more names name places fresh t other at =
-    elim (got_push names name t other at) [
-      | inl before ↦ place_kept names other name ((among_decides names other).0 (got_contained names t other before)) ∙ places t other before
-      | inr last ↦ subst (λ n. place (names ++ name ∷ []) n ≡ t) (sym last.1) (place_last names name fresh ∙ sym last.0)
-    ]
 
 marks_name : (count : ℕ → ℕ) (names marked : List (List ℕ)) (name : List ℕ) → Marks count names marked → ((n : List ℕ) → Contains marked n → Contains names n) → ¬ (Contains names name)
     → Marks count (names ++ name ∷ []) marked
@@ -198,6 +111,10 @@ joins_call : (es : List Numbered) (call : CallOf) (t : ℕ) → joins (es ++ num
 unfolding joins
 joins_call es call t = sum_by_push (λ e. cond (is_this (joined_thread e) t) 1 0) es (numbered.Call call) ∙ omega arith
 
+joins_still : (es : List Numbered) (e : Numbered) → joined_thread e ≡ None → (t : ℕ) → joins (es ++ e ∷ []) t ≡ joins es t
+unfolding joins
+joins_still es e none t = sum_by_push (λ e. cond (is_this (joined_thread e) t) 1 0) es e ∙ ap (λ o. joins es t + cond (is_this o t) 1 0) none ∙ omega arith
+
 -- the calls on an object are of the kind that these numbers give it
 abbrev OneKind : List Numbered → List ℕ → Type 0
 OneKind es objects = (object kind : ℕ) → 0 < calls es object kind → slice_get objects object ≡ Some kind
@@ -241,6 +158,44 @@ no_other_kind es objects call at one kind other = elim (cases_eq (calls es call.
 -- the bounds of a list whose known threads are those below a number
 bounded : (roots : ℕ → Bool) (es : List Numbered) (n : ℕ) → KnownBelow roots es n → n ≤ 4294967295 → length es ≤ 4294967294 → IsBounded roots es
 bounded roots es n known fits few = record { few_events = few; few_threads = few_known roots es n fits known }
+
+-- ---- events that take a hold or give it back
+
+lock_in : Hold → ℕ
+lock_in (exclusive lock) = lock
+
+pub may_acquire : (roots : ℕ → Bool) (before : List Numbered) (t l : ℕ) → Known roots before t → joins before t ≡ 0
+    → ((u : ℕ) → u ≢ t → takings before u (exclusive l) ≡ givings before u (exclusive l)) → MayHappen roots before (numbered.Acquire t l)
+unfolding lock_in
+may_acquire roots before t l known running others = record {
+  fresh = λ v is. absurd (none-some v is);
+  known_actor = known;
+  known_joined = λ v is. absurd (none-some v is);
+  running = running;
+  other_joined = λ v is. absurd (none-some v is);
+  free = free;
+  held = λ h is. absurd (none-some h is);
+  one_kind = λ call is. absurd (none-some call is);
+}
+  where
+    free : (h k : Hold) → Some (exclusive l) ≡ Some h → Against h k → (u : ℕ) → u ≢ t → takings before u k ≡ givings before u k
+    free (exclusive a) (exclusive b) is against u other =
+        subst (λ m. takings before u (exclusive m) ≡ givings before u (exclusive m)) (ap lock_in (same_Some (exclusive l) (exclusive a) is) ∙ against) (others u other)
+
+pub may_release : (roots : ℕ → Bool) (before : List Numbered) (t l : ℕ) → Known roots before t → joins before t ≡ 0
+    → givings before t (exclusive l) < takings before t (exclusive l) → MayHappen roots before (numbered.Release t l)
+may_release roots before t l known running has = record {
+  fresh = λ v is. absurd (none-some v is);
+  known_actor = known;
+  known_joined = λ v is. absurd (none-some v is);
+  running = running;
+  other_joined = λ v is. absurd (none-some v is);
+  free = λ h k is. absurd (none-some h is);
+  held = λ h is. subst (λ k. givings before t k < takings before t k) (same_Some (exclusive l) h is) has;
+  one_kind = λ call is. absurd (none-some call is);
+}
+
+-- ---- what is told, with one event more
 
 module _ (roots : ℕ → Bool) (es : List Numbered) (count : ℕ) (threads joined : List (List ℕ)) (objects : List ℕ) (told : IsTold roots es count threads joined objects) where
   -- a thread with this name is known, and runs where it isn't joined
@@ -327,6 +282,25 @@ module _ (roots : ℕ → Bool) (es : List Numbered) (count : ℕ) (threads join
         places = told.places;
         few = told.few;
         one_kind = one_kind_call es objects call at told.one_kind;
+      }
+
+  -- an event that begins no thread, joins none and is no call
+  told_still : (e : Numbered) → forked_thread e ≡ None → joined_thread e ≡ None → call_in e ≡ None → MayHappen roots es e → count < 4294967294
+      → IsTold roots (es ++ e ∷ []) (count + 1) threads joined objects
+  told_still e begins joins_none calls_none may few =
+      let so_many : length es ≡ count = told.counted in record {
+        formed = (formed_more roots es e).1 (
+          told.formed,
+          may,
+          bounded roots (es ++ e ∷ []) (length threads) (known_same roots es (length threads) e begins told.known) told.few (omega (arith, length-append es (e ∷ []))),
+        );
+        counted = omega (arith, length-append es (e ∷ []));
+        known = known_same roots es (length threads) e begins told.known;
+        ended = λ t. subst (λ n. (0 < n) ↔ ((name : List ℕ) × (slice_get threads t ≡ Some name) × Contains joined name)) (sym (joins_still es e joins_none t)) (told.ended t);
+        begun = told.begun;
+        places = told.places;
+        few = told.few;
+        one_kind = one_kind_same es objects e calls_none told.one_kind;
       }
 
   told_object : (kind : ℕ) → IsTold roots es count threads joined (objects ++ kind ∷ [])
@@ -422,20 +396,45 @@ module _ (lines : List Line) (line : Line) where
   pub roots_more : root_count (lines ++ line ∷ []) ≡ root_count lines + cond (is_root line) 1 0
   roots_more = sum_by_push (λ l. cond (is_root l) 1 0) lines line
 
+  pub acquires_more : (thread lock : List ℕ) → acquires (lines ++ line ∷ []) thread lock ≡ acquires lines thread lock + cond (is_acquire_of thread lock line) 1 0
+  unfolding acquires
+  acquires_more thread lock = sum_by_push (λ l. cond (is_acquire_of thread lock l) 1 0) lines line
+
+  pub releases_more : (thread lock : List ℕ) → releases (lines ++ line ∷ []) thread lock ≡ releases lines thread lock + cond (is_release_of thread lock line) 1 0
+  unfolding releases
+  releases_more thread lock = sum_by_push (λ l. cond (is_release_of thread lock l) 1 0) lines line
+
+  pub locks_more : locks_of (lines ++ line ∷ []) ≡ with_lock (locks_of lines) (acquired_name line)
+  locks_more = by [] lines
+    where
+      by : (locks : List (List ℕ)) (before : List Line) → with_locks locks (before ++ line ∷ []) ≡ with_lock (with_locks locks before) (acquired_name line)
+      by locks [] = refl
+      by locks (x ∷ xs) = by (with_lock locks (acquired_name x)) xs
+
 no_more : {X : Type 0} (xs : List X) (o : Option X) → o ≡ None → xs ++ cons_option o [] ≡ xs
 no_more xs o none = ap (λ p. xs ++ cons_option p []) none ∙ append-nil xs
+
+abbrev ToldOf : List Kind → List Line → Type 0
+ToldOf kinds lines = IsTold (roots_of lines) (events_of kinds lines) (events lines) (threads_of lines) (joined_of lines) (object_kinds kinds lines)
+
+abbrev UsedOf : List Kind → List Line → Type 0
+UsedOf kinds lines = AreUsed (events_of kinds lines) (threads_of lines) (locks_of lines) (acquires lines) (releases lines)
+
+all_more : {X : Type 0} (P : X → Type 0) (xs : List X) (o : Option X) → All P xs → IfSome o P → All P (xs ++ cons_option o [])
+all_more P xs None all has = All-append P xs [] all (All-nil P)
+all_more P xs (Some x) all has = All-push P xs x all has
 
 module _ (kinds : List Kind) (lines : List Line) (line : Line) where
   -- what its event and its names make of the others is told of all of them
   told_as : (r : ℕ) (es : List Numbered) (count : ℕ) (threads joined : List (List ℕ)) (objects : List ℕ) → root_count (lines ++ line ∷ []) ≡ r → events_of kinds (lines ++ line ∷ []) ≡ es
       → events (lines ++ line ∷ []) ≡ count → threads_of (lines ++ line ∷ []) ≡ threads → joined_of (lines ++ line ∷ []) ≡ joined → object_kinds kinds (lines ++ line ∷ []) ≡ objects
-      → IsTold (λ t. ltb t r) es count threads joined objects → AreTold kinds (lines ++ line ∷ [])
+      → IsTold (λ t. ltb t r) es count threads joined objects → ToldOf kinds (lines ++ line ∷ [])
   told_as r es count threads joined objects a b c d e f told = subst (λ (T : Type 0). T) (λ i. IsTold (λ t. ltb t (sym a i)) (sym b i) (sym c i) (sym d i) (sym e i) (sym f i)) told
 
   -- so it is with a line that begins no thread and is no event, whatever it makes of the objects
   told_silent : (objects : List ℕ) → is_root line ≡ false → is_event line ≡ false → begun_name line ≡ None → joined_name line ≡ None → event_of kinds lines line ≡ None
       → object_kinds kinds (lines ++ line ∷ []) ≡ objects
-      → IsTold (roots_of lines) (events_of kinds lines) (events lines) (threads_of lines) (joined_of lines) objects → AreTold kinds (lines ++ line ∷ [])
+      → IsTold (roots_of lines) (events_of kinds lines) (events lines) (threads_of lines) (joined_of lines) objects → ToldOf kinds (lines ++ line ∷ [])
   told_silent objects root event begins joins numbers declares told = told_as (root_count lines) (events_of kinds lines) (events lines) (threads_of lines) (joined_of lines) objects
       (roots_more lines line ∙ ap (λ b. root_count lines + cond b 1 0) root ∙ omega arith)
       (events_more kinds lines line ∙ no_more (events_of kinds lines) (event_of kinds lines line) numbers)
@@ -445,34 +444,84 @@ module _ (kinds : List Kind) (lines : List Line) (line : Line) where
       declares
       told
 
-  told_quiet : is_root line ≡ false → is_event line ≡ false → begun_name line ≡ None → joined_name line ≡ None → event_of kinds lines line ≡ None → declared_kind kinds line ≡ None
-      → AreTold kinds lines → AreTold kinds (lines ++ line ∷ [])
-  told_quiet root event begins joins numbers declares told = told_silent (object_kinds kinds lines) root event begins joins numbers
-      (objects_more kinds lines line ∙ no_more (object_kinds kinds lines) (declared_kind kinds line) declares) told
+  used_as : (es : List Numbered) (threads locks : List (List ℕ)) (took gave : List ℕ → List ℕ → ℕ) → events_of kinds (lines ++ line ∷ []) ≡ es → threads_of (lines ++ line ∷ []) ≡ threads
+      → locks_of (lines ++ line ∷ []) ≡ locks → ((t l : List ℕ) → acquires (lines ++ line ∷ []) t l ≡ took t l) → ((t l : List ℕ) → releases (lines ++ line ∷ []) t l ≡ gave t l)
+      → AreUsed es threads locks took gave → UsedOf kinds (lines ++ line ∷ [])
+  used_as es threads locks took gave a b c d e used = subst (λ (T : Type 0). T) (λ i. AreUsed (sym a i) (sym b i) (sym c i) (λ t l. sym (d t l) i) (λ t l. sym (e t l) i)) used
+
+  -- with a line that acquires no lock the lines acquire as often, and with one that releases none they release as often
+  acquires_same : acquired_name line ≡ None → (t l : List ℕ) → acquires (lines ++ line ∷ []) t l ≡ acquires lines t l
+  acquires_same none t l =
+      let nothing : once (is_acquire_of t l line) ≡ 0 = ap (λ o. once (passes (acting_name line) (same_name t) && passes o (same_name l))) none ∙ none_and (passes (acting_name line) (same_name t)) false refl in
+      omega (arith, acquires_more lines line t l)
+
+  releases_same : released_name line ≡ None → (t l : List ℕ) → releases (lines ++ line ∷ []) t l ≡ releases lines t l
+  releases_same none t l =
+      let nothing : once (is_release_of t l line) ≡ 0 = ap (λ o. once (passes (acting_name line) (same_name t) && passes o (same_name l))) none ∙ none_and (passes (acting_name line) (same_name t)) false refl in
+      omega (arith, releases_more lines line t l)
+
+  locks_same : acquired_name line ≡ None → locks_of (lines ++ line ∷ []) ≡ locks_of lines
+  locks_same none = locks_more lines line ∙ ap (with_lock (locks_of lines)) none
+
+  -- a line that does neither
+  used_apart : (es : List Numbered) (threads : List (List ℕ)) → acquired_name line ≡ None → released_name line ≡ None → events_of kinds (lines ++ line ∷ []) ≡ es
+      → threads_of (lines ++ line ∷ []) ≡ threads → AreUsed es threads (locks_of lines) (acquires lines) (releases lines) → UsedOf kinds (lines ++ line ∷ [])
+  used_apart es threads acquires_none releases_none es_are threads_are =
+      used_as es threads (locks_of lines) (acquires lines) (releases lines) es_are threads_are (locks_same acquires_none) (acquires_same acquires_none) (releases_same releases_none)
+
+  -- all is told of one line more, where the object that it declares and the call that it is are of the kinds
+  grown : AreTold kinds lines → ToldOf kinds (lines ++ line ∷ []) → UsedOf kinds (lines ++ line ∷ []) → IfSome (declared_kind kinds line) (λ kind. kind < length kinds)
+      → IfSome (event_of kinds lines line) (λ e. IfSome (call_in e) (IsCallOf kinds)) → AreTold kinds (lines ++ line ∷ [])
+  grown told is used kind call = record {
+    told = is;
+    used = used;
+    declared = subst (All (λ kind. kind < length kinds)) (sym (objects_more kinds lines line)) (all_more (λ kind. kind < length kinds) (object_kinds kinds lines) (declared_kind kinds line) told.declared kind);
+    fit = subst (All (λ e. IfSome (call_in e) (IsCallOf kinds))) (sym (events_more kinds lines line))
+        (all_more (λ e. IfSome (call_in e) (IsCallOf kinds)) (events_of kinds lines) (event_of kinds lines line) told.fit call);
+  }
 
 -- with a root, which comes before every event
 pub no_events : (kinds : List Kind) (lines : List Line) → AreTold kinds lines → events lines ≡ 0 → events_of kinds lines ≡ []
-no_events kinds lines told none = none_left (events_of kinds lines) (told.counted ∙ none)
+no_events kinds lines told none = none_left (events_of kinds lines) (told.told.counted ∙ none)
 
 -- as many roots as threads there
 pub all_roots : (kinds : List Kind) (lines : List Line) → AreTold kinds lines → events lines ≡ 0 → root_count lines ≡ length (threads_of lines)
-all_roots kinds lines told none = root_total (events_of kinds lines) (root_count lines) (length (threads_of lines)) (no_events kinds lines told none) told.known
+all_roots kinds lines told none = root_total (events_of kinds lines) (root_count lines) (length (threads_of lines)) (no_events kinds lines told none) told.told.known
 
 not_skipped : (line : Line) → is_skip line ≡ false → line ≢ Skip
 not_skipped line counted skip = true≢false (sym (ap is_skip skip) ∙ counted)
 
-told_declared : (kinds : List Kind) (lines : List Line) (name kind : List ℕ) → AreTold kinds lines → AreTold kinds (lines ++ Object name kind ∷ [])
-told_declared kinds lines name kind told =
+-- a line that says nothing of threads, locks and objects, as one that is skipped, or the header
+told_quiet : (kinds : List Kind) (lines : List Line) (line : Line) → is_root line ≡ false → is_event line ≡ false → begun_name line ≡ None → joined_name line ≡ None → acquired_name line ≡ None
+    → released_name line ≡ None → event_of kinds lines line ≡ None → declared_kind kinds line ≡ None → AreTold kinds lines → AreTold kinds (lines ++ line ∷ [])
+told_quiet kinds lines line root event begins joins acquires_none releases_none numbers declares told = grown kinds lines line told
+    (told_silent kinds lines line (object_kinds kinds lines) root event begins joins numbers
+    (objects_more kinds lines line ∙ no_more (object_kinds kinds lines) (declared_kind kinds line) declares) told.told)
+    (used_apart kinds lines line (events_of kinds lines) (threads_of lines) acquires_none releases_none
+    (events_more kinds lines line ∙ no_more (events_of kinds lines) (event_of kinds lines line) numbers)
+    (threads_more lines line ∙ no_more (threads_of lines) (begun_name line) begins) told.used)
+    (subst (λ o. IfSome o (λ kind. kind < length kinds)) (sym declares) tt)
+    (subst (λ o. IfSome o (λ e. IfSome (call_in e) (IsCallOf kinds))) (sym numbers) tt)
+
+told_declared : (kinds : List Kind) (limits : Limits) (lines : List Line) (name kind : List ℕ) → Meets kinds limits lines (Object name kind) → AreTold kinds lines → AreTold kinds (lines ++ Object name kind ∷ [])
+told_declared kinds limits lines name kind may told =
     let line : Line = Object name kind in
-    told_silent kinds lines line (object_kinds kinds lines ++ place (kind_names kinds) kind ∷ []) refl refl refl refl refl (objects_more kinds lines line)
-    (told_object (roots_of lines) (events_of kinds lines) (events lines) (threads_of lines) (joined_of lines) (object_kinds kinds lines) told (place (kind_names kinds) kind))
+    let below : place (kind_names kinds) kind < length (kind_names kinds) = place_below (kind_names kinds) kind may.known_kind in
+    grown kinds lines line told
+    (told_silent kinds lines line (object_kinds kinds lines ++ place (kind_names kinds) kind ∷ []) refl refl refl refl refl (objects_more kinds lines line)
+    (told_object (roots_of lines) (events_of kinds lines) (events lines) (threads_of lines) (joined_of lines) (object_kinds kinds lines) told.told (place (kind_names kinds) kind)))
+    (used_apart kinds lines line (events_of kinds lines) (threads_of lines) refl refl
+    (events_more kinds lines line ∙ append-nil (events_of kinds lines)) (threads_more lines line ∙ append-nil (threads_of lines)) told.used)
+    (omega (arith, below, length-map kinds (λ kind. kind.name)))
+    tt
 
 told_rooted : (kinds : List Kind) (limits : Limits) (lines : List Line) (name : List ℕ) → Meets kinds limits lines (Thread name) → length (threads_of (lines ++ Thread name ∷ [])) ≤ 4294967295
     → AreTold kinds lines → AreTold kinds (lines ++ Thread name ∷ [])
 told_rooted kinds limits lines name may few told =
     let line : Line = Thread name in
     let more : length (threads_of (lines ++ line ∷ [])) ≡ length (threads_of lines) + 1 = ap length (threads_more lines line) ∙ length-append (threads_of lines) (name ∷ []) in
-    told_as kinds lines line (root_count lines + 1) (events_of kinds lines) (events lines) (threads_of lines ++ name ∷ []) (joined_of lines) (object_kinds kinds lines)
+    grown kinds lines line told
+    (told_as kinds lines line (root_count lines + 1) (events_of kinds lines) (events lines) (threads_of lines ++ name ∷ []) (joined_of lines) (object_kinds kinds lines)
     (roots_more lines line)
     (events_more kinds lines line ∙ append-nil (events_of kinds lines))
     (count_more lines line ∙ omega arith)
@@ -480,43 +529,107 @@ told_rooted kinds limits lines name may few told =
     (joined_more lines line ∙ append-nil (joined_of lines))
     (objects_more kinds lines line ∙ append-nil (object_kinds kinds lines))
     (told_root (root_count lines) (events_of kinds lines) (events lines) (threads_of lines) (joined_of lines) (object_kinds kinds lines) name
-    (no_events kinds lines told (may.early_root refl)) told may.new_thread (omega arith))
+    (no_events kinds lines told (may.early_root refl)) told.told may.new_thread (omega arith)))
+    (used_apart kinds lines line (events_of kinds lines) (threads_of lines ++ name ∷ []) refl refl
+    (events_more kinds lines line ∙ append-nil (events_of kinds lines)) (threads_more lines line)
+    (used_thread (events_of kinds lines) (threads_of lines) (locks_of lines) (acquires lines) (releases lines) told.used name may.new_thread))
+    tt
+    tt
+
+-- the line of an event, with what it makes of the threads
+module _ (kinds : List Kind) (limits : Limits) (lines : List Line) (event : LineEvent) (usable : AreUsable limits) (may : Meets kinds limits lines (Event event)) where
+  told_event : (threads joined : List (List ℕ)) → threads_of (lines ++ Event event ∷ []) ≡ threads → joined_of (lines ++ Event event ∷ []) ≡ joined
+      → (events lines < 4294967294 → IsTold (roots_of lines) (events_of kinds lines ++ numbered_event kinds lines event ∷ []) (events lines + 1) threads joined (object_kinds kinds lines))
+      → ToldOf kinds (lines ++ Event event ∷ [])
+  told_event threads joined begins joins told =
+      let few_events : events lines < limits.events = may.few_events refl in
+      let most : limits.events ≤ 4294967294 = usable.events in
+      told_as kinds lines (Event event) (root_count lines) (events_of kinds lines ++ numbered_event kinds lines event ∷ []) (events lines + 1) threads joined (object_kinds kinds lines)
+      (roots_more lines (Event event) ∙ omega arith)
+      (events_more kinds lines (Event event))
+      (count_more lines (Event event))
+      begins
+      joins
+      (objects_more kinds lines (Event event) ∙ append-nil (object_kinds kinds lines))
+      (told (omega arith))
 
 told_forked : (kinds : List Kind) (limits : Limits) (lines : List Line) (thread child : List ℕ) → AreUsable limits
     → Meets kinds limits lines (Event (Fork thread child))
     → length (threads_of (lines ++ Event (Fork thread child) ∷ [])) ≤ 4294967295 → AreTold kinds lines → AreTold kinds (lines ++ Event (Fork thread child) ∷ [])
 told_forked kinds limits lines thread child usable may few told =
     let line : Line = Event (Fork thread child) in
+    let event : Numbered = numbered_event kinds lines (Fork thread child) in
     let more : length (threads_of (lines ++ line ∷ [])) ≡ length (threads_of lines) + 1 = ap length (threads_more lines line) ∙ length-append (threads_of lines) (child ∷ []) in
-    let few_events : events lines < limits.events = may.few_events refl in
-    let most : limits.events ≤ 4294967294 = usable.events in
-    told_as kinds lines line (root_count lines) (events_of kinds lines ++ numbered.Fork (place (threads_of lines) thread) (length (threads_of lines)) ∷ []) (events lines + 1)
-    (threads_of lines ++ child ∷ []) (joined_of lines) (object_kinds kinds lines)
-    (roots_more lines line ∙ omega arith)
-    (events_more kinds lines line)
-    (count_more lines line)
-    (threads_more lines line)
-    (joined_more lines line ∙ append-nil (joined_of lines))
-    (objects_more kinds lines line ∙ append-nil (object_kinds kinds lines))
-    (told_fork (roots_of lines) (events_of kinds lines) (events lines) (threads_of lines) (joined_of lines) (object_kinds kinds lines) told
-    thread child may.known_actor may.running may.new_thread (omega arith) (omega arith))
+    grown kinds lines line told
+    (told_event kinds limits lines (Fork thread child) usable may (threads_of lines ++ child ∷ []) (joined_of lines) (threads_more lines line) (joined_more lines line ∙ append-nil (joined_of lines))
+    (λ few_events. told_fork (roots_of lines) (events_of kinds lines) (events lines) (threads_of lines) (joined_of lines) (object_kinds kinds lines) told.told
+    thread child may.known_actor may.running may.new_thread few_events (omega arith)))
+    (used_apart kinds lines line (events_of kinds lines ++ event ∷ []) (threads_of lines ++ child ∷ []) refl refl (events_more kinds lines line) (threads_more lines line)
+    (used_thread (events_of kinds lines ++ event ∷ []) (threads_of lines) (locks_of lines) (acquires lines) (releases lines)
+    (used_still (events_of kinds lines) (threads_of lines) (locks_of lines) (acquires lines) (releases lines) told.used event refl refl) child may.new_thread))
+    tt
+    tt
 
 told_joined : (kinds : List Kind) (limits : Limits) (lines : List Line) (thread child : List ℕ) → AreUsable limits
     → Meets kinds limits lines (Event (Join thread child)) → AreTold kinds lines → AreTold kinds (lines ++ Event (Join thread child) ∷ [])
 told_joined kinds limits lines thread child usable may told =
     let line : Line = Event (Join thread child) in
-    let few_events : events lines < limits.events = may.few_events refl in
-    let most : limits.events ≤ 4294967294 = usable.events in
-    told_as kinds lines line (root_count lines) (events_of kinds lines ++ numbered.Join (place (threads_of lines) thread) (place (threads_of lines) child) ∷ []) (events lines + 1)
-    (threads_of lines) (joined_of lines ++ child ∷ []) (object_kinds kinds lines)
-    (roots_more lines line ∙ omega arith)
-    (events_more kinds lines line)
-    (count_more lines line)
-    (threads_more lines line ∙ append-nil (threads_of lines))
-    (joined_more lines line)
-    (objects_more kinds lines line ∙ append-nil (object_kinds kinds lines))
-    (told_join (roots_of lines) (events_of kinds lines) (events lines) (threads_of lines) (joined_of lines) (object_kinds kinds lines) told
-    thread child may.known_actor may.running may.known_joined (λ same. may.other_joined (ap (λ name. Some name) (sym same))) (omega arith))
+    let event : Numbered = numbered_event kinds lines (Join thread child) in
+    let begins : threads_of (lines ++ line ∷ []) ≡ threads_of lines = threads_more lines line ∙ append-nil (threads_of lines) in
+    grown kinds lines line told
+    (told_event kinds limits lines (Join thread child) usable may (threads_of lines) (joined_of lines ++ child ∷ []) begins (joined_more lines line)
+    (told_join (roots_of lines) (events_of kinds lines) (events lines) (threads_of lines) (joined_of lines) (object_kinds kinds lines) told.told
+    thread child may.known_actor may.running may.known_joined (λ same. may.other_joined (ap (λ name. Some name) (sym same)))))
+    (used_apart kinds lines line (events_of kinds lines ++ event ∷ []) (threads_of lines) refl refl (events_more kinds lines line) begins
+    (used_still (events_of kinds lines) (threads_of lines) (locks_of lines) (acquires lines) (releases lines) told.used event refl refl))
+    tt
+    tt
+
+told_acquired : (kinds : List Kind) (limits : Limits) (lines : List Line) (thread lock : List ℕ) → AreUsable limits
+    → Meets kinds limits lines (Event (Acquire thread lock)) → AreTold kinds lines → AreTold kinds (lines ++ Event (Acquire thread lock) ∷ [])
+told_acquired kinds limits lines thread lock usable may told =
+    let line : Line = Event (Acquire thread lock) in
+    let t : ℕ = place (threads_of lines) thread in
+    let l : ℕ = place (locks_of lines) lock in
+    let begins : threads_of (lines ++ line ∷ []) ≡ threads_of lines = threads_more lines line ∙ append-nil (threads_of lines) in
+    let may_happen : MayHappen (roots_of lines) (events_of kinds lines) (numbered.Acquire t l) = may_acquire (roots_of lines) (events_of kinds lines) t l
+    (known_name (roots_of lines) (events_of kinds lines) (events lines) (threads_of lines) (joined_of lines) (object_kinds kinds lines) told.told thread may.known_actor)
+    (running (roots_of lines) (events_of kinds lines) (events lines) (threads_of lines) (joined_of lines) (object_kinds kinds lines) told.told thread may.known_actor may.running)
+    (used_free (events_of kinds lines) (threads_of lines) (locks_of lines) (acquires lines) (releases lines) told.used thread lock told.told.places free) in
+    grown kinds lines line told
+    (told_event kinds limits lines (Acquire thread lock) usable may (threads_of lines) (joined_of lines) begins (joined_more lines line ∙ append-nil (joined_of lines))
+    (told_still (roots_of lines) (events_of kinds lines) (events lines) (threads_of lines) (joined_of lines) (object_kinds kinds lines) told.told (numbered.Acquire t l) refl refl refl may_happen))
+    (used_as kinds lines line (events_of kinds lines ++ numbered.Acquire t l ∷ []) (threads_of lines) (with_lock (locks_of lines) (Some lock)) (λ u m. acquires lines u m + one_for thread lock u m) (releases lines)
+    (events_more kinds lines line) begins (locks_more lines line) (acquires_more lines line) (releases_same kinds lines line refl)
+    (used_acquire (events_of kinds lines) (threads_of lines) (locks_of lines) (acquires lines) (releases lines) thread lock told.used told.told.places may.known_actor))
+    tt
+    tt
+  where
+    free : (u : ℕ) (other : List ℕ) → slice_get (threads_of lines) u ≡ Some other → other ≢ thread → acquires lines other lock ≡ releases lines other lock
+    free u other at apart =
+        subst (λ o. IfSome o (λ name. Some thread ≢ Some name → acquires lines name lock ≡ releases lines name lock)) at (may.free u (slice_get_within (threads_of lines) u other at))
+        (λ same. apart (sym (same_Some thread other same)))
+
+told_released : (kinds : List Kind) (limits : Limits) (lines : List Line) (thread lock : List ℕ) → AreUsable limits
+    → Meets kinds limits lines (Event (Release thread lock)) → AreTold kinds lines → AreTold kinds (lines ++ Event (Release thread lock) ∷ [])
+told_released kinds limits lines thread lock usable may told =
+    let line : Line = Event (Release thread lock) in
+    let t : ℕ = place (threads_of lines) thread in
+    let l : ℕ = place (locks_of lines) lock in
+    let begins : threads_of (lines ++ line ∷ []) ≡ threads_of lines = threads_more lines line ∙ append-nil (threads_of lines) in
+    let held = used_held (events_of kinds lines) (threads_of lines) (locks_of lines) (acquires lines) (releases lines) told.used thread lock may.known_actor may.held in
+    let may_happen : MayHappen (roots_of lines) (events_of kinds lines) (numbered.Release t l) = may_release (roots_of lines) (events_of kinds lines) t l
+    (known_name (roots_of lines) (events_of kinds lines) (events lines) (threads_of lines) (joined_of lines) (object_kinds kinds lines) told.told thread may.known_actor)
+    (running (roots_of lines) (events_of kinds lines) (events lines) (threads_of lines) (joined_of lines) (object_kinds kinds lines) told.told thread may.known_actor may.running)
+    held.1 in
+    grown kinds lines line told
+    (told_event kinds limits lines (Release thread lock) usable may (threads_of lines) (joined_of lines) begins (joined_more lines line ∙ append-nil (joined_of lines))
+    (told_still (roots_of lines) (events_of kinds lines) (events lines) (threads_of lines) (joined_of lines) (object_kinds kinds lines) told.told (numbered.Release t l) refl refl refl may_happen))
+    (used_as kinds lines line (events_of kinds lines ++ numbered.Release t l ∷ []) (threads_of lines) (locks_of lines) (acquires lines) (λ u m. releases lines u m + one_for thread lock u m)
+    (events_more kinds lines line) begins (locks_same kinds lines line refl) (acquires_same kinds lines line refl) (releases_more lines line)
+    (used_release (events_of kinds lines) (threads_of lines) (locks_of lines) (acquires lines) (releases lines) told.used thread lock told.told.places may.known_actor held.0))
+    tt
+    tt
 
 -- each object has a kind, by its place
 kinds_placed : (kinds : List Kind) (lines : List Line) → length (object_kinds kinds lines) ≡ length (objects_of lines)
@@ -544,33 +657,40 @@ told_called kinds limits lines thread object method slots usable may told =
       method = method_number kinds lines object method;
       slots = slots;
     } in
+    let begins : threads_of (lines ++ line ∷ []) ≡ threads_of lines = threads_more lines line ∙ append-nil (threads_of lines) in
     let below : place (objects_of lines) object < length (objects_of lines) = place_below (objects_of lines) object may.known_object in
-    let at : slice_get (object_kinds kinds lines) call.object ≡ Some call.kind =
-    got_inside (object_kinds kinds lines) (place (objects_of lines) object) (length kinds) (omega (arith, kinds_placed kinds lines)) in
-    let few_events : events lines < limits.events = may.few_events refl in
-    let most : limits.events ≤ 4294967294 = usable.events in
-    told_as kinds lines line (root_count lines) (events_of kinds lines ++ numbered.Call call ∷ []) (events lines + 1) (threads_of lines) (joined_of lines) (object_kinds kinds lines)
-    (roots_more lines line ∙ omega arith)
-    (events_more kinds lines line)
-    (count_more lines line)
-    (threads_more lines line ∙ append-nil (threads_of lines))
-    (joined_more lines line ∙ append-nil (joined_of lines))
-    (objects_more kinds lines line ∙ append-nil (object_kinds kinds lines))
-    (told_call (roots_of lines) (events_of kinds lines) (events lines) (threads_of lines) (joined_of lines) (object_kinds kinds lines) told
-    thread call may.known_actor may.running refl at (omega arith))
+    let inside : place (objects_of lines) object < length (object_kinds kinds lines) = omega (arith, kinds_placed kinds lines) in
+    let at : slice_get (object_kinds kinds lines) call.object ≡ Some call.kind = got_inside (object_kinds kinds lines) (place (objects_of lines) object) (length kinds) inside in
+    let kind : kind_number kinds lines object < length kinds =
+    rw unwrap_or-slice_get (told.declared (place (objects_of lines) object) (length kinds) inside) in
+    let methods : List Method = methods_of kinds lines object in
+    let method_below : method_number kinds lines object method < length (method_names methods) = place_below (method_names methods) method may.known_method in
+    grown kinds lines line told
+    (told_event kinds limits lines (Call thread object method slots) usable may (threads_of lines) (joined_of lines) begins (joined_more lines line ∙ append-nil (joined_of lines))
+    (told_call (roots_of lines) (events_of kinds lines) (events lines) (threads_of lines) (joined_of lines) (object_kinds kinds lines) told.told
+    thread call may.known_actor may.running refl at))
+    (used_apart kinds lines line (events_of kinds lines ++ numbered.Call call ∷ []) (threads_of lines) refl refl (events_more kinds lines line) begins
+    (used_still (events_of kinds lines) (threads_of lines) (locks_of lines) (acquires lines) (releases lines) told.used (numbered.Call call) refl refl))
+    tt
+    (record { kind = kind; method = omega (arith, method_below, length-map methods (λ method. method.name)); slots = may.right_count })
 
 -- what is told of accepted lines is told of them with one line more
 pub told_more : (kinds : List Kind) (limits : Limits) (lines : List Line) (line : Line) → AreUsable limits → MayFollow kinds limits lines line
     → length (threads_of (lines ++ line ∷ [])) ≤ 4294967295 → AreTold kinds lines → AreTold kinds (lines ++ line ∷ [])
-told_more kinds limits lines Skip usable follows few told = told_quiet kinds lines Skip refl refl refl refl refl refl told
-told_more kinds limits lines (Header version) usable follows few told = told_quiet kinds lines (Header version) refl refl refl refl refl refl told
-told_more kinds limits lines (Object name kind) usable follows few told = told_declared kinds lines name kind told
+told_more kinds limits lines Skip usable follows few told = told_quiet kinds lines Skip refl refl refl refl refl refl refl refl told
+told_more kinds limits lines (Header version) usable follows few told = told_quiet kinds lines (Header version) refl refl refl refl refl refl refl refl told
+told_more kinds limits lines (Object name kind) usable (inl skip) few told = absurd (not_skipped (Object name kind) refl skip)
+told_more kinds limits lines (Object name kind) usable (inr follows) few told = told_declared kinds limits lines name kind (met kinds limits lines (Object name kind) (λ h. cc) (inr follows)) told
 told_more kinds limits lines (Thread name) usable (inl skip) few told = absurd (not_skipped (Thread name) refl skip)
 told_more kinds limits lines (Thread name) usable (inr follows) few told = told_rooted kinds limits lines name (met kinds limits lines (Thread name) (λ h. cc) (inr follows)) few told
 told_more kinds limits lines (Event (Fork thread child)) usable (inl skip) few told = absurd (not_skipped (Event (Fork thread child)) refl skip)
 told_more kinds limits lines (Event (Fork thread child)) usable (inr follows) few told = told_forked kinds limits lines thread child usable (met kinds limits lines (Event (Fork thread child)) (λ h. cc) (inr follows)) few told
 told_more kinds limits lines (Event (Join thread child)) usable (inl skip) few told = absurd (not_skipped (Event (Join thread child)) refl skip)
 told_more kinds limits lines (Event (Join thread child)) usable (inr follows) few told = told_joined kinds limits lines thread child usable (met kinds limits lines (Event (Join thread child)) (λ h. cc) (inr follows)) told
+told_more kinds limits lines (Event (Acquire thread lock)) usable (inl skip) few told = absurd (not_skipped (Event (Acquire thread lock)) refl skip)
+told_more kinds limits lines (Event (Acquire thread lock)) usable (inr follows) few told = told_acquired kinds limits lines thread lock usable (met kinds limits lines (Event (Acquire thread lock)) (λ h. cc) (inr follows)) told
+told_more kinds limits lines (Event (Release thread lock)) usable (inl skip) few told = absurd (not_skipped (Event (Release thread lock)) refl skip)
+told_more kinds limits lines (Event (Release thread lock)) usable (inr follows) few told = told_released kinds limits lines thread lock usable (met kinds limits lines (Event (Release thread lock)) (λ h. cc) (inr follows)) told
 told_more kinds limits lines (Event (Call thread object method slots)) usable (inl skip) few told = absurd (not_skipped (Event (Call thread object method slots)) refl skip)
 told_more kinds limits lines (Event (Call thread object method slots)) usable (inr follows) few told = told_called kinds limits lines thread object method slots usable (met kinds limits lines (Event (Call thread object method slots)) (λ h. cc) (inr follows)) told
 
@@ -593,9 +713,20 @@ told_from : (kinds : List Kind) (before lines : List Line) → AreTold kinds bef
 told_from kinds before [] told accepted = subst (AreTold kinds) (sym (append-nil before)) told
 told_from kinds before (line ∷ lines) told accepted =
     let next = accepted.0 in
-    let more = told_more kinds next.limits before line next.usable next.follows (few_more kinds next.limits before line next.range next.follows told.few) told in
+    let more = told_more kinds next.limits before line next.usable next.follows (few_more kinds next.limits before line next.range next.follows told.told.few) told in
     subst (AreTold kinds) (append_assoc before (line ∷ []) lines) (told_from kinds (before ++ line ∷ []) lines more accepted.1)
 
 -- what is told of accepted lines
 pub accepted_told : (kinds : List Kind) (lines : List Line) → AreAccepted kinds lines → AreTold kinds lines
 accepted_told kinds lines accepted = told_from kinds [] lines (told_none kinds) accepted
+
+-- so they are well-formed for the kinds
+pub told_formed : (kinds : List Kind) (lines : List Line) → AreTold kinds lines → WellFormedWith kinds (roots_of lines) (events_of kinds lines)
+told_formed kinds lines told = record { formed = told.told.formed; fit = told.fit }
+
+-- ---- the number of a new lock
+
+pub new_lock_next : (kinds : List Kind) (before : List Line) (thread lock : List ℕ) → ¬ (Contains (locks_of before) lock)
+    → accepted_of kinds before (Event (Acquire thread lock)) ≡ accepted.Event (numbered.Acquire (place (threads_of before) thread) (length (locks_of before)))
+unfolding accepted_of
+new_lock_next kinds before thread lock fresh = ap (λ l. accepted.Event (numbered.Acquire (place (threads_of before) thread) l)) (place_new (locks_of before) lock fresh)

@@ -1,21 +1,22 @@
 -- The tests of the rules tell which rule a line breaks first.
-use Rattle.std.proofs.Common.{◌≡◌, ◌≢◌, ◌↔◌, inl, inr, ℕ, zero, suc, ◌<◌, ◌≤◌, Bool, true, false, not, cond, ◌==◌, ◌&&◌, ltb, leb, List, [], ◌∷◌, take, Option, Some, None, is_some, IsSome, IfSome, IsSomeAnd, IsTrue, Contains, MatchOption, length, Decides, refl, sym, ap, subst, ◌∙◌, arith, true≢false}
+use Rattle.std.proofs.Common.{◌≡◌, ◌≢◌, ◌↔◌, inl, inr, ℕ, zero, suc, ◌+◌, ◌<◌, ◌≤◌, Bool, true, false, not, cond, ◌==◌, ◌&&◌, ltb, leb, List, [], ◌∷◌, ◌++◌, take, Option, Some, None, is_some, IsSome, IfSome, IsSomeAnd, IsTrue, Contains, MatchOption, length, Decides, refl, sym, ap, subst, ◌∙◌, arith, true≢false}
 use Rattle.std.specs.Prelude.{All, find, slice_get}
 use Rattle.std.specs.Cmp.Lexicographic.{bytes_decides, nat_list_eq_equiv}
 use Rattle.std.proofs.lemmas.Bool.Decides.{Decides-and, Decides-or, Decides-not, Decides-eqb, Decides-ltb, Decides-like, not_from_Decides, nat_tests}
-use Rattle.std.proofs.lemmas.Bool.{or_parts, false_from_ne_true, not-false}
+use Rattle.std.proofs.lemmas.Bool.{cases_eq, or_parts, false_from_ne_true, not-false}
 use Rattle.std.proofs.lemmas.List.Elements.{All-nil, All-cons, All-head, All-tail}
 use Rattle.std.proofs.lemmas.Map.Views.{Contains-from_any, list_any-from_Contains}
-use Rattle.std.proofs.lemmas.Option.{none-some, same_Some}
+use Rattle.std.proofs.lemmas.Option.{none-some, same_Some, slice_get-get_or}
+use Rattle.std.proofs.lemmas.List.FromFn.{length-map-range_with_len, get_or-map-range_with_len}
 use Rattle.rd_base.specs.declared.limits.Limits.{Limits}
-use Rattle.rd_base.specs.declared.limits.LimitName.TheVariants.{Events, Threads, Objects}
+use Rattle.rd_base.specs.declared.limits.LimitName.TheVariants.{Events, Threads, Locks, Objects, Depth}
 use Rattle.rd_event.specs.declared.items.Line.{Line}
 use Rattle.rd_event.specs.declared.items.Line.TheVariants.{Skip, Thread, Object, Event}
-use Rattle.rd_event.specs.declared.items.LineEvent.TheVariants.{Fork, Join}
+use Rattle.rd_event.specs.declared.items.LineEvent.TheVariants.{Fork, Join, Acquire, Release}
 use Rattle.rd_wf.specs.declared.causes.WfCause.{WfCause}
-use Rattle.rd_wf.specs.declared.causes.WfCause.TheVariants.{HeaderFirst, LateRoot, NameTaken, UnknownThread, ThreadEnded, OwnThread, UnknownKind, UnknownObject, UnknownMethod, WrongCount, Limit}
+use Rattle.rd_wf.specs.declared.causes.WfCause.TheVariants.{HeaderFirst, LateRoot, NameTaken, UnknownThread, ThreadEnded, OwnThread, UnknownKind, UnknownObject, UnknownMethod, WrongCount, LockHeld, NotHeld, Limit}
 use Rattle.rd_ecl.specs.Kinds.{Kind, kind_names, method_names}
-use Rattle.rd_wf.specs.MayFollow.{SpelledCall, line_call, methods_of, slots_of, is_skip, is_header, is_root, is_event, begun_name, acting_name, joined_name, declared_name, kind_name, threads_of, joined_of, objects_of, headers, events, Rule, causes, MayFollow, IsBrokenFirst, same_name, is_among, passes, is_broken, first_broken}
+use Rattle.rd_wf.specs.MayFollow.{SpelledCall, line_call, methods_of, slots_of, is_skip, is_header, is_root, is_event, begun_name, acting_name, joined_name, acquired_name, released_name, declared_name, kind_name, threads_of, joined_of, locks_of, objects_of, acquires, releases, headers, events, Rule, causes, holders, MayFollow, IsBrokenFirst, same_name, is_among, passes, is_broken, first_broken}
 
 -- ---- tests of names
 
@@ -157,6 +158,33 @@ module _ (kinds : List Kind) (before : List Line) where
   count_decides : (call : SpelledCall) → Decides (not (length call.slots == slots_of kinds before call)) (length call.slots ≢ slots_of kinds before call)
   count_decides call = Decides-not _ (Decides-eqb (length call.slots) (slots_of kinds before call))
 
+-- ---- locks
+
+module _ (before : List Line) (line : Line) where
+  held_decides : (lock thread : List ℕ) → Decides (not (passes (acting_name line) (same_name thread)) && not (acquires before thread lock == releases before thread lock))
+      ((acting_name line ≢ Some thread) × (acquires before thread lock ≢ releases before thread lock))
+  held_decides lock thread =
+      Decides-and _ _ (Decides-not _ (is_decides (acting_name line) thread)) (Decides-not _ (Decides-eqb (acquires before thread lock) (releases before thread lock)))
+
+  free_from : (lock thread : List ℕ) → (not (passes (acting_name line) (same_name thread)) && not (acquires before thread lock == releases before thread lock)) ≡ false
+      → acting_name line ≢ Some thread → acquires before thread lock ≡ releases before thread lock
+  free_from lock thread h other = elim (cases_eq (acquires before thread lock) (releases before thread lock)) [
+    | inl same ↦ same
+    | inr differ ↦ absurd (not_from_Decides _ (held_decides lock thread) h (other, differ))
+  ]
+
+leb_decides : (m n : ℕ) → Decides (leb m n) (m ≤ n)
+leb_decides m n = (λ h. grind (arith, nat_tests), λ h. grind (arith, nat_tests))
+
+above : (m n : ℕ) → leb m n ≡ false → n < m
+above m n h = grind (arith, nat_tests)
+
+-- where a name is counted, its count is below the limit
+new_below : (names : List (List ℕ)) (o : Option (List ℕ)) (limit count : ℕ) → (passes o (λ name. not (is_among names name)) && leb limit count) ≡ false
+    → IfSome o (λ name. ¬ (Contains names name) → count < limit)
+new_below names None limit count h = tt
+new_below names (Some name) limit count h = λ lacks. below_limit (not (is_among names name)) limit count h ((absent_decides names name).1 lacks)
+
 module _ (kinds : List Kind) (before : List Line) (line : Line) where
   -- where the test fails, the line meets the rule
   rule_holds : (cause : WfCause) → is_broken kinds before line cause ≡ false → Rule kinds before line cause
@@ -170,9 +198,16 @@ module _ (kinds : List Kind) (before : List Line) (line : Line) where
   rule_holds UnknownObject h = none_passes (line_call line) _ _ (λ call e. (among_decides (objects_of before) call.object).0 (not-false _ e)) h
   rule_holds UnknownMethod h = none_passes (line_call line) _ _ (λ call e. (among_decides (method_names (methods_of kinds before call.object)) call.method).0 (not-false _ e)) h
   rule_holds WrongCount h = none_passes (line_call line) _ _ (λ call e. (Decides-eqb (length call.slots) (slots_of kinds before call)).0 (not-false _ e)) h
+  rule_holds (LockHeld holder) h =
+      none_passes (acquired_name line) _ _ (λ lock e. none_passes (slice_get (threads_of before) holder) _ _ (λ thread f. free_from before line lock thread f) e) h
+  rule_holds NotHeld h =
+      none_passes (released_name line) _ _ (λ lock e. none_passes (acting_name line) _ _ (λ thread f. above (acquires before thread lock) (releases before thread lock) f) e) h
   rule_holds (Limit Events most) h = below_limit (is_event line) most (events before) h
   rule_holds (Limit Threads most) h = below_limit (is_some (begun_name line)) most (length (threads_of before)) h
+  rule_holds (Limit Locks most) h = new_below (locks_of before) (acquired_name line) most (length (locks_of before)) h
   rule_holds (Limit Objects most) h = below_limit (is_some (declared_name line)) most (length (objects_of before)) h
+  rule_holds (Limit Depth most) h =
+      none_passes (acquired_name line) _ _ (λ lock e. none_passes (acting_name line) _ _ (λ thread f. above (most + releases before thread lock) (acquires before thread lock) f) e) h
   rule_holds (Limit name most) h = tt
 
   -- and where it passes, the line breaks it
@@ -197,15 +232,34 @@ module _ (kinds : List Kind) (before : List Line) (line : Line) where
   rule_fails UnknownObject h rule = if_some_not (line_call line) _ _ (λ call there lacks. lacks there) rule ((passes_decides (line_call line) _ _ (object_decides kinds before)).0 h)
   rule_fails UnknownMethod h rule = if_some_not (line_call line) _ _ (λ call there lacks. lacks there) rule ((passes_decides (line_call line) _ _ (method_decides kinds before)).0 h)
   rule_fails WrongCount h rule = if_some_not (line_call line) _ _ (λ call same other. other same) rule ((passes_decides (line_call line) _ _ (count_decides kinds before)).0 h)
+  rule_fails (LockHeld holder) h rule =
+      if_some_not (acquired_name line) _ _
+      (λ lock free held. if_some_not (slice_get (threads_of before) holder) _ _ (λ thread same both. both.1 (same both.0)) free held)
+      rule
+      ((passes_decides (acquired_name line) _ _ (λ lock. passes_decides (slice_get (threads_of before) holder) _ _ (λ thread. held_decides before line lock thread))).0 h)
+  rule_fails NotHeld h rule =
+      if_some_not (released_name line) _ _
+      (λ lock held free. if_some_not (acting_name line) _ _ (λ thread less not_less. omega arith) held free)
+      rule
+      ((passes_decides (released_name line) _ _ (λ lock. passes_decides (acting_name line) _ _ (λ thread. leb_decides (acquires before thread lock) (releases before thread lock)))).0 h)
   rule_fails (Limit Events most) h rule =
       let both = (limit_decides (is_event line) most (events before)).0 h in
       let few : events before < most = rule both.0 in let many : most ≤ events before = both.1 in omega arith
   rule_fails (Limit Threads most) h rule =
       let both = (limit_decides (is_some (begun_name line)) most (length (threads_of before))).0 h in
       let few : length (threads_of before) < most = rule both.0 in let many : most ≤ length (threads_of before) = both.1 in omega arith
+  rule_fails (Limit Locks most) h rule =
+      let both = (Decides-and _ _ (passes_decides (acquired_name line) _ _ (absent_decides (locks_of before))) (leb_decides most (length (locks_of before)))).0 h in
+      let many : most ≤ length (locks_of before) = both.1 in
+      if_some_not (acquired_name line) _ _ (λ lock below lacks. let few : length (locks_of before) < most = below lacks in omega arith) rule both.0
   rule_fails (Limit Objects most) h rule =
       let both = (limit_decides (is_some (declared_name line)) most (length (objects_of before))).0 h in
       let few : length (objects_of before) < most = rule both.0 in let many : most ≤ length (objects_of before) = both.1 in omega arith
+  rule_fails (Limit Depth most) h rule =
+      if_some_not (acquired_name line) _ _
+      (λ lock shallow deep. if_some_not (acting_name line) _ _ (λ thread less not_less. omega arith) shallow deep)
+      rule
+      ((passes_decides (acquired_name line) _ _ (λ lock. passes_decides (acting_name line) _ _ (λ thread. leb_decides (most + releases before thread lock) (acquires before thread lock)))).0 h)
   rule_fails (Limit name most) h rule = true≢false (sym h)
 
 module _ (kinds : List Kind) (limits : Limits) (before : List Line) (line : Line) where
@@ -217,11 +271,11 @@ module _ (kinds : List Kind) (limits : Limits) (before : List Line) (line : Line
       Judged : Option WfCause → Type 0
       Judged r = MatchOption r (MayFollow kinds limits before line) (IsBrokenFirst kinds limits before line)
 
-      by_test : is_skip line ≡ false → (r : Option WfCause) → find (is_broken kinds before line) (causes limits) ≡ r
+      by_test : is_skip line ≡ false → (r : Option WfCause) → find (is_broken kinds before line) (causes limits before) ≡ r
           → MatchOption r (MayFollow kinds limits before line) (IsBrokenFirst kinds limits before line)
-      by_test counts None e = inr (all_hold (Rule kinds before line) (is_broken kinds before line) (rule_holds kinds before line) (rule_fails kinds before line) (causes limits) e)
+      by_test counts None e = inr (all_hold (Rule kinds before line) (is_broken kinds before line) (rule_holds kinds before line) (rule_fails kinds before line) (causes limits before) e)
       by_test counts (Some cause) e =
-          let first = found (Rule kinds before line) (is_broken kinds before line) (rule_holds kinds before line) (rule_fails kinds before line) (causes limits) cause e in
+          let first = found (Rule kinds before line) (is_broken kinds before line) (rule_holds kinds before line) (rule_fails kinds before line) (causes limits before) cause e in
           record {
             counted = λ skipped. true≢false (sym (ap is_skip skipped) ∙ counts);
             place = first.place;
@@ -230,14 +284,14 @@ module _ (kinds : List Kind) (limits : Limits) (before : List Line) (line : Line
             others = first.others;
           }
 
-      by_skip : (b : Bool) → is_skip line ≡ b → MatchOption (cond (is_skip line) None (find (is_broken kinds before line) (causes limits))) (MayFollow kinds limits before line) (IsBrokenFirst kinds limits before line)
-      by_skip true skipped = subst (λ b. Judged (cond b None (find (is_broken kinds before line) (causes limits)))) (sym skipped) (inl (skip_is line skipped))
-      by_skip false counts = subst (λ b. Judged (cond b None (find (is_broken kinds before line) (causes limits)))) (sym counts) (by_test counts _ refl)
+      by_skip : (b : Bool) → is_skip line ≡ b → MatchOption (cond (is_skip line) None (find (is_broken kinds before line) (causes limits before))) (MayFollow kinds limits before line) (IsBrokenFirst kinds limits before line)
+      by_skip true skipped = subst (λ b. Judged (cond b None (find (is_broken kinds before line) (causes limits before)))) (sym skipped) (inl (skip_is line skipped))
+      by_skip false counts = subst (λ b. Judged (cond b None (find (is_broken kinds before line) (causes limits before)))) (sym counts) (by_test counts _ refl)
 
   pub follows_apart : MayFollow kinds limits before line → (cause : WfCause) → ¬ (IsBrokenFirst kinds limits before line cause)
   follows_apart follows cause first = elim follows [
     | inl skipped ↦ first.counted skipped
-    | inr all ↦ first.broken (each_holds (Rule kinds before line) (is_broken kinds before line) (rule_holds kinds before line) (rule_fails kinds before line) (causes limits) cause first.place all first.listed)
+    | inr all ↦ first.broken (each_holds (Rule kinds before line) (is_broken kinds before line) (rule_holds kinds before line) (rule_fails kinds before line) (causes limits before) cause first.place all first.listed)
   ]
 
   -- what an answer of the test says
@@ -248,21 +302,47 @@ module _ (kinds : List Kind) (limits : Limits) (before : List Line) (line : Line
   broken_from_some cause e = subst (λ r. MatchOption r (MayFollow kinds limits before line) (IsBrokenFirst kinds limits before line)) e judged
 
   -- a line that isn't skipped and may follow meets each rule
-  pub meets : line ≢ Skip → MayFollow kinds limits before line → (place : ℕ) (cause : WfCause) → slice_get (causes limits) place ≡ Some cause → Rule kinds before line cause
+  pub meets : line ≢ Skip → MayFollow kinds limits before line → (place : ℕ) (cause : WfCause) → slice_get (causes limits before) place ≡ Some cause → Rule kinds before line cause
   meets counted follows place cause listed = elim follows [
     | inl skipped ↦ absurd (counted skipped)
-    | inr all ↦ each_holds (Rule kinds before line) (is_broken kinds before line) (rule_holds kinds before line) (rule_fails kinds before line) (causes limits) cause place all listed
+    | inr all ↦ each_holds (Rule kinds before line) (is_broken kinds before line) (rule_holds kinds before line) (rule_fails kinds before line) (causes limits before) cause place all listed
   ]
 
   pub some_from_broken : (cause : WfCause) → IsBrokenFirst kinds limits before line cause → first_broken kinds limits before line ≡ Some cause
   unfolding first_broken
   some_from_broken cause first = by_skip (is_skip line) refl
     where
-      by_skip : (b : Bool) → is_skip line ≡ b → cond (is_skip line) None (find (is_broken kinds before line) (causes limits)) ≡ Some cause
+      by_skip : (b : Bool) → is_skip line ≡ b → cond (is_skip line) None (find (is_broken kinds before line) (causes limits before)) ≡ Some cause
       by_skip true skipped = absurd (first.counted (skip_is line skipped))
       by_skip false counts =
-          ap (λ b. cond b None (find (is_broken kinds before line) (causes limits))) counts
-          ∙ found_is (Rule kinds before line) (is_broken kinds before line) (rule_holds kinds before line) (rule_fails kinds before line) (causes limits) cause first.place first.listed first.broken first.others
+          ap (λ b. cond b None (find (is_broken kinds before line) (causes limits before))) counts
+          ∙ found_is (Rule kinds before line) (is_broken kinds before line) (rule_holds kinds before line) (rule_fails kinds before line) (causes limits before) cause first.place first.listed first.broken first.others
+
+-- ---- where the causes stand
+
+-- the causes that are asked before the holders of locks, and those behind them
+abbrev early : List WfCause
+early = HeaderFirst ∷ LateRoot ∷ NameTaken ∷ UnknownThread ∷ ThreadEnded ∷ OwnThread ∷ UnknownKind ∷ UnknownObject ∷ UnknownMethod ∷ WrongCount ∷ []
+
+abbrev pub late : Limits → List WfCause
+late limits =
+    NotHeld ∷ Limit Events limits.events ∷ Limit Threads limits.threads ∷ Limit Locks limits.locks ∷ Limit Objects limits.objects ∷ Limit Depth limits.depth ∷ []
+
+got_right : {X : Type 0} (xs ys : List X) (k : ℕ) → slice_get (xs ++ ys) (length xs + k) ≡ slice_get ys k
+got_right [] ys k = let none : 0 + k ≡ k = omega arith in ap (slice_get ys) none
+got_right (x ∷ xs) ys k =
+    let next : length (x ∷ xs) + k ≡ suc (length xs + k) = omega arith in
+    ap (slice_get (x ∷ xs ++ ys)) next ∙ got_right xs ys k
+
+got_left : {X : Type 0} (xs ys : List X) (k : ℕ) (x : X) → slice_get xs k ≡ Some x → slice_get (xs ++ ys) k ≡ Some x
+got_left [] ys k x at = absurd (none-some x at)
+got_left (y ∷ xs) ys zero x at = at
+got_left (y ∷ xs) ys (suc k) x at = got_left xs ys k x at
+
+holder_at : (before : List Line) (holder : ℕ) → holder < length (threads_of before) → slice_get (holders before) holder ≡ Some (LockHeld holder)
+holder_at before holder below =
+    slice_get-get_or (holders before) holder NotHeld (omega (arith, below, length-map-range_with_len LockHeld 0 (length (threads_of before))))
+    ∙ ap Some (get_or-map-range_with_len LockHeld 0 (length (threads_of before)) holder holder NotHeld below (omega arith))
 
 -- what a line that isn't skipped and may follow meets, rule by rule
 pub record Meets (kinds : List Kind) (limits : Limits) (before : List Line) (line : Line) : Type 0 where
@@ -273,9 +353,17 @@ pub record Meets (kinds : List Kind) (limits : Limits) (before : List Line) (lin
   pub known_joined : IfSome (joined_name line) (Contains (threads_of before))
   pub running : IfSome (acting_name line) (λ name. ¬ (Contains (joined_of before) name))
   pub other_joined : IfSome (joined_name line) (λ name. acting_name line ≢ Some name)
+  pub known_kind : IfSome (kind_name line) (Contains (kind_names kinds))
   pub known_object : IfSome (line_call line) (λ call. Contains (objects_of before) call.object)
+  pub known_method : IfSome (line_call line) (λ call. Contains (method_names (methods_of kinds before call.object)) call.method)
+  pub right_count : IfSome (line_call line) (λ call. length call.slots ≡ slots_of kinds before call)
+  pub free : (holder : ℕ) → holder < length (threads_of before) → Rule kinds before line (LockHeld holder)
+  pub held : IfSome (released_name line) (λ lock. IfSome (acting_name line) (λ thread. releases before thread lock < acquires before thread lock))
   pub few_events : IsTrue (is_event line) → events before < limits.events
   pub few_threads : IsSome (begun_name line) → length (threads_of before) < limits.threads
+  pub few_locks : IfSome (acquired_name line) (λ lock. ¬ (Contains (locks_of before) lock) → length (locks_of before) < limits.locks)
+  pub few_objects : IsSome (declared_name line) → length (objects_of before) < limits.objects
+  pub shallow : IfSome (acquired_name line) (λ lock. IfSome (acting_name line) (λ thread. acquires before thread lock < limits.depth + releases before thread lock))
 
 pub met : (kinds : List Kind) (limits : Limits) (before : List Line) (line : Line) → line ≢ Skip → MayFollow kinds limits before line → Meets kinds limits before line
 met kinds limits before line counted follows =
@@ -289,10 +377,22 @@ met kinds limits before line counted follows =
       known_joined = known.1;
       running = meets kinds limits before line counted follows 4 ThreadEnded refl;
       other_joined = meets kinds limits before line counted follows 5 OwnThread refl;
+      known_kind = meets kinds limits before line counted follows 6 UnknownKind refl;
       known_object = meets kinds limits before line counted follows 7 UnknownObject refl;
-      few_events = meets kinds limits before line counted follows 10 (Limit Events limits.events) refl;
-      few_threads = meets kinds limits before line counted follows 11 (Limit Threads limits.threads) refl;
+      known_method = meets kinds limits before line counted follows 8 UnknownMethod refl;
+      right_count = meets kinds limits before line counted follows 9 WrongCount refl;
+      free = λ holder below. meets kinds limits before line counted follows (length early + holder) (LockHeld holder)
+          (got_right early (holders before ++ late limits) holder ∙ got_left (holders before) (late limits) holder (LockHeld holder) (holder_at before holder below));
+      held = behind 0 NotHeld refl;
+      few_events = behind 1 (Limit Events limits.events) refl;
+      few_threads = behind 2 (Limit Threads limits.threads) refl;
+      few_locks = behind 3 (Limit Locks limits.locks) refl;
+      few_objects = behind 4 (Limit Objects limits.objects) refl;
+      shallow = behind 5 (Limit Depth limits.depth) refl;
     }
+  where
+    behind : (k : ℕ) (cause : WfCause) → slice_get (late limits) k ≡ Some cause → Rule kinds before line cause
+    behind k cause at = meets kinds limits before line counted follows (length (early ++ holders before) + k) cause (got_right (early ++ holders before) (late limits) k ∙ at)
 
 -- ---- what a line that may follow tells of its names
 
@@ -311,3 +411,13 @@ module _ (kinds : List Kind) (limits : Limits) (before : List Line) where
 
   pub known_child : (thread child : List ℕ) → first_broken kinds limits before (Event (Join thread child)) ≡ None → is_among (threads_of before) child ≡ true
   known_child thread child e = (among_decides (threads_of before) child).1 (met kinds limits before (Event (Join thread child)) (λ h. cc) (follows_from_none kinds limits before (Event (Join thread child)) e)).known_joined
+
+  pub known_lock : (thread lock : List ℕ) → first_broken kinds limits before (Event (Acquire thread lock)) ≡ None → is_among (threads_of before) thread ≡ true
+  known_lock thread lock e = (among_decides (threads_of before) thread).1 (met kinds limits before (Event (Acquire thread lock)) (λ h. cc) (follows_from_none kinds limits before (Event (Acquire thread lock)) e)).known_actor
+
+-- ---- what a line that may follow tells of the thread that releases
+
+pub known_releaser : (kinds : List Kind) (limits : Limits) (before : List Line) (thread lock : List ℕ) → first_broken kinds limits before (Event (Release thread lock)) ≡ None
+    → is_among (threads_of before) thread ≡ true
+known_releaser kinds limits before thread lock e =
+    (among_decides (threads_of before) thread).1 (met kinds limits before (Event (Release thread lock)) (λ h. cc) (follows_from_none kinds limits before (Event (Release thread lock)) e)).known_actor

@@ -1,3 +1,9 @@
+pub mod CauseLemmas
 pub mod EventsLemmas
 pub mod FollowLemmas
+pub mod LockLemmas
+pub mod NextLemmas
+pub mod PlaceLemmas
 pub mod RosterLemmas
+pub mod TableLemmas
+pub mod UseLemmas

@@ -1,5 +1,5 @@
 -- What a roster tells of the accepted lines that it stands for.
-use Rattle.std.proofs.Common.{◌≡◌, inl, inr, ℕ, zero, suc, ◌+◌, ◌<◌, ◌≤◌, Bool, true, false, not, cond, ◌==◌, ◌||◌, ltb, leb, List, [], ◌∷◌, ◌++◌, map, Option, Some, None, is_some, Result, Ok, Err, IfOk, IfErr, OnOk, OnErr, IsTrue, Contains, filter_map, length, position, slice_get, option_map, unwrap_or, if◌then◌else◌, nat_lt, nat_le, refl, sym, ap, subst, ◌∙◌, arith, add-zero, true≢false}
+use Rattle.std.proofs.Common.{◌≡◌, inl, inr, ℕ, zero, suc, ◌+◌, ◌<◌, ◌≤◌, Bool, true, false, not, cond, ◌==◌, ◌||◌, ◌&&◌, ltb, leb, List, [], ◌∷◌, ◌++◌, map, Option, Some, None, is_some, Result, Ok, Err, IfSome, IfOk, IfErr, OnOk, OnErr, IsTrue, Contains, filter_map, length, position, get_or, slice_get, option_map, unwrap_or, if◌then◌else◌, nat_lt, nat_le, refl, sym, ap, subst, ◌∙◌, arith, add-zero, true≢false}
 use Rattle.std.specs.List.{list_any, position_or_len, IsDistinct, AllByRecursion}
 use Rattle.std.proofs.lemmas.Map.Keys.{IsDistinct-head, IsDistinct-tail}
 use Rattle.std.specs.Map.{lookup, keys_of}
@@ -14,16 +14,16 @@ use Rattle.std.proofs.lemmas.Bool.{false_from_ne_true, ltb-false}
 use Rattle.std.proofs.Math.Bool.{not-not}
 use Rattle.indexmap.specs.IndexMap.{get_by, index_map_len, index_of_by, insert_entry}
 use Rattle.indexmap.proofs.CallerLemmas.{insert_entry-new}
-use Rattle.std.proofs.lemmas.Option.{slice_get-map, same_Some}
+use Rattle.std.proofs.lemmas.Option.{slice_get-map, slice_get-get_or}
 use Rattle.indexmap.specs.Layout.{set_value_at}
 use Rattle.rd_base.specs.declared.limits.Limits.{Limits}
 use Rattle.rd_base.specs.declared.values.Value.{Value}
-use Rattle.rd_base.specs.declared.limits.LimitName.TheVariants.{Events, Threads, Objects}
+use Rattle.rd_base.specs.declared.limits.LimitName.TheVariants.{Events, Threads, Locks, Objects, Depth}
 use Rattle.rd_event.specs.declared.items.Line.{Line}
 use Rattle.rd_event.specs.declared.items.Line.TheVariants.{Skip, Header, Thread, Object, Event}
-use Rattle.rd_event.specs.declared.items.LineEvent.TheVariants.{Fork, Join, Call}
+use Rattle.rd_event.specs.declared.items.LineEvent.TheVariants.{Fork, Join, Acquire, Release, Call}
 use Rattle.rd_wf.specs.declared.causes.WfCause.{WfCause}
-use Rattle.rd_wf.specs.declared.causes.WfCause.TheVariants.{HeaderFirst, LateRoot, NameTaken, UnknownThread, ThreadEnded, OwnThread, UnknownKind, UnknownObject, UnknownMethod, WrongCount, Limit}
+use Rattle.rd_wf.specs.declared.causes.WfCause.TheVariants.{HeaderFirst, LateRoot, NameTaken, UnknownThread, ThreadEnded, OwnThread, UnknownKind, UnknownObject, UnknownMethod, WrongCount, LockHeld, NotHeld, Limit}
 use Rattle.rd_wf.specs.declared.causes.WfRefused.{WfRefused}
 use Rattle.rd_wf.specs.declared.causes.WfRefused.TheVariants.{Cause, NoMemory}
 use Rattle.rd_wf.specs.declared.causes.Accepted.{Accepted}
@@ -32,18 +32,24 @@ use Rattle.rd_wf.specs.declared.methods.Method.{Method as FoundMethod}
 use Rattle.rd_wf.specs.declared.methods.Methods.{Methods}
 use Rattle.rd_wf.specs.declared.roster.judge.FoundObject.{FoundObject}
 use Rattle.rd_wf.specs.declared.roster.judge.FoundThread.{FoundThread}
-use Rattle.rd_wf.proofs.FollowLemmas.{among_decides, follows_from_none, broken_from_some}
-use Rattle.rd_wf.specs.MayFollow.{begun_name, joined_name, is_header, is_event, threads_of, joined_of, objects_of, headers, events, same_name, is_among, place, methods_of, object_kinds, first_broken, MayFollow, IsBrokenFirst, takes_memory}
+use Rattle.rd_wf.proofs.FollowLemmas.{among_decides, late}
+use Rattle.std.specs.Prelude.{find}
+use Rattle.rd_wf.specs.declared.roster.Lock.{Lock}
+use Rattle.rd_wf.specs.declared.roster.judge.Broken.{Broken}
+use Rattle.rd_wf.specs.declared.roster.judge.FoundLock.{FoundLock}
+use Rattle.rd_wf.proofs.CauseLemmas.{same_found, none_holds, unbroken}
+use Rattle.rd_wf.proofs.LockLemmas.{same_place, place_at, place_unknown, free_test, not_held_test, deep_test, holder_test, holder_below}
+use Rattle.rd_wf.specs.MayFollow.{threads_of, joined_of, locks_of, objects_of, acquires, releases, headers, events, same_name, is_among, passes, place, methods_of, object_kinds, holders, causes, is_broken, first_broken}
 use Rattle.rd_ecl.specs.Kinds.{Kind, Method, kind_names, method_names, methods_at, slots_at}
-use Rattle.rd_wf.specs.Roster.{StandsFor, kind_entry, method_entry, methods_in, thread_entry, object_entry, thread_count, object_count, found_method, found_thread, found_object, Accepts, Refuses}
+use Rattle.rd_wf.specs.Roster.{StandsFor, kind_entry, method_entry, methods_in, thread_entry, object_entry, thread_count, lock_count, object_count, lock_in, depth_of, other_holder, flag, found_method, found_thread, found_object}
 
 -- ---- look-ups
 
-or-false : (b : Bool) → (b || false) ≡ b
+pub or-false : (b : Bool) → (b || false) ≡ b
 or-false true = refl
 or-false false = refl
 
-or-true : (b : Bool) → true ≡ (b || true)
+pub or-true : (b : Bool) → true ≡ (b || true)
 or-true true = refl
 or-true false = refl
 
@@ -83,7 +89,7 @@ position-or_next test names = by (ltb (position_or_len test names) (length names
         let least : length names ≤ position_or_len test names = ltb-false _ _ e in omega arith
 
 module _ {X : Type 0} (entries : List (List ℕ × X)) (names : List (List ℕ)) (keys : keys_of entries ≡ names) (name : List ℕ) where
-  known_in : is_some (lookup (same_name name) entries) ≡ is_among names name
+  pub known_in : is_some (lookup (same_name name) entries) ≡ is_among names name
   known_in = is_some-lookup (same_name name) entries ∙ ap (λ names. is_among names name) keys
 
   unknown_in : (value : Option X) → lookup (same_name name) entries ≡ value → not (is_among names name) ≡ not (is_some value)
@@ -115,7 +121,7 @@ lookup-entries lines name (x ∷ xs) joined e = by (same_name name x) refl (look
     by false other rest =
         rest (sym (ap (λ b. cond b (Some (is_among (joined_of lines) x)) (lookup (same_name name) (map (thread_entry lines) xs))) other) ∙ e)
 
-keys-objects : (kinds : List Kind) (lines : List Line) → keys_of (filter_map (object_entry kinds) lines) ≡ objects_of lines
+pub keys-objects : (kinds : List Kind) (lines : List Line) → keys_of (filter_map (object_entry kinds) lines) ≡ objects_of lines
 keys-objects kinds [] = refl
 keys-objects kinds (Skip ∷ lines) = keys-objects kinds lines
 keys-objects kinds (Header version ∷ lines) = keys-objects kinds lines
@@ -139,6 +145,37 @@ names-methods : (entries : List (List ℕ × ℕ)) → keys_of entries ≡ metho
 names-methods [] = refl
 names-methods (e ∷ es) = ap (λ names. e.0 ∷ names) (names-methods es)
 
+-- ---- the flags that a line's look-ups set
+
+module _ (roster : Roster) (limits : Limits) where
+  abbrev pub root_flags : Bool → ℕ → Broken
+  root_flags taken count =
+      record unbroken { header_first = not roster.header; late_root = nat_lt 0 roster.events; name_taken = taken; threads = nat_le limits.threads count }
+
+  abbrev pub object_flags : Bool → Bool → ℕ → Broken
+  object_flags taken unknown count = record unbroken { header_first = not roster.header; name_taken = taken; unknown_kind = unknown; objects = nat_le limits.objects count }
+
+  -- those that each event sets
+  abbrev pub event_flags : FoundThread → Broken
+  event_flags actor =
+      record unbroken { header_first = not roster.header; unknown_thread = actor.unknown; thread_ended = actor.joined; events = nat_le limits.events roster.events }
+
+  abbrev pub fork_flags : FoundThread → Bool → ℕ → Broken
+  fork_flags actor taken count = record (event_flags actor) { name_taken = taken; threads = nat_le limits.threads count }
+
+  abbrev pub join_flags : FoundThread → FoundThread → Bool → Broken
+  join_flags actor awaited own = record (event_flags actor) { unknown_thread = actor.unknown || awaited.unknown; own_thread = own }
+
+  abbrev pub call_flags : FoundThread → FoundObject → FoundMethod → ℕ → ℕ → Broken
+  call_flags actor found method slots count = record (event_flags actor) { unknown_object = found.unknown; unknown_method = method.unknown; wrong_count = not (slots == count) }
+
+  abbrev pub acquire_flags : FoundThread → FoundLock → Option ℕ → ℕ → Broken
+  acquire_flags actor found held_by depth =
+      record (event_flags actor) { held_by = held_by; locks = found.unknown && nat_le limits.locks found.number; depth = nat_le limits.depth depth }
+
+  abbrev pub release_flags : FoundThread → ℕ → Broken
+  release_flags actor depth = record (event_flags actor) { not_held = depth == 0 }
+
 -- ---- methods
 
 method_slots : (entries : List (List ℕ × ℕ)) (i : ℕ) → slots_at (map method_entry entries) i ≡ unwrap_or (option_map (λ e. e.1) (slice_get entries i)) 0
@@ -161,17 +198,17 @@ method_found methods name index slots at value =
       slots = (method_slots entries (place names name) ∙ ap (λ o. unwrap_or o 0) (entry_in entries names keys name slots value)) i;
     }
 
-none_is : {X : Type 0} (o : Option X) → is_some o ≡ false → o ≡ None
+pub none_is : {X : Type 0} (o : Option X) → is_some o ≡ false → o ≡ None
 none_is None e = refl
 none_is (Some x) e = absurd (true≢false e)
 
 -- where a name is taken by none before, it is not joined
-not_joined : (kinds : List Kind) (roster : Roster) (lines : List Line) → StandsFor kinds roster lines → (name : List ℕ) → is_among (threads_of lines) name ≡ false → is_among (joined_of lines) name ≡ false
+pub not_joined : (kinds : List Kind) (roster : Roster) (lines : List Line) → StandsFor kinds roster lines → (name : List ℕ) → is_among (threads_of lines) name ≡ false → is_among (joined_of lines) name ≡ false
 not_joined kinds roster lines stands name fresh = false_from_ne_true _ (λ joined.
     true≢false (sym ((among_decides (threads_of lines) name).1 (stands.joined_begun name ((among_decides (joined_of lines) name).0 joined))) ∙ fresh))
 
 module _ (kinds : List Kind) (roster : Roster) (lines : List Line) (stands : StandsFor kinds roster lines) where
-  thread_keys : keys_of roster.threads.entries ≡ threads_of lines
+  pub thread_keys : keys_of roster.threads.entries ≡ threads_of lines
   thread_keys = ap keys_of stands.thread_entries ∙ keys-entries (thread_entry lines) (λ name. refl) (threads_of lines)
 
   object_keys : keys_of roster.objects.entries ≡ objects_of lines
@@ -241,7 +278,25 @@ module _ (kinds : List Kind) (roster : Roster) (lines : List Line) (stands : Sta
   pub object_at : (i : ℕ) (e : List ℕ × ℕ) → slice_get roster.objects.entries i ≡ Some e → slice_get (objects_of lines) i ≡ Some e.0
   object_at i e at = ap (λ names. slice_get names i) (sym object_keys) ∙ slice_get-map (λ e. e.0) roster.objects.entries i ∙ ap (option_map (λ e. e.0)) at
 
+  -- what a look-up of a lock finds
+  lock_keys : keys_of roster.locks.entries ≡ locks_of lines
+  lock_keys = stands.lock_names
+
+  pub lock_number : (name : List ℕ) (index : Option ℕ) → index_of_by (same_name name) roster.locks ≡ index → unwrap_or index (lock_count roster) ≡ place (locks_of lines) name
+  lock_number name index at = sym (place_in roster.locks.entries (locks_of lines) lock_keys name index at)
+
+  pub lock_unknown : (name : List ℕ) (lock : Option Lock) → get_by (same_name name) roster.locks ≡ lock → not (is_some lock) ≡ not (is_among (locks_of lines) name)
+  lock_unknown name lock value = sym (unknown_in roster.locks.entries (locks_of lines) lock_keys name lock value)
+
+  -- the name of a lock
+  pub lock_at : (i : ℕ) (e : List ℕ × Lock) → slice_get roster.locks.entries i ≡ Some e → slice_get (locks_of lines) i ≡ Some e.0
+  lock_at i e at = ap (λ names. slice_get names i) (sym lock_keys) ∙ slice_get-map (λ e. e.0) roster.locks.entries i ∙ ap (option_map (λ e. e.0)) at
+
   -- a new name goes last
+  pub inserted_lock : (name : List ℕ) (lock : Lock) → is_among (locks_of lines) name ≡ false
+      → insert_entry same_name roster.locks.entries name lock ≡ roster.locks.entries ++ (name, lock) ∷ []
+  inserted_lock name lock fresh = insert_entry-new same_name roster.locks name lock (none_is _ (known_in roster.locks.entries (locks_of lines) lock_keys name ∙ fresh))
+
   pub inserted_thread : (name : List ℕ) (joined : Bool) → is_among (threads_of lines) name ≡ false
       → insert_entry same_name roster.threads.entries name joined ≡ roster.threads.entries ++ (name, joined) ∷ []
   inserted_thread name joined fresh = insert_entry-new same_name roster.threads name joined (none_is _ (thread_known name ∙ fresh))
@@ -252,6 +307,13 @@ module _ (kinds : List Kind) (roster : Roster) (lines : List Line) (stands : Sta
 
   -- ---- what each line breaks first, by the roster
 
+  -- the search goes the same way among the holders and behind them
+  behind : (limits : Limits) (line : Line) (broken : Broken) → find (is_broken kinds lines line) (late limits) ≡ find (flag broken) (late limits)
+      → ((holder : ℕ) → holder < length (threads_of lines) → is_broken kinds lines line (LockHeld holder) ≡ flag broken (LockHeld holder))
+      → find (is_broken kinds lines line) (holders lines ++ late limits) ≡ find (flag broken) (holders lines ++ late limits)
+  behind limits line broken same agree =
+      same_found (is_broken kinds lines line) (flag broken) (late limits) same 0 (length (threads_of lines)) (λ holder below. agree holder (omega arith))
+
   no_header : (headers lines == 0) ≡ not roster.header
   no_header = by (headers lines) ∙ ap not (sym stands.has_header)
     where
@@ -259,54 +321,59 @@ module _ (kinds : List Kind) (roster : Roster) (lines : List Line) (stands : Sta
       by zero = refl
       by (suc n) = grind (arith, nat_tests)
 
+  unknown_thread : (name : List ℕ) (found : FoundThread) → found ≡ found_thread lines name → (not (is_among (threads_of lines) name) || false) ≡ found.unknown
+  unknown_thread name found is = or-false _ ∙ ap (λ found. found.unknown) (sym is)
+
   pub header_judged : (limits : Limits) (version : ℕ) → first_broken kinds limits lines (Header version) ≡ (if roster.header then Some HeaderFirst else None)
   unfolding first_broken
-  header_judged limits version = ap (λ b. cond b (Some HeaderFirst) None) (sym stands.has_header)
+  header_judged limits version =
+      λ i. cond (sym stands.has_header i) (Some HeaderFirst)
+      ((behind limits (Header version) unbroken refl (λ holder below. refl) ∙ none_holds unbroken (late limits) refl 0 (length (threads_of lines))) i)
 
   pub root_judged : (limits : Limits) (name : List ℕ) (taken : Bool) (count : ℕ) → taken ≡ is_some (get_by (same_name name) roster.threads)
-      → count ≡ thread_count roster → first_broken kinds limits lines (Thread name) ≡ (if not roster.header then Some HeaderFirst else if nat_lt 0 roster.events then Some LateRoot
-      else if taken then Some NameTaken else if nat_le limits.threads count then Some (Limit Threads limits.threads) else None)
+      → count ≡ thread_count roster → first_broken kinds limits lines (Thread name) ≡ find (flag (root_flags roster limits taken count)) (causes limits lines)
   unfolding first_broken
   root_judged limits name taken count is counts =
-      let flag : (is_among (threads_of lines) name || false) ≡ taken = or-false _ ∙ sym (is ∙ thread_known name) in
-      λ i. cond (no_header i) (Some HeaderFirst) (cond (ltb 0 (sym stands.event_count i)) (Some LateRoot)
-      (cond (flag i) (Some NameTaken) (cond (leb limits.threads (sym (counts ∙ stands.thread_total) i)) (Some (Limit Threads limits.threads)) None)))
+      let test : (is_among (threads_of lines) name || false) ≡ taken = or-false _ ∙ sym (is ∙ thread_known name) in
+      let rest = behind limits (Thread name) (root_flags roster limits taken count)
+      (λ i. cond (leb limits.threads (sym (counts ∙ stands.thread_total) i)) (Some (Limit Threads limits.threads)) None) (λ holder below. refl) in
+      λ i. cond (no_header i) (Some HeaderFirst) (cond (ltb 0 (sym stands.event_count i)) (Some LateRoot) (cond (test i) (Some NameTaken) (rest i)))
 
   pub object_judged : (limits : Limits) (name kind : List ℕ) (taken unknown : Bool) (count : ℕ) → taken ≡ is_some (get_by (same_name name) roster.objects)
-      → not unknown ≡ is_some (get_by (same_name kind) roster.kinds) → count ≡ object_count roster → first_broken kinds limits lines (Object name kind)
-      ≡ (if not roster.header then Some HeaderFirst else if taken then Some NameTaken else if unknown then Some UnknownKind
-      else if nat_le limits.objects count then Some (Limit Objects limits.objects) else None)
+      → not unknown ≡ is_some (get_by (same_name kind) roster.kinds) → count ≡ object_count roster
+      → first_broken kinds limits lines (Object name kind) ≡ find (flag (object_flags roster limits taken unknown count)) (causes limits lines)
   unfolding first_broken
   object_judged limits name kind taken unknown count is known counts =
-      let flag : is_among (objects_of lines) name ≡ taken = sym (is ∙ object_known name) in
+      let test : is_among (objects_of lines) name ≡ taken = sym (is ∙ object_known name) in
       let lacks : not (is_among (kind_names kinds) kind) ≡ unknown = ap not (sym (known ∙ kind_known kind)) ∙ not-not unknown in
-      λ i. cond (no_header i) (Some HeaderFirst) (cond (flag i) (Some NameTaken) (cond (lacks i) (Some UnknownKind)
-      (cond (leb limits.objects (sym (counts ∙ stands.object_total) i)) (Some (Limit Objects limits.objects)) None)))
+      let rest = behind limits (Object name kind) (object_flags roster limits taken unknown count)
+      (λ i. cond (leb limits.objects (sym (counts ∙ stands.object_total) i)) (Some (Limit Objects limits.objects)) None) (λ holder below. refl) in
+      λ i. cond (no_header i) (Some HeaderFirst) (cond (test i) (Some NameTaken) (cond (lacks i) (Some UnknownKind) (rest i)))
+
+  -- the part of the search that looks at the limit of events alone
+  events_alone : (limits : Limits) → cond (leb limits.events (events lines)) (Some (Limit Events limits.events)) None ≡ cond (leb limits.events roster.events) (Some (Limit Events limits.events)) None
+  events_alone limits = λ i. cond (leb limits.events (sym stands.event_count i)) (Some (Limit Events limits.events)) None
 
   pub fork_judged : (limits : Limits) (thread child : List ℕ) (actor : FoundThread) (taken : Bool) (count : ℕ) → actor ≡ found_thread lines thread
-      → taken ≡ is_some (get_by (same_name child) roster.threads) → count ≡ thread_count roster → first_broken kinds limits lines (Event (Fork thread child))
-      ≡ (if not roster.header then Some HeaderFirst else if taken then Some NameTaken
-      else if actor.unknown then Some UnknownThread else if actor.joined then Some ThreadEnded
-      else if nat_le limits.events roster.events then Some (Limit Events limits.events)
-      else if nat_le limits.threads count then Some (Limit Threads limits.threads) else None)
+      → taken ≡ is_some (get_by (same_name child) roster.threads) → count ≡ thread_count roster
+      → first_broken kinds limits lines (Event (Fork thread child)) ≡ find (flag (fork_flags roster limits actor taken count)) (causes limits lines)
   unfolding first_broken
   fork_judged limits thread child actor taken count acts is counts =
-      let flag : (is_among (threads_of lines) child || false) ≡ taken = or-false _ ∙ sym (is ∙ thread_known child) in
-      let unknown : (not (is_among (threads_of lines) thread) || false) ≡ actor.unknown = or-false _ ∙ ap (λ found. found.unknown) (sym acts) in
-      λ i. cond (no_header i) (Some HeaderFirst) (cond (flag i) (Some NameTaken) (cond (unknown i) (Some UnknownThread)
-      (cond (sym acts i).joined (Some ThreadEnded) (cond (leb limits.events (sym stands.event_count i)) (Some (Limit Events limits.events))
-      (cond (leb limits.threads (sym (counts ∙ stands.thread_total) i)) (Some (Limit Threads limits.threads)) None)))))
+      let test : (is_among (threads_of lines) child || false) ≡ taken = or-false _ ∙ sym (is ∙ thread_known child) in
+      let rest = behind limits (Event (Fork thread child)) (fork_flags roster limits actor taken count)
+      (λ i. cond (leb limits.events (sym stands.event_count i)) (Some (Limit Events limits.events))
+      (cond (leb limits.threads (sym (counts ∙ stands.thread_total) i)) (Some (Limit Threads limits.threads)) None)) (λ holder below. refl) in
+      λ i. cond (no_header i) (Some HeaderFirst) (cond (test i) (Some NameTaken) (cond (unknown_thread thread actor acts i) (Some UnknownThread)
+      (cond (sym acts i).joined (Some ThreadEnded) (rest i))))
 
   pub join_judged : (limits : Limits) (thread child : List ℕ) (actor awaited : FoundThread) (own : Bool) → actor ≡ found_thread lines thread
-      → awaited ≡ found_thread lines child → own ≡ same_name child thread → first_broken kinds limits lines (Event (Join thread child))
-      ≡ (if not roster.header then Some HeaderFirst else if actor.unknown || awaited.unknown then Some UnknownThread
-      else if actor.joined then Some ThreadEnded else if own then Some OwnThread
-      else if nat_le limits.events roster.events then Some (Limit Events limits.events) else None)
+      → awaited ≡ found_thread lines child → own ≡ same_name child thread
+      → first_broken kinds limits lines (Event (Join thread child)) ≡ find (flag (join_flags roster limits actor awaited own)) (causes limits lines)
   unfolding first_broken
   join_judged limits thread child actor awaited own acts waits is =
+      let rest = behind limits (Event (Join thread child)) (join_flags roster limits actor awaited own) (events_alone limits) (λ holder below. refl) in
       λ i. cond (no_header i) (Some HeaderFirst) (cond ((sym acts i).unknown || (sym waits i).unknown) (Some UnknownThread)
-      (cond (sym acts i).joined (Some ThreadEnded) (cond (sym is i) (Some OwnThread)
-      (cond (leb limits.events (sym stands.event_count i)) (Some (Limit Events limits.events)) None))))
+      (cond (sym acts i).joined (Some ThreadEnded) (cond (sym is i) (Some OwnThread) (rest i))))
 
   pub called_method : (object method : List ℕ) (found : FoundObject) (m : FoundMethod) → found ≡ found_object kinds lines object
       → m ≡ found_method (methods_at kinds found.kind) method → m ≡ found_method (methods_of kinds lines object) method
@@ -314,195 +381,69 @@ module _ (kinds : List Kind) (roster : Roster) (lines : List Line) (stands : Sta
 
   pub call_judged : (limits : Limits) (thread object method : List ℕ) (slots : List Value) (actor : FoundThread) (found : FoundObject) (m : FoundMethod) (items : List Value) (count : ℕ)
       → actor ≡ found_thread lines thread → found ≡ found_object kinds lines object → m ≡ found_method (methods_at kinds found.kind) method → items ≡ slots → count ≡ m.slots
-      → first_broken kinds limits lines (Event (Call thread object method slots))
-      ≡ (if not roster.header then Some HeaderFirst else if actor.unknown then Some UnknownThread else if actor.joined then Some ThreadEnded
-      else if found.unknown then Some UnknownObject else if m.unknown then Some UnknownMethod else if not (length items == count) then Some WrongCount
-      else if nat_le limits.events roster.events then Some (Limit Events limits.events) else None)
+      → first_broken kinds limits lines (Event (Call thread object method slots)) ≡ find (flag (call_flags roster limits actor found m (length items) count)) (causes limits lines)
   unfolding first_broken
   call_judged limits thread object method slots actor found m items count acts declared finds same counts =
       let is = called_method object method found m declared finds in
-      let unknown : (not (is_among (threads_of lines) thread) || false) ≡ actor.unknown = or-false _ ∙ ap (λ found. found.unknown) (sym acts) in
-      λ i. cond (no_header i) (Some HeaderFirst) (cond (unknown i) (Some UnknownThread) (cond (sym acts i).joined (Some ThreadEnded)
+      let rest = behind limits (Event (Call thread object method slots)) (call_flags roster limits actor found m (length items) count) (events_alone limits) (λ holder below. refl) in
+      λ i. cond (no_header i) (Some HeaderFirst) (cond (unknown_thread thread actor acts i) (Some UnknownThread) (cond (sym acts i).joined (Some ThreadEnded)
       (cond (sym declared i).unknown (Some UnknownObject) (cond (sym is i).unknown (Some UnknownMethod)
-      (cond (not (length (sym same i) == (sym (counts ∙ ap (λ m. m.slots) is) i))) (Some WrongCount)
-      (cond (leb limits.events (sym stands.event_count i)) (Some (Limit Events limits.events)) None))))))
+      (cond (not (length (sym same i) == (sym (counts ∙ ap (λ m. m.slots) is) i))) (Some WrongCount) (rest i))))))
 
--- ---- one line more
+  -- the holder that is told is the other thread that has the lock
+  holder_judged : (thread lock : List ℕ) (holder : ℕ) → holder < length (threads_of lines)
+      → is_broken kinds lines (Event (Acquire thread lock)) (LockHeld holder)
+      ≡ passes (other_holder (lock_in roster lock) (place (threads_of lines) thread)) (λ other. other == holder)
+  holder_judged thread lock holder below =
+      let threads = threads_of lines in
+      let name : List ℕ = get_or threads holder [] in
+      let at : place threads name ≡ holder = place_at threads stands.threads_differ holder below in
+      let known : place threads name < length threads = omega arith in
+      let same : same_name name thread ≡ (place threads thread == holder) =
+      nat_list_eq_equiv.symm name thread ∙ same_place threads thread name known ∙ ap (λ n. place threads thread == n) at in
+      let free : (acquires lines name lock == releases lines name lock) ≡ (depth_of (lock_in roster lock) holder == 0) =
+      free_test _ _ _ (stands.lock_depths lock name) ∙ ap (λ n. depth_of (lock_in roster lock) n == 0) at in
+      ap (λ o. passes o (λ other. not (same_name other thread) && not (acquires lines other lock == releases lines other lock))) (slice_get-get_or threads holder [] below)
+      ∙ (λ i. not (same i) && not (free i)) ∙ holder_test (lock_in roster lock) (place threads thread) holder
 
--- each name with a flag
-abbrev flagged : (List ℕ → Bool) → List (List ℕ) → List (List ℕ × Bool)
-flagged flag names = map {B = List ℕ × Bool} (λ n. (n, flag n)) names
-
--- of distinct names, a write at the place of one marks that one alone
-module _ (flag : List ℕ → Bool) (child : List ℕ) where
-  unmarked_flag : (name : List ℕ) → same_name child name ≡ false → flag name ≡ (flag name || (same_name name child || false))
-  unmarked_flag name other = sym (or-false (flag name)) ∙ ap (λ b. flag name || (b || false)) (sym (nat_list_eq_equiv.symm name child ∙ other))
-
-  marked_flag : (name : List ℕ) → same_name child name ≡ true → true ≡ (flag name || (same_name name child || false))
-  marked_flag name same = or-true (flag name) ∙ ap (λ b. flag name || (b || false)) (sym (nat_list_eq_equiv.symm name child ∙ same))
-
-  unmarked : (names : List (List ℕ)) → AllByRecursion (λ n. same_name child n ≡ false) names
-      → flagged flag names ≡ flagged (λ n. flag n || (same_name n child || false)) names
-  unmarked [] h = refl
-  unmarked (x ∷ xs) h = λ i. (x, unmarked_flag x h.0 i) ∷ unmarked xs h.1 i
-
-  marked : (names : List (List ℕ)) → IsDistinct same_name names → is_among names child ≡ true
-      → set_value_at (flagged flag names) (place names child) true ≡ flagged (λ n. flag n || (same_name n child || false)) names
-  marked [] apart there = absurd (true≢false (sym there))
-  marked (x ∷ xs) apart there = by (same_name child x) refl (marked xs (IsDistinct-tail same_name x xs apart))
+  pub acquire_judged : (limits : Limits) (thread lock : List ℕ) (actor : FoundThread) (found : FoundLock) (held_by : Option ℕ) (depth : ℕ) → actor ≡ found_thread lines thread
+      → (found.number ≡ place (locks_of lines) lock) × (found.unknown ≡ not (is_among (locks_of lines) lock)) → found.lock ≡ lock_in roster lock
+      → held_by ≡ other_holder found.lock actor.number → depth ≡ depth_of found.lock actor.number
+      → first_broken kinds limits lines (Event (Acquire thread lock)) ≡ find (flag (acquire_flags roster limits actor found held_by depth)) (causes limits lines)
+  unfolding first_broken
+  acquire_judged limits thread lock actor found held_by depth acts numbers is holds counts =
+      let n : place (threads_of lines) thread ≡ actor.number = ap (λ found. found.number) (sym acts) in
+      let raised : (not (is_among (locks_of lines) lock) && leb limits.locks (length (locks_of lines))) ≡ (found.unknown && leb limits.locks found.number) =
+      counted (is_among (locks_of lines) lock) refl ∙ (λ i. sym numbers.1 i && leb limits.locks (sym numbers.0 i)) in
+      let deep : leb (limits.depth + releases lines thread lock) (acquires lines thread lock) ≡ leb limits.depth depth =
+      deep_test _ _ _ (stands.lock_depths lock thread) limits.depth ∙ (λ i. leb limits.depth (depth_of (sym is i) (n i))) ∙ ap (leb limits.depth) (sym counts) in
+      let rest = behind limits (Event (Acquire thread lock)) (acquire_flags roster limits actor found held_by depth)
+      (λ i. cond (leb limits.events (sym stands.event_count i)) (Some (Limit Events limits.events))
+      (cond (raised i) (Some (Limit Locks limits.locks)) (cond (deep i) (Some (Limit Depth limits.depth)) None)))
+      (λ holder below. holder_judged thread lock holder below ∙ (λ i. passes (other_holder (sym is i) (n i)) (λ other. other == holder))
+      ∙ ap (λ o. passes o (λ other. other == holder)) (sym holds)) in
+      λ i. cond (no_header i) (Some HeaderFirst) (cond (unknown_thread thread actor acts i) (Some UnknownThread) (cond (sym acts i).joined (Some ThreadEnded) (rest i)))
     where
-      Flagged : ℕ → Type 0
-      Flagged n = set_value_at ((x, flag x) ∷ flagged flag xs) n true ≡ (x, flag x || (same_name x child || false)) ∷ flagged (λ n. flag n || (same_name n child || false)) xs
+      counted : (b : Bool) → is_among (locks_of lines) lock ≡ b
+          → (not (is_among (locks_of lines) lock) && leb limits.locks (length (locks_of lines))) ≡ (not (is_among (locks_of lines) lock) && leb limits.locks (place (locks_of lines) lock))
+      counted true there = (λ i. not (there i) && leb limits.locks (length (locks_of lines))) ∙ (λ i. not (sym there i) && leb limits.locks (place (locks_of lines) lock))
+      counted false lacks = ap (λ n. not (is_among (locks_of lines) lock) && leb limits.locks n) (sym (place_unknown (locks_of lines) lock lacks))
 
-      by : (b : Bool) → same_name child x ≡ b → (is_among xs child ≡ true → set_value_at (flagged flag xs) (place xs child) true ≡ flagged (λ n. flag n || (same_name n child || false)) xs)
-          → set_value_at ((x, flag x) ∷ flagged flag xs) (cond (not (same_name child x)) (1 + place xs child) 0) true
-          ≡ (x, flag x || (same_name x child || false)) ∷ flagged (λ n. flag n || (same_name n child || false)) xs
-      by true same rest =
-          let others : AllByRecursion (λ n. same_name child n ≡ false) xs =
-          subst (λ name. AllByRecursion (λ n. same_name name n ≡ false) xs) (sym ((bytes_decides child x).0 same)) (IsDistinct-head same_name x xs apart) in
-          subst (λ b. Flagged (cond (not b) (1 + place xs child) 0)) (sym same) (λ i. (x, marked_flag x same i) ∷ unmarked xs others i)
-      by false other rest =
-          let later : is_among xs child ≡ true = sym (ap (λ b. b || is_among xs child) other) ∙ there in
-          let next : 1 + place xs child ≡ suc (place xs child) = omega arith in
-          subst (λ b. Flagged (cond (not b) (1 + place xs child) 0)) (sym other)
-          (subst Flagged (sym next) (λ i. (x, unmarked_flag x other i) ∷ rest later i))
+  -- and it was begun
+  pub holder_within : (lock : List ℕ) (held : Lock) (held_by : Option ℕ) (thread : ℕ) → held ≡ lock_in roster lock → held_by ≡ other_holder held thread
+      → IfSome held_by (λ holder. holder < length (threads_of lines))
+  holder_within lock held held_by thread is holds =
+      subst (λ o. IfSome o (λ holder. holder < length (threads_of lines))) (sym (holds ∙ ap (λ lock. other_holder lock thread) is))
+      (holder_below (lock_in roster lock) thread (length (threads_of lines)) (stands.holders_begun lock))
 
-more_headers : (n : ℕ) (is : Bool) → nat_lt 0 (n + cond is 1 0) ≡ (nat_lt 0 n || is)
-more_headers zero true = refl
-more_headers zero false = refl
-more_headers (suc n) true = grind (arith, nat_tests)
-more_headers (suc n) false = grind (arith, nat_tests)
-
-module _ (kinds : List Kind) (old : Roster) (lines : List Line) (stands : StandsFor kinds old lines) (line : Line) where
-  grown : (new : Roster) → new.kinds.entries ≡ old.kinds.entries → new.header ≡ (old.header || is_header line) → new.events ≡ old.events + cond (is_event line) 1 0
-      → new.threads.entries ≡ map (thread_entry (lines ++ line ∷ [])) (threads_of (lines ++ line ∷ []))
-      → new.objects.entries ≡ filter_map (object_entry kinds) (lines ++ line ∷ [])
-      → ((name : List ℕ) → Contains (joined_of (lines ++ line ∷ [])) name → Contains (threads_of (lines ++ line ∷ [])) name)
-      → StandsFor kinds new (lines ++ line ∷ [])
-  grown new same_kinds header events threads objects begun = record {
-    kind_entries = ap (map kind_entry) same_kinds ∙ stands.kind_entries;
-    has_header = header ∙ ap (λ b. b || is_header line) stands.has_header ∙ sym (more_headers (headers lines) (is_header line)) ∙ ap (nat_lt 0) (sym (sum_by_push _ lines line));
-    event_count = events ∙ ap (λ n. n + cond (is_event line) 1 0) stands.event_count ∙ sym (sum_by_push _ lines line);
-    thread_entries = threads;
-    object_entries = objects;
-    joined_begun = begun;
-    thread_total = ap length threads ∙ length-map (threads_of (lines ++ line ∷ [])) (thread_entry (lines ++ line ∷ []));
-    object_total = sym (length-map new.objects.entries (λ e. e.0)) ∙ ap length (ap keys_of objects ∙ keys-objects kinds (lines ++ line ∷ []));
-  }
-
-  -- a begun thread goes last and is not joined, and a declared object goes last
-  begun_entries : (begun : Option (List ℕ)) → ((name : List ℕ) → begun ≡ Some name → is_among (threads_of lines) name ≡ false)
-      → flagged (is_among (joined_of lines)) (cons_option begun []) ≡ flagged (λ name. false) (cons_option begun [])
-  begun_entries None fresh = refl
-  begun_entries (Some name) fresh = λ i. (name, not_joined kinds old lines stands name (fresh name refl) i) ∷ []
-
-  no_join : (new : Roster) → joined_name line ≡ None → ((name : List ℕ) → begun_name line ≡ Some name → is_among (threads_of lines) name ≡ false)
-      → new.kinds.entries ≡ old.kinds.entries → new.header ≡ (old.header || is_header line) → new.events ≡ old.events + cond (is_event line) 1 0
-      → new.threads.entries ≡ old.threads.entries ++ flagged (λ name. false) (cons_option (begun_name line) [])
-      → new.objects.entries ≡ old.objects.entries ++ cons_option (object_entry kinds line) [] → StandsFor kinds new (lines ++ line ∷ [])
-  no_join new joins fresh same_kinds header events threads objects =
-      let more : threads_of (lines ++ line ∷ []) ≡ threads_of lines ++ cons_option (begun_name line) [] = filter_map-append begun_name lines (line ∷ []) in
-      let same : joined_of (lines ++ line ∷ []) ≡ joined_of lines =
-      filter_map-append joined_name lines (line ∷ []) ∙ ap (λ o. joined_of lines ++ cons_option o []) joins ∙ append-nil (joined_of lines) in
-      let entries : map (thread_entry (lines ++ line ∷ [])) (threads_of (lines ++ line ∷ []))
-      ≡ map (thread_entry lines) (threads_of lines) ++ flagged (λ name. false) (cons_option (begun_name line) []) =
-      (λ i. flagged (is_among (same i)) (more i)) ∙ map-append (thread_entry lines) (threads_of lines) (cons_option (begun_name line) [])
-      ∙ ap (λ es. map (thread_entry lines) (threads_of lines) ++ es) (begun_entries (begun_name line) fresh) in
-      grown new same_kinds header events
-      (threads ∙ ap (λ es. es ++ flagged (λ name. false) (cons_option (begun_name line) [])) stands.thread_entries ∙ sym entries)
-      (objects ∙ ap (λ es. es ++ cons_option (object_entry kinds line) []) stands.object_entries ∙ sym (filter_map-append (object_entry kinds) lines (line ∷ [])))
-      (λ name h. subst (λ names. Contains names name) (sym more)
-      (Contains-append_left (threads_of lines) (cons_option (begun_name line) []) name (stands.joined_begun name (subst (λ names. Contains names name) same h))))
-
--- where a name is new, so is each name that is the same
-new_name : (threads : List (List ℕ)) (name : List ℕ) → is_among threads name ≡ false → (other : List ℕ) → Some name ≡ Some other → is_among threads other ≡ false
-new_name threads name fresh other e = subst (λ n. is_among threads n ≡ false) (same_Some name other e) fresh
-
-module _ (kinds : List Kind) (old new : Roster) (lines : List Line) (stands : StandsFor kinds old lines) (same_kinds : new.kinds.entries ≡ old.kinds.entries) where
-  pub after_skip : new.header ≡ old.header → new.events ≡ old.events → new.threads.entries ≡ old.threads.entries → new.objects.entries ≡ old.objects.entries
-      → StandsFor kinds new (lines ++ Skip ∷ [])
-  after_skip header events threads objects = no_join kinds old lines stands Skip new refl (λ name e. cc) same_kinds (header ∙ sym (or-false old.header))
-      (events ∙ sym (add-zero old.events)) (threads ∙ sym (append-nil _)) (objects ∙ sym (append-nil _))
-
-  pub after_header : (version : ℕ) → new.header ≡ true → new.events ≡ old.events → new.threads.entries ≡ old.threads.entries → new.objects.entries ≡ old.objects.entries
-      → StandsFor kinds new (lines ++ Header version ∷ [])
-  after_header version header events threads objects = no_join kinds old lines stands (Header version) new refl (λ name e. cc) same_kinds (header ∙ or-true old.header)
-      (events ∙ sym (add-zero old.events)) (threads ∙ sym (append-nil _)) (objects ∙ sym (append-nil _))
-
-  pub after_root : (name : List ℕ) → is_among (threads_of lines) name ≡ false → new.header ≡ old.header → new.events ≡ old.events
-      → new.threads.entries ≡ old.threads.entries ++ (name, false) ∷ [] → new.objects.entries ≡ old.objects.entries
-      → StandsFor kinds new (lines ++ Thread name ∷ [])
-  after_root name fresh header events threads objects = no_join kinds old lines stands (Thread name) new refl (new_name (threads_of lines) name fresh) same_kinds
-      (header ∙ sym (or-false old.header)) (events ∙ sym (add-zero old.events)) threads (objects ∙ sym (append-nil _))
-
-  pub after_object : (name kind : List ℕ) → new.header ≡ old.header → new.events ≡ old.events → new.threads.entries ≡ old.threads.entries
-      → new.objects.entries ≡ old.objects.entries ++ (name, place (kind_names kinds) kind) ∷ []
-      → StandsFor kinds new (lines ++ Object name kind ∷ [])
-  after_object name kind header events threads objects = no_join kinds old lines stands (Object name kind) new refl (λ name e. cc) same_kinds
-      (header ∙ sym (or-false old.header)) (events ∙ sym (add-zero old.events)) (threads ∙ sym (append-nil _)) objects
-
-  pub after_fork : (thread child : List ℕ) → is_among (threads_of lines) child ≡ false → new.header ≡ old.header → new.events ≡ old.events + 1
-      → new.threads.entries ≡ old.threads.entries ++ (child, false) ∷ [] → new.objects.entries ≡ old.objects.entries
-      → StandsFor kinds new (lines ++ Event (Fork thread child) ∷ [])
-  after_fork thread child fresh header events threads objects = no_join kinds old lines stands (Event (Fork thread child)) new refl (new_name (threads_of lines) child fresh) same_kinds
-      (header ∙ sym (or-false old.header)) events threads (objects ∙ sym (append-nil _))
-
-  pub after_call : (thread object method : List ℕ) (slots : List Value) → new.header ≡ old.header → new.events ≡ old.events + 1
-      → new.threads.entries ≡ old.threads.entries → new.objects.entries ≡ old.objects.entries → StandsFor kinds new (lines ++ Event (Call thread object method slots) ∷ [])
-  after_call thread object method slots header events threads objects =
-      no_join kinds old lines stands (Event (Call thread object method slots)) new refl (λ name e. cc) same_kinds
-      (header ∙ sym (or-false old.header)) events (threads ∙ sym (append-nil _)) (objects ∙ sym (append-nil _))
-
-  pub after_join : (thread child : List ℕ) → is_among (threads_of lines) child ≡ true → IsDistinct same_name (keys_of old.threads.entries)
-      → new.header ≡ old.header → new.events ≡ old.events + 1
-      → new.threads.entries ≡ set_value_at old.threads.entries (place (threads_of lines) child) true → new.objects.entries ≡ old.objects.entries
-      → StandsFor kinds new (lines ++ Event (Join thread child) ∷ [])
-  after_join thread child known distinct header events threads objects =
-      let line : Line = Event (Join thread child) in
-      let more : joined_of (lines ++ line ∷ []) ≡ joined_of lines ++ child ∷ [] = filter_map-append joined_name lines (line ∷ []) in
-      let same : threads_of (lines ++ line ∷ []) ≡ threads_of lines = filter_map-append begun_name lines (line ∷ []) ∙ append-nil (threads_of lines) in
-      let apart : IsDistinct same_name (threads_of lines) = subst (IsDistinct same_name) (thread_keys kinds old lines stands) distinct in
-      let entries : map (thread_entry (lines ++ line ∷ [])) (threads_of (lines ++ line ∷ [])) ≡ flagged (λ n. is_among (joined_of lines) n || (same_name n child || false)) (threads_of lines) =
-      (λ i. flagged (is_among (more i)) (same i)) ∙ (λ i. flagged (λ n. list_any-append (same_name n) (joined_of lines) (child ∷ []) i) (threads_of lines)) in
-      grown kinds old lines stands line new same_kinds (header ∙ sym (or-false old.header)) events
-      (threads ∙ ap (λ es. set_value_at es (place (threads_of lines) child) true) stands.thread_entries ∙ marked (is_among (joined_of lines)) child (threads_of lines) apart known ∙ sym entries)
-      (objects ∙ stands.object_entries ∙ sym (filter_map-append (object_entry kinds) lines (line ∷ []) ∙ append-nil _))
-      (λ name there. subst (λ names. Contains names name) (sym same)
-      (elim (Contains-push_cases (joined_of lines) child name (subst (λ names. Contains names name) more there)) [
-        | inl before ↦ stands.joined_begun name before
-        | inr here ↦ subst (Contains (threads_of lines)) here ((among_decides (threads_of lines) child).0 known)
-      ]))
-
--- ---- what the public call says by the law
-
-pub ok_follows : (old new : Roster) (limits : Limits) (line : Line) (r : Result Accepted WfRefused) → IfOk r (Accepts old new limits line)
-    → OnOk r ((kinds : List Kind) (lines : List Line) → StandsFor kinds old lines → MayFollow kinds limits lines line)
-ok_follows old new limits line (Ok accepted) takes = λ kinds lines stands. follows_from_none kinds limits lines line (takes kinds lines stands).0
-ok_follows old new limits line (Err e) takes = tt
-
-pub err_broken : (old new : Roster) (limits : Limits) (line : Line) (r : Result Accepted WfRefused) → IfErr r (Refuses old new limits line)
-    → IfErr r (λ e. (kinds : List Kind) (lines : List Line) → StandsFor kinds old lines → (cause : WfCause) → e ≡ Cause cause →
-    (first_broken kinds limits lines line ≡ Some cause) × IsBrokenFirst kinds limits lines line cause)
-err_broken old new limits line (Ok accepted) refuses = tt
-err_broken old new limits line (Err e) refuses = λ kinds lines stands cause same.
-    let refused : Refuses old new limits line (Cause cause) = subst (Refuses old new limits line) same refuses in
-    (refused.0 kinds lines stands, broken_from_some kinds limits lines line cause (refused.0 kinds lines stands))
-
-pub err_memory : (old new : Roster) (limits : Limits) (line : Line) (r : Result Accepted WfRefused) → IfErr r (Refuses old new limits line)
-    → IfErr r (λ e. e ≡ NoMemory → (kinds : List Kind) (lines : List Line) → StandsFor kinds old lines → (first_broken kinds limits lines line ≡ None) × IsTrue (takes_memory line))
-err_memory old new limits line (Ok accepted) refuses = tt
-err_memory old new limits line (Err e) refuses = λ same kinds lines stands.
-    let refused : Refuses old new limits line NoMemory = subst (Refuses old new limits line) same refuses in
-    let told = refused kinds lines stands in (told.0, told.1)
-
-pub err_stands : (old new : Roster) (limits : Limits) (line : Line) (r : Result Accepted WfRefused) → IfErr r (Refuses old new limits line)
-    → OnErr r ((kinds : List Kind) (lines : List Line) → StandsFor kinds old lines → StandsFor kinds new lines)
-err_stands old new limits line (Ok accepted) refuses = tt
-err_stands old new limits line (Err (Cause cause)) refuses = λ kinds lines stands. subst (λ roster. StandsFor kinds roster lines) (sym refuses.1) stands
-err_stands old new limits line (Err NoMemory) refuses = λ kinds lines stands. (refuses kinds lines stands).2
-
-pub ok_few : (old new : Roster) (limits : Limits) (line : Line) (r : Result Accepted WfRefused) → IfOk r (Accepts old new limits line) → thread_count new < 4294967296
-    → OnOk r ((kinds : List Kind) (lines : List Line) → StandsFor kinds old lines → length (threads_of (lines ++ line ∷ [])) ≤ 4294967295)
-ok_few old new limits line (Ok accepted) accepts few = λ kinds lines stands.
-    let now : StandsFor kinds new (lines ++ line ∷ []) = (accepts kinds lines stands).2 in omega (arith, now.thread_total)
-ok_few old new limits line (Err e) accepts few = tt
+  pub release_judged : (limits : Limits) (thread lock : List ℕ) (actor : FoundThread) (held : Lock) (depth : ℕ) → actor ≡ found_thread lines thread → held ≡ lock_in roster lock
+      → depth ≡ depth_of held actor.number
+      → first_broken kinds limits lines (Event (Release thread lock)) ≡ find (flag (release_flags roster limits actor depth)) (causes limits lines)
+  unfolding first_broken
+  release_judged limits thread lock actor held depth acts is counts =
+      let n : place (threads_of lines) thread ≡ actor.number = ap (λ found. found.number) (sym acts) in
+      let lacks : leb (acquires lines thread lock) (releases lines thread lock) ≡ (depth == 0) =
+      not_held_test _ _ _ (stands.lock_depths lock thread) ∙ (λ i. depth_of (sym is i) (n i) == 0) ∙ ap (λ n. n == 0) (sym counts) in
+      let rest = behind limits (Event (Release thread lock)) (release_flags roster limits actor depth)
+      (λ i. cond (lacks i) (Some NotHeld) (events_alone limits i)) (λ holder below. refl) in
+      λ i. cond (no_header i) (Some HeaderFirst) (cond (unknown_thread thread actor acts i) (Some UnknownThread) (cond (sym acts i).joined (Some ThreadEnded) (rest i)))

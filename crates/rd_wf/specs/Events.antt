@@ -69,17 +69,23 @@ pub record IsTold (roots : ℕ → Bool) (es : List Numbered) (count : ℕ) (thr
   -- the kind of a call's object is that of the call
   pub one_kind : (object kind : ℕ) → 0 < calls es object kind → slice_get objects object ≡ Some kind
 
--- each thread takes and gives back each lock as often as its lines say, by their places; no thread and no lock without a name
--- is used; and each lock's name has one place
+-- the counts by numbers are those by names, at their places; and where a thread or lock has no name, or no number, they are 0
+pub record Tally (count : ℕ → ℕ → ℕ) (threads locks : List (List ℕ)) (says : List ℕ → List ℕ → ℕ) : Type 0 where
+  pub named : (t l : ℕ) (thread lock : List ℕ) → slice_get threads t ≡ Some thread → slice_get locks l ≡ Some lock → count t l ≡ says thread lock
+  pub no_thread : (t l : ℕ) → length threads ≤ t → count t l ≡ 0
+  pub no_lock : (t l : ℕ) → length locks ≤ l → count t l ≡ 0
+  pub new_thread : (thread lock : List ℕ) → ¬ (Contains threads thread) → says thread lock ≡ 0
+  pub new_lock : (thread lock : List ℕ) → ¬ (Contains locks lock) → says thread lock ≡ 0
+
+-- each thread takes and gives back each lock as often as its lines say, and each lock's name has one place
 pub record AreUsed (es : List Numbered) (threads locks : List (List ℕ)) (took gave : List ℕ → List ℕ → ℕ) : Type 0 where
-  pub taken : (t l : ℕ) (thread lock : List ℕ) → slice_get threads t ≡ Some thread → slice_get locks l ≡ Some lock → takings es t (exclusive l) ≡ took thread lock
-  pub given : (t l : ℕ) (thread lock : List ℕ) → slice_get threads t ≡ Some thread → slice_get locks l ≡ Some lock → givings es t (exclusive l) ≡ gave thread lock
-  pub no_thread : (t l : ℕ) → length threads ≤ t → (takings es t (exclusive l) ≡ 0) × (givings es t (exclusive l) ≡ 0)
-  pub no_lock : (t l : ℕ) → length locks ≤ l → (takings es t (exclusive l) ≡ 0) × (givings es t (exclusive l) ≡ 0)
+  pub taken : Tally (λ t l. takings es t (exclusive l)) threads locks took
+  pub given : Tally (λ t l. givings es t (exclusive l)) threads locks gave
   pub places : (l : ℕ) (lock : List ℕ) → slice_get locks l ≡ Some lock → place locks lock ≡ l
 
--- so it is with the events of these lines, and their calls are of the kinds
+-- so it is with the events of these lines; and the objects and the calls are of the kinds
 pub record AreTold (kinds : List Kind) (lines : List Line) : Type 0 where
   pub told : IsTold (roots_of lines) (events_of kinds lines) (events lines) (threads_of lines) (joined_of lines) (object_kinds kinds lines)
   pub used : AreUsed (events_of kinds lines) (threads_of lines) (locks_of lines) (acquires lines) (releases lines)
+  pub declared : All (λ kind. kind < length kinds) (object_kinds kinds lines)
   pub fit : All (λ e. IfSome (call_in e) (IsCallOf kinds)) (events_of kinds lines)

@@ -1,5 +1,6 @@
 -- What a roster holds of the accepted lines of a trace: this project's profile.
-use Rattle.std.specs.Prelude.{◌≡◌, ℕ, ◌+◌, ◌<◌, ◌==◌, Bool, false, nat_lt, not, if◌then◌else◌, List, [], ◌∷◌, ◌++◌, map, length, Contains, filter_map, Option, Some, None, unwrap_or, IsTrue}
+use Rattle.std.specs.Prelude.{◌≡◌, ℕ, ◌+◌, ◌<◌, ◌==◌, Bool, false, nat_lt, ◌&&◌, not, if◌then◌else◌, List, [], ◌∷◌, ◌++◌, map, length, Contains, filter_map, Option, Some, None, unwrap_or, IsTrue}
+use Rattle.std.specs.List.{IsDistinct}
 use Rattle.indexmap.specs.IndexMap.{get_by, index_map_len}
 use Rattle.rd_base.specs.declared.limits.Limits.{Limits}
 use Rattle.rd_event.specs.declared.items.Line.{Line}
@@ -39,6 +40,10 @@ abbrev pub object_entry : List Kind → Line → Option (List ℕ × ℕ)
 object_entry kinds (Object name kind) = Some (name, place (kind_names kinds) kind)
 object_entry kinds _ = None
 
+-- the names of the threads that the roster numbers, in their order
+abbrev pub names_in : Roster → List (List ℕ)
+names_in roster = map (λ entry. entry.0) roster.threads.entries
+
 -- a lock that no thread has
 abbrev pub free_lock : Lock
 free_lock = record { holder = 0; depth = 0 }
@@ -50,6 +55,10 @@ lock_in roster name = unwrap_or (get_by (same_name name) roster.locks) free_lock
 -- how often the thread with this number acquired the lock and didn't release it
 abbrev pub depth_of : Lock → ℕ → ℕ
 depth_of lock thread = if thread == lock.holder then lock.depth else 0
+
+-- the thread that has the lock, if it is another one than that with this number
+abbrev pub other_holder : Lock → ℕ → Option ℕ
+other_holder lock thread = if nat_lt 0 lock.depth && not (thread == lock.holder) then Some lock.holder else None
 
 -- the methods that a roster's table says, and the kind that an entry of its kinds says
 abbrev pub method_entry : List ℕ × ℕ → Method
@@ -130,7 +139,8 @@ pub record StandsFor (kinds : List Kind) (roster : Roster) (lines : List Line) :
   pub lock_names : map (λ entry. entry.0) roster.locks.entries ≡ locks_of lines
   pub lock_depths : (lock thread : List ℕ) → acquires lines thread lock ≡ releases lines thread lock + depth_of (lock_in roster lock) (place (threads_of lines) thread)
   pub holders_begun : (lock : List ℕ) → 0 < (lock_in roster lock).depth → (lock_in roster lock).holder < length (threads_of lines)
-  -- each joined thread was begun
+  -- no two threads have one name, and each joined thread was begun
+  pub threads_differ : IsDistinct same_name (threads_of lines)
   pub joined_begun : (name : List ℕ) → Contains (joined_of lines) name → Contains (threads_of lines) name
   -- so the numbers go up to these counts
   pub thread_total : thread_count roster ≡ length (threads_of lines)

@@ -2,10 +2,15 @@
 ghost use Rattle.std.specs.Prelude.{◌≡◌, ◌↔◌, ◌<◌, List, ℕ, MatchOption, length, slice_get, Contains, Some};
 ghost use Rattle.rd_base.specs.declared.limits.Limits.{Limits as LimitsOf};
 ghost use Rattle.rd_event.specs.declared.items.Line.{Line as LineOf};
-ghost use Rattle.rd_order.specs.EventLists.{Known, WellFormed, calls, joins};
+ghost use Rattle.rd_event.specs.declared.items.Line.TheVariants as line;
+ghost use Rattle.rd_event.specs.declared.items.LineEvent.TheVariants as spelled;
+ghost use Rattle.rd_event.specs.declared.events.Event.TheVariants as event;
+ghost use Rattle.rd_order.specs.EventLists.{Known, WellFormedWith, calls, givings, joins, takings};
+ghost use Rattle.rd_order.specs.Order.{exclusive};
+ghost use Rattle.rd_wf.specs.declared.causes.Accepted.TheVariants as accepted;
 ghost use Rattle.rd_wf.specs.Events.{AreAccepted, events_of, roots_of};
 ghost use Rattle.rd_ecl.specs.Kinds.{Kind};
-ghost use Rattle.rd_wf.specs.MayFollow.{IsBrokenFirst, MayFollow, events, first_broken, joined_of, object_kinds, threads_of};
+ghost use Rattle.rd_wf.specs.MayFollow.{IsBrokenFirst, MayFollow, accepted_of, acquires, events, first_broken, joined_of, locks_of, object_kinds, place, releases, threads_of};
 
 use crate::causes::WfCause;
 
@@ -20,11 +25,13 @@ pub fn law_of_following()
         IsBrokenFirst kinds limits before line cause → first_broken kinds limits before line ≡ Some cause }
 {}
 
-/// The events of accepted lines are a well-formed list for the threads that no event begins, as many as the lines of
-/// events. Its known threads are those of the lines, and its joined ones those
-/// that the lines join. All calls on an object are of the kind that its line declares.
+/// The events of accepted lines are a well-formed list for the kinds and for the threads that no
+/// event begins, as many as the lines of events. Its known threads are those of the lines, and its
+/// joined ones those that the lines join. All calls on an object are of the kind that its line
+/// declares. A thread takes and gives back a lock as often as the lines with their names acquire and
+/// release it, and a lock that is acquired for the first time has the next number.
 pub fn law_of_events()
-    ensures formed { (kinds : List Kind) (lines : List LineOf) → AreAccepted kinds lines → WellFormed (roots_of lines) (events_of kinds lines) }
+    ensures formed { (kinds : List Kind) (lines : List LineOf) → AreAccepted kinds lines → WellFormedWith kinds (roots_of lines) (events_of kinds lines) }
     ensures count { (kinds : List Kind) (lines : List LineOf) → AreAccepted kinds lines → length (events_of kinds lines) ≡ events lines }
     ensures known { (kinds : List Kind) (lines : List LineOf) → AreAccepted kinds lines → (t : ℕ) →
         (Known (roots_of lines) (events_of kinds lines) t ↔ (t < length (threads_of lines))) }
@@ -32,4 +39,10 @@ pub fn law_of_events()
         ((0 < joins (events_of kinds lines) t) ↔ ((name : List ℕ) × (slice_get (threads_of lines) t ≡ Some name) × Contains (joined_of lines) name)) }
     ensures one_kind { (kinds : List Kind) (lines : List LineOf) → AreAccepted kinds lines → (object kind : ℕ) →
         0 < calls (events_of kinds lines) object kind → slice_get (object_kinds kinds lines) object ≡ Some kind }
+    ensures taken { (kinds : List Kind) (lines : List LineOf) → AreAccepted kinds lines → (t l : ℕ) (thread lock : List ℕ) →
+        slice_get (threads_of lines) t ≡ Some thread → slice_get (locks_of lines) l ≡ Some lock → takings (events_of kinds lines) t (exclusive l) ≡ acquires lines thread lock }
+    ensures given { (kinds : List Kind) (lines : List LineOf) → AreAccepted kinds lines → (t l : ℕ) (thread lock : List ℕ) →
+        slice_get (threads_of lines) t ≡ Some thread → slice_get (locks_of lines) l ≡ Some lock → givings (events_of kinds lines) t (exclusive l) ≡ releases lines thread lock }
+    ensures numbered { (kinds : List Kind) (before : List LineOf) (thread lock : List ℕ) → ¬ (Contains (locks_of before) lock) →
+        accepted_of kinds before (line.Event (spelled.Acquire thread lock)) ≡ accepted.Event (event.Acquire (place (threads_of before) thread) (length (locks_of before))) }
 {}

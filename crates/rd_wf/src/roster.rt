@@ -41,19 +41,19 @@ pub struct Roster {
 }
 
 impl Roster {
-    ghost use Rattle.std.specs.Prelude.{◌≡◌, ◌<◌, ◌≤◌, List, [], ◌∷◌, ◌++◌, IfOk, IfErr, OnOk, OnErr, IsTrue, length, slice_get};
+    ghost use Rattle.std.specs.Prelude.{◌≡◌, ◌≢◌, ◌<◌, ◌≤◌, List, [], ◌∷◌, ◌++◌, IfOk, IfErr, OnOk, OnErr, IsTrue, length, slice_get};
     ghost use Rattle.rd_base.specs.Limits.{AreUsable};
     ghost use Rattle.rd_event.specs.declared.items.Line.{Line as LineOf};
     ghost use Rattle.rd_wf.specs.MayFollow.{IsBrokenFirst, MayFollow, first_broken, accepted_of, same_name, threads_of, locks_of, objects_of, headers, events, takes_memory};
-    ghost use Rattle.std.specs.List.{IsDistinct};
+    ghost use Rattle.std.specs.List.{AllPairs};
     ghost use Rattle.rd_ecl.specs.Kinds.{Kind, kind_names, kinds_of};
-    ghost use Rattle.rd_wf.specs.Roster.{StandsFor, Accepts, Refuses, thread_count, lock_count, object_count};
+    ghost use Rattle.rd_wf.specs.Roster.{StandsFor, Accepts, Refuses, names_in, thread_count, lock_count, object_count};
 
     /// The roster of no lines. It keeps the names of the kinds, which differ, and of their methods, and how many slots each
     /// method has. A kind's number is its place in the specification.
     pub fn new(alloc: Global, spec: &Spec) -> Result<Roster, NoMemory>
         requires few { length spec.now < 2 ^ 32 }
-        requires different { IsDistinct same_name (kind_names (kinds_of spec.now)) }
+        requires different { AllPairs (λ x y. x ≢ y) (kind_names (kinds_of spec.now)) }
         ensures { IfOk result (λ roster. StandsFor (kinds_of spec.now) roster []) }
     {
         let mut kinds = IndexMap::new(alloc);
@@ -317,7 +317,8 @@ impl Roster {
     /// The name of the thread with this number, which is below `threads()`. It takes no memory.
     pub fn thread_name(&self, thread: u32) -> &Name
         requires { thread < thread_count self.now }
-        ensures { (kinds : List Kind) (lines : List LineOf) → StandsFor kinds self.now lines → slice_get (threads_of lines) thread ≡ Some result.now }
+        ensures name { slice_get (names_in self.now) thread ≡ Some result.now }
+        ensures history { (kinds : List Kind) (lines : List LineOf) → StandsFor kinds self.now lines → slice_get (threads_of lines) thread ≡ Some result.now }
     {
         self.threads.get_index(thread as usize).unwrap().0
     }

@@ -48,8 +48,8 @@ pub(super) struct Used {
 }
 
 impl Lock {
-    ghost use Rattle.std.specs.Prelude.{◌≡◌, ◌<◌, ◌≢◌, Bool, nat_lt, ◌==◌, ◌&&◌, not, if◌then◌else◌, Some, None};
-    ghost use Rattle.rd_wf.specs.Roster.{depth_of};
+    ghost use Rattle.std.specs.Prelude.{◌≡◌};
+    ghost use Rattle.rd_wf.specs.Roster.{depth_of, other_holder};
 
     /// How often the thread has acquired the lock and not released it.
     fn depth_of(self, thread: u32) -> u32
@@ -60,7 +60,7 @@ impl Lock {
 
     /// The thread that has the lock, if it is another one.
     fn held_by_other(self, thread: u32) -> Option<u32>
-        ensures { result ≡ (if nat_lt 0 self.depth && not (thread == self.holder) then Some self.holder else None) }
+        ensures { result ≡ other_holder self thread }
     {
         if self.depth > 0 && thread != self.holder {
             Some(self.holder)
@@ -138,8 +138,7 @@ const UNBROKEN: Broken = Broken {
 };
 
 impl Broken {
-    ghost use Rattle.std.specs.Prelude.{◌≡◌};
-    ghost use Rattle.std.specs.Prelude.{◌<◌, List, IfSome, find, length};
+    ghost use Rattle.std.specs.Prelude.{◌≡◌, ◌<◌, List, None, IfSome, find, length};
     ghost use Rattle.rd_event.specs.declared.items.Line.{Line as LineOf};
     ghost use Rattle.rd_wf.specs.MayFollow.{causes, threads_of};
     ghost use Rattle.rd_wf.specs.Roster.{flag};
@@ -148,6 +147,8 @@ impl Broken {
     fn first(&self, limits: &Limits) -> Option<WfCause>
         ensures first { (before : List LineOf) → IfSome self.now.held_by (λ holder. holder < length (threads_of before)) →
             result ≡ find (flag self.now) (causes limits.now before) }
+        ensures known { IfNone result (self.now.unknown_thread ≡ false) }
+        ensures held { IfNone result ((self.now.held_by ≡ None) × (self.now.not_held ≡ false)) }
         ensures room { IfNone result ((self.now.events ≡ false) × (self.now.threads ≡ false) × (self.now.locks ≡ false) × (self.now.objects ≡ false) × (self.now.depth ≡ false)) }
     {
         if self.header_first {
@@ -191,7 +192,7 @@ impl Broken {
 }
 
 impl Roster {
-    ghost use Rattle.std.specs.Prelude.{◌≡◌, ◌<◌, ◌^◌, ◌+◌, List, IfOk, IfErr, OnOk, false, not};
+    ghost use Rattle.std.specs.Prelude.{◌≡◌, ◌<◌, ◌^◌, ◌+◌, List, IfOk, IfErr, OnOk, false, true, not};
     ghost use Rattle.rd_event.specs.declared.items.Line.{Line as LineOf};
     ghost use Rattle.rd_ecl.specs.Kinds.{Kind, methods_at};
     ghost use Rattle.rd_wf.specs.Roster.{StandsFor, Permits, Forbids, depth_of, found_method, found_object, found_thread, lock_in, thread_count, lock_count, object_count};
@@ -220,6 +221,7 @@ impl Roster {
             (result.number ≡ place (locks_of lines) name.now) × (result.unknown ≡ not (is_among (locks_of lines) name.now)) }
         ensures lock { result.lock ≡ lock_in self.now name.now }
         ensures within { result.unknown ≡ false → result.number < lock_count self.now }
+        ensures new { result.unknown ≡ true → (result.number ≡ lock_count self.now) × (result.lock.depth ≡ 0) }
     {
         match self.locks.get_full(name) {
             None => FoundLock {
@@ -382,9 +384,13 @@ impl Roster {
     ) -> Result<Used, WfCause>
         ensures ok { IfOk result (λ used. Permits self.now limits.now (Line.Event (LineEvent.Acquire thread.now lock.now))
             (Accepted.Event (Event.Acquire used.thread used.lock))) }
-        ensures lock { IfOk result (λ used. used.depth ≡ depth_of (lock_in self.now lock.now) used.thread) }
-        ensures room { IfOk result (λ used. (used.unknown ≡ false → used.lock < lock_count self.now) × (self.now.events + 1 < 2 ^ 32)
-            × (used.depth + 1 < 2 ^ 32) × (lock_count self.now + 1 < 2 ^ 32)) }
+        ensures depth { IfOk result (λ used. used.depth ≡ (lock_in self.now lock.now).depth) }
+        ensures own { IfOk result (λ used. depth_of (lock_in self.now lock.now) used.thread ≡ used.depth) }
+        ensures unknown { IfOk result (λ used. (kinds : List Kind) (lines : List LineOf) → StandsFor kinds self.now lines →
+            used.unknown ≡ not (is_among (locks_of lines) lock.now)) }
+        ensures known { IfOk result (λ used. used.unknown ≡ false → used.lock < lock_count self.now) }
+        ensures new { IfOk result (λ used. used.unknown ≡ true → lock_count self.now + 1 < 2 ^ 32) }
+        ensures room { IfOk result (λ used. (self.now.events + 1 < 2 ^ 32) × (used.depth + 1 < 2 ^ 32)) }
         ensures err { IfErr result (Forbids self.now limits.now (Line.Event (LineEvent.Acquire thread.now lock.now))) }
     {
         let actor = self.find_thread(thread);
@@ -396,7 +402,7 @@ impl Roster {
             thread_ended: actor.joined,
             held_by: found.lock.held_by_other(actor.number),
             events: limits.events <= self.events,
-            locks: found.unknown && limits.locks <= found.number,
+            locks: found.unknown & (limits.locks <= found.number),
             depth: limits.depth <= depth,
             ..UNBROKEN
         };
@@ -419,8 +425,10 @@ impl Roster {
     ) -> Result<Used, WfCause>
         ensures ok { IfOk result (λ used. Permits self.now limits.now (Line.Event (LineEvent.Release thread.now lock.now))
             (Accepted.Event (Event.Release used.thread used.lock))) }
-        ensures lock { IfOk result (λ used. used.depth ≡ depth_of (lock_in self.now lock.now) used.thread) }
-        ensures room { IfOk result (λ used. (used.lock < lock_count self.now) × (self.now.events + 1 < 2 ^ 32) × (0 < used.depth)) }
+        ensures depth { IfOk result (λ used. used.depth ≡ (lock_in self.now lock.now).depth) }
+        ensures own { IfOk result (λ used. depth_of (lock_in self.now lock.now) used.thread ≡ used.depth) }
+        ensures held { IfOk result (λ used. (used.lock < lock_count self.now) × (0 < used.depth)) }
+        ensures room { OnOk result (self.now.events + 1 < 2 ^ 32) }
         ensures err { IfErr result (Forbids self.now limits.now (Line.Event (LineEvent.Release thread.now lock.now))) }
     {
         let actor = self.find_thread(thread);

@@ -1,11 +1,14 @@
-use Rattle.rd_wf.proofs.EventsLemmas.{accepted_told}
+use Rattle.rd_wf.proofs.EventsLemmas.{accepted_told, new_lock_next, told_formed}
 use Rattle.rd_wf.proofs.laws.law_of_events.Goals as goal
 
 pub returns : goal.returns
 returns c = record {
-  formed = λ kinds lines accepted. (accepted_told kinds lines accepted).formed;
-  count = λ kinds lines accepted. (accepted_told kinds lines accepted).counted;
-  known = λ kinds lines accepted. (accepted_told kinds lines accepted).known;
-  ended = λ kinds lines accepted. (accepted_told kinds lines accepted).ended;
-  one_kind = λ kinds lines accepted. (accepted_told kinds lines accepted).one_kind;
+  formed = λ kinds lines accepted. told_formed kinds lines (accepted_told kinds lines accepted);
+  count = λ kinds lines accepted. (accepted_told kinds lines accepted).told.counted;
+  known = λ kinds lines accepted. (accepted_told kinds lines accepted).told.known;
+  ended = λ kinds lines accepted. (accepted_told kinds lines accepted).told.ended;
+  one_kind = λ kinds lines accepted. (accepted_told kinds lines accepted).told.one_kind;
+  taken = λ kinds lines accepted. (accepted_told kinds lines accepted).used.taken.named;
+  given = λ kinds lines accepted. (accepted_told kinds lines accepted).used.given.named;
+  numbered = new_lock_next;
 }

@@ -1,5 +1,5 @@
 use Rattle.std.proofs.Common.{arith}
-use Rattle.rd_wf.proofs.RosterLemmas.{ok_few, ok_follows, err_broken, err_memory, err_stands}
+use Rattle.rd_wf.proofs.NextLemmas.{ok_few, ok_follows, err_broken, err_memory, err_stands}
 use Rattle.rd_wf.proofs.roster.Roster.accept.Goals as goal
 
 pub returns-clause-follows : goal.returns-clause-follows

@@ -2,7 +2,7 @@ use Rattle.std.proofs.Common.{refl, ◌∙◌}
 use Rattle.rd_event.specs.declared.events.Call.{Call as CallOf}
 use Rattle.rd_event.specs.declared.events.Event.TheVariants as numbered
 use Rattle.rd_wf.specs.declared.causes.Accepted.TheVariants as accepted
-use Rattle.rd_wf.proofs.RosterLemmas.{after_call}
+use Rattle.rd_wf.proofs.NextLemmas.{after_call}
 use Rattle.rd_wf.proofs.roster.Roster.accept_call.Goals as goal
 
 pub returns-in_ok-slots-in-Ok-clause-ok : goal.returns-in_ok-slots-in-Ok-clause-ok
@@ -17,5 +17,5 @@ returns-in_ok-slots-in-Ok-clause-ok c = λ kinds lines stands.
         method = numbers.method;
         slots = c.in_ok-slots-in-Ok.ensures i;
       } in call))) ∙ permitted.1,
-      after_call kinds c.args.self.now _ lines stands refl c.args.thread.now c.args.object.now c.args.method.now c.args.slots.now refl refl refl refl,
+      after_call kinds c.args.self.now _ lines stands refl refl c.args.thread.now c.args.object.now c.args.method.now c.args.slots.now refl refl refl refl,
     )

@@ -3,7 +3,7 @@ use Rattle.indexmap.specs.Layout.{set_value_at}
 use Rattle.indexmap.proofs.CallerLemmas.{index_map_len-with_value_at}
 use Rattle.rd_wf.specs.MayFollow.{place, threads_of, accepted_of}
 use Rattle.rd_wf.proofs.FollowLemmas.{known_child}
-use Rattle.rd_wf.proofs.RosterLemmas.{after_join}
+use Rattle.rd_wf.proofs.NextLemmas.{after_join}
 use Rattle.rd_wf.proofs.roster.Roster.accept_join.Goals as goal
 
 pub invariant_of-self-clause-few_threads : goal.invariant_of-self-clause-few_threads
@@ -18,6 +18,6 @@ returns-in-Ok-clause-ok c = λ kinds lines stands.
     let number : c.in-Ok.pair.child ≡ place (threads_of lines) c.args.child.now = cc permitted.1 in (
       permitted.0,
       permitted.1,
-      after_join kinds c.args.self.now _ lines stands refl c.args.thread.now c.args.child.now known c.get_index_mut.ensures.unique refl refl
+      after_join kinds c.args.self.now _ lines stands refl refl c.args.thread.now c.args.child.now known refl refl
           (ap (λ i. set_value_at c.args.self.now.threads.entries i true) number) refl,
     )

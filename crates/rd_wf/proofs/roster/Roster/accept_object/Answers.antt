@@ -3,7 +3,8 @@ use Rattle.indexmap.specs.IndexMap.{insert_entry}
 use Rattle.rd_wf.specs.MayFollow.{same_name, place, accepted_of}
 use Rattle.rd_ecl.specs.Kinds.{kind_names}
 use Rattle.rd_wf.proofs.FollowLemmas.{fresh_object}
-use Rattle.rd_wf.proofs.RosterLemmas.{inserted_object, after_object}
+use Rattle.rd_wf.proofs.RosterLemmas.{inserted_object}
+use Rattle.rd_wf.proofs.NextLemmas.{after_object}
 use Rattle.rd_wf.proofs.roster.Roster.accept_object.Goals as goal
 
 pub returns-in_ok-insert-in-Ok-clause-ok : goal.returns-in_ok-insert-in-Ok-clause-ok
@@ -14,7 +15,7 @@ returns-in_ok-insert-in-Ok-clause-ok c = λ kinds lines stands.
     let number : c.in-Ok.field-0.kind ≡ place (kind_names kinds) c.args.kind.now = cc permitted.1 in (
       permitted.0,
       permitted.1,
-      after_object kinds c.args.self.now _ lines stands refl c.args.name.now c.args.kind.now refl refl refl
+      after_object kinds c.args.self.now _ lines stands refl refl c.args.name.now c.args.kind.now refl refl refl
           (c.in_ok-insert-in-Ok.ensures.entries ∙ ap (λ key. insert_entry same_name c.args.self.now.objects.entries key c.in-Ok.field-0.kind) c.copy.ensures
           ∙ inserted_object kinds c.args.self.now lines stands c.args.name.now c.in-Ok.field-0.kind fresh
           ∙ ap (λ kind. c.args.self.now.objects.entries ++ (c.args.name.now, kind) ∷ []) number),

@@ -1,0 +1,71 @@
+-- The first broken rule, where flags tell which are broken.
+use Rattle.std.proofs.Common.{◌≡◌, ◌≢◌, ℕ, zero, suc, ◌+◌, ◌<◌, ◌≤◌, Bool, true, false, cond, ◌==◌, List, [], ◌∷◌, ◌++◌, map, length, Option, Some, None, IfSome, refl, sym, ap, subst, ◌∙◌, arith}
+use Rattle.std.specs.Prelude.{find}
+use Rattle.std.specs.List.{range_with_len}
+use Rattle.std.proofs.lemmas.Bool.{cases_eq}
+use Rattle.std.proofs.lemmas.Bool.Decides.{Decides-eqb, not_from_Decides}
+use Rattle.rd_base.specs.declared.limits.Limits.{Limits}
+use Rattle.rd_base.specs.declared.limits.LimitName.TheVariants.{Events, Threads, Locks, Objects, Depth}
+use Rattle.rd_event.specs.declared.items.Line.{Line}
+use Rattle.rd_ecl.specs.Kinds.{Kind}
+use Rattle.rd_wf.specs.declared.causes.WfCause.{WfCause}
+use Rattle.rd_wf.specs.declared.causes.WfCause.TheVariants.{HeaderFirst, LateRoot, NameTaken, UnknownThread, ThreadEnded, OwnThread, UnknownKind, UnknownObject, UnknownMethod, WrongCount, LockHeld, NotHeld, Limit}
+use Rattle.rd_wf.specs.declared.roster.judge.Broken.{Broken}
+use Rattle.rd_wf.specs.MayFollow.{threads_of, passes, is_skip, is_broken, causes, first_broken}
+use Rattle.rd_wf.specs.Roster.{flag}
+
+-- ---- of the threads, the one that has the lock
+
+module _ (f g : WfCause → Bool) (rest : List WfCause) (same : find f rest ≡ find g rest) where
+  -- where two tests agree on what stands behind the holders and on these, they find the same
+  pub same_found : (a n : ℕ) → ((holder : ℕ) → holder < a + n → f (LockHeld holder) ≡ g (LockHeld holder))
+      → find f (map LockHeld (range_with_len a n) ++ rest) ≡ find g (map LockHeld (range_with_len a n) ++ rest)
+  same_found a zero agree = same
+  same_found a (suc n) agree =
+      let later = same_found (a + 1) n (λ holder below. agree holder (omega arith)) in
+      λ i. cond (agree a (omega arith) i) (Some (LockHeld a)) (later i)
+
+module _ (broken : Broken) (rest : List WfCause) where
+  -- the rest of the search from the number a on
+  abbrev from : ℕ → ℕ → Option WfCause
+  from a n = find (flag broken) (map LockHeld (range_with_len a n) ++ rest)
+
+  pub none_holds : broken.held_by ≡ None → (a n : ℕ) → from a n ≡ find (flag broken) rest
+  none_holds e a zero = refl
+  none_holds e a (suc n) = ap (λ o. cond (passes o (λ other. other == a)) (Some (LockHeld a)) (from (a + 1) n)) e ∙ none_holds e (a + 1) n
+
+  pub one_holds : (holder : ℕ) → broken.held_by ≡ Some holder → (a n : ℕ) → a ≤ holder → holder < a + n → from a n ≡ Some (LockHeld holder)
+  one_holds holder e a zero least most = absurd (omega arith)
+  one_holds holder e a (suc n) least most =
+      ap (λ o. cond (passes o (λ other. other == a)) (Some (LockHeld a)) (from (a + 1) n)) e
+      ∙ by (holder == a) refl (λ later. one_holds holder e (a + 1) n later (omega arith))
+    where
+      by : (b : Bool) → (holder == a) ≡ b → (a + 1 ≤ holder → from (a + 1) n ≡ Some (LockHeld holder)) → cond (holder == a) (Some (LockHeld a)) (from (a + 1) n) ≡ Some (LockHeld holder)
+      by true is rest =
+          let same : holder ≡ a = (Decides-eqb holder a).0 is in
+          ap (λ b. cond b (Some (LockHeld a)) (from (a + 1) n)) is ∙ ap (λ n. Some (LockHeld n)) (sym same)
+      by false is rest =
+          let other : holder ≢ a = not_from_Decides _ (Decides-eqb holder a) is in
+          ap (λ b. cond b (Some (LockHeld a)) (from (a + 1) n)) is ∙ rest (omega (arith, other))
+
+-- no rule is broken
+abbrev pub unbroken : Broken
+unbroken = record {
+  header_first = false;
+  late_root = false;
+  name_taken = false;
+  unknown_thread = false;
+  thread_ended = false;
+  own_thread = false;
+  unknown_kind = false;
+  unknown_object = false;
+  unknown_method = false;
+  wrong_count = false;
+  held_by = None;
+  not_held = false;
+  events = false;
+  threads = false;
+  locks = false;
+  objects = false;
+  depth = false;
+}

@@ -1,0 +1,270 @@
+-- Names and their places, and what the lines acquire and release.
+use Rattle.std.proofs.Common.{◌≡◌, ◌≢◌, inl, inr, ℕ, zero, suc, ◌+◌, ◌-◌, ◌<◌, ◌≤◌, Bool, true, false, not, cond, ◌==◌, ◌&&◌, ◌||◌, leb, ltb, List, [], ◌∷◌, ◌++◌, map, take, drop, Option, Some, None, IfSome, length, get_or, slice_get, unwrap_or, Decides, refl, sym, ap, subst, ◌∙◌, arith, true≢false, add-zero}
+use Rattle.std.specs.List.{position_or_len, IsDistinct}
+use Rattle.std.specs.Map.{lookup, keys_of}
+use Rattle.std.specs.Cmp.Lexicographic.{bytes_decides, nat_list_eq_equiv}
+use Rattle.std.proofs.lemmas.Bool.{cases_eq, cases_lt, not-false, false_from_ne_true}
+use Rattle.std.proofs.lemmas.Bool.Decides.{Decides-eqb, Decides-ltb, not_from_Decides, nat_tests}
+use Rattle.std.proofs.lemmas.List.{take-append-drop, length-take}
+use Rattle.std.proofs.lemmas.List.Folds.{prefix_len-append}
+use Rattle.std.proofs.lemmas.List.Sums.{prefix_len-le-length, prefix_len_stops, position_or_len_is, sum_by_push}
+use Rattle.std.proofs.lemmas.Map.Keys.{apart_from_distinct}
+use Rattle.std.proofs.lemmas.Option.{none-some}
+use Rattle.indexmap.specs.Layout.{set_value_at}
+use Rattle.rd_event.specs.declared.items.Line.{Line}
+use Rattle.rd_wf.specs.declared.roster.Lock.{Lock}
+use Rattle.rd_wf.specs.MayFollow.{acquired_name, released_name, same_name, is_among, place, passes, with_lock, with_locks, locks_of, acquires, releases, is_acquire_of, is_release_of}
+use Rattle.rd_wf.specs.Roster.{depth_of, other_holder}
+
+-- two tests of the same
+pub same_test : (a b : Bool) → (a ≡ true → b ≡ true) → (b ≡ true → a ≡ true) → a ≡ b
+same_test true b there back = sym (there refl)
+same_test false true there back = back refl
+same_test false false there back = refl
+
+pub and-true : (b : Bool) → (b && true) ≡ b
+and-true true = refl
+and-true false = refl
+
+pub and-false : (b : Bool) → (b && false) ≡ false
+and-false true = refl
+and-false false = refl
+
+-- ---- places of names
+
+module _ (names : List (List ℕ)) (name : List ℕ) where
+  pub place_most : place names name ≤ length names
+  place_most = prefix_len-le-length (λ n. not (same_name name n)) names
+
+  module _ (more : List (List ℕ)) where
+    -- behind more names a name keeps its place, or stands behind these
+    pub place_stays : place names name < length names → place (names ++ more) name ≡ place names name
+    place_stays below =
+        prefix_len-append (λ n. not (same_name name n)) names more
+        ∙ ap (λ b. cond b (length names + place more name) (place names name)) (let differ : (place names name == length names) ≡ false = grind (arith, nat_tests) in differ)
+
+    pub place_past : length names ≤ place names name → length names ≤ place (names ++ more) name
+    place_past past =
+        let end : (place names name == length names) ≡ true = (Decides-eqb _ _).1 (omega (arith, place_most)) in
+        let is : place (names ++ more) name ≡ length names + place more name =
+        prefix_len-append (λ n. not (same_name name n)) names more ∙ ap (λ b. cond b (length names + place more name) (place names name)) end in
+        omega arith
+
+  -- at a name's place it stands
+  pub at_place : (other : List ℕ) → place names name < length names → get_or names (place names name) other ≡ name
+  at_place other below = sym ((bytes_decides name _).0 (not-false _ (prefix_len_stops (λ n. not (same_name name n)) names other below)))
+
+pub place_known : (names : List (List ℕ)) (name : List ℕ) → is_among names name ≡ true → place names name < length names
+place_known [] name there = absurd (true≢false (sym there))
+place_known (x ∷ xs) name there = by (same_name name x) refl (place_known xs name)
+  where
+    Below : Bool → Type 0
+    Below b = cond (not b) (1 + place xs name) 0 < length (x ∷ xs)
+
+    by : (b : Bool) → same_name name x ≡ b → (is_among xs name ≡ true → place xs name < length xs) → Below (same_name name x)
+    by true same rest = subst Below (sym same) (let some : 0 < length (x ∷ xs) = omega arith in some)
+    by false other rest =
+        let below = rest (sym (ap (λ b. b || is_among xs name) other) ∙ there) in
+        subst Below (sym other) (let next : 1 + place xs name < length (x ∷ xs) = omega arith in next)
+
+pub place_unknown : (names : List (List ℕ)) (name : List ℕ) → is_among names name ≡ false → place names name ≡ length names
+place_unknown [] name lacks = refl
+place_unknown (x ∷ xs) name lacks = by (same_name name x) refl (place_unknown xs name)
+  where
+    by : (b : Bool) → same_name name x ≡ b → (is_among xs name ≡ false → place xs name ≡ length xs) → place (x ∷ xs) name ≡ length (x ∷ xs)
+    by true same rest = absurd (true≢false (sym (ap (λ b. b || is_among xs name) same) ∙ lacks))
+    by false other rest =
+        let next : 1 + place xs name ≡ length (x ∷ xs) = let at = rest (sym (ap (λ b. b || is_among xs name) other) ∙ lacks) in omega arith in
+        ap (λ b. cond (not b) (1 + place xs name) 0) other ∙ next
+
+pub place_below : (names : List (List ℕ)) (name : List ℕ) → place names name < length names → is_among names name ≡ true
+place_below names name below = by (is_among names name) refl
+  where
+    by : (b : Bool) → is_among names name ≡ b → is_among names name ≡ true
+    by true e = e
+    by false e = absurd (omega (arith, place_unknown names name e))
+
+-- names are the same exactly if their places are, where one of them is known
+pub same_place : (names : List (List ℕ)) (name known : List ℕ) → place names known < length names → same_name name known ≡ (place names name == place names known)
+same_place names name known below =
+    same_test _ _
+    (λ same. (Decides-eqb _ _).1 (ap (place names) ((bytes_decides name known).0 same)))
+    (λ same.
+    let e : place names name ≡ place names known = (Decides-eqb _ _).0 same in
+    let below_too : place names name < length names = omega arith in
+    (bytes_decides name known).1 (sym (at_place names name [] below_too) ∙ ap (λ n. get_or names n []) e ∙ at_place names known [] below))
+
+-- of distinct names, each stands at its own place
+pub place_at : (names : List (List ℕ)) → IsDistinct same_name names → (i : ℕ) → i < length names → place names (get_or names i []) ≡ i
+place_at names distinct i below =
+    let name : List ℕ = get_or names i [] in
+    position_or_len_is (same_name name) names i []
+    (omega arith)
+    (λ k before. nat_list_eq_equiv.symm name (get_or names k []) ∙ apart_from_distinct same_name names k i [] distinct before below)
+    (λ below. nat_list_eq_equiv.refl name)
+
+-- of distinct names, none in front of a place has the name at it
+pub not_before : (names : List (List ℕ)) → IsDistinct same_name names → (i : ℕ) → i < length names → is_among (take i names) (get_or names i []) ≡ false
+not_before names distinct i below = false_from_ne_true _ (λ there.
+    let name : List ℕ = get_or names i [] in
+    let known : place (take i names) name < length (take i names) = place_known (take i names) name there in
+    let whole : place names name ≡ place (take i names) name =
+    ap (λ names. place names name) (sym (take-append-drop i names)) ∙ place_stays (take i names) name (drop i names) known in
+    absurd (omega (arith, place_at names distinct i below, length-take i names)))
+
+-- ---- a table after a write
+
+module _ {X : Type 0} (x y : X) where
+  same_twice : (b : Bool) (o : Option X) → cond b (Some x) o ≡ cond b (Some x) (cond b (Some y) o)
+  same_twice true o = refl
+  same_twice false o = refl
+
+  swapped : (a b : Bool) (o : Option X) → (a ≡ true → b ≡ true → ⊥) → cond a (Some y) (cond b (Some x) o) ≡ cond b (Some x) (cond a (Some y) o)
+  swapped true true o apart = absurd (apart refl refl)
+  swapped true false o apart = refl
+  swapped false b o apart = refl
+
+-- no name is the same as two that differ
+two_names : (other x name : List ℕ) → same_name name x ≡ false → same_name other x ≡ true → same_name other name ≡ true → ⊥
+two_names other x name differ one two =
+    true≢false (sym ((bytes_decides name x).1 (sym ((bytes_decides other name).0 two) ∙ (bytes_decides other x).0 one)) ∙ differ)
+
+module _ {X : Type 0} (name other : List ℕ) (value : X) where
+  -- what is found where a value was written at the place of a name
+  pub found_written : (entries : List (List ℕ × X)) → is_among (keys_of entries) name ≡ true
+      → lookup (same_name other) (set_value_at entries (place (keys_of entries) name) value) ≡ cond (same_name other name) (Some value) (lookup (same_name other) entries)
+  found_written [] there = absurd (true≢false (sym there))
+  found_written (e ∷ es) there = by (same_name name e.0) refl (found_written es)
+    where
+      Found : ℕ → Type 0
+      Found n = lookup (same_name other) (set_value_at (e ∷ es) n value) ≡ cond (same_name other name) (Some value) (lookup (same_name other) (e ∷ es))
+
+      by : (b : Bool) → same_name name e.0 ≡ b
+          → (is_among (keys_of es) name ≡ true → lookup (same_name other) (set_value_at es (place (keys_of es) name) value) ≡ cond (same_name other name) (Some value) (lookup (same_name other) es))
+          → Found (cond (not (same_name name e.0)) (1 + place (keys_of es) name) 0)
+      by true same rest =
+          subst (λ b. Found (cond (not b) (1 + place (keys_of es) name) 0)) (sym same)
+          (same_twice value e.1 (same_name other e.0) (lookup (same_name other) es)
+          ∙ ap (λ n. cond (same_name other n) (Some value) (lookup (same_name other) (e ∷ es))) (sym ((bytes_decides name e.0).0 same)))
+      by false differ rest =
+          let later = rest (sym (ap (λ b. b || is_among (keys_of es) name) differ) ∙ there) in
+          let next : suc (place (keys_of es) name) ≡ 1 + place (keys_of es) name = omega arith in
+          subst (λ b. Found (cond (not b) (1 + place (keys_of es) name) 0)) (sym differ)
+          (subst Found next
+          (ap (cond (same_name other e.0) (Some e.1)) later ∙ swapped value e.1 (same_name other e.0) (same_name other name) _ (two_names other e.0 name differ)))
+
+  -- and where a new name was put last
+  pub found_pushed : (entries : List (List ℕ × X)) → is_among (keys_of entries) name ≡ false
+      → lookup (same_name other) (entries ++ (name, value) ∷ []) ≡ cond (same_name other name) (Some value) (lookup (same_name other) entries)
+  found_pushed [] lacks = refl
+  found_pushed (e ∷ es) lacks = by (same_name name e.0) refl (found_pushed es)
+    where
+      by : (b : Bool) → same_name name e.0 ≡ b
+          → (is_among (keys_of es) name ≡ false → lookup (same_name other) (es ++ (name, value) ∷ []) ≡ cond (same_name other name) (Some value) (lookup (same_name other) es))
+          → lookup (same_name other) (e ∷ es ++ (name, value) ∷ []) ≡ cond (same_name other name) (Some value) (lookup (same_name other) (e ∷ es))
+      by true same rest = absurd (true≢false (sym (ap (λ b. b || is_among (keys_of es) name) same) ∙ lacks))
+      by false differ rest =
+          let later = rest (sym (ap (λ b. b || is_among (keys_of es) name) differ) ∙ lacks) in
+          ap (cond (same_name other e.0) (Some e.1)) later ∙ swapped value e.1 (same_name other e.0) (same_name other name) _ (two_names other e.0 name differ)
+
+-- ---- a lock that a thread has or that is free
+
+-- no thread whose number isn't below the count has a lock whose holder is below it
+pub free_past : (lock : Lock) (count n : ℕ) → (0 < lock.depth → lock.holder < count) → count ≤ n → depth_of lock n ≡ 0
+free_past lock count n begun past = by (n == lock.holder) refl lock.depth begun
+  where
+    by : (b : Bool) → (n == lock.holder) ≡ b → (depth : ℕ) → (0 < depth → lock.holder < count) → cond (n == lock.holder) depth 0 ≡ 0
+    by b e zero begun = grind (arith, nat_tests)
+    by true e (suc depth) begun =
+        let at : n ≡ lock.holder = (Decides-eqb _ _).0 e in
+        let below : lock.holder < count = begun (omega arith) in absurd (omega arith)
+    by false e (suc depth) begun = ap (λ b. cond b (suc depth) 0) e
+
+-- more names change no depth
+pub depth_stays : (lock : Lock) (names more : List (List ℕ)) (name : List ℕ) → (0 < lock.depth → lock.holder < length names)
+    → depth_of lock (place (names ++ more) name) ≡ depth_of lock (place names name)
+depth_stays lock names more name begun = elim (cases_lt (place names name) (length names)) [
+  | inl below ↦ ap (depth_of lock) (place_stays names name more below)
+  | inr past ↦ free_past lock (length names) _ begun (place_past names name more past) ∙ sym (free_past lock (length names) _ begun past)
+]
+
+module _ (lock : Lock) (thread : ℕ) (own : depth_of lock thread ≡ lock.depth) where
+  -- once the thread acquires it, it has it once more, and no other has it
+  pub deeper : (n : ℕ) → cond (n == thread) (lock.depth + 1) 0 ≡ depth_of lock n + cond (n == thread) 1 0
+  deeper n = elim (cases_eq thread lock.holder) [
+    | inl same ↦ grind (arith, nat_tests)
+    | inr differ ↦ grind (arith, nat_tests)
+  ]
+
+  -- once it releases it, it has it once less
+  pub shallower : 0 < lock.depth → (n : ℕ) → depth_of lock n ≡ cond (n == thread) (lock.depth - 1) 0 + cond (n == thread) 1 0
+  shallower some n = grind (arith, nat_tests)
+
+-- where a thread acquired a lock so often more than it released it, the tests of these counts are tests of the depth
+module _ (acquired released depth : ℕ) (e : acquired ≡ released + depth) where
+  pub free_test : (acquired == released) ≡ (depth == 0)
+  free_test = same_test _ _ (λ h. grind (arith, nat_tests)) (λ h. grind (arith, nat_tests))
+
+  pub not_held_test : leb acquired released ≡ (depth == 0)
+  not_held_test = same_test _ _ (λ h. grind (arith, nat_tests)) (λ h. grind (arith, nat_tests))
+
+  pub deep_test : (most : ℕ) → leb (most + released) acquired ≡ leb most depth
+  deep_test most = same_test _ _ (λ h. grind (arith, nat_tests)) (λ h. grind (arith, nat_tests))
+
+module _ (lock : Lock) (thread : ℕ) where
+  -- the other thread that has the lock is the one whose depth isn't 0
+  pub holder_test : (other : ℕ) → (not (thread == other) && not (depth_of lock other == 0)) ≡ passes (other_holder lock thread) (λ holder. holder == other)
+  holder_test other = by (other == lock.holder) refl
+    where
+      held : (own : Bool) (depth : ℕ) → (not own && not (cond (lock.holder == lock.holder) depth 0 == 0))
+          ≡ passes (cond (ltb 0 depth && not own) (Some lock.holder) None) (λ holder. holder == lock.holder)
+      held true depth = sym (ap (λ b. passes (cond b (Some lock.holder) None) (λ holder. holder == lock.holder)) (and-false (ltb 0 depth)))
+      held false zero = grind (arith, nat_tests)
+      held false (suc depth) = grind (arith, nat_tests)
+
+      none : (b : Bool) → (lock.holder == other) ≡ false → false ≡ passes (cond b (Some lock.holder) None) (λ holder. holder == other)
+      none true differ = sym differ
+      none false differ = refl
+
+      by : (b : Bool) → (other == lock.holder) ≡ b → (not (thread == other) && not (depth_of lock other == 0)) ≡ passes (other_holder lock thread) (λ holder. holder == other)
+      by true same =
+          subst (λ n. (not (thread == n) && not (depth_of lock n == 0)) ≡ passes (other_holder lock thread) (λ holder. holder == n))
+          {x = lock.holder} {y = other} (sym ((Decides-eqb _ _).0 same)) (held (thread == lock.holder) lock.depth)
+      by false differ =
+          let back : (lock.holder == other) ≡ false = grind (arith, nat_tests) in
+          ap (λ b. not (thread == other) && not (cond b lock.depth 0 == 0)) differ ∙ and-false (not (thread == other)) ∙ none (ltb 0 lock.depth && not (thread == lock.holder)) back
+
+  pub holder_below : (count : ℕ) → (0 < lock.depth → lock.holder < count) → IfSome (other_holder lock thread) (λ holder. holder < count)
+  holder_below count begun = by (ltb 0 lock.depth) refl (not (thread == lock.holder))
+    where
+      by : (b : Bool) → ltb 0 lock.depth ≡ b → (c : Bool) → IfSome (cond (ltb 0 lock.depth && c) (Some lock.holder) None) (λ holder. holder < count)
+      by true some true = subst (λ b. IfSome (cond (b && true) (Some lock.holder) None) (λ holder. holder < count)) (sym some) (begun ((Decides-ltb 0 lock.depth).0 some))
+      by true some false = subst (λ b. IfSome (cond (b && false) (Some lock.holder) None) (λ holder. holder < count)) (sym some) tt
+      by false none c = subst (λ b. IfSome (cond (b && c) (Some lock.holder) None) (λ holder. holder < count)) (sym none) tt
+
+  -- where no other thread has it, its depth is that of the thread
+  pub own_depth : other_holder lock thread ≡ None → depth_of lock thread ≡ lock.depth
+  own_depth none = by lock.depth (thread == lock.holder) none
+    where
+      by : (depth : ℕ) (b : Bool) → cond (ltb 0 depth && not b) (Some lock.holder) None ≡ None → cond b depth 0 ≡ depth
+      by depth true e = refl
+      by zero false e = refl
+      by (suc depth) false e = absurd (none-some lock.holder (sym e ∙ ap (λ b. cond (b && true) (Some lock.holder) None) (let some : ltb 0 (suc depth) ≡ true = grind (arith, nat_tests) in some)))
+
+-- ---- one line more
+
+pub locks_push : (lines : List Line) (line : Line) → locks_of (lines ++ line ∷ []) ≡ with_lock (locks_of lines) (acquired_name line)
+locks_push lines line = behind [] lines
+  where
+    behind : (locks : List (List ℕ)) (lines : List Line) → with_locks locks (lines ++ line ∷ []) ≡ with_lock (with_locks locks lines) (acquired_name line)
+    behind locks [] = refl
+    behind locks (first ∷ lines) = behind (with_lock locks (acquired_name first)) lines
+
+module _ (lines : List Line) (line : Line) (thread lock : List ℕ) where
+  pub acquires_push : acquires (lines ++ line ∷ []) thread lock ≡ acquires lines thread lock + cond (is_acquire_of thread lock line) 1 0
+  unfolding acquires
+  acquires_push = sum_by_push _ lines line
+
+  pub releases_push : releases (lines ++ line ∷ []) thread lock ≡ releases lines thread lock + cond (is_release_of thread lock line) 1 0
+  unfolding releases
+  releases_push = sum_by_push _ lines line
