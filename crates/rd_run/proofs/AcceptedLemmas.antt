@@ -8,11 +8,10 @@ use Rattle.rd_event.specs.Reading.{item_of}
 use Rattle.rd_event.specs.declared.items.Line.{Line}
 use Rattle.rd_wf.proofs.FollowLemmas.{follows_from_none}
 use Rattle.rd_wf.specs.Events.{AreAccepted, AreAcceptedFrom}
-use Rattle.rd_wf.specs.Kinds.{Kind}
+use Rattle.rd_ecl.specs.Kinds.{Kind}
 use Rattle.rd_wf.specs.MayFollow.{MayFollow, first_broken}
-use Rattle.rd_run.specs.Walk.{accepted_or, entries_of, goes_or_ends, is_unbuilt_item, items, judged, judged_item, trace_of, walk}
+use Rattle.rd_run.specs.Walk.{accepted_or, entries_of, goes_or_ends, items, judged, judged_item, trace_of, walk}
 use Rattle.rd_run.specs.declared.endings.TraceCause.{TraceCause}
-use Rattle.rd_run.specs.declared.endings.TraceCause.TheVariants.{NotBuilt}
 use Rattle.rd_wf.specs.declared.causes.WfCause.{WfCause}
 
 module _ (kinds : List Kind) (limits : Limits) (before : List Line) (item : Line) where
@@ -22,20 +21,18 @@ module _ (kinds : List Kind) (limits : Limits) (before : List Line) (item : Line
   same_item : (found : Line) → said found ≡ Ok item → found ≡ item
   same_item found e = cc
 
-  item_follows : (found : Line) (unbuilt : Bool) (broken : Option WfCause) → first_broken kinds limits before found ≡ broken
-      → cond unbuilt (Err NotBuilt) (accepted_or found broken) ≡ Ok item → MayFollow kinds limits before item
-  item_follows found true broken is e = cc
-  item_follows found false (Some cause) is e = cc
-  item_follows found false None is e = subst (MayFollow kinds limits before) (same_item found e) (follows_from_none kinds limits before found is)
+  item_follows : (found : Line) (broken : Option WfCause) → first_broken kinds limits before found ≡ broken → accepted_or found broken ≡ Ok item → MayFollow kinds limits before item
+  item_follows found (Some cause) is e = cc
+  item_follows found None is e = subst (MayFollow kinds limits before) (same_item found e) (follows_from_none kinds limits before found is)
 
-  bytes_follow : (bytes : List ℕ) (found : Option Line) → judged_item kinds limits before bytes found ≡ Ok item → MayFollow kinds limits before item
-  bytes_follow bytes None e = cc
-  bytes_follow bytes (Some found) e = item_follows found (is_unbuilt_item found) (first_broken kinds limits before found) refl e
+  found_follows : (found : Option Line) → judged_item kinds limits before found ≡ Ok item → MayFollow kinds limits before item
+  found_follows None e = cc
+  found_follows (Some found) e = item_follows found (first_broken kinds limits before found) refl e
 
   -- a line that is accepted may follow
   judged_follows : (bytes : List ℕ) → judged kinds limits before bytes ≡ Ok item → MayFollow kinds limits before item
   unfolding judged
-  judged_follows bytes e = bytes_follow bytes (item_of bytes) e
+  judged_follows bytes e = found_follows (item_of bytes) e
 
 walk_accepted : (kinds : List Kind) (limits : Limits) → AreUsable limits → limits.threads < 2 ^ 32 → (before : List Line) (number : ℕ) (lines : Reading)
     → AreAcceptedFrom kinds before (items (entries_of (walk kinds limits before number lines)))

@@ -12,13 +12,12 @@ use Rattle.rd_event.specs.declared.events.Event.TheVariants as numbered
 use Rattle.rd_event.specs.declared.items.Line.{Line}
 use Rattle.rd_event.specs.declared.items.Line.TheVariants.{Skip, Header, Thread, Object, Event}
 use Rattle.rd_event.specs.declared.items.LineEvent.{LineEvent}
-use Rattle.rd_event.specs.declared.items.LineEvent.TheVariants.{Fork, Join, Call}
+use Rattle.rd_event.specs.declared.items.LineEvent.TheVariants.{Fork, Join, Acquire, Release, Call}
 use Rattle.rd_order.specs.EventLists.{WellFormed}
 use Rattle.rd_order.specs.Order.{forked_thread}
-use Rattle.rd_hb.specs.Tracker.{IsNextEvent, IsStamp, StandsFor, event_bound}
+use Rattle.rd_hb.specs.Tracker.{IsNextEvent, IsStamp, StandsFor, Tracking, event_bound}
 use Rattle.rd_order.specs.EventLists.{threads_after}
 use Rattle.rd_clock.specs.declared.clock.Stamp.{Stamp}
-use Rattle.rd_hb.specs.declared.tracker.Tracked.{Tracked}
 use Rattle.rd_detect.proofs.DetectLemmas.{stands_quiet}
 use Rattle.rd_wf.proofs.EventsLemmas.{all_roots, events_more, no_events, roots_more, threads_more, told_more}
 use Rattle.rd_detect.proofs.RaceLemmas.{not_reported}
@@ -28,7 +27,7 @@ use Rattle.rd_run.specs.Checking.{Checks, IsNextLine, Tracks, next_races, next_t
 use Rattle.rd_detect.specs.Detect.{IsNextCall, StandsFor as Detects}
 use Rattle.rd_wf.specs.Events.{AreTold, event_of, events_of, root_count, roots_of}
 use Rattle.rd_run.specs.Analysis.{IsNextEntry}
-use Rattle.rd_wf.specs.Kinds.{Kind}
+use Rattle.rd_ecl.specs.Kinds.{Kind}
 use Rattle.rd_wf.specs.MayFollow.{MayFollow, accepted_of, begun_name, call_count, events, is_call, is_event, is_root, is_skip, numbered_event, threads_of}
 use Rattle.rd_run.specs.Output.{entry_events, event_numbers, race_texts, races_of, text_with}
 use Rattle.rd_detect.specs.RaceTests.{latest_of}
@@ -63,7 +62,7 @@ module _ (kinds : List Kind) where
   event_line before (Object name kind) e is = cc
   event_line before (Event event) e is = (event, refl, cc)
 
-  module _ (tracker : List Tracked) (before : List Line) (line : Line) where
+  module _ (tracker : Tracking) (before : List Line) (line : Line) where
     told_next : (numbers : Accepted) → IsNextLine kinds tracker before line numbers → AreTold kinds (before ++ line ∷ [])
     told_next numbers next = told_more kinds next.limits before line next.usable next.follows next.few next.tracks.told
 
@@ -84,8 +83,8 @@ module _ (kinds : List Kind) where
         ]
       ]
 
-  module _ (tracker : List Tracked) (before : List Line) (line : Line) (n : ℕ) (next : IsNextLine kinds tracker before line (accepted.Root n)) where
-    pub root_numbered : n ≡ length tracker
+  module _ (tracker : Tracking) (before : List Line) (line : Line) (n : ℕ) (next : IsNextLine kinds tracker before line (accepted.Root n)) where
+    pub root_numbered : n ≡ length tracker.threads
     root_numbered = (root_line before line n next.told_as).2 ∙ sym next.tracks.count
 
     root_count_more : length (threads_of (before ++ line ∷ [])) ≡ n + 1
@@ -97,7 +96,7 @@ module _ (kinds : List Kind) where
     root_below = omega (arith, next.few, root_count_more)
 
     -- the tracker has one root more, and no event
-    pub root_tracks : (new : List Tracked) → ((roots : ℕ → Bool) → StandsFor tracker roots [] → StandsFor new (λ t. roots t || (t == n)) []) → length new ≡ length tracker + 1
+    pub root_tracks : (new : Tracking) → ((roots : ℕ → Bool) → StandsFor tracker roots [] → StandsFor new (λ t. roots t || (t == n)) []) → length new.threads ≡ length tracker.threads + 1
         → Tracks kinds new (before ++ line ∷ [])
     root_tracks new stands count =
         let (name, is, number) = root_line before line n next.told_as in
@@ -120,11 +119,15 @@ module _ (kinds : List Kind) where
   forked_next : (before : List Line) (event : LineEvent) (u : ℕ) → forked_thread (numbered_event kinds before event) ≡ Some u → u ≡ length (threads_of before)
   forked_next before (Fork thread child) u e = sym (same_Some (length (threads_of before)) u e)
   forked_next before (Join thread child) u e = absurd (none-some u e)
+  forked_next before (Acquire thread lock) u e = absurd (none-some u e)
+  forked_next before (Release thread lock) u e = absurd (none-some u e)
   forked_next before (Call thread object method slots) u e = absurd (none-some u e)
 
   threads_event : (before : List Line) (event : LineEvent) → length (threads_of (before ++ Event event ∷ [])) ≡ threads_after (numbered_event kinds before event) (length (threads_of before))
   threads_event before (Fork thread child) = ap length (threads_more before (Event (Fork thread child))) ∙ length-append (threads_of before) (child ∷ [])
   threads_event before (Join thread child) = ap length (threads_more before (Event (Join thread child)) ∙ append-nil (threads_of before))
+  threads_event before (Acquire thread lock) = ap length (threads_more before (Event (Acquire thread lock)) ∙ append-nil (threads_of before))
+  threads_event before (Release thread lock) = ap length (threads_more before (Event (Release thread lock)) ∙ append-nil (threads_of before))
   threads_event before (Call thread object method slots) = ap length (threads_more before (Event (Call thread object method slots)) ∙ append-nil (threads_of before))
 
   -- the bound on the tracker's steps for an event behind lines
@@ -132,9 +135,11 @@ module _ (kinds : List Kind) where
       → event_bound (numbered_event kinds before event) (length (threads_of (before ++ Event event ∷ []))) ≤ line_bound before (Event event)
   bound_event before (Fork thread child) = omega arith
   bound_event before (Join thread child) = omega arith
+  bound_event before (Acquire thread lock) = omega arith
+  bound_event before (Release thread lock) = omega arith
   bound_event before (Call thread object method slots) = omega arith
 
-  module _ (tracker : List Tracked) (before : List Line) (line : Line) (e : Numbered) (next : IsNextLine kinds tracker before line (accepted.Event e)) where
+  module _ (tracker : Tracking) (before : List Line) (line : Line) (e : Numbered) (next : IsNextLine kinds tracker before line (accepted.Event e)) where
     event_last : events_of kinds (before ++ line ∷ []) ≡ events_of kinds before ++ e ∷ []
     event_last =
         let (event, is, number) = event_line before line e next.told_as in
@@ -146,7 +151,7 @@ module _ (kinds : List Kind) where
         let (event, is, number) = event_line before line e next.told_as in
         roots_more before line ∙ ap (λ l. root_count before + cond (is_root l) 1 0) is ∙ omega arith
 
-    event_threads : length (threads_of (before ++ line ∷ [])) ≡ threads_after e (length tracker)
+    event_threads : length (threads_of (before ++ line ∷ [])) ≡ threads_after e (length tracker.threads)
     event_threads =
         let (event, is, number) = event_line before line e next.told_as in
         ap (λ l. length (threads_of (before ++ l ∷ []))) is ∙ threads_event before event ∙ ap (λ x. threads_after x (length (threads_of before))) (sym number)
@@ -158,14 +163,14 @@ module _ (kinds : List Kind) where
         let (event, is, number) = event_line before line e next.told_as in
         let told : AreTold kinds (before ++ line ∷ []) = told_next tracker before line (accepted.Event e) next in
         let formed = subst (λ m. WellFormed (λ t. ltb t m) (events_of kinds before ++ e ∷ [])) same_roots
-        (subst (WellFormed (roots_of (before ++ line ∷ []))) event_last told.formed) in record {
+        (subst (WellFormed (roots_of (before ++ line ∷ []))) event_last told.told.formed) in record {
           stands = next.tracks.stands;
           formed = formed;
           numbered = λ u begins. forked_next before event u (subst (λ x. forked_thread x ≡ Some u) number begins) ∙ sym next.tracks.count;
         }
 
-    pub event_tracks : (new : List Tracked) → ((roots : ℕ → Bool) (es : List Numbered) → IsNextEvent tracker roots es e → StandsFor new roots (es ++ e ∷ []))
-        → length new ≡ threads_after e (length tracker) → Tracks kinds new (before ++ line ∷ [])
+    pub event_tracks : (new : Tracking) → ((roots : ℕ → Bool) (es : List Numbered) → IsNextEvent tracker roots es e → StandsFor new roots (es ++ e ∷ []))
+        → length new.threads ≡ threads_after e (length tracker.threads) → Tracks kinds new (before ++ line ∷ [])
     event_tracks new stands count = record {
       told = told_next tracker before line (accepted.Event e) next;
       stands = subst (λ es. StandsFor new (roots_of (before ++ line ∷ [])) es) (sym event_last)
@@ -174,18 +179,18 @@ module _ (kinds : List Kind) where
     }
 
     -- its steps are no more than those of the line
-    pub event_cost : event_bound e (threads_after e (length tracker)) ≤ line_bound before line
+    pub event_cost : event_bound e (threads_after e (length tracker.threads)) ≤ line_bound before line
     event_cost =
         let (event, is, number) = event_line before line e next.told_as in
-        let same : event_bound e (threads_after e (length tracker)) ≡ event_bound (numbered_event kinds before event) (length (threads_of (before ++ Event event ∷ []))) =
+        let same : event_bound e (threads_after e (length tracker.threads)) ≡ event_bound (numbered_event kinds before event) (length (threads_of (before ++ Event event ∷ []))) =
         ap (event_bound e) (sym event_threads ∙ ap (λ l. length (threads_of (before ++ l ∷ []))) is)
         ∙ ap (λ x. event_bound x (length (threads_of (before ++ Event event ∷ [])))) number in
-        subst (λ l. event_bound e (threads_after e (length tracker)) ≤ line_bound before l) (sym is) (omega (arith, same, bound_event before event))
+        subst (λ l. event_bound e (threads_after e (length tracker.threads)) ≤ line_bound before l) (sym is) (omega (arith, same, bound_event before event))
 
   -- ---- other lines
 
   -- what is kept of a line that is none of both
-  pub quiet_tracks : (tracker : List Tracked) (before : List Line) (line : Line) (numbers : Accepted) → IsNextLine kinds tracker before line numbers
+  pub quiet_tracks : (tracker : Tracking) (before : List Line) (line : Line) (numbers : Accepted) → IsNextLine kinds tracker before line numbers
       → (numbers ≡ accepted.Nothing) ⊎ ((object : ℕ) × (kind : ℕ) × (numbers ≡ accepted.Object object kind)) → Tracks kinds tracker (before ++ line ∷ [])
   unfolding accepted_of
   quiet_tracks tracker before line numbers next quiet = by line refl
@@ -230,7 +235,7 @@ module _ (kinds : List Kind) where
 
   -- ---- a line that is no call
 
-  module _ (start now : Check) (tracker : List Tracked) (before : List Entry) (entry : Entry) (checks : Checks kinds start before now) (tracks : Tracks kinds tracker (items before ++ entry.item ∷ [])) where
+  module _ (start now : Check) (tracker : Tracking) (before : List Entry) (entry : Entry) (checks : Checks kinds start before now) (tracks : Tracks kinds tracker (items before ++ entry.item ∷ [])) where
     abbrev new : Check
     new = record { text = now.text; tracker = tracker; detector = now.detector; races = now.races }
 
@@ -277,11 +282,13 @@ module _ (kinds : List Kind) where
         by (Object name kind) is = checks_no_event (ap is_event is) (ap is_call is)
         by (Event (Fork thread child)) is = checks_other_event (Fork thread child) is (ap is_call is) (λ call same. cc)
         by (Event (Join thread child)) is = checks_other_event (Join thread child) is (ap is_call is) (λ call same. cc)
+        by (Event (Acquire thread lock)) is = checks_other_event (Acquire thread lock) is (ap is_call is) (λ call same. cc)
+        by (Event (Release thread lock)) is = checks_other_event (Release thread lock) is (ap is_call is) (λ call same. cc)
         by (Event (Call thread object method slots)) is =
             absurd (other _ (next.told_as ∙ ap (accepted_of kinds (items before)) is))
 
   -- and nothing is written
-  pub texts_quiet : (tracker : List Tracked) (before : List Entry) (entry : Entry) (numbers : Accepted) → IsNextLine kinds tracker (items before) entry.item numbers
+  pub texts_quiet : (tracker : Tracking) (before : List Entry) (entry : Entry) (numbers : Accepted) → IsNextLine kinds tracker (items before) entry.item numbers
       → ((call : CallOf) → numbers ≢ accepted.Event (numbered.Call call)) → race_texts commutes kinds (before ++ entry ∷ []) ≡ race_texts commutes kinds before
   unfolding accepted_of
   texts_quiet tracker before entry numbers next other = by entry.item refl
@@ -301,6 +308,8 @@ module _ (kinds : List Kind) where
       by (Object name kind) is = quiet_texts Commute commutes commutes_decides kinds before entry (ap is_event is)
       by (Event (Fork thread child)) is = other_event (Fork thread child) is (λ call same. cc)
       by (Event (Join thread child)) is = other_event (Join thread child) is (λ call same. cc)
+      by (Event (Acquire thread lock)) is = other_event (Acquire thread lock) is (λ call same. cc)
+      by (Event (Release thread lock)) is = other_event (Release thread lock) is (λ call same. cc)
       by (Event (Call thread object method slots)) is = absurd (other _ (next.told_as ∙ ap (accepted_of kinds (items before)) is))
 
   -- ---- a call
@@ -319,6 +328,8 @@ module _ (kinds : List Kind) where
         by : (event : LineEvent) → entry.item ≡ Event event → numbered.Call call ≡ numbered_event kinds (items before) event → is_call entry.item ≡ true
         by (Fork thread child) is e = cc
         by (Join thread child) is e = cc
+        by (Acquire thread lock) is e = cc
+        by (Release thread lock) is e = cc
         by (Call thread object method slots) is e = ap is_call is
 
     is_event_line : is_event entry.item ≡ true
@@ -331,14 +342,14 @@ module _ (kinds : List Kind) where
 
     -- the count of reported calls stays small
     pub call_races : now.races ≤ 4294967294
-    call_races = let few = checks.tracks.told.formed.bounded.few_events in omega (arith, checks.races, races_within Commute commutes commutes_decides kinds before)
+    call_races = let few = checks.tracks.told.told.formed.bounded.few_events in omega (arith, checks.races, races_within Commute commutes commutes_decides kinds before)
 
     -- the steps of the tracker and of the detector keep together to the bound
-    pub call_cost : (steps middle after : ℕ) → middle ≤ steps + event_bound (numbered.Call call) (threads_after (numbered.Call call) (length now.tracker)) → after ≤ middle + length now.detector
+    pub call_cost : (steps middle after : ℕ) → middle ≤ steps + event_bound (numbered.Call call) (threads_after (numbered.Call call) (length now.tracker.threads)) → after ≤ middle + length now.detector
         → after ≤ steps + line_bound (items before) entry.item
     call_cost steps middle after track detect =
         let threads : ℕ = length (threads_of (items before ++ entry.item ∷ [])) in
-        let known : threads ≡ length now.tracker = event_threads now.tracker (items before) entry.item (numbered.Call call) next in
+        let known : threads ≡ length now.tracker.threads = event_threads now.tracker (items before) entry.item (numbered.Call call) next in
         let bound : line_bound (items before) entry.item ≡ 2 * threads + call_count (items before) =
         ap (λ b. cond b (2 * threads + call_count (items before)) (cond (is_event entry.item) (4 * threads) 0)) is_called in
         omega (arith, checks.held)
@@ -371,7 +382,7 @@ module _ (kinds : List Kind) where
   event_place start now before item roster e checks next count is =
       let (event, line, number) = event_line (items before) item e next.numbers in
       is ∙ sum_by_push (λ l. cond (is_event l) 1 0) (items before) item ∙ ap (λ l. events (items before) + cond (is_event l) 1 0) line
-      ∙ ap (λ n. n + 1) (sym checks.tracks.told.counted)
+      ∙ ap (λ n. n + 1) (sym checks.tracks.told.told.counted)
 
   -- ---- an event that is a call
 

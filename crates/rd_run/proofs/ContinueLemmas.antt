@@ -11,7 +11,7 @@ use Rattle.rd_io.specs.declared.lines.ReadEnd.{ReadEnd}
 use Rattle.rd_io.specs.declared.lines.ReadEnd.TheVariants.{ReadFault, LineTooLong, BytesLimit, NoFinalNewline}
 use Rattle.rd_event.specs.declared.items.Line.{Line}
 use Rattle.rd_wf.specs.MayFollow.{headers}
-use Rattle.rd_wf.specs.Kinds.{Kind}
+use Rattle.rd_ecl.specs.Kinds.{Kind}
 use Rattle.rd_run.specs.Walk.{Entry, items, ends, after, judged, walk, trace_of, ended}
 use Rattle.rd_run.specs.Progress.{Continues, WalksTo, WalksOn, ending_for}
 use Rattle.rd_run.specs.declared.endings.TraceCause.{TraceCause}

@@ -9,7 +9,7 @@ use Rattle.rd_io.specs.Lines.{IsFrontOf, Stop, Reading, reading}
 use Rattle.rd_io.specs.Lines.Ending.{at_end, bytes_limit, faulted, line_too_long, no_final_newline}
 use Rattle.rd_io.specs.Lines.Reading.{stops, line}
 use Rattle.rd_io.specs.Lines.Stop.{fault}
-use Rattle.rd_wf.specs.Kinds.{Kind}
+use Rattle.rd_ecl.specs.Kinds.{Kind}
 use Rattle.rd_run.proofs.RunLemmas.{front_outcome, outcome_at}
 use Rattle.rd_run.specs.Output.{IsFront, Outcome, check_outcome, race_texts}
 use Rattle.rd_run.specs.Walk.{Entry, Walked, after, ends, goes, goes_or_ends, judged, trace_of, walk}

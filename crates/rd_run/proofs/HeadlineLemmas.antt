@@ -13,18 +13,20 @@ use Rattle.rd_event.specs.declared.items.Line.{Line}
 use Rattle.rd_order.specs.Counts.{Counts}
 use Rattle.rd_io.specs.Lines.{Stop, Reading, reading}
 use Rattle.rd_io.specs.Lines.Reading.{stops, line}
-use Rattle.rd_wf.proofs.EventsLemmas.{accepted_told}
+use Rattle.rd_wf.proofs.EventsLemmas.{accepted_told, told_formed}
 use Rattle.rd_wf.proofs.FollowLemmas.{broken_from_some, follows_from_none}
-use Rattle.rd_wf.specs.Kinds.{Kind}
-use Rattle.rd_wf.specs.MayFollow.{first_broken}
+use Rattle.rd_ecl.specs.Kinds.{Kind}
+use Rattle.rd_wf.specs.MayFollow.{IsBrokenFirst, first_broken, is_among}
 use Rattle.rd_wf.specs.declared.causes.WfCause.{WfCause}
+use Rattle.rd_wf.specs.declared.causes.WfCause.TheVariants.{UnknownKind}
+use Rattle.rd_event.specs.declared.items.Line.TheVariants.{Object}
 use Rattle.rd_run.proofs.AcceptedLemmas.{trace_accepted}
 use Rattle.rd_run.proofs.ReportLemmas.{texts_report}
 use Rattle.rd_run.specs.Output.{check_outcome, entry_events, race_texts, races_before, races_of}
-use Rattle.rd_run.specs.Reports.{IsAcceptedLine, IsChecked, IsRefusedLine, IsWalk, SaysBuilt}
-use Rattle.rd_run.specs.Walk.{Walked, accepted_or, ending_of, entries_of, goes_or_ends, is_unbuilt, is_unbuilt_item, items, judged, judged_item, trace_of, walk}
+use Rattle.rd_run.specs.Reports.{IsAcceptedLine, IsChecked, IsRefusedLine, IsWalk, SaysItem, SaysNone}
+use Rattle.rd_run.specs.Walk.{Walked, accepted_or, ending_of, entries_of, goes_or_ends, items, judged, judged_item, refusal, trace_of, unbuilt_kinds, walk}
 use Rattle.rd_run.specs.declared.endings.TraceCause.{TraceCause}
-use Rattle.rd_run.specs.declared.endings.TraceCause.TheVariants.{NotBuilt, BadLine}
+use Rattle.rd_run.specs.declared.endings.TraceCause.TheVariants.{NotBuilt, BadLine, NoFinalNewline, Wf, Limit}
 
 -- ---- the accepted lines
 
@@ -34,29 +36,33 @@ module _ (kinds : List Kind) (limits : Limits) (before : List Line) (bytes : Lis
   IsJudged (Ok item) = IsAcceptedLine kinds limits before bytes item
   IsJudged (Err cause) = IsRefusedLine kinds limits before bytes cause
 
-  unsaid : (unbuilt : Bool) → is_unbuilt bytes ≡ unbuilt → item_of bytes ≡ None → IsJudged (Err (cond unbuilt NotBuilt BadLine))
-  unsaid true is none = inl (none_said bytes none, is)
-  unsaid false is none = (none_said bytes none, λ unbuilt. true≢false (sym unbuilt ∙ is))
+  -- an item that breaks a rule is refused as that is told
+  refused_as : (item : Line) (cause : WfCause) → SaysItem bytes item → IsBrokenFirst kinds limits before item cause
+      → (refused : TraceCause) → refused ≡ refusal item cause → IsRefusedLine kinds limits before bytes refused
+  refused_as item cause said broken NotBuilt is = (item, cause, said, broken, is)
+  refused_as item cause said broken (Wf other) is = (item, cause, said, broken, is)
+  refused_as item cause said broken NoFinalNewline is = (item, cause, said, broken, is)
+  refused_as item cause said broken (Limit name number) is = (item, cause, said, broken, is)
+  refused_as (Object name kind) UnknownKind said broken BadLine is = by (is_among unbuilt_kinds kind) is
+    where
+      by : (unbuilt : Bool) → BadLine ≡ cond unbuilt NotBuilt (Wf UnknownKind) → SaysNone bytes
+      by true e = cc
+      by false e = cc
+  refused_as item cause said broken BadLine is = cc
 
-  judged_followed : (item : Line) (broken : Option WfCause) → first_broken kinds limits before item ≡ broken → SaysBuilt bytes item
+  judged_followed : (item : Line) (broken : Option WfCause) → first_broken kinds limits before item ≡ broken → SaysItem bytes item
       → IsJudged (accepted_or item broken)
   judged_followed item None is said = record { said = said; follows = follows_from_none kinds limits before item is }
-  judged_followed item (Some cause) is said = (item, said, broken_from_some kinds limits before item cause is)
+  judged_followed item (Some cause) is said = refused_as item cause said (broken_from_some kinds limits before item cause is) (refusal item cause) refl
 
-  judged_said : (item : Line) (unbuilt : Bool) → is_unbuilt_item item ≡ unbuilt → item_of bytes ≡ Some item
-      → IsJudged (cond unbuilt (Err NotBuilt) (accepted_or item (first_broken kinds limits before item)))
-  judged_said item true is found = inr (item, (found_said bytes item found).0, (found_said bytes item found).1, is)
-  judged_said item false is found =
-      judged_followed item (first_broken kinds limits before item) refl
-      (record { range = (found_said bytes item found).0; says = (found_said bytes item found).1; built = λ unbuilt. true≢false (sym unbuilt ∙ is) })
-
-  judged_bytes : (found : Option Line) → item_of bytes ≡ found → IsJudged (judged_item kinds limits before bytes found)
-  judged_bytes None is = unsaid (is_unbuilt bytes) refl is
-  judged_bytes (Some item) is = judged_said item (is_unbuilt_item item) refl is
+  judged_found : (found : Option Line) → item_of bytes ≡ found → IsJudged (judged_item kinds limits before found)
+  judged_found None is = none_said bytes is
+  judged_found (Some item) is =
+      judged_followed item (first_broken kinds limits before item) refl (record { range = (found_said bytes item is).0; says = (found_said bytes item is).1 })
 
   judged_is : IsJudged (judged kinds limits before bytes)
   unfolding judged
-  judged_is = judged_bytes (item_of bytes) refl
+  judged_is = judged_found (item_of bytes) refl
 
 walk_is : (kinds : List Kind) (limits : Limits) (before : List Line) (number : ℕ) (lines : Reading)
     → IsWalk kinds limits before number lines (entries_of (walk kinds limits before number lines)) (ending_of (walk kinds limits before number lines))
@@ -95,7 +101,7 @@ module _ (Commuting : Call → Call → Type 0) (commuting : Call → Call → B
         entries = entries;
         ending = ending_of walked;
         walk = walk_is kinds limits [] 1 (reading limits.line limits.bytes stop bytes);
-        formed = (accepted_told kinds (items entries) (trace_accepted kinds limits usable range stop bytes)).formed;
+        formed = told_formed kinds (items entries) (accepted_told kinds (items entries) (trace_accepted kinds limits usable range stop bytes));
         races = race_texts commuting kinds entries;
         report = texts_report Commuting commuting tells kinds entries;
         count = races_of commuting kinds entries;

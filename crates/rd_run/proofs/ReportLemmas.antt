@@ -20,7 +20,7 @@ use Rattle.rd_run.proofs.WalkLemmas.{items_more}
 use Rattle.rd_run.specs.Checking.{next_races, next_text}
 use Rattle.rd_detect.specs.Detect.{IsAnswer, IsNextCall}
 use Rattle.rd_wf.specs.Events.{event_of, events_from, events_of}
-use Rattle.rd_wf.specs.Kinds.{Kind}
+use Rattle.rd_ecl.specs.Kinds.{Kind}
 use Rattle.rd_wf.specs.MayFollow.{is_event, numbered_event}
 use Rattle.rd_run.specs.Output.{IsFront, check_status, entry_events, event_number, event_numbers, number_at, race_line, is_limit, race_texts, races_before, races_of, text_with, texts_before}
 use Rattle.rd_detect.specs.RaceTests.{latest_of}

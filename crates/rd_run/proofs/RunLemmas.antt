@@ -11,9 +11,10 @@ use Rattle.rd_detect.specs.RegisterTests.{commutes}
 use Rattle.rd_event.specs.declared.events.Call.{Call}
 use Rattle.rd_io.specs.Inputs.{Source, Takes, IsOpened, IsNotOpened, Rose, next_count, file_of}
 use Rattle.rd_io.specs.Lines.Stop.{end, fault}
-use Rattle.rd_wf.specs.Kinds.{Kind, register_alone}
+use Rattle.rd_ecl.specs.Kinds.{Kind}
+use Rattle.rd_run.specs.Register.{register_alone}
 use Rattle.rd_run.specs.Commands.{Checked}
-use Rattle.rd_run.specs.Output.{Outcome, IsOutput, IsFront, Runs, OpensOnly, race_texts, texts_before, races_of, ending_text, check_status, check_outcome, input_of, outcome_of, walk_of, walk_on}
+use Rattle.rd_run.specs.Output.{Outcome, IsOutput, IsFront, Runs, OpensOnly, race_texts, texts_before, races_of, ending_text, thread_names, check_status, check_outcome, input_of, outcome_of, walk_of, walk_on}
 use Rattle.rd_run.specs.Output.Command.{check}
 use Rattle.rd_run.specs.Progress.{IsRead}
 use Rattle.rd_run.specs.Walk.{Entry, Walked, ends, after, entries_of, ending_of, trace_of, step_bound}
@@ -36,14 +37,14 @@ ending_at entries ending = ending_after entries (ends ending)
 
 module _ (Commuting : Call → Call → Type 0) (commuting : Call → Call → Bool) (tells : (a b : Call) → Decides (commuting a b) (Commuting a b)) (kinds : List Kind) where
   pub outcome_at : (entries : List Entry) (ending : Ending) → check_outcome commuting kinds (after entries (ends ending))
-      ≡ record { text = race_texts commuting kinds entries ++ ending_text (races_of commuting kinds entries) ending; status = check_status (races_of commuting kinds entries) ending }
+      ≡ record { text = race_texts commuting kinds entries ++ ending_text (thread_names entries) (races_of commuting kinds entries) ending; status = check_status (races_of commuting kinds entries) ending }
   outcome_at entries ending =
       ap (λ es. let o : Outcome = record {
-        text = race_texts commuting kinds es ++ ending_text (races_of commuting kinds es) (ending_of (after entries (ends ending)));
+        text = race_texts commuting kinds es ++ ending_text (thread_names es) (races_of commuting kinds es) (ending_of (after entries (ends ending)));
         status = check_status (races_of commuting kinds es) (ending_of (after entries (ends ending)));
       } in o) (entries_at entries ending)
       ∙ ap (λ e. let o : Outcome = record {
-        text = race_texts commuting kinds entries ++ ending_text (races_of commuting kinds entries) e;
+        text = race_texts commuting kinds entries ++ ending_text (thread_names entries) (races_of commuting kinds entries) e;
         status = check_status (races_of commuting kinds entries) e;
       } in o) (ending_at entries ending)
 
@@ -51,7 +52,7 @@ module _ (Commuting : Call → Call → Type 0) (commuting : Call → Call → B
       → IsFront part (check_outcome commuting kinds (after entries walked)).text
   front_outcome entries walked part rest is =
       let all = entries_of (after entries walked) in
-      let behind = ending_text (races_of commuting kinds all) (ending_of (after entries walked)) in
+      let behind = ending_text (thread_names all) (races_of commuting kinds all) (ending_of (after entries walked)) in
       let (more, texts) = texts_front Commuting commuting tells kinds entries (entries_of walked) in (
         rest ++ more ++ behind,
         ap (λ t. t ++ behind) (ap (race_texts commuting kinds) (entries_after entries walked) ∙ texts ∙ ap (λ t. t ++ more) is)

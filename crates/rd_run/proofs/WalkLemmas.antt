@@ -6,22 +6,17 @@ use Rattle.rd_io.specs.Lines.Reading.{stops, line}
 use Rattle.rd_base.specs.declared.limits.Limits.{Limits}
 use Rattle.rd_event.specs.Reading.{item_of}
 use Rattle.rd_event.specs.declared.items.Line.{Line}
-use Rattle.rd_wf.specs.Kinds.{Kind}
+use Rattle.rd_ecl.specs.Kinds.{Kind}
 use Rattle.rd_wf.specs.MayFollow.{first_broken}
-use Rattle.rd_run.specs.Walk.{Entry, items, Walked, ends, goes, after, entries_of, ending_of, judged, judged_item, accepted_or, is_unbuilt_item, walk, goes_or_ends, ended, bound_from, line_bound}
+use Rattle.rd_run.specs.Walk.{Entry, items, Walked, ends, goes, after, entries_of, ending_of, judged, judged_item, accepted_or, refusal, walk, goes_or_ends, ended, bound_from, line_bound}
 use Rattle.rd_wf.specs.declared.causes.WfCause.{WfCause}
 use Rattle.rd_run.specs.declared.endings.TraceCause.{TraceCause}
-use Rattle.rd_run.specs.declared.endings.TraceCause.TheVariants.{NotBuilt, Wf}
 use Rattle.rd_run.specs.declared.endings.Ending.TheVariants.{Refused}
 
 pub judged_broken : (kinds : List Kind) (limits : Limits) (before : List Line) (bytes : List ℕ) (item : Line) (cause : WfCause)
-    → item_of bytes ≡ Some item → is_unbuilt_item item ≡ false
-    → first_broken kinds limits before item ≡ Some cause → judged kinds limits before bytes ≡ Err (Wf cause)
+    → item_of bytes ≡ Some item → first_broken kinds limits before item ≡ Some cause → judged kinds limits before bytes ≡ Err (refusal item cause)
 unfolding judged
-judged_broken kinds limits before bytes item cause says built broken =
-    ap (judged_item kinds limits before bytes) says
-    ∙ ap (λ t. cond t (Err NotBuilt) (accepted_or item (first_broken kinds limits before item))) built
-    ∙ ap (accepted_or item) broken
+judged_broken kinds limits before bytes item cause says broken = ap (judged_item kinds limits before) says ∙ ap (accepted_or item) broken
 
 pub walk_stops : (kinds : List Kind) (limits : Limits) (before : List Line) (number : ℕ) (ending : LinesEnding)
     → walk kinds limits before number (stops ending) ≡ ends (ended limits before number ending)

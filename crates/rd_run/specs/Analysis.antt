@@ -5,7 +5,7 @@ use Rattle.rd_base.specs.declared.limits.Limits.{Limits}
 use Rattle.rd_event.specs.declared.items.Line.{Line}
 use Rattle.rd_io.specs.Inputs.{next_count}
 use Rattle.rd_io.specs.Sinks.{Appends}
-use Rattle.rd_wf.specs.Kinds.{Kind}
+use Rattle.rd_ecl.specs.Kinds.{Kind}
 use Rattle.rd_wf.specs.MayFollow.{MayFollow, accepted_of, threads_of}
 use Rattle.rd_wf.specs.Roster.{StandsFor}
 use Rattle.rd_wf.specs.declared.causes.Accepted.{Accepted}

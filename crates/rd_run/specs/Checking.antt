@@ -5,11 +5,10 @@ use Rattle.rd_base.specs.declared.limits.Limits.{Limits}
 use Rattle.rd_event.specs.declared.events.Call.{Call}
 use Rattle.rd_event.specs.declared.events.Event.{Event}
 use Rattle.rd_event.specs.declared.items.Line.{Line}
-use Rattle.rd_hb.specs.Tracker.{StandsFor}
-use Rattle.rd_hb.specs.declared.tracker.Tracked.{Tracked}
+use Rattle.rd_hb.specs.Tracker.{StandsFor, Tracking}
 use Rattle.rd_detect.specs.Detect.{StandsFor as Detects}
 use Rattle.rd_wf.specs.Events.{AreTold, events_of, roots_of}
-use Rattle.rd_wf.specs.Kinds.{Kind}
+use Rattle.rd_ecl.specs.Kinds.{Kind}
 use Rattle.rd_wf.specs.MayFollow.{MayFollow, accepted_of, call_count, threads_of}
 use Rattle.rd_run.specs.Output.{entry_events, event_numbers, races_of, text_with}
 use Rattle.rd_detect.specs.RaceTests.{latest_of}
@@ -19,13 +18,13 @@ use Rattle.rd_run.specs.declared.checking.Check.{Check}
 use Rattle.rd_wf.specs.declared.causes.Accepted.{Accepted}
 
 -- the tracker stands for the events of these lines, which are a well-formed list, and has their threads
-pub record Tracks (kinds : List Kind) (tracker : List Tracked) (lines : List Line) : Type 0 where
+pub record Tracks (kinds : List Kind) (tracker : Tracking) (lines : List Line) : Type 0 where
   pub told : AreTold kinds lines
   pub stands : StandsFor tracker (roots_of lines) (events_of kinds lines)
-  pub count : length tracker ≡ length (threads_of lines)
+  pub count : length tracker.threads ≡ length (threads_of lines)
 
 -- the line may follow those that the tracker stands for, it is this in numbers, and the threads behind it fit 32 bits
-pub record IsNextLine (kinds : List Kind) (tracker : List Tracked) (before : List Line) (line : Line) (numbers : Accepted) : Type 0 where
+pub record IsNextLine (kinds : List Kind) (tracker : Tracking) (before : List Line) (line : Line) (numbers : Accepted) : Type 0 where
   pub tracks : Tracks kinds tracker before
   pub limits : Limits
   pub usable : AreUsable limits
@@ -35,7 +34,7 @@ pub record IsNextLine (kinds : List Kind) (tracker : List Tracked) (before : Lis
 
 -- it has taken no line
 pub record IsNew (start : Check) : Type 0 where
-  pub no_thread : start.tracker ≡ []
+  pub no_event : start.tracker ≡ record { threads = []; locks = [] }
   pub no_call : start.detector ≡ []
   pub no_race : start.races ≡ 0
 

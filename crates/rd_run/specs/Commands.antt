@@ -2,7 +2,7 @@
 use Rattle.std.specs.Prelude.{◌≡◌, ◌⊎◌, ℕ, List, ◌++◌, Option, Some, None}
 use Rattle.rd_base.specs.declared.limits.Limits.{Limits}
 use Rattle.rd_detect.specs.RegisterTests.{commutes}
-use Rattle.rd_wf.specs.Kinds.{Kind}
+use Rattle.rd_ecl.specs.Kinds.{Kind}
 use Rattle.rd_run.specs.Output.{Command, IsOutput, check_outcome, race_texts}
 use Rattle.rd_run.specs.Output.Command.{check}
 use Rattle.rd_run.specs.Walk.{Entry, after, ends}

@@ -9,11 +9,12 @@ use Rattle.rd_event.specs.declared.events.Call.{Call}
 use Rattle.rd_event.specs.declared.events.Event.{Event}
 use Rattle.rd_base.specs.declared.limits.LimitName.TheVariants.{Bytes, Line, Events, Threads, Locks, Objects, Depth, SpecText, Tokens, Kinds, Methods, Arguments, Nodes, FormulaDepth, Predicates}
 use Rattle.rd_wf.specs.Events.{events_of}
-use Rattle.rd_wf.specs.MayFollow.{is_event, same_name}
+use Rattle.rd_wf.specs.MayFollow.{is_event, same_name, threads_of}
 use Rattle.rd_detect.specs.RaceTests.{latest_of}
 use Rattle.rd_detect.specs.RegisterTests.{commutes}
 use Rattle.rd_run.specs.Progress.{IsRead}
-use Rattle.rd_wf.specs.Kinds.{Kind, register_alone}
+use Rattle.rd_ecl.specs.Kinds.{Kind}
+use Rattle.rd_run.specs.Register.{register_alone}
 use Rattle.rd_run.specs.Walk.{Walked, ends, Entry, entries_of, ending_of, items, trace_of, step_bound}
 use Rattle.rd_wf.specs.declared.causes.WfCause.{WfCause}
 use Rattle.rd_wf.specs.declared.causes.WfCause.TheVariants as wf
@@ -60,31 +61,47 @@ limit_text Predicates = codes "predicates"
 abbrev pub limit_cause_text : LimitName → ℕ → List ℕ
 limit_cause_text name number = codes "limit " ++ limit_text name ++ codes " " ++ decimal number
 
-abbrev pub wf_text : WfCause → List ℕ
-wf_text (wf.Limit name number) = limit_cause_text name number
-wf_text _ = codes "not-well-formed"
+-- the name of the thread with this number
+abbrev pub thread_text : List (List ℕ) → ℕ → List ℕ
+thread_text names thread = unwrap_or (slice_get names thread) []
+
+-- the text of a cause by which a line may not follow, by the names of the threads
+unfoldable pub wf_text : List (List ℕ) → WfCause → List ℕ
+wf_text names wf.HeaderFirst = codes "header-first"
+wf_text names wf.LateRoot = codes "late-root"
+wf_text names wf.NameTaken = codes "name-taken"
+wf_text names wf.UnknownThread = codes "unknown-thread"
+wf_text names wf.ThreadEnded = codes "thread-ended"
+wf_text names wf.OwnThread = codes "own-thread"
+wf_text names wf.UnknownKind = codes "unknown-kind"
+wf_text names wf.UnknownObject = codes "unknown-object"
+wf_text names wf.UnknownMethod = codes "unknown-method"
+wf_text names wf.WrongCount = codes "wrong-count"
+wf_text names (wf.LockHeld holder) = codes "lock-held " ++ thread_text names holder
+wf_text names wf.NotHeld = codes "not-held"
+wf_text names (wf.Limit name number) = limit_cause_text name number
 
 -- the text of a cause
-unfoldable pub cause_text : TraceCause → List ℕ
-cause_text cause.NotBuilt = codes "not-built"
-cause_text cause.BadLine = codes "bad-line"
-cause_text cause.NoFinalNewline = codes "no-final-newline"
-cause_text (cause.Wf broken) = wf_text broken
-cause_text (cause.Limit name number) = limit_cause_text name number
+unfoldable pub cause_text : List (List ℕ) → TraceCause → List ℕ
+cause_text names cause.NotBuilt = codes "not-built"
+cause_text names cause.BadLine = codes "bad-line"
+cause_text names cause.NoFinalNewline = codes "no-final-newline"
+cause_text names (cause.Wf broken) = wf_text names broken
+cause_text names (cause.Limit name number) = limit_cause_text name number
 
 -- the line that tells how many calls are reported
 abbrev pub races_line : ℕ → List ℕ
 races_line races = codes "races " ++ decimal races ++ codes "\n"
 
 -- the line of a refusal
-abbrev pub refused_line : ℕ → TraceCause → List ℕ
-refused_line number cause = codes "refused line " ++ decimal number ++ codes " " ++ cause_text cause ++ codes "\n"
+abbrev pub refused_line : List (List ℕ) → ℕ → TraceCause → List ℕ
+refused_line names number cause = codes "refused line " ++ decimal number ++ codes " " ++ cause_text names cause ++ codes "\n"
 
--- the text behind the races: how many there are, and where the trace was refused
-abbrev pub ending_text : ℕ → Ending → List ℕ
-ending_text races End = races_line races
-ending_text races (Refused number cause) = races_line races ++ refused_line number cause
-ending_text races Fault = []
+-- the text behind the races: how many there are, and where the trace was refused, by the names of the threads
+abbrev pub ending_text : List (List ℕ) → ℕ → Ending → List ℕ
+ending_text names races End = races_line races
+ending_text names races (Refused number cause) = races_line races ++ refused_line names number cause
+ending_text names races Fault = []
 
 -- ---- the outcome of a command
 
@@ -130,6 +147,10 @@ races_before commuting es (suc place) = races_before commuting es place + (if is
 abbrev pub entry_events : List Kind → List Entry → List Event
 entry_events kinds entries = events_of kinds (items entries)
 
+-- the names of the threads of the accepted lines, by their numbers
+abbrev pub thread_names : List Entry → List (List ℕ)
+thread_names entries = threads_of (items entries)
+
 -- how many calls of the accepted lines are reported
 unfoldable pub races_of : (Call → Call → Bool) → List Kind → List Entry → ℕ
 races_of commuting kinds entries = races_before commuting (entry_events kinds entries) (length (entry_events kinds entries))
@@ -162,7 +183,7 @@ check_outcome commuting kinds walked =
     let entries = entries_of walked in
     let races = races_of commuting kinds entries in
     record {
-      text = race_texts commuting kinds entries ++ ending_text races (ending_of walked);
+      text = race_texts commuting kinds entries ++ ending_text (thread_names entries) races (ending_of walked);
       status = check_status races (ending_of walked);
     }
 

@@ -8,7 +8,7 @@ use Rattle.rd_io.specs.declared.lines.ReadEnd.{ReadEnd}
 use Rattle.rd_io.specs.declared.lines.ReadEnd.TheVariants.{ReadFault, LineTooLong, BytesLimit, NoFinalNewline as NoLineFeed}
 use Rattle.rd_base.specs.declared.limits.Limits.{Limits}
 use Rattle.rd_base.specs.declared.limits.LimitName.TheVariants.{Bytes, Line}
-use Rattle.rd_wf.specs.Kinds.{Kind}
+use Rattle.rd_ecl.specs.Kinds.{Kind}
 use Rattle.rd_run.specs.Walk.{Entry, items, Walked, ends, after, trace_of, walk}
 use Rattle.rd_run.specs.declared.endings.TraceCause.TheVariants.{NoFinalNewline, Limit}
 use Rattle.rd_run.specs.declared.endings.Ending.{Ending}

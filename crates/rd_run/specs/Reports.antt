@@ -7,18 +7,19 @@ use Rattle.rd_event.specs.declared.events.Call.{Call}
 use Rattle.rd_event.specs.declared.events.Event.{Event}
 use Rattle.rd_event.specs.declared.items.Line.{Line}
 use Rattle.rd_order.specs.Counts.{Counts}
-use Rattle.rd_order.specs.EventLists.{WellFormed}
+use Rattle.rd_order.specs.EventLists.{WellFormedWith}
 use Rattle.rd_io.specs.Lines.{Stop, Reading, reading}
 use Rattle.rd_io.specs.Lines.Reading.{stops, line}
 use Rattle.rd_wf.specs.Events.{roots_of}
-use Rattle.rd_wf.specs.Kinds.{Kind}
+use Rattle.rd_ecl.specs.Kinds.{Kind}
 use Rattle.rd_wf.specs.MayFollow.{IsBrokenFirst, MayFollow}
-use Rattle.rd_run.specs.Output.{Outcome, check_status, ending_text, entry_events, event_numbers, number_at, race_line}
-use Rattle.rd_run.specs.Walk.{Entry, ended, is_unbuilt, is_unbuilt_item, items}
+use Rattle.rd_wf.specs.declared.causes.WfCause.{WfCause}
+use Rattle.rd_run.specs.Output.{Outcome, check_status, ending_text, entry_events, event_numbers, number_at, race_line, thread_names}
+use Rattle.rd_run.specs.Walk.{Entry, ended, items, refusal}
 use Rattle.rd_run.specs.declared.endings.Ending.{Ending}
 use Rattle.rd_run.specs.declared.endings.Ending.TheVariants.{Refused}
 use Rattle.rd_run.specs.declared.endings.TraceCause.{TraceCause}
-use Rattle.rd_run.specs.declared.endings.TraceCause.TheVariants.{NotBuilt, BadLine, NoFinalNewline, Wf, Limit}
+use Rattle.rd_run.specs.declared.endings.TraceCause.TheVariants.{BadLine}
 
 -- ---- the accepted lines
 
@@ -26,26 +27,22 @@ use Rattle.rd_run.specs.declared.endings.TraceCause.TheVariants.{NotBuilt, BadLi
 abbrev pub SaysNone : List ℕ → Type 0
 SaysNone bytes = (item : Line) → LineInRange item → ¬ (Says bytes item)
 
--- they say this item, which is of a form that is built
-pub record SaysBuilt (bytes : List ℕ) (item : Line) : Type 0 where
+-- they say this item
+pub record SaysItem (bytes : List ℕ) (item : Line) : Type 0 where
   pub range : LineInRange item
   pub says : Says bytes item
-  pub built : ¬ (IsTrue (is_unbuilt_item item))
 
 -- the line with these bytes is accepted behind the accepted ones, as this item
 pub record IsAcceptedLine (kinds : List Kind) (limits : Limits) (before : List Line) (bytes : List ℕ) (item : Line) : Type 0 where
-  pub said : SaysBuilt bytes item
+  pub said : SaysItem bytes item
   pub follows : MayFollow kinds limits before item
 
--- It is refused behind them for this cause: it isn't built yet, it says no item, or the item that it says breaks the rule of this
--- cause and none of an earlier one.
+-- It is refused behind them for this cause: it says no item, or the item that it says breaks the rule of a cause and of none
+-- before it, which is told, or which is that of an object whose kind isn't built yet.
 abbrev pub IsRefusedLine : List Kind → Limits → List Line → List ℕ → TraceCause → Type 0
-IsRefusedLine kinds limits before bytes NotBuilt =
-    (SaysNone bytes × IsTrue (is_unbuilt bytes)) ⊎ ((item : Line) × LineInRange item × Says bytes item × IsTrue (is_unbuilt_item item))
-IsRefusedLine kinds limits before bytes BadLine = SaysNone bytes × ¬ (IsTrue (is_unbuilt bytes))
-IsRefusedLine kinds limits before bytes (Wf cause) = (item : Line) × SaysBuilt bytes item × IsBrokenFirst kinds limits before item cause
-IsRefusedLine kinds limits before bytes NoFinalNewline = ⊥
-IsRefusedLine kinds limits before bytes (Limit name number) = ⊥
+IsRefusedLine kinds limits before bytes BadLine = SaysNone bytes
+IsRefusedLine kinds limits before bytes refused =
+    (item : Line) × (cause : WfCause) × SaysItem bytes item × IsBrokenFirst kinds limits before item cause × (refused ≡ refusal item cause)
 
 -- Of the lines that come behind the accepted ones, the first of them with this number, these are accepted, up to the first that is
 -- refused or to the end of the lines, and so they end.
@@ -76,8 +73,8 @@ pub record IsChecked (Commuting : Call → Call → Type 0) (kinds : List Kind) 
   pub entries : List Entry
   pub ending : Ending
   pub walk : IsWalk kinds limits [] 1 (reading limits.line limits.bytes stop bytes) entries ending
-  -- their events are a well-formed list
-  pub formed : WellFormed (roots_of (items entries)) (entry_events kinds entries)
+  -- their events are a well-formed list, with calls of these kinds
+  pub formed : WellFormedWith kinds (roots_of (items entries)) (entry_events kinds entries)
   -- a line for each reported call, with the latest that races with it
   pub races : List ℕ
   pub report : IsReport Commuting (event_numbers entries) (entry_events kinds entries) (length (entry_events kinds entries)) races
@@ -85,5 +82,5 @@ pub record IsChecked (Commuting : Call → Call → Type 0) (kinds : List Kind) 
   pub count : ℕ
   pub counted : Counts (Reported Commuting (entry_events kinds entries)) (length (entry_events kinds entries)) count
   -- what is written, and the status
-  pub text : outcome.text ≡ races ++ ending_text count ending
+  pub text : outcome.text ≡ races ++ ending_text (thread_names entries) count ending
   pub status : outcome.status ≡ check_status count ending

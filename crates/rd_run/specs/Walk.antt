@@ -1,6 +1,5 @@
 -- The walk over the lines of a trace: which are accepted, and how they end. This project's profile.
 use Rattle.std.specs.Prelude.{ℕ, ◌+◌, ◌*◌, ◌==◌, Bool, true, false, ◌||◌, nat_eq, List, [], ◌∷◌, ◌++◌, map, length, codes, Option, Some, None, Result, Ok, Err, if◌then◌else◌}
-use Rattle.std.specs.List.{list_any, starts_with}
 use Rattle.rd_io.specs.Lines.{Stop, Reading, reading, Ending as LinesEnding}
 use Rattle.rd_io.specs.Lines.Ending.{at_end, no_final_newline, line_too_long, bytes_limit, faulted}
 use Rattle.rd_io.specs.Lines.Reading.{stops, line}
@@ -8,14 +7,11 @@ use Rattle.rd_base.specs.declared.limits.Limits.{Limits}
 use Rattle.rd_base.specs.declared.limits.LimitName.TheVariants.{Bytes, Line as LineBytes}
 use Rattle.rd_event.specs.Reading.{item_of}
 use Rattle.rd_event.specs.declared.items.Line.{Line}
-use Rattle.rd_base.specs.declared.values.Value.{Value}
-use Rattle.rd_base.specs.declared.values.Value.TheVariants.{Text}
-use Rattle.rd_event.specs.declared.items.Line.TheVariants.{Object, Event}
-use Rattle.rd_event.specs.declared.items.LineEvent.TheVariants.{Call}
-use Rattle.rd_wf.specs.Kinds.{Kind}
+use Rattle.rd_event.specs.declared.items.Line.TheVariants.{Object}
+use Rattle.rd_ecl.specs.Kinds.{Kind}
 use Rattle.rd_wf.specs.MayFollow.{call_count, first_broken, is_among, is_call, headers, is_event, threads_of}
 use Rattle.rd_wf.specs.declared.causes.WfCause.{WfCause}
-use Rattle.rd_wf.specs.declared.causes.WfCause.TheVariants.{HeaderFirst}
+use Rattle.rd_wf.specs.declared.causes.WfCause.TheVariants.{HeaderFirst, UnknownKind}
 use Rattle.rd_run.specs.declared.endings.TraceCause.{TraceCause}
 use Rattle.rd_run.specs.declared.endings.TraceCause.TheVariants.{NotBuilt, BadLine, NoFinalNewline, Wf, Limit}
 use Rattle.rd_run.specs.declared.endings.Ending.{Ending}
@@ -42,38 +38,28 @@ unfoldable pub ending_of : Walked → Ending
 ending_of (ends ending) = ending
 ending_of (goes entry more) = ending_of more
 
--- bytes that say no item are of a form that isn't built yet: they begin with one of these words and a space, or hold a quotation mark
-abbrev pub is_unbuilt : List ℕ → Bool
-is_unbuilt bytes =
-    starts_with nat_eq bytes (codes "acquire ") || (starts_with nat_eq bytes (codes "release ") || list_any (λ byte. byte == 34) bytes)
-
 -- the kinds of objects that aren't built yet
 abbrev pub unbuilt_kinds : List (List ℕ)
 unbuilt_kinds = codes "counter" ∷ codes "set" ∷ codes "dictionary" ∷ []
 
-abbrev pub is_text : Value → Bool
-is_text (Text text) = true
-is_text _ = false
-
--- an item isn't built yet: an object of such a kind, or a call with a text
-abbrev pub is_unbuilt_item : Line → Bool
-is_unbuilt_item (Object name kind) = is_among unbuilt_kinds kind
-is_unbuilt_item (Event (Call thread object method slots)) = list_any is_text slots
-is_unbuilt_item _ = false
+-- why an item is refused that breaks the rule of this cause: an object of such a kind is told of as not built, and not as of an
+-- unknown kind
+abbrev pub refusal : Line → WfCause → TraceCause
+refusal (Object name kind) UnknownKind = if is_among unbuilt_kinds kind then NotBuilt else Wf UnknownKind
+refusal item cause = Wf cause
 
 abbrev pub accepted_or : Line → Option WfCause → Result Line TraceCause
 accepted_or item None = Ok item
-accepted_or item (Some cause) = Err (Wf cause)
+accepted_or item (Some cause) = Err (refusal item cause)
 
-abbrev pub judged_item : List Kind → Limits → List Line → List ℕ → Option Line → Result Line TraceCause
-judged_item kinds limits before bytes None = Err (if is_unbuilt bytes then NotBuilt else BadLine)
-judged_item kinds limits before bytes (Some item) =
-    if is_unbuilt_item item then Err NotBuilt else accepted_or item (first_broken kinds limits before item)
+abbrev pub judged_item : List Kind → Limits → List Line → Option Line → Result Line TraceCause
+judged_item kinds limits before None = Err BadLine
+judged_item kinds limits before (Some item) = accepted_or item (first_broken kinds limits before item)
 
--- what the bytes of a line behind the accepted ones say, or the first cause to refuse it: it isn't built yet, it says
--- no item, or its item may not follow
+-- what the bytes of a line behind the accepted ones say, or the first cause to refuse it: it says no item, or its item may not
+-- follow
 unfoldable pub judged : List Kind → Limits → List Line → List ℕ → Result Line TraceCause
-judged kinds limits before bytes = judged_item kinds limits before bytes (item_of bytes)
+judged kinds limits before bytes = judged_item kinds limits before (item_of bytes)
 
 -- how a trace ends where its lines end so behind the accepted ones. The number is that of the next line
 abbrev pub ended : Limits → List Line → ℕ → LinesEnding → Ending

@@ -2,7 +2,7 @@
 ghost use Rattle.std.specs.Prelude.{◌≡◌, ◌+◌, ◌≤◌, ℕ, List, [], ◌∷◌, ◌++◌, OnOk, OnErr};
 ghost use Rattle.rd_run.specs.Analysis.{IsNextEntry, TellsFault, WritesBetween, WritesFront};
 ghost use Rattle.rd_run.specs.Walk.{Entry, items, line_bound};
-ghost use Rattle.rd_wf.specs.Kinds.{Kind};
+ghost use Rattle.rd_ecl.specs.Kinds.{Kind};
 
 use rd_base::Steps;
 use rd_event::Line;

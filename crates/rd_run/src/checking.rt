@@ -35,7 +35,7 @@ impl Check {
     ghost use Rattle.rd_run.specs.Checking.{Checks, IsNew, IsNextLine, next_races, next_text};
     ghost use Rattle.rd_run.specs.Output.{entry_events, race_texts};
     ghost use Rattle.rd_run.specs.Walk.{Entry, items, line_bound};
-    ghost use Rattle.rd_wf.specs.Kinds.{Kind};
+    ghost use Rattle.rd_ecl.specs.Kinds.{Kind};
 
     /// A check of no lines.
     pub fn new(alloc: Global) -> Result<Check, Halt>

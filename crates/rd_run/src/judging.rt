@@ -1,18 +1,17 @@
 //! What is said of the bytes of a line.
 ghost use Rattle.std.specs.Prelude.{◌≡◌, ◌≤◌, ◌++◌, [], ◌∷◌, List, Err, Ok, Some, length, IfOk, IfErr, OnOk, OnErr};
-ghost use Rattle.std.specs.List.{list_any};
 ghost use Rattle.rd_base.specs.Limits.{AreUsable};
 ghost use Rattle.rd_event.specs.Reading.{item_of};
 ghost use Rattle.rd_event.specs.declared.items.Line.{Line as Item};
-ghost use Rattle.rd_run.specs.Walk.{is_text, is_unbuilt, is_unbuilt_item, judged};
-ghost use Rattle.rd_wf.specs.Kinds.{Kind};
-ghost use Rattle.rd_wf.specs.MayFollow.{MayFollow, accepted_of, threads_of};
+ghost use Rattle.rd_run.specs.Walk.{judged, refusal, unbuilt_kinds};
+ghost use Rattle.rd_ecl.specs.Kinds.{Kind};
+ghost use Rattle.rd_wf.specs.MayFollow.{MayFollow, accepted_of, is_among, threads_of};
 ghost use Rattle.rd_wf.specs.Roster.{StandsFor};
 
 use crate::endings::TraceCause;
-use rd_base::{Limits, Value};
-use rd_event::{Line, LineEvent, LineRefused, read_into};
-use rd_wf::{Accepted, Roster, WfRefused};
+use rd_base::{Limits, Name};
+use rd_event::{Line, LineRefused, read_into};
+use rd_wf::{Accepted, Roster, WfCause, WfRefused};
 use std::alloc::Global;
 
 /// Why a line isn't accepted.
@@ -24,34 +23,25 @@ pub enum Refusal {
     NoMemory,
 }
 
-fn is_unbuilt(bytes: &[u8]) -> bool
-    ensures { result ≡ is_unbuilt bytes.now }
+fn is_unbuilt(kind: &Name) -> bool
+    ensures { result ≡ is_among unbuilt_kinds kind.now }
 {
-    let acquires = bytes.starts_with(b"acquire ");
-    let releases = bytes.starts_with(b"release ");
-    let quotes = bytes.contains(&b'"');
-    acquires || (releases || quotes)
+    let counter = kind.items() == b"counter".as_slice();
+    let set = kind.items() == b"set".as_slice();
+    let dictionary = kind.items() == b"dictionary".as_slice();
+    counter || (set || dictionary)
 }
 
-fn has_text(slots: &[Value]) -> bool
-    ensures { result ≡ list_any is_text slots.now }
+// Why an item is refused that breaks the rule of this cause.
+fn told(item: &Line, cause: WfCause) -> TraceCause
+    ensures { result ≡ refusal item.now cause }
 {
-    slots.iter().any(|slot| matches!(slot, Value::Text(_)))
-}
-
-fn is_unbuilt_item(item: &Line) -> bool
-    ensures { result ≡ is_unbuilt_item item.now }
-{
-    match item {
-        Line::Object { name: _, kind } => {
-            let counter = kind.items() == b"counter".as_slice();
-            let set = kind.items() == b"set".as_slice();
-            let dictionary = kind.items() == b"dictionary".as_slice();
-            counter || (set || dictionary)
-        }
-        Line::Event(LineEvent::Call { slots, .. }) => has_text(slots.items()),
-        _ => false,
+    if let (Line::Object { kind, .. }, WfCause::UnknownKind) = (item, cause)
+        && is_unbuilt(kind)
+    {
+        return TraceCause::NotBuilt;
     }
+    TraceCause::Wf(cause)
 }
 
 /// Reads the bytes of a line into `line`, and asks the roster whether what they say may follow its lines. It then has it, and the
@@ -88,22 +78,12 @@ pub fn judge(
 {
     match read_into(alloc, bytes, line) {
         Ok(()) => {}
-        Err(LineRefused::BadLine) => {
-            let cause = if is_unbuilt(bytes) {
-                TraceCause::NotBuilt
-            } else {
-                TraceCause::BadLine
-            };
-            return Err(Refusal::Cause(cause));
-        }
+        Err(LineRefused::BadLine) => return Err(Refusal::Cause(TraceCause::BadLine)),
         Err(LineRefused::NoMemory) => return Err(Refusal::NoMemory),
-    }
-    if is_unbuilt_item(line) {
-        return Err(Refusal::Cause(TraceCause::NotBuilt));
     }
     match roster.accept(line, limits) {
         Ok(accepted) => Ok(accepted),
-        Err(WfRefused::Cause(cause)) => Err(Refusal::Cause(TraceCause::Wf(cause))),
+        Err(WfRefused::Cause(cause)) => Err(Refusal::Cause(told(line, cause))),
         Err(WfRefused::NoMemory) => Err(Refusal::NoMemory),
     }
 }

@@ -5,25 +5,25 @@ ghost use Rattle.rd_base.specs.declared.limits.Limits.{Limits};
 ghost use Rattle.rd_detect.specs.Races.{Reported};
 ghost use Rattle.rd_detect.specs.Register.{Commute};
 ghost use Rattle.rd_detect.specs.RegisterTests.{commutes};
-ghost use Rattle.rd_order.specs.EventLists.{WellFormed};
+ghost use Rattle.rd_order.specs.EventLists.{WellFormedWith};
 ghost use Rattle.rd_io.specs.Lines.{Stop};
 ghost use Rattle.rd_io.specs.Lines.Stop.{fault};
 ghost use Rattle.rd_run.specs.Output.{IsFront, check_outcome, entry_events, event_numbers, race_texts, races_of};
 ghost use Rattle.rd_run.specs.Reports.{IsChecked, IsReport};
 ghost use Rattle.rd_run.specs.Walk.{Entry, Walked, ending_of, entries_of, items, trace_of};
 ghost use Rattle.rd_wf.specs.Events.{AreAccepted, events_of, roots_of};
-ghost use Rattle.rd_wf.specs.Kinds.{Kind};
+ghost use Rattle.rd_ecl.specs.Kinds.{Kind};
 
 use crate::endings::Ending;
 use crate::status::Status;
 
 /// The lines that the walk over the bytes of a trace accepts are accepted each after those in front of it, whatever the bytes, and
-/// their events are a well-formed list for the threads that no event begins.
+/// their events are a well-formed list for the threads that no event begins, with calls of the kinds.
 pub fn law_of_walks()
     ensures accepted { (kinds : List Kind) (limits : Limits) → AreUsable limits → limits.threads < 2 ^ 32 → (stop : Stop) (bytes : List ℕ) →
         AreAccepted kinds (items (entries_of (trace_of kinds limits stop bytes))) }
     ensures formed { (kinds : List Kind) (limits : Limits) → AreUsable limits → limits.threads < 2 ^ 32 → (stop : Stop) (bytes : List ℕ) →
-        let lines = items (entries_of (trace_of kinds limits stop bytes)) in WellFormed (roots_of lines) (events_of kinds lines) }
+        let lines = items (entries_of (trace_of kinds limits stop bytes)) in WellFormedWith kinds (roots_of lines) (events_of kinds lines) }
 {}
 
 /// What `check` writes and answers, in the words of races. The texts of the races are, for each event of the accepted lines in

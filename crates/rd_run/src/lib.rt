@@ -6,6 +6,7 @@ mod checking;
 mod endings;
 mod judging;
 mod laws;
+mod register;
 mod status;
 mod texts;
 mod top;

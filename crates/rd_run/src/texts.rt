@@ -1,11 +1,12 @@
 //! The lines of the report.
 ghost use Rattle.std.specs.Prelude.{◌≡◌, ◌++◌, codes, decimal, IfOk, OnOk, OnErr};
-ghost use Rattle.rd_run.specs.Output.{limit_text, cause_text, limit_cause_text, wf_text, race_line, races_line, refused_line};
+ghost use Rattle.rd_run.specs.Output.{limit_text, cause_text, limit_cause_text, wf_text, race_line, races_line, refused_line, thread_text};
+ghost use Rattle.rd_wf.specs.Roster.{names_in};
 
 use crate::endings::TraceCause;
 use itoa::Buffer;
 use rd_base::{Bytes, LimitName, NoMemory};
-use rd_wf::WfCause;
+use rd_wf::{Roster, WfCause};
 use std::alloc::Global;
 
 #[tactic(auto, unfolding(crate::specs::Output::limit_text))]
@@ -46,16 +47,49 @@ fn append_limit(text: &mut Bytes, name: LimitName, number: u64) -> Result<(), No
     append_number(text, number)
 }
 
+// Puts the name of a thread behind the text, and nothing where no thread has the number.
+fn append_thread(text: &mut Bytes, names: &Roster, thread: u32) -> Result<(), NoMemory>
+    ensures { OnOk result (text.new ≡ text.old ++ thread_text (names_in names.now) thread) }
+{
+    if names.threads() <= thread {
+        return Ok(());
+    }
+    text.append(names.thread_name(thread).items())
+}
+
+#[tactic(auto, unfolding(crate::specs::Output::wf_text))]
+fn append_wf(text: &mut Bytes, names: &Roster, cause: WfCause) -> Result<(), NoMemory>
+    ensures { OnOk result (text.new ≡ text.old ++ wf_text (names_in names.now) cause) }
+{
+    match cause {
+        WfCause::HeaderFirst => text.append(b"header-first"),
+        WfCause::LateRoot => text.append(b"late-root"),
+        WfCause::NameTaken => text.append(b"name-taken"),
+        WfCause::UnknownThread => text.append(b"unknown-thread"),
+        WfCause::ThreadEnded => text.append(b"thread-ended"),
+        WfCause::OwnThread => text.append(b"own-thread"),
+        WfCause::UnknownKind => text.append(b"unknown-kind"),
+        WfCause::UnknownObject => text.append(b"unknown-object"),
+        WfCause::UnknownMethod => text.append(b"unknown-method"),
+        WfCause::WrongCount => text.append(b"wrong-count"),
+        WfCause::LockHeld(holder) => {
+            text.append(b"lock-held ")?;
+            append_thread(text, names, holder)
+        }
+        WfCause::NotHeld => text.append(b"not-held"),
+        WfCause::Limit(name, number) => append_limit(text, name, u64::from(number)),
+    }
+}
+
 #[tactic(auto, unfolding(crate::specs::Output::cause_text))]
-fn append_cause(text: &mut Bytes, cause: TraceCause) -> Result<(), NoMemory>
-    ensures { OnOk result (text.new ≡ text.old ++ cause_text cause) }
+fn append_cause(text: &mut Bytes, names: &Roster, cause: TraceCause) -> Result<(), NoMemory>
+    ensures { OnOk result (text.new ≡ text.old ++ cause_text (names_in names.now) cause) }
 {
     match cause {
         TraceCause::NotBuilt => text.append(b"not-built"),
         TraceCause::BadLine => text.append(b"bad-line"),
         TraceCause::NoFinalNewline => text.append(b"no-final-newline"),
-        TraceCause::Wf(WfCause::Limit(name, number)) => append_limit(text, name, u64::from(number)),
-        TraceCause::Wf(_) => text.append(b"not-well-formed"),
+        TraceCause::Wf(broken) => append_wf(text, names, broken),
         TraceCause::Limit(name, number) => append_limit(text, name, number),
     }
 }
@@ -84,15 +118,20 @@ pub fn races_line(alloc: Global, races: u64) -> Result<Bytes, NoMemory>
     Ok(text)
 }
 
-/// The line that tells which line of a trace is refused, and why.
-pub fn refused_line(alloc: Global, number: u64, cause: TraceCause) -> Result<Bytes, NoMemory>
-    ensures { IfOk result (λ text. text ≡ refused_line number cause) }
+/// The line that tells which line of a trace is refused, and why. The roster has the names of the threads.
+pub fn refused_line(
+    alloc: Global,
+    names: &Roster,
+    number: u64,
+    cause: TraceCause,
+) -> Result<Bytes, NoMemory>
+    ensures { IfOk result (λ text. text ≡ refused_line (names_in names.now) number cause) }
 {
     let mut text = Bytes::new(alloc);
     text.append(b"refused line ")?;
     append_number(&mut text, number)?;
     text.append(b" ")?;
-    append_cause(&mut text, cause)?;
+    append_cause(&mut text, names, cause)?;
     text.append(b"\n")?;
     Ok(text)
 }

@@ -11,12 +11,13 @@ ghost use Rattle.rd_run.specs.Output.{Runs, IsOutput, StatusTellsFault, usage_ou
 ghost use Rattle.rd_run.specs.Output.Command.{check};
 ghost use Rattle.rd_run.specs.Progress.{IsRead};
 ghost use Rattle.rd_run.specs.Walk.{Entry, step_bound};
-ghost use Rattle.rd_wf.specs.Kinds.{register_alone};
-ghost use Rattle.rd_wf.specs.Roster.{StandsFor, kinds_in};
+ghost use Rattle.rd_run.specs.Register.{register_alone};
+ghost use Rattle.rd_wf.specs.Roster.{StandsFor, kinds_in, names_in};
 
 use crate::analysis::Halt;
 use crate::checking::Check;
 use crate::endings::{Ending, TraceCause};
+use crate::register::register;
 use crate::status::Status;
 use crate::texts::{races_line, refused_line};
 use crate::walk::{Walker, walk_lines};
@@ -78,24 +79,31 @@ fn write_races<S: Sink>(alloc: Global, races: u64, out: &mut S) -> Result<(), Ha
 
 fn write_refusal<S: Sink>(
     alloc: Global,
+    names: &Roster,
     line: u64,
     cause: TraceCause,
     out: &mut S,
 ) -> Result<(), Halt>
-    ensures ok { OnOk result (Appends (S.written out.old) (S.written out.new) (refused_line line cause)) }
-    ensures front { OnErr result (WritesFront (S.written out.old) (S.written out.new) [] (refused_line line cause)) }
+    ensures ok { OnOk result (Appends (S.written out.old) (S.written out.new) (refused_line (names_in names.now) line cause)) }
+    ensures front { OnErr result (WritesFront (S.written out.old) (S.written out.new) [] (refused_line (names_in names.now) line cause)) }
     ensures fault { TellsFault (S.faults out.old) (S.faults out.new) (S.at_fault out.new) (S.written out.new) result }
 {
-    match refused_line(alloc, line, cause) {
+    match refused_line(alloc, names, line, cause) {
         Ok(text) => write_line(out, text.items()),
         Err(_) => Err(Halt::NoMemory),
     }
 }
 
-/// Writes how many calls are reported, and where the trace was refused.
-fn write_ending<S: Sink>(alloc: Global, races: u64, ending: Ending, out: &mut S) -> Result<(), Halt>
-    ensures ok { OnOk result (Appends (S.written out.old) (S.written out.new) (ending_text races ending)) }
-    ensures front { OnErr result (WritesFront (S.written out.old) (S.written out.new) [] (ending_text races ending)) }
+/// Writes how many calls are reported, and where the trace was refused. The roster has the names of the threads.
+fn write_ending<S: Sink>(
+    alloc: Global,
+    names: &Roster,
+    races: u64,
+    ending: Ending,
+    out: &mut S,
+) -> Result<(), Halt>
+    ensures ok { OnOk result (Appends (S.written out.old) (S.written out.new) (ending_text (names_in names.now) races ending)) }
+    ensures front { OnErr result (WritesFront (S.written out.old) (S.written out.new) [] (ending_text (names_in names.now) races ending)) }
     ensures silent { ending ≡ Ending.Fault → IsOk result }
     ensures fault { TellsFault (S.faults out.old) (S.faults out.new) (S.at_fault out.new) (S.written out.new) result }
 {
@@ -106,7 +114,7 @@ fn write_ending<S: Sink>(alloc: Global, races: u64, ending: Ending, out: &mut S)
             if let Err(halt) = write_races(alloc, races, out) {
                 return Err(halt);
             }
-            write_refusal(alloc, line, cause, out)
+            write_refusal(alloc, names, line, cause, out)
         }
     }
 }
@@ -136,14 +144,20 @@ fn check_status(races: u64, ending: Ending) -> Status
 }
 
 /// Writes how `check` ends, and gives its status.
-fn report<S: Sink>(alloc: Global, races: u64, ending: Ending, out: &mut S) -> Status
+fn report<S: Sink>(
+    alloc: Global,
+    names: &Roster,
+    races: u64,
+    ending: Ending,
+    out: &mut S,
+) -> Status
     ensures output { (part : List ℕ) × Appends (S.written out.old) (S.written out.new) part
-        × IsOutput result part (record { text = ending_text races ending; status = check_status races ending }) }
+        × IsOutput result part (record { text = ending_text (names_in names.now) races ending; status = check_status races ending }) }
     ensures input { result ≡ Status.InputFault ↔ (ending ≡ Ending.Fault) }
     ensures fault { StatusTellsFault (S.faults out.old) (S.faults out.new) (S.at_fault out.new) (S.written out.new) result }
     ensures no_usage { result ≢ Status.Usage }
 {
-    match write_ending(alloc, races, ending, out) {
+    match write_ending(alloc, names, races, ending, out) {
         Ok(()) => check_status(races, ending),
         Err(halt) => status_of(halt),
     }
@@ -173,7 +187,13 @@ fn check_opened<I: Inputs, S: Sink, L: Ledger>(
     ensures no_usage { result ≢ Status.Usage }
 {
     match walk_lines(&mut walker, &mut reader, inputs, out, steps) {
-        Ok(ending) => report(walker.alloc, walker.analysis.races, ending, out),
+        Ok(ending) => report(
+            walker.alloc,
+            &walker.roster,
+            walker.analysis.races,
+            ending,
+            out,
+        ),
         Err(halt) => status_of(halt),
     }
 }
@@ -196,7 +216,10 @@ fn check<I: Inputs, S: Sink, L: Ledger>(
     ensures fault { StatusTellsFault (S.faults out.old) (S.faults out.new) (S.at_fault out.new) (S.written out.new) result }
     ensures no_usage { result ≢ Status.Usage }
 {
-    let Ok(roster) = Roster::new(alloc) else {
+    let Ok(spec) = register(alloc) else {
+        return Status::NoMemory;
+    };
+    let Ok(roster) = Roster::new(alloc, &spec) else {
         return Status::NoMemory;
     };
     let Ok(reader) = LineReader::new(alloc, limits) else {

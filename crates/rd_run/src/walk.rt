@@ -10,7 +10,7 @@ ghost use Rattle.rd_io.specs.Sinks.{Appends};
 ghost use Rattle.rd_run.specs.Analysis.{TellsFault, WritesBetween, WritesFront};
 ghost use Rattle.rd_run.specs.Progress.{IsRead, WalksTo, WalksOn, ending_for};
 ghost use Rattle.rd_run.specs.Walk.{Entry, items, judged, line_bound, step_bound, ended};
-ghost use Rattle.rd_wf.specs.Kinds.{Kind};
+ghost use Rattle.rd_ecl.specs.Kinds.{Kind};
 ghost use Rattle.rd_wf.specs.Roster.{StandsFor, kinds_in};
 
 use crate::analysis::{Analysis, Halt};
@@ -149,6 +149,7 @@ pub fn walk_lines<A: Analysis, I: Inputs, S: Sink, L: Ledger>(
     // all lines were walked over, as far as they go
     ensures walked { IfOk result (λ ending. (entries : List Entry) × (taken : List ℕ)
         × A.leads (kinds_in walker.old.roster) walker.old.analysis entries walker.new.analysis
+        × StandsFor (kinds_in walker.old.roster) walker.new.roster (items entries)
         × Appends (S.written out.old) (S.written out.new) (A.text (kinds_in walker.old.roster) walker.old.analysis entries)
         × (steps.new ≤ steps.old + step_bound entries)
         × IsRead walker.old.limits taken (length entries)

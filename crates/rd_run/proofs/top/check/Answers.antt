@@ -48,6 +48,6 @@ returns-clause-runs g c = λ old told few few_opens.
       writes,
       runs_opened c.args.trace.now limits (g.I.Inputs.faults c.args.inputs.now) (g.I.Inputs.faults c.check_opened.new.inputs) old mid new
           entries taken part c.check_opened.result c.args.steps.now c.check_opened.new.steps few few_opens opened takes cost read
-          (subst (λ kinds. Checked kinds limits taken new.held entries part c.check_opened.result) c.in-Ok.ensures.kind_entries checked)
+          (subst (λ kinds. Checked kinds limits taken new.held entries part c.check_opened.result) (c.in-Ok-new.ensures.kind_entries ∙ c.in-Ok.ensures) checked)
           (λ e. rw calm at (c.check_opened.ensures.input_fault e)) (λ e. c.check_opened.ensures.calm e ∙ calm),
     )

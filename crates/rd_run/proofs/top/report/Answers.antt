@@ -1,11 +1,12 @@
 use Rattle.std.proofs.Common.{◌∙◌, sym, subst}
 use Rattle.rd_run.specs.Output.{ending_text, check_status, IsOutput, Outcome, StatusTellsFault}
+use Rattle.rd_wf.specs.Roster.{names_in}
 use Rattle.rd_run.proofs.OutputLemmas.{whole, only_fault, fault_status, no_usage, quiet_status}
 use Rattle.rd_run.proofs.top.report.Goals as goal
 
 pub returns-in-Ok-clause-output : goal.returns-in-Ok-clause-output
 returns-in-Ok-clause-output g c =
-    let text = ending_text c.args.races c.args.ending in
+    let text = ending_text (names_in c.args.names.now) c.args.races c.args.ending in
     let outcome : Outcome = record { text = text; status = check_status c.args.races c.args.ending } in
     (text, c.in-Ok.ensures.ok, subst (λ s. IsOutput s text outcome) (sym c.check_status.ensures) (whole (check_status c.args.races c.args.ending) text))
 
