@@ -15,21 +15,37 @@ use std::rt::Files;
 use std::sync::ledger::{Blank, Ledger};
 
 /// The traces, each with what `check` writes for it.
-const EXAMPLES: [(&str, &str); 15] = [
-    ("a_lock.trace", "a_lock.out"),
+const EXAMPLES: [(&str, &str); 31] = [
     ("a_race_is_no_order.trace", "a_race_is_no_order.out"),
+    ("acquired_again.trace", "acquired_again.out"),
+    ("another_lock.trace", "another_lock.out"),
     ("comments.trace", "comments.out"),
     ("cut_off.trace", "cut_off.out"),
-    ("fork_too_late.trace", "fork_too_late.out"),
     ("forgotten_joins.trace", "forgotten_joins.out"),
+    ("fork_too_late.trace", "fork_too_late.out"),
     ("four_writes.trace", "four_writes.out"),
+    ("guarded.trace", "guarded.out"),
     ("joins_itself.trace", "joins_itself.out"),
     ("lost_update.trace", "lost_update.out"),
     ("message.trace", "message.out"),
+    ("message_by_a_lock.trace", "message_by_a_lock.out"),
     ("name_twice.trace", "name_twice.out"),
     ("read_after_join.trace", "read_after_join.out"),
+    ("refused_bad_line.trace", "refused_bad_line.out"),
+    ("refused_header_first.trace", "refused_header_first.out"),
+    ("refused_late_root.trace", "refused_late_root.out"),
+    ("refused_lock_held.trace", "refused_lock_held.out"),
+    ("refused_not_built.trace", "refused_not_built.out"),
+    ("refused_not_held.trace", "refused_not_held.out"),
+    ("refused_thread_ended.trace", "refused_thread_ended.out"),
+    ("refused_unknown_kind.trace", "refused_unknown_kind.out"),
+    ("refused_unknown_method.trace", "refused_unknown_method.out"),
+    ("refused_unknown_object.trace", "refused_unknown_object.out"),
+    ("refused_wrong_count.trace", "refused_wrong_count.out"),
     ("swaps.trace", "swaps.out"),
     ("tasks.trace", "tasks.out"),
+    ("texts.trace", "texts.out"),
+    ("unwritten_lock.trace", "unwritten_lock.out"),
     ("updates_in_turn.trace", "updates_in_turn.out"),
 ];
 

@@ -4,4 +4,6 @@
 #[cfg(test)]
 mod random;
 #[cfg(test)]
+mod refusals;
+#[cfg(test)]
 mod runs;

@@ -1,7 +1,7 @@
 //! Random traces of two registers, by their definition: what `check` writes for each is compared with what a program writes
-//! that tries all pairs of calls and all paths of edges between them. The traces have two roots, up to five threads and
-//! up to eleven events: forks, joins, reads, writes and swaps of the values 0 and 1. Traces that are refused, other
-//! values and longer traces are not covered here.
+//! that tries all pairs of calls and all paths of edges between them. The traces have two roots, up to five threads, two locks and
+//! up to 23 events: forks, joins, acquires, releases, reads, writes and swaps of the values 0 and 1. A lock may be acquired
+//! again by the thread that has it. Traces that are refused, other values and longer traces are not covered here.
 ghost use Rattle.std.specs.Prelude.{◌<◌};
 
 use crate::runs::Row;
@@ -36,6 +36,14 @@ enum Step {
         thread: u32,
         child: u32,
     },
+    Acquire {
+        thread: u32,
+        lock: u32,
+    },
+    Release {
+        thread: u32,
+        lock: u32,
+    },
     Call {
         thread: u32,
         object: u32,
@@ -48,8 +56,11 @@ enum Step {
 impl Step {
     fn actor(&self) -> u32 {
         match self {
-            Step::Fork { thread, .. } | Step::Join { thread, .. } | Step::Call { thread, .. } =>
-                *thread,
+            Step::Fork { thread, .. }
+            | Step::Join { thread, .. }
+            | Step::Acquire { thread, .. }
+            | Step::Release { thread, .. }
+            | Step::Call { thread, .. } => *thread,
         }
     }
 
@@ -59,6 +70,10 @@ impl Step {
 
     fn awaits(&self, thread: u32) -> bool {
         matches!(self, Step::Join { child, .. } if *child == thread)
+    }
+
+    fn takes(&self, wanted: u32) -> bool {
+        matches!(self, Step::Acquire { lock, .. } if *lock == wanted)
     }
 }
 
@@ -72,6 +87,7 @@ fn is_edge(first: &Step, second: &Step) -> bool {
     }
     match first {
         Step::Fork { child, .. } => second.awaits(*child),
+        Step::Release { lock, .. } => second.takes(*lock),
         _ => false,
     }
 }
@@ -166,6 +182,29 @@ fn race(alloc: Global, later: usize, earlier: usize) -> Result<String, Fail> {
     Ok(format!(in alloc; "race line {later} with line {earlier}\n")?)
 }
 
+/// What may be done with a lock: who has it, and how often it was acquired and not released.
+#[derive(Clone, Copy)]
+struct Held {
+    holder: u32,
+    depth: u32,
+}
+
+impl Held {
+    /// Acquires the lock for the thread or releases it, where that may be done.
+    fn used(&mut self, thread: u32, lock: u32, acquires: bool) -> Option<Step> {
+        if acquires && (self.depth == 0 || (self.holder == thread && self.depth < 3)) {
+            self.holder = thread;
+            self.depth = self.depth.saturating_add(1);
+            return Some(Step::Acquire { thread, lock });
+        }
+        if self.depth > 0 && self.holder == thread {
+            self.depth = self.depth.saturating_sub(1);
+            return Some(Step::Release { thread, lock });
+        }
+        None
+    }
+}
+
 /// Numbers that look random, the same in each run.
 #[derive(Drop)]
 struct Random {
@@ -200,13 +239,18 @@ impl Random {
         let mut steps = Vec::new(alloc);
         let mut ended: Vec<u32> = Vec::new(alloc);
         let mut threads = ROOTS;
-        for _ in 0..self.below(12) {
+        let mut first = Held {
+            holder: 0,
+            depth: 0,
+        };
+        let mut second = first;
+        for _ in 0..self.below(24) {
             let thread = self.below(THREADS);
             if thread >= threads || ended.contains(&thread) {
                 continue;
             }
             let child = self.below(THREADS);
-            let choice = self.below(6);
+            let choice = self.below(8);
             if choice == 0 && threads < THREADS {
                 steps.push(Step::Fork {
                     thread,
@@ -216,6 +260,16 @@ impl Random {
             } else if choice == 1 && child < threads && child != thread {
                 steps.push(Step::Join { thread, child })?;
                 ended.push(child)?;
+            } else if choice <= 4 {
+                let acquires = self.below(2) == 0;
+                let used = if self.below(2) == 0 {
+                    first.used(thread, 0, acquires)
+                } else {
+                    second.used(thread, 1, acquires)
+                };
+                if let Some(step) = used {
+                    steps.push(step)?;
+                }
             } else {
                 steps.push(self.call(thread))?;
             }
@@ -228,6 +282,8 @@ fn spelled(alloc: Global, step: &Step) -> Result<String, Fail> {
     Ok(match step {
         Step::Fork { thread, child } => format!(in alloc; "fork t{thread} t{child}\n")?,
         Step::Join { thread, child } => format!(in alloc; "join t{thread} t{child}\n")?,
+        Step::Acquire { thread, lock } => format!(in alloc; "acquire t{thread} l{lock}\n")?,
+        Step::Release { thread, lock } => format!(in alloc; "release t{thread} l{lock}\n")?,
         Step::Call {
             thread,
             object,

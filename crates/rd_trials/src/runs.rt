@@ -128,8 +128,8 @@ fn traces_are_read_to_their_end_or_refused(rt: HostRuntime) -> Result<(), Fail> 
         (FORK_AND_JOIN, Status::Clean, b"races 0\n".as_slice()),
         (
             b"rdtrace 1\nthread p\nacquire p l\n",
-            Status::TraceRefused,
-            b"races 0\nrefused line 3 not-built\n",
+            Status::Clean,
+            b"races 0\n",
         ),
         (
             b"rdtrace 1\nthread p\nobject d dictionary\n",
@@ -141,26 +141,11 @@ fn traces_are_read_to_their_end_or_refused(rt: HostRuntime) -> Result<(), Fail> 
             Status::TraceRefused,
             b"races 0\nrefused line 3 not-built\n",
         ),
+        // A kind that isn't built is told where its kind would be unknown, and not before.
         (
-            b"rdtrace 1\nthread p\nrelease p l\n",
+            b"object c counter\n",
             Status::TraceRefused,
-            b"races 0\nrefused line 3 not-built\n",
-        ),
-        // A form that isn't built is told before all else.
-        (
-            b"acquire p l\n",
-            Status::TraceRefused,
-            b"races 0\nrefused line 1 not-built\n",
-        ),
-        (
-            b"rdtrace 1\nthread p\njoin p p\n",
-            Status::TraceRefused,
-            b"races 0\nrefused line 3 not-well-formed\n",
-        ),
-        (
-            b"rdtrace 1\nthread p\nthread p\n",
-            Status::TraceRefused,
-            b"races 0\nrefused line 3 not-well-formed\n",
+            b"races 0\nrefused line 1 header-first\n",
         ),
         (
             b"rdtrace 1\nthread p\nfork p  q\nthread p\n",
@@ -175,12 +160,12 @@ fn traces_are_read_to_their_end_or_refused(rt: HostRuntime) -> Result<(), Fail> 
         (
             b"",
             Status::TraceRefused,
-            b"races 0\nrefused line 1 not-well-formed\n",
+            b"races 0\nrefused line 1 header-first\n",
         ),
         (
             b"# a\n\n# b\n",
             Status::TraceRefused,
-            b"races 0\nrefused line 4 not-well-formed\n",
+            b"races 0\nrefused line 4 header-first\n",
         ),
         (
             b"# a\n\nrdtrace 1\n# acquire \"\n",
@@ -196,7 +181,7 @@ fn traces_are_read_to_their_end_or_refused(rt: HostRuntime) -> Result<(), Fail> 
         (
             b"rdtrace 1\nthread p\njoin p p\nacquire p l\nthread q",
             Status::TraceRefused,
-            b"races 0\nrefused line 3 not-well-formed\n",
+            b"races 0\nrefused line 3 own-thread\n",
         ),
     ];
     for (trace, status, text) in rows {
@@ -398,7 +383,7 @@ fn races_of_a_register(rt: HostRuntime) -> Result<(), Fail> {
         // What was reported before a refused line stands.
         (
             b"rdtrace 1\nthread p\nthread q\nobject x register\ncall p x write 1 -> nil\n\ncall q x write 2 -> nil\ncall s x read -> 2\n",
-            b"race line 7 with line 5\nraces 1\nrefused line 8 not-well-formed\n",
+            b"race line 7 with line 5\nraces 1\nrefused line 8 unknown-thread\n",
         ),
     ];
     for (trace, text) in rows {
@@ -409,7 +394,7 @@ fn races_of_a_register(rt: HostRuntime) -> Result<(), Fail> {
             };
             let (answer, out) = row.run(rt.alloc())?;
             assert_eq!(rt; out.written(), text);
-            let refused = text.ends_with(b"not-well-formed\n");
+            let refused = text.ends_with(b"unknown-thread\n");
             let status = if refused {
                 Status::TraceRefused
             } else if text == b"races 0\n".as_slice() {
@@ -474,12 +459,12 @@ fn call_lines(rt: HostRuntime) -> Result<(), Fail> {
         ("call p x write -0 -> nil", "bad-line"),
         ("call p x write 9223372036854775808 -> nil", "bad-line"),
         ("call p x write -9223372036854775809 -> nil", "bad-line"),
-        ("call p x write \"a\" -> nil", "not-built"),
-        ("call p x write \"a -> nil", "not-built"),
-        ("call p y read -> nil", "not-well-formed"),
-        ("call q x read -> nil", "not-well-formed"),
-        ("call p x add 1 -> nil", "not-well-formed"),
-        ("call p x write -> nil", "not-well-formed"),
+        ("call p x write \"a -> \\\" b\" -> nil", ""),
+        ("call p x write \"a -> nil", "bad-line"),
+        ("call p y read -> nil", "unknown-object"),
+        ("call q x read -> nil", "unknown-thread"),
+        ("call p x add 1 -> nil", "unknown-method"),
+        ("call p x write -> nil", "wrong-count"),
     ];
     let alloc = rt.alloc();
     for (line, cause) in rows {
