@@ -1,12 +1,11 @@
 -- What threads carry on from in well-formed lists.
-use Rattle.std.proofs.Common.{inl, inr, ℕ, Bool, List, take, IsTrue, refl, subst}
+use Rattle.std.proofs.Common.{inl, inr, ℕ, Bool, List, take, refl, subst}
 use Rattle.std.proofs.lemmas.Bool.{eq-eqb}
 use Rattle.rd_event.specs.declared.events.Event.{Event}
 use Rattle.rd_order.specs.Order.{forked_thread}
 use Rattle.rd_order.specs.OrderTests.{is_this}
 use Rattle.rd_order.specs.EventLists.{forks, Known, WellFormed}
 use Rattle.rd_order.proofs.EventListLemmas.{counted_once, known_later, may_follow_at}
-use Rattle.rd_hb.specs.EventClocks.{IsOf}
 use Rattle.rd_hb.specs.Knows.{Carries}
 
 -- a thread that carries on from a place is known
@@ -20,8 +19,3 @@ carries_known roots es t m formed (inr x) =
 -- so a thread that isn't known carries on from no place
 pub unknown_carries_nothing : (roots : ℕ → Bool) (es : List Event) (t : ℕ) → WellFormed roots es → ¬ (Known roots es t) → (m : ℕ) → ¬ (Carries es t m)
 unknown_carries_nothing roots es t formed unknown m carries = unknown (carries_known roots es t m formed carries)
-
--- nor does a root that hasn't acted
-pub idle_root_carries_nothing : (roots : ℕ → Bool) (es : List Event) (t : ℕ) → WellFormed roots es → IsTrue (roots t) → ((k : ℕ) → ¬ (IsOf es t k)) → (m : ℕ) → ¬ (Carries es t m)
-idle_root_carries_nothing roots es t formed root idle m (inl of) = idle m of
-idle_root_carries_nothing roots es t formed root idle m (inr x) = (may_follow_at roots es m x.0 formed x.1).fresh t x.2 (inl root)

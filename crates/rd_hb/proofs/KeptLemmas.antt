@@ -9,18 +9,10 @@ use Rattle.std.proofs.Math.Seq.{get_or-append_seam}
 use Rattle.rd_clock.specs.Clock.{component, IsTick}
 use Rattle.rd_clock.specs.declared.clock.Stamp.{Stamp}
 use Rattle.rd_hb.specs.declared.tracker.Tracked.{Tracked}
-use Rattle.rd_hb.specs.Tracker.{tracked, no_thread, known_to, released}
-use Rattle.rd_hb.specs.TrackerParts.{AreKept, AreRoomy, AreShared, AreTracked, IsShared, IsTracked}
+use Rattle.rd_hb.specs.Tracker.{tracked, no_thread, known_to}
+use Rattle.rd_hb.specs.TrackerParts.{AreKept, AreTracked, IsShared, IsTracked}
 
--- ---- one thread is changed, or added
-
-pub tracked_set : (threads : List Tracked) (i t : ℕ) (x : Tracked) → i < length threads
-    → tracked (slice_set threads i x) t ≡ (if t == i then x else tracked threads t)
-tracked_set threads i t x inside =
-    elim (cases_eq t i) [
-      | inl same ↦ rw (eq-eqb t i same) (get_or-set_at threads i t x no_thread same inside)
-      | inr other ↦ rw (ne_eqb t i other) (get_or-set_other threads i t x no_thread other)
-    ]
+-- ---- one thread is added, or changed
 
 pub tracked_push : (threads : List Tracked) (x : Tracked) (t : ℕ)
     → tracked (threads ++ x ∷ []) t ≡ (if t == length threads then x else tracked threads t)

@@ -1,10 +1,10 @@
 -- What is known from places, and what reaches an event that is appended.
-use Rattle.std.proofs.Common.{◌≡◌, ◌≢◌, ◌↔◌, ◌⊎◌, inl, inr, ℕ, suc, ◌<◌, Bool, List, [], ◌∷◌, ◌++◌, length, Some, None, refl, sym, ◌∙◌, ap, subst, arith}
+use Rattle.std.proofs.Common.{◌≡◌, ◌≢◌, ◌↔◌, ◌⊎◌, inl, inr, ℕ, suc, ◌<◌, Bool, List, [], ◌∷◌, ◌++◌, length, Some, refl, sym, ◌∙◌, ap, subst, arith}
 use Rattle.std.specs.Prelude.{slice_get}
 use Rattle.std.proofs.lemmas.Bool.{cases_lt}
 use Rattle.std.proofs.lemmas.Option.{slice_get_within, same_Some}
 use Rattle.rd_event.specs.declared.events.Event.{Event}
-use Rattle.rd_order.specs.Order.{thread_of, forked_thread, joined_thread, Hold, exclusive, hold_taken, hold_given, Linked, same_thread, begins, ends, spans, hands_over, Reaches}
+use Rattle.rd_order.specs.Order.{thread_of, forked_thread, joined_thread, exclusive, hold_taken, hold_given, Linked, same_thread, begins, ends, spans, hands_over, Reaches}
 use Rattle.rd_order.specs.EventLists.{WellFormed}
 use Rattle.rd_hb.specs.EventClocks.{IsOf}
 use Rattle.rd_hb.specs.Knows.{Carries, GivesBack, Knows}

@@ -1,22 +1,22 @@
 -- What brings no news: who knows an event knows all that reaches it.
-use Rattle.std.proofs.Common.{◌≡◌, ◌≢◌, ◌↔◌, ◌⊎◌, inl, inr, ℕ, zero, suc, ◌+◌, ◌<◌, ◌≤◌, Bool, List, take, take-take, length, Option, Some, None, refl, sym, ◌∙◌, ap, subst, arith}
+use Rattle.std.proofs.Common.{◌≡◌, ◌≢◌, ◌↔◌, inl, inr, ℕ, zero, suc, ◌<◌, ◌≤◌, Bool, List, take, take-take, length, Option, Some, None, sym, subst, arith}
 use Rattle.std.specs.Prelude.{slice_get}
 use Rattle.std.proofs.lemmas.Bool.{cases_eq, cases_lt}
 use Rattle.rd_event.specs.declared.events.Event.{Event}
 use Rattle.rd_order.specs.Counts.{Counts}
 use Rattle.rd_order.specs.EventLists.{Known, WellFormed}
-use Rattle.rd_order.specs.Order.{thread_of, forked_thread, Reaches}
+use Rattle.rd_order.specs.Order.{forked_thread}
 use Rattle.rd_order.proofs.CountsLemmas.{counts_le, covers}
 use Rattle.rd_order.proofs.EventListLemmas.{known_later, may_follow_at}
 use Rattle.rd_hb.specs.EventClocks.{IsOf, OwnNumber}
 use Rattle.rd_hb.specs.Knows.{Carries, GivesBack, Knows, KnownCount}
 use Rattle.rd_clock.specs.Clock.{component}
 use Rattle.rd_clock.specs.declared.clock.Stamp.{Stamp}
-use Rattle.rd_hb.specs.Tracker.{IsLastRelease, IsRelease, clock_of}
+use Rattle.rd_hb.specs.Tracker.{IsLastRelease, clock_of}
 use Rattle.rd_hb.specs.TrackerParts.{IsHeard}
-use Rattle.rd_hb.proofs.ClockLemmas.{is_of_within, own_reaches}
-use Rattle.rd_hb.proofs.KnowsLemmas.{carried_reaches, gives_reach, gives_within, known_before, known_wider, knows_front}
-use Rattle.rd_hb.proofs.TrackLemmas.{known_nothing, known_own, known_same}
+use Rattle.rd_hb.proofs.ClockLemmas.{is_of_within}
+use Rattle.rd_hb.proofs.KnowsLemmas.{carried_reaches, gives_reach, known_before, known_wider, knows_front}
+use Rattle.rd_hb.proofs.TrackLemmas.{known_own}
 
 -- ---- counts and knowing
 

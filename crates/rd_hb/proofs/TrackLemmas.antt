@@ -1,21 +1,21 @@
 -- The clock of an event that is appended, and what is known then, from what was known before.
-use Rattle.std.proofs.Common.{◌≡◌, ◌≢◌, ◌↔◌, ◌⊎◌, inl, inr, ℕ, zero, suc, ◌+◌, ◌<◌, ◌≤◌, ◌==◌, max, Bool, true, false, IsTrue, List, [], ◌∷◌, ◌++◌, length, Option, Some, None, refl, sym, ap, subst, arith}
+use Rattle.std.proofs.Common.{◌≡◌, ◌≢◌, ◌↔◌, ◌⊎◌, inl, inr, ℕ, ◌+◌, ◌<◌, ◌≤◌, ◌==◌, Bool, true, false, List, [], ◌∷◌, ◌++◌, length, refl, sym, ap, subst, arith}
 use Rattle.std.specs.Prelude.{if◌then◌else◌}
-use Rattle.std.proofs.lemmas.Bool.{cases_Bool, cases_eq, cases_lt, eq-eqb, ne_eqb}
+use Rattle.std.proofs.lemmas.Bool.{cases_eq, eq-eqb, ne_eqb}
 use Rattle.std.proofs.lemmas.Bool.Decides.{not_from_Decides}
 use Rattle.std.proofs.lemmas.Option.{none-some, same_Some}
 use Rattle.rd_event.specs.declared.events.Event.{Event}
 use Rattle.rd_event.specs.declared.events.Event.TheVariants.{Fork, Join, Acquire, Release, Call}
-use Rattle.rd_order.specs.Order.{thread_of, forked_thread, joined_thread, Hold, exclusive, hold_taken, hold_given, Reaches}
+use Rattle.rd_order.specs.Order.{thread_of, forked_thread, Hold, exclusive, hold_given, Reaches}
 use Rattle.rd_order.specs.Counts.{Counts}
 use Rattle.rd_hb.specs.EventClocks.{IsOf, OwnNumber, IsClock}
 use Rattle.rd_hb.specs.Knows.{Carries, GivesBack, Knows, KnownCount}
-use Rattle.rd_hb.specs.Tracker.{brought, met, clock_after, known_after, handed_after}
+use Rattle.rd_hb.specs.TrackerParts.{brought, met, clock_after, known_after, handed_after}
 use Rattle.rd_order.proofs.CountsLemmas.{counts_bound, counts_cut, counts_like, counts_max, counts_more, counts_none, counts_same}
 use Rattle.rd_order.proofs.HoldLemmas.{hold_decides}
 use Rattle.rd_order.specs.OrderTests.{is_this}
-use Rattle.rd_order.specs.EventLists.{Known, MayHappen, WellFormed, is_hold}
-use Rattle.rd_hb.proofs.CarryLemmas.{idle_root_carries_nothing, unknown_carries_nothing}
+use Rattle.rd_order.specs.EventLists.{MayHappen, WellFormed, is_hold}
+use Rattle.rd_hb.proofs.CarryLemmas.{unknown_carries_nothing}
 use Rattle.rd_order.proofs.OrderLemmas.{length_more, this_decides}
 use Rattle.rd_hb.proofs.ClockLemmas.{is_of_longer, is_of_shorter}
 use Rattle.rd_hb.proofs.KnowsLemmas.{Brings, event_reached, actor_knows, child_knows, lock_knows, knows_front, knows_longer, knows_shorter, known_wider, last_is_of, last_thread, nothing_known, carries_longer, gives_longer, other_carries, other_gives}
@@ -33,18 +33,6 @@ known_bound es P u c a = counts_bound (λ k. IsOf es u k × Knows es P k) (lengt
 -- from no place nothing is known
 pub known_nothing : (es : List Event) (P : ℕ → Type 0) → ((m : ℕ) → ¬ (P m)) → (u : ℕ) → KnownCount es P u 0
 known_nothing es P none u = counts_none (λ k. IsOf es u k × Knows es P k) (length es) (λ k l x. nothing_known es P none k x.1)
-
--- so a root that hasn't acted knows nothing
-pub idle_root_knows_nothing : (roots : ℕ → Bool) (es : List Event) (t : ℕ) → WellFormed roots es → IsTrue (roots t) → ((k : ℕ) → ¬ (IsOf es t k)) → (u : ℕ) → KnownCount es (Carries es t) u 0
-idle_root_knows_nothing roots es t formed root idle = known_nothing es (Carries es t) (idle_root_carries_nothing roots es t formed root idle)
-
--- nor does a thread that isn't known
-pub unknown_knows_nothing : (roots : ℕ → Bool) (es : List Event) (t : ℕ) → WellFormed roots es → ¬ (Known roots es t) → (u : ℕ) → KnownCount es (Carries es t) u 0
-unknown_knows_nothing roots es t formed unknown = known_nothing es (Carries es t) (unknown_carries_nothing roots es t formed unknown)
-
--- of a thread that didn't act nothing is known
-pub known_of_idle : (es : List Event) (P : ℕ → Type 0) (u : ℕ) → ((k : ℕ) → ¬ (IsOf es u k)) → KnownCount es P u 0
-known_of_idle es P u idle = counts_none (λ k. IsOf es u k × Knows es P k) (length es) (λ k l x. idle k x.0)
 
 -- of its own events a thread knows all
 pub known_own : (es : List Event) (t c : ℕ) → KnownCount es (Carries es t) t c ↔ Counts (IsOf es t) (length es) c

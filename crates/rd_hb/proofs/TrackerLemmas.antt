@@ -1,6 +1,6 @@
 -- What one event makes of what a tracker holds.
-use Rattle.std.proofs.Common.{◌≡◌, ◌≢◌, ◌⊎◌, ◌≤◌, ◌<◌, ◌↔◌, inl, inr, ℕ, ◌+◌, ◌==◌, max, Bool, true, false, IsTrue, ◌||◌, List, [], ◌∷◌, ◌++◌, take, length, Option, Some, None, Result, Ok, Err, IfOk, OnOk, refl, sym, ◌∙◌, ap, subst, arith, cond}
-use Rattle.std.specs.Prelude.{if◌then◌else◌, is_some, unwrap_or, slice_get}
+use Rattle.std.proofs.Common.{◌≡◌, ◌≢◌, ◌⊎◌, ◌≤◌, ◌<◌, ◌↔◌, inl, inr, ℕ, ◌+◌, ◌==◌, max, Bool, true, false, IsTrue, ◌||◌, List, [], ◌∷◌, ◌++◌, take, length, Option, Some, None, Result, Ok, Err, IfOk, OnOk, refl, sym, ◌∙◌, ap, subst, arith}
+use Rattle.std.specs.Prelude.{if◌then◌else◌, is_some, unwrap_or}
 use Rattle.std.proofs.lemmas.Bool.{cases_Bool, cases_eq, eq-eqb, ne_eqb}
 use Rattle.std.proofs.lemmas.Bool.Decides.{not_from_Decides}
 use Rattle.std.proofs.lemmas.List.{get_or_past, length-append}
@@ -11,19 +11,19 @@ use Rattle.rd_event.specs.declared.events.Event.{Event}
 use Rattle.rd_event.specs.declared.events.Event.TheVariants.{Fork, Join, Acquire, Release, Call}
 use Rattle.rd_clock.specs.Clock.{component, IsTick}
 use Rattle.rd_clock.specs.declared.clock.Stamp.{Stamp}
-use Rattle.rd_order.specs.EventLists.{forks, joins, Known, MayHappen, IsBounded, WellFormed, threads_after, is_hold}
+use Rattle.rd_order.specs.EventLists.{forks, joins, Known, MayHappen, WellFormed, threads_after, is_hold}
 use Rattle.rd_order.specs.Order.{thread_of, forked_thread, joined_thread, exclusive, hold_given}
 use Rattle.rd_order.specs.OrderTests.{is_this}
 use Rattle.rd_order.proofs.CountsLemmas.{counts_all, counts_le}
-use Rattle.rd_order.proofs.EventListLemmas.{few_known, forks_more, formed_more, known_later, known_more, may_follow_at}
+use Rattle.rd_order.proofs.EventListLemmas.{forks_more, formed_more, known_later, known_more, may_follow_at}
 use Rattle.rd_order.proofs.HoldLemmas.{hold_decides}
 use Rattle.rd_order.proofs.OrderLemmas.{at_end}
 use Rattle.rd_hb.specs.EventClocks.{IsClock, IsOf, OwnNumber}
 use Rattle.rd_hb.specs.Knows.{Carries, GivesBack, Knows, KnownCount}
 use Rattle.rd_hb.specs.declared.tracker.Tracked.{Tracked}
-use Rattle.rd_hb.specs.Tracker.{Tracking, brought, clock_after, clock_of, handed_after, handed_by, known_after, known_to, no_thread, released, tracked, IsLastRelease, IsNextEvent, IsRelease, IsStamp, StandsFor}
-use Rattle.rd_hb.specs.TrackerParts.{IsAlike, IsBegun, IsCounted, IsHeard, IsLearnt, IsReleased}
-use Rattle.rd_hb.proofs.ClockLemmas.{is_of_within, is_of_longer, own_number_longer}
+use Rattle.rd_hb.specs.Tracker.{Tracking, clock_of, handed_by, known_to, no_thread, released, tracked, IsLastRelease, IsNextEvent, IsStamp, StandsFor}
+use Rattle.rd_hb.specs.TrackerParts.{brought, clock_after, handed_after, known_after, IsAlike, IsBegun, IsCounted, IsHeard, IsLearnt, IsReleased}
+use Rattle.rd_hb.proofs.ClockLemmas.{is_of_longer, own_number_longer}
 use Rattle.rd_hb.proofs.KeptLemmas.{tracked_push}
 use Rattle.rd_hb.proofs.KnowsLemmas.{gives_longer, gives_within, last_is_of, other_gives}
 use Rattle.rd_hb.proofs.NewsLemmas.{child_heard, covers_known, lock_heard}
@@ -254,15 +254,6 @@ known_after_event roots es e threads known numbered t = (there (forked_thread e)
         ap (λ o. weighed o threads) some,
       )
     ]
-
--- so the bounds hold where there is room for the event and its thread
-pub bounded_next : (roots : ℕ → Bool) (es : List Event) (e : Event) (threads : ℕ) → ((t : ℕ) → (t < threads) ↔ Known roots es t)
-    → ((u : ℕ) → forked_thread e ≡ Some u → u ≡ threads) → length es < 4294967294 → threads_after e threads ≤ 4294967295 → IsBounded roots (es ++ e ∷ [])
-bounded_next roots es e threads known numbered few fits = record {
-  few_events = omega (arith, few, length-append es (e ∷ []));
-  few_threads = few_known roots (es ++ e ∷ []) (threads_after e threads) fits
-      (λ t. (let same = known_after_event roots es e threads known numbered t in (same.1, same.0)));
-}
 
 -- ---- what the tracker stands for then
 

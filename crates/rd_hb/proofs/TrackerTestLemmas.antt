@@ -20,9 +20,6 @@ pub record Took (tracking : Tracking) (roots : ℕ → Bool) (before rest : List
   pub stands : StandsFor tracking roots before
   pub numbered : NextNumbers (length tracking.threads) rest
 
-pub took_none : (tracking : Tracking) (roots : ℕ → Bool) (es : List Event) → MayTakeAll tracking roots es → Took tracking roots [] es
-took_none tracking roots es may = record { stands = may.stands; numbered = may.numbered }
-
 cut_at : (es : List Event) (i : ℕ) (e : Event) → i < length es → e ≡ get_or es i e → drop i es ≡ e ∷ drop (i + 1) es
 cut_at es i e inside is = rw (add-one, drop-cons es i e inside) (ap (λ x. x ∷ drop (suc i) es) (sym is))
 

@@ -1,7 +1,11 @@
 -- How a tracker is kept, and the parts of its steps.
-use Rattle.std.specs.Prelude.{◌≡◌, ◌≢◌, ℕ, ◌+◌, ◌<◌, ◌≤◌, false, ◌||◌, List, length, Option, None, Some, slice_index_or}
+use Rattle.std.specs.Prelude.{◌≡◌, ◌≢◌, ℕ, ◌+◌, ◌<◌, ◌≤◌, ◌==◌, max, false, ◌||◌, if◌then◌else◌, List, length, Option, None, Some, slice_index_or}
 use Rattle.rd_clock.specs.Clock.{component, IsTick, IsJoin}
 use Rattle.rd_clock.specs.declared.clock.Stamp.{Stamp}
+use Rattle.rd_event.specs.declared.events.Event.{Event}
+use Rattle.rd_event.specs.declared.events.Event.TheVariants.{Fork, Join, Acquire, Release, Call}
+use Rattle.rd_order.specs.EventLists.{is_hold}
+use Rattle.rd_order.specs.Order.{thread_of, forked_thread, exclusive, hold_given}
 use Rattle.rd_order.specs.OrderTests.{is_this}
 use Rattle.rd_hb.specs.Tracker.{tracked, known_to, released}
 use Rattle.rd_hb.specs.declared.tracker.Tracked.{Tracked}
@@ -44,6 +48,32 @@ pub record AreKept (threads : List Tracked) (clocks : List (Option (List ℕ))) 
 abbrev pub IsHeard : Option Stamp → List ℕ → Type 0
 IsHeard None clock = Unit {0}
 IsHeard (Some stamp) clock = stamp.number ≤ component clock stamp.thread
+
+-- ---- what an event makes of what is known, by numbers: thread t knows f t u of the events of u, lock l g l u
+
+-- what an event takes in: what the thread knows that it joins, or the lock that it acquires
+abbrev pub brought : Event → (ℕ → ℕ → ℕ) → (ℕ → ℕ → ℕ) → ℕ → ℕ
+brought (Fork thread child) f g u = 0
+brought (Join thread child) f g u = f child u
+brought (Acquire thread lock) f g u = g lock u
+brought (Release thread lock) f g u = 0
+brought (Call call) f g u = 0
+
+-- what its thread knew, with what it takes in
+abbrev pub met : Event → (ℕ → ℕ → ℕ) → (ℕ → ℕ → ℕ) → ℕ → ℕ
+met e f g u = max (f (thread_of e) u) (brought e f g u)
+
+-- the clock of an event, from what was known before it
+abbrev pub clock_after : Event → (ℕ → ℕ → ℕ) → (ℕ → ℕ → ℕ) → ℕ → ℕ
+clock_after e f g u = if u == thread_of e then met e f g u + 1 else met e f g u
+
+-- what the threads know after it: its own thread and the one that it forks know its clock
+abbrev pub known_after : Event → (ℕ → ℕ → ℕ) → (ℕ → ℕ → ℕ) → ℕ → ℕ → ℕ
+known_after e f g t u = if (t == thread_of e) || is_this (forked_thread e) t then clock_after e f g u else f t u
+
+-- and the locks: one that it gives back knows its clock
+abbrev pub handed_after : Event → (ℕ → ℕ → ℕ) → (ℕ → ℕ → ℕ) → ℕ → ℕ → ℕ
+handed_after e f g lock u = if is_hold (hold_given e) (exclusive lock) then clock_after e f g u else g lock u
 
 -- ---- the parts of a step
 

@@ -327,7 +327,7 @@ impl Tracker {
         grow(&mut self.locks, lock as usize + 1)
     }
 
-    /// Holds of a lock that event of a thread, whose clock that is.
+    /// An event of a thread gave a lock back: its clock is the shared one, with its own number at the thread.
     fn hand(&mut self, lock: u32, shared: SharedClock, thread: u32, number: u32)
         requires held { lock < length self.old.locks }
         requires inside { thread < length shared }

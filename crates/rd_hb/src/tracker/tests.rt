@@ -161,6 +161,117 @@ fn strangers<L: Ledger>(rt: &impl Abort, alloc: Global, blank: Blank) -> Result<
     has_rows(rt, &mut tracker, &events, &rows, &mut steps)
 }
 
+/// A thread calls under a lock, then another does: the second call counts the three events of the first thread.
+fn guarded<L: Ledger>(rt: &impl Abort, alloc: Global, blank: Blank) -> Result<(), NoMemory>
+    requires name { blank.name ≡ L.name }
+    requires parts { blank.parts ≡ L.parts }
+    requires some { 0 < blank.parts }
+{
+    let mut steps = Steps::<L>::new(blank);
+    let mut tracker = with_two_roots(alloc)?;
+    let events = [
+        Event::Acquire { thread: 0, lock: 0 },
+        call(alloc, 0),
+        Event::Release { thread: 0, lock: 0 },
+        Event::Acquire { thread: 1, lock: 0 },
+        call(alloc, 1),
+    ];
+    let rows = [
+        (0, 1, [1, 0, 0]),
+        (0, 2, [2, 0, 0]),
+        (0, 3, [3, 0, 0]),
+        (1, 1, [3, 1, 0]),
+        (1, 2, [3, 2, 0]),
+    ];
+    has_rows(rt, &mut tracker, &events, &rows, &mut steps)
+}
+
+/// A lock is given back by its thread, taken and given back by another, and so on: each acquire counts what was known where the
+/// lock was last given back, with what its thread had learnt.
+fn rounds<L: Ledger>(rt: &impl Abort, alloc: Global, blank: Blank) -> Result<(), NoMemory>
+    requires name { blank.name ≡ L.name }
+    requires parts { blank.parts ≡ L.parts }
+    requires some { 0 < blank.parts }
+{
+    let mut steps = Steps::<L>::new(blank);
+    let mut tracker = with_two_roots(alloc)?;
+    let events = [
+        Event::Acquire { thread: 0, lock: 0 },
+        Event::Release { thread: 0, lock: 0 },
+        Event::Acquire { thread: 1, lock: 0 },
+        Event::Release { thread: 1, lock: 0 },
+        Event::Acquire { thread: 0, lock: 0 },
+        Event::Release { thread: 0, lock: 0 },
+        Event::Acquire { thread: 1, lock: 0 },
+    ];
+    let rows = [
+        (0, 1, [1, 0, 0]),
+        (0, 2, [2, 0, 0]),
+        (1, 1, [2, 1, 0]),
+        (1, 2, [2, 2, 0]),
+        (0, 3, [3, 2, 0]),
+        (0, 4, [4, 2, 0]),
+        (1, 3, [4, 3, 0]),
+    ];
+    has_rows(rt, &mut tracker, &events, &rows, &mut steps)
+}
+
+/// A thread takes a lock twice and gives it back twice, then another takes it.
+fn reentrant<L: Ledger>(rt: &impl Abort, alloc: Global, blank: Blank) -> Result<(), NoMemory>
+    requires name { blank.name ≡ L.name }
+    requires parts { blank.parts ≡ L.parts }
+    requires some { 0 < blank.parts }
+{
+    let mut steps = Steps::<L>::new(blank);
+    let mut tracker = with_two_roots(alloc)?;
+    let events = [
+        Event::Acquire { thread: 0, lock: 0 },
+        Event::Acquire { thread: 0, lock: 0 },
+        Event::Release { thread: 0, lock: 0 },
+        Event::Release { thread: 0, lock: 0 },
+        Event::Acquire { thread: 1, lock: 0 },
+    ];
+    let rows = [
+        (0, 1, [1, 0, 0]),
+        (0, 2, [2, 0, 0]),
+        (0, 3, [3, 0, 0]),
+        (0, 4, [4, 0, 0]),
+        (1, 1, [4, 1, 0]),
+    ];
+    has_rows(rt, &mut tracker, &events, &rows, &mut steps)
+}
+
+/// A thread takes one lock, then another that the same thread gave back before, and one that it gave back itself.
+fn no_news<L: Ledger>(rt: &impl Abort, alloc: Global, blank: Blank) -> Result<(), NoMemory>
+    requires name { blank.name ≡ L.name }
+    requires parts { blank.parts ≡ L.parts }
+    requires some { 0 < blank.parts }
+{
+    let mut steps = Steps::<L>::new(blank);
+    let mut tracker = with_two_roots(alloc)?;
+    let events = [
+        Event::Acquire { thread: 0, lock: 0 },
+        Event::Release { thread: 0, lock: 0 },
+        Event::Acquire { thread: 0, lock: 1 },
+        Event::Release { thread: 0, lock: 1 },
+        Event::Acquire { thread: 1, lock: 1 },
+        Event::Acquire { thread: 1, lock: 0 },
+        Event::Release { thread: 1, lock: 0 },
+        Event::Acquire { thread: 1, lock: 0 },
+    ];
+    let rows = [
+        (0, 1, [1, 0, 0]),
+        (0, 2, [2, 0, 0]),
+        (0, 3, [3, 0, 0]),
+        (0, 4, [4, 0, 0]),
+        (1, 1, [4, 1, 0]),
+        (1, 2, [4, 2, 0]),
+        (1, 3, [4, 3, 0]),
+        (1, 4, [4, 4, 0]),
+    ];
+    has_rows(rt, &mut tracker, &events, &rows, &mut steps)
+}
+
 #[test]
 fn joined_children_are_known(rt: HostRuntime) -> Result<(), Fail> {
     two_children::<Brand>(&rt, rt.alloc(), Blank::new(1))?;
@@ -176,5 +287,29 @@ fn a_join_of_an_idle_child_knows_its_parent(rt: HostRuntime) -> Result<(), Fail>
 #[test]
 fn roots_that_never_meet(rt: HostRuntime) -> Result<(), Fail> {
     strangers::<Brand>(&rt, rt.alloc(), Blank::new(1))?;
+    Ok(())
+}
+
+#[test]
+fn a_lock_orders_two_calls(rt: HostRuntime) -> Result<(), Fail> {
+    guarded::<Brand>(&rt, rt.alloc(), Blank::new(1))?;
+    Ok(())
+}
+
+#[test]
+fn a_lock_goes_round(rt: HostRuntime) -> Result<(), Fail> {
+    rounds::<Brand>(&rt, rt.alloc(), Blank::new(1))?;
+    Ok(())
+}
+
+#[test]
+fn a_lock_taken_twice(rt: HostRuntime) -> Result<(), Fail> {
+    reentrant::<Brand>(&rt, rt.alloc(), Blank::new(1))?;
+    Ok(())
+}
+
+#[test]
+fn an_acquire_without_news(rt: HostRuntime) -> Result<(), Fail> {
+    no_news::<Brand>(&rt, rt.alloc(), Blank::new(1))?;
     Ok(())
 }

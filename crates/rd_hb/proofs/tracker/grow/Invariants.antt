@@ -1,4 +1,4 @@
-use Rattle.std.proofs.Common.{◌≡◌, ℕ, ◌+◌, ◌≤◌, Option, None, length, vec_capacity}
+use Rattle.std.proofs.Common.{◌≡◌, ℕ, ◌≤◌, None, length, vec_capacity}
 use Rattle.std.specs.Prelude.{slice_index_or}
 use Rattle.rd_hb.proofs.tracker.grow.Given as goal
 

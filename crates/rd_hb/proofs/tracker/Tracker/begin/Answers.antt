@@ -1,4 +1,4 @@
-use Rattle.std.proofs.Common.{◌≡◌, ◌<◌, ◌+◌, [], ◌∷◌, ◌++◌, length, false, arith, ap, subst, sym, ◌∙◌}
+use Rattle.std.proofs.Common.{◌≡◌, ◌<◌, ◌+◌, List, [], ◌∷◌, ◌++◌, length, false, arith, ap, subst, sym, ◌∙◌}
 use Rattle.rd_hb.specs.Tracker.{tracked}
 use Rattle.rd_hb.specs.TrackerParts.{AreKept, IsBegun}
 use Rattle.rd_hb.specs.declared.tracker.Tracked.{Tracked}
@@ -20,7 +20,7 @@ invariant_of-self-2 g c =
     omega (arith, c.in_ok-clock.ensures.room, ap (λ v. length (tracked v.threads thread).clock) c.self.view_is, numbered, (kept.tracked.each thread inside).room) in
     let ticks : IsTick (tracked threads thread).clock c.in_ok-clock.clock thread =
     subst (λ v. IsTick (tracked v.threads thread).clock c.in_ok-clock.clock thread) (sym c.self.view_is) c.in_ok-clock.ensures.ticked in
-    subst (λ ts. AreKept ts c.self.inside.shared.items c.self.inside.locks.items) (sym c.in_ok-push.ensures.items)
+    subst (λ ts. AreKept ts c.self.inside.shared.items c.self.inside.locks.items) (sym {A = List Tracked} c.in_ok-push.ensures.items)
     (kept_push threads c.self.inside.shared.items c.self.inside.locks.items child kept
     (omega (arith, numbered, c.requires.range)) (omega (arith, total)) (omega (arith, total))
     (sym (ticks.others (length threads) (λ last. absurd (omega (arith, last, inside))) ∙ get_or_past (tracked threads thread).clock (length threads) 0 (kept.tracked.each thread inside).room)))
@@ -29,6 +29,7 @@ pub returns-clause-ok : goal.returns-clause-ok
 returns-clause-ok g c =
     let child : Tracked = record { clock = c.in_ok-clock.clock; events = 0; joined = false } in
     let ticks : IsTick (tracked c.args.self.now.threads c.args.thread).clock c.in_ok-clock.clock c.args.thread = c.in_ok-clock.ensures.ticked in
-    let pushed : c.push.new.self.items ≡ c.args.self.now.threads ++ child ∷ [] = c.in_ok-push.ensures.items ∙ ap (λ v. v.threads ++ child ∷ []) c.self.view_is in
+    let pushed : c.push.new.self.items ≡ c.args.self.now.threads ++ child ∷ [] =
+    subst (λ v. c.push.new.self.items ≡ v.threads ++ child ∷ []) c.self.view_is c.in_ok-push.ensures.items in
     subst (IsBegun c.args.thread c.args.child c.args.self.now.threads) (sym pushed)
     (begins_push c.args.self.now.threads c.args.thread c.args.child c.in_ok-clock.clock c.requires.numbered ticks)

@@ -1,4 +1,4 @@
-use Rattle.std.proofs.Common.{◌≡◌, ◌+◌, ℕ, [], ◌∷◌, ◌++◌, length, false, refl, arith, ap, subst, sym, ◌∙◌}
+use Rattle.std.proofs.Common.{◌≡◌, ◌+◌, [], ◌∷◌, ◌++◌, length, false, refl, arith, ap, subst, sym, ◌∙◌}
 use Rattle.rd_clock.specs.Clock.{component}
 use Rattle.rd_hb.specs.TrackerParts.{AreKept}
 use Rattle.rd_hb.specs.declared.tracker.Tracked.{Tracked}

@@ -1,4 +1,4 @@
-use Rattle.std.proofs.Common.{◌<◌, length, refl, ap, subst, sym, ◌∙◌, arith}
+use Rattle.std.proofs.Common.{◌<◌, length, ap, subst, sym, ◌∙◌, arith}
 use Rattle.rd_hb.specs.Tracker.{tracked}
 use Rattle.rd_hb.proofs.KeptLemmas.{kept_share, shared_copy}
 use Rattle.rd_hb.proofs.tracker.Tracker.share_anew.Goals as goal
