@@ -1,5 +1,5 @@
 -- `item_of` finds an item exactly where the bytes say it.
-use Rattle.std.proofs.Common.{◌≡◌, ℕ, ◌<◌, true, List, ◌∷◌, ◌++◌, length, refl, sym, ◌∙◌, ap, subst, arith, codes, Some, None, IfSome, OnOk, IfErr, Result, Ok, Err, length-append}
+use Rattle.std.proofs.Common.{◌≡◌, ℕ, ◌<◌, true, List, ◌∷◌, ◌++◌, length, refl, sym, ◌∙◌, ap, subst, arith, codes, Option, Some, None, IfSome, OnOk, OnErr, IfErr, Result, Ok, Err, length-append}
 use Rattle.std.specs.Prelude.{⊤}
 use Rattle.std.specs.List.{before_first, after_first}
 use Rattle.std.specs.Option.{option_map}
@@ -13,10 +13,12 @@ use Rattle.rd_event.specs.declared.items.Line.{Line}
 use Rattle.rd_event.specs.declared.items.Line.TheVariants.{Skip, Header, Thread, Object, Event}
 use Rattle.rd_event.specs.declared.items.LineEvent.{LineEvent}
 use Rattle.rd_event.specs.declared.items.LineEvent.TheVariants.{Fork, Join, Acquire, Release, Call}
+use Rattle.rd_event.specs.declared.reading.Pair.{Pair}
+use Rattle.rd_event.specs.declared.reading.Pair.TheVariants.{Acquire as AcquirePair, Release as ReleasePair}
 use Rattle.rd_event.specs.declared.reading.LineRefused.{LineRefused}
 use Rattle.rd_event.specs.declared.reading.LineRefused.TheVariants.{BadLine}
 use Rattle.rd_event.specs.Items.{IsEvent, LineInRange, words_apart, event_spelling, spelling, Says}
-use Rattle.rd_event.specs.Reading.{is_space, names_of, is_call_keyword, call_read, event_with, item_with, item_of}
+use Rattle.rd_event.specs.Reading.{is_space, names_of, pair_item, is_call_keyword, call_read, event_with, item_with, item_of}
 use Rattle.rd_event.proofs.CallLemmas.{CallSaid, call_said, call_found}
 use Rattle.rd_event.proofs.WordLemmas.{NameSaid, NamesSaid, cut_joined, name_said, names_said, name_found, names_found}
 
@@ -98,6 +100,27 @@ pub call_item : (keyword rest : List ℕ) → is_call_keyword keyword ≡ true
 unfolding item_with event_with
 call_item keyword rest same = rw ((bytes_decides keyword (codes "call")).0 same) refl
 
+-- the item of a line that begins with one of these keywords and a space
+pub call_behind : (bytes rest : List ℕ) → bytes ≡ codes "call " ++ rest → item_of bytes ≡ option_map (λ event. Event event) (call_read rest)
+unfolding item_of item_with event_with
+call_behind bytes rest is = rw is refl
+
+pub call_keyword : (bytes rest : List ℕ) → bytes ≡ codes "call " ++ rest → is_call_keyword (before_first is_space bytes) ≡ true
+call_keyword bytes rest is = rw is refl
+
+pair_behind : (pair : Pair) (put : List ℕ × List ℕ → LineEvent) → ((names : List ℕ × List ℕ) → pair_item pair names ≡ Event (put names)) → (found : Option (List ℕ × List ℕ))
+    → option_map (λ event. Event event) (option_map put found) ≡ option_map (pair_item pair) found
+pair_behind pair put is None = refl
+pair_behind pair put is (Some names) = ap Some (sym (is names))
+
+pub acquire_behind : (bytes rest : List ℕ) → bytes ≡ codes "acquire " ++ rest → item_of bytes ≡ option_map (pair_item AcquirePair) (names_of rest)
+unfolding item_of item_with event_with
+acquire_behind bytes rest is = rw is (pair_behind AcquirePair (λ names. Acquire names.0 names.1) (λ names. refl) (names_of rest))
+
+pub release_behind : (bytes rest : List ℕ) → bytes ≡ codes "release " ++ rest → item_of bytes ≡ option_map (pair_item ReleasePair) (names_of rest)
+unfolding item_of item_with event_with
+release_behind bytes rest is = rw is (pair_behind ReleasePair (λ names. Release names.0 names.1) (λ names. refl) (names_of rest))
+
 -- an item that is found is in its range, and the bytes say it
 pub found_said : (bytes : List ℕ) (item : Line) → item_of bytes ≡ Some item → LineInRange item × Says bytes item
 found_said bytes item found = MatchOption-at_some ⊤ (LineSaid bytes) item found (line_said bytes)
@@ -161,3 +184,13 @@ pub err_says_none : (bytes : List ℕ) (result : Result Unit LineRefused)
     → IfErr result (λ e. e ≡ BadLine → (item : Line) → LineInRange item → ¬ (Says bytes item))
 err_says_none bytes (Ok unit) none = none
 err_says_none bytes (Err e) none = λ bad. none_said bytes (none bad)
+
+-- what is found by another name is found of the bytes
+pub ok_found : (bytes : List ℕ) (found : Option Line) (item : Line) (result : Result Unit LineRefused) → item_of bytes ≡ found → OnOk result (found ≡ Some item)
+    → OnOk result (item_of bytes ≡ Some item)
+ok_found bytes found item result is = on_ok_weaker result (λ told. is ∙ told)
+
+pub err_not_found : (bytes : List ℕ) (found : Option Line) (result : Result Unit LineRefused) → item_of bytes ≡ found → OnErr result (found ≡ None)
+    → IfErr result (λ e. e ≡ BadLine → item_of bytes ≡ None)
+err_not_found bytes found (Ok done) is none = tt
+err_not_found bytes found (Err e) is none = λ bad. is ∙ none

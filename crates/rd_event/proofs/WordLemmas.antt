@@ -1,5 +1,5 @@
 -- The words of a line, a space apart, and the names among them.
-use Rattle.std.proofs.Common.{◌≡◌, ◌≢◌, ℕ, ◌+◌, ◌-◌, ◌<◌, ◌≤◌, true, false, List, [], ◌∷◌, ◌++◌, length, take, drop, get_or, refl, sym, ◌∙◌, ap, subst, arith, Option, Some, None, IfSome, inl, inr, length-drop, length-take}
+use Rattle.std.proofs.Common.{MatchOption, ◌≡◌, ◌≢◌, ℕ, ◌+◌, ◌-◌, ◌<◌, ◌≤◌, true, false, List, [], ◌∷◌, ◌++◌, length, take, drop, get_or, refl, sym, ◌∙◌, ap, subst, arith, Option, Some, None, IfSome, inl, inr, length-drop, length-take}
 use Rattle.std.specs.List.{AllPass, list_all, prefix_len, before_first, after_first, position_or_len}
 use Rattle.std.specs.Prelude.{⊤}
 use Rattle.std.proofs.lemmas.Option.{MatchOption-at_some}
@@ -185,3 +185,8 @@ pub found_other : (bytes : List ℕ) (place : ℕ) → place ≡ prefix_len is_n
 found_other bytes place is few other no_space =
     nothing_refused
     ∙ sym (other_refused bytes (within bytes place is few other) (subst (λ n. get_or bytes n 0 ≢ 32) is no_space))
+
+-- what is said of something, where there is something
+pub some_part : {X : Type 0} (A : Type 0) (B : X → Type 0) (o : Option X) → MatchOption o A B → IfSome o B
+some_part A B None none = tt
+some_part A B (Some x) some = some

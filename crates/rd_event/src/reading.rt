@@ -1,5 +1,5 @@
 //! Reading a line.
-ghost use Rattle.std.specs.Prelude.{◌≡◌, ◌↔◌, ℕ, List, Option, Some, None, false, OnOk, OnErr, IfOk, IfErr, IsTrue};
+ghost use Rattle.std.specs.Prelude.{◌≡◌, ◌↔◌, ℕ, List, Option, Some, None, false, OnOk, OnErr, IfOk, IfErr, IfSome, IsTrue, ◌++◌};
 ghost use Rattle.std.specs.Option.{option_map};
 ghost use Rattle.std.specs.List.{AllPass, before_first, after_first, position};
 ghost use Rattle.rd_base.specs.Names.{IsName, is_name_byte};
@@ -36,6 +36,13 @@ pub(crate) fn is(bytes: &[u8], text: &str) -> bool
     ensures { result ≡ bytes_eq bytes.now text.now }
 {
     bytes == text.as_bytes()
+}
+
+// What stands behind the text, if the bytes begin with it.
+fn behind<'a>(bytes: &'a [u8], text: &[u8]) -> Option<&'a [u8]>
+    ensures { IfSome result (λ rest. bytes.now ≡ text.now ++ rest.now) }
+{
+    bytes.strip_prefix(text)
 }
 
 fn first_space(bytes: &[u8]) -> Option<usize>
@@ -220,7 +227,7 @@ fn read_other(keyword: &[u8], rest: &[u8], line: &mut Line) -> Result<(), LineRe
     Err(LineRefused::BadLine)
 }
 
-// Reads a line.
+// Reads a line. The most frequent keywords are asked for with their space, before the space is looked for.
 #[tactic(auto, using(crate::proofs::ReadingLemmas::call_item), unfolding(crate::specs::Reading::item_of))]
 fn read_item(alloc: Global, bytes: &[u8], line: &mut Line) -> Result<(), LineRefused>
     ensures item { OnOk result (item_of bytes.now ≡ Some line.new) }
@@ -231,6 +238,15 @@ fn read_item(alloc: Global, bytes: &[u8], line: &mut Line) -> Result<(), LineRef
     if is_skipped(bytes) {
         *line = Line::Skip;
         return Ok(());
+    }
+    if let Some(rest) = behind(bytes, b"call ") {
+        return read_call(alloc, rest, line);
+    }
+    if let Some(rest) = behind(bytes, b"acquire ") {
+        return read_pair(Pair::Acquire, rest, line);
+    }
+    if let Some(rest) = behind(bytes, b"release ") {
+        return read_pair(Pair::Release, rest, line);
     }
     let (keyword, rest) = cut(bytes);
     if is(keyword, "call") {
