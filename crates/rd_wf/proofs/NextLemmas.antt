@@ -405,16 +405,16 @@ module _ (kinds : List Kind) (old : Roster) (lines : List Line) (stands : Stands
       let entries = inserted_lock kinds old lines stands lock held fresh in (
         λ other. ap (lookup (same_name other)) entries ∙ found_pushed lock other held old.locks.entries absent,
         ap keys_of entries ∙ map-append (λ e. e.0) old.locks.entries ((lock, held) ∷ []) ∙ ap (λ names. names ++ lock ∷ []) stands.lock_names
-        ∙ ap (λ b. cond b (locks_of lines) (locks_of lines ++ lock ∷ [])) (sym fresh),
+            ∙ ap (λ b. cond b (locks_of lines) (locks_of lines ++ lock ∷ [])) (sym fresh),
       )
 
   pub written_known : is_among (locks_of lines) lock ≡ true → IsWritten (set_value_at old.locks.entries (place (locks_of lines) lock) held)
   written_known known =
       let there : is_among (keys_of old.locks.entries) lock ≡ true = ap (λ names. is_among names lock) stands.lock_names ∙ known in (
         λ other. ap (λ names. lookup (same_name other) (set_value_at old.locks.entries (place names lock) held)) (sym stands.lock_names)
-        ∙ found_written lock other held old.locks.entries there,
+            ∙ found_written lock other held old.locks.entries there,
         keys-with_value_at old.locks (place (locks_of lines) lock) held ∙ stands.lock_names
-        ∙ ap (λ b. cond b (locks_of lines) (locks_of lines ++ lock ∷ [])) (sym known),
+            ∙ ap (λ b. cond b (locks_of lines) (locks_of lines ++ lock ∷ [])) (sym known),
       )
 
   -- a lock whose number is below the count is known

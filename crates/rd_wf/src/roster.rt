@@ -283,7 +283,8 @@ impl Roster {
 
     /// Accepts the next line, if it may follow the accepted ones, and says what it is in numbers. Else it refuses the line, by the
     /// cause that names the first rule that the line breaks, and nothing changes. Want of memory comes only for a line that may
-    /// follow, and that begins a thread, declares an object or is a call. The roster then stands for the same lines as before.
+    /// follow, and that begins a thread, acquires a lock, declares an object or is a call. The roster then stands for the same
+    /// lines as before.
     pub fn accept(&mut self, line: &Line, limits: &Limits) -> Result<Accepted, WfRefused>
         requires { AreUsable limits.now }
         ensures ok { IfOk result (λ accepted. (kinds : List Kind) (lines : List LineOf) → StandsFor kinds self.old lines →

@@ -15,8 +15,8 @@ pub returns-in-None-clause-ok : goal.returns-in-None-clause-ok
 unfolding accepted_of
 returns-in-None-clause-ok c = λ kinds lines stands. (
   acquire_judged kinds c.args.self.now lines stands c.args.limits.now c.args.thread.now c.args.lock.now _ c.find_lock-found.result _ _ (c.find_thread-actor.ensures.value kinds lines stands)
-  (c.find_lock-found.ensures.number kinds lines stands) c.find_lock-found.ensures.lock c.held_by_other.ensures c.depth_of-depth.ensures
-  ∙ sym (c.in-None.ensures.first lines (holder_within kinds c.args.self.now lines stands c.args.lock.now _ _ _ c.find_lock-found.ensures.lock c.held_by_other.ensures)),
+      (c.find_lock-found.ensures.number kinds lines stands) c.find_lock-found.ensures.lock c.held_by_other.ensures c.depth_of-depth.ensures
+      ∙ sym (c.in-None.ensures.first lines (holder_within kinds c.args.self.now lines stands c.args.lock.now _ _ _ c.find_lock-found.ensures.lock c.held_by_other.ensures)),
   λ i. accepted.Event (numbered.Acquire (c.find_thread-actor.ensures.value kinds lines stands i).number ((c.find_lock-found.ensures.number kinds lines stands).0 i)),
 )
 
