@@ -1,5 +1,5 @@
 //! Vector clocks.
-ghost use Rattle.std.specs.Prelude.{◌≡◌, ℕ, ◌+◌, ◌*◌, ◌<◌, ◌≤◌, ◌↔◌, max, length, IfOk, OnOk, OnErr, IsTrue, []};
+ghost use Rattle.std.specs.Prelude.{◌≡◌, ℕ, ◌+◌, ◌*◌, ◌<◌, ◌≤◌, ◌↔◌, max, length, IfOk, OnOk, OnErr, IsTrue, [], vec_capacity};
 ghost use Rattle.rd_clock.specs.Clock.{component, IsTick, IsRaise, IsJoin};
 
 use rd_base::{NoMemory, Steps};
@@ -72,14 +72,17 @@ impl Clock {
         Ok(copy)
     }
 
-    /// Becomes equal to another clock, which has just the same room. It takes no memory.
-    pub fn assign_reserved(&mut self, other: &Clock)
-        requires { length other.now ≡ length self.old }
-        ensures { self.new ≡ other.now }
+    /// An equal clock, in memory that was taken before, which has room for it. It takes no memory.
+    pub fn copy_in(&self, memory: Vec<u32>) -> Clock
+        requires none { memory.items ≡ [] }
+        requires room { length self.now ≤ vec_capacity memory }
+        ensures { result ≡ self.now }
     {
-        self.components
-            .as_mut_slice()
-            .copy_from_slice(other.components.as_slice());
+        let mut components = memory;
+        components
+            .extend_from_slice(self.components.as_slice())
+            .unwrap();
+        Clock { components }
     }
 
     /// The component of a thread. It takes no memory and one step.

@@ -32,8 +32,17 @@ read_at threads i read inside value = value ∙ get_or_default threads i read no
 set_same : (threads : List Tracked) (i t : ℕ) (x : Tracked) → i < length threads → t ≡ i → tracked (slice_set threads i x) t ≡ x
 set_same threads i t x inside same = get_or-set_at threads i t x no_thread same inside
 
-set_other : (threads : List Tracked) (i t : ℕ) (x : Tracked) → t ≢ i → tracked (slice_set threads i x) t ≡ tracked threads t
+pub set_other : (threads : List Tracked) (i t : ℕ) (x : Tracked) → t ≢ i → tracked (slice_set threads i x) t ≡ tracked threads t
 set_other threads i t x other = get_or-set_other threads i t x no_thread other
+
+-- after a thread was set, what is read at its place is that, and at another what was there
+pub read_again : (threads : List Tracked) (i : ℕ) (x read : Tracked) → i < length threads → read ≡ slice_index_or (slice_set threads i x) i read → read ≡ x
+read_again threads i x read inside value =
+    read_at (slice_set threads i x) i read (omega (arith, inside, length-set threads i x)) value ∙ set_same threads i i x inside refl
+
+pub read_besides : (threads : List Tracked) (i j : ℕ) (x read : Tracked) → j < length threads → j ≢ i → read ≡ slice_index_or (slice_set threads i x) j read → read ≡ tracked threads j
+read_besides threads i j x read inside other value =
+    read_at (slice_set threads i x) j read (omega (arith, inside, length-set threads i x)) value ∙ set_other threads i j x other
 
 -- ---- what holds of each thread
 

@@ -1,5 +1,5 @@
 -- What one event makes of what a tracker holds.
-use Rattle.std.proofs.Common.{◌≡◌, ◌≢◌, ◌⊎◌, ◌≤◌, ◌<◌, ◌↔◌, inl, inr, ℕ, ◌+◌, ◌==◌, max, Bool, true, false, IsTrue, ◌||◌, List, [], ◌∷◌, ◌++◌, take, length, Option, Some, None, Result, Ok, Err, IfOk, OnOk, refl, sym, ◌∙◌, ap, subst, arith}
+use Rattle.std.proofs.Common.{◌≡◌, ◌≢◌, ◌⊎◌, ◌≤◌, ◌<◌, ◌↔◌, inl, inr, ℕ, ◌+◌, ◌==◌, max, Bool, true, false, IsTrue, ◌||◌, List, [], ◌∷◌, ◌++◌, take, length, Option, Some, None, Result, Ok, Err, OnOk, refl, sym, ◌∙◌, ap, subst, arith}
 use Rattle.std.specs.Prelude.{if◌then◌else◌, is_some, unwrap_or}
 use Rattle.std.proofs.lemmas.Bool.{cases_Bool, cases_eq, eq-eqb, ne_eqb}
 use Rattle.std.proofs.lemmas.Bool.Decides.{not_from_Decides}
@@ -21,7 +21,7 @@ use Rattle.rd_order.proofs.OrderLemmas.{at_end}
 use Rattle.rd_hb.specs.EventClocks.{IsClock, IsOf, OwnNumber}
 use Rattle.rd_hb.specs.Knows.{Carries, GivesBack, Knows, KnownCount}
 use Rattle.rd_hb.specs.declared.tracker.Tracked.{Tracked}
-use Rattle.rd_hb.specs.Tracker.{Tracking, clock_of, handed_by, known_to, no_thread, released, tracked, IsLastRelease, IsNextEvent, IsStamp, StandsFor}
+use Rattle.rd_hb.specs.Tracker.{Tracking, clock_of, handed_by, known_to, last_stamp, no_thread, released, tracked, IsLastRelease, IsNextEvent, IsStamp, StandsFor}
 use Rattle.rd_hb.specs.TrackerParts.{brought, clock_after, handed_after, known_after, IsAlike, IsBegun, IsCounted, IsHeard, IsLearnt, IsReleased}
 use Rattle.rd_hb.proofs.ClockLemmas.{is_of_longer, own_number_longer}
 use Rattle.rd_hb.proofs.KeptLemmas.{tracked_push}
@@ -362,6 +362,17 @@ next_inside old roots es e next = (next.stands.known (thread_of e)).1 (next_foll
 pub next_joined : (old : Tracking) (roots : ℕ → Bool) (es : List Event) (e : Event) (u : ℕ) → IsNextEvent old roots es e → joined_thread e ≡ Some u → u < length old.threads
 next_joined old roots es e u next join = (next.stands.known u).1 ((next_follows old roots es e next).known_joined u join)
 
+-- no event makes a thread unknown
+pub threads_stay : (e : Event) (count : ℕ) → count ≤ threads_after e count
+threads_stay e count = by (is_some (forked_thread e))
+  where
+    by : (b : Bool) → count ≤ (if b then count + 1 else count)
+    by true = omega arith
+    by false = omega arith
+
+pub next_apart : (old : Tracking) (roots : ℕ → Bool) (es : List Event) (e : Event) (u : ℕ) → IsNextEvent old roots es e → joined_thread e ≡ Some u → u ≢ thread_of e
+next_apart old roots es e u next join = (next_follows old roots es e next).other_joined u join
+
 -- a thread doesn't join itself, so there are two
 pub next_two : (old : Tracking) (roots : ℕ → Bool) (es : List Event) (e : Event) (u : ℕ) → IsNextEvent old roots es e → joined_thread e ≡ Some u → 2 ≤ length old.threads
 next_two old roots es e u next join =
@@ -428,55 +439,76 @@ lock_news old roots es e t lock next inside = by (released old.locks lock) (next
 
 -- ---- the answer
 
--- by its parts for each event after which this is the next one
-abbrev pub Answers : {E : Type 0} → Tracking → Tracking → Event → Result Stamp E → Type 0
-Answers old new e result = IfOk result (λ stamp. (roots : ℕ → Bool) (es : List Event) → IsNextEvent old roots es e → Tracks e old new stamp)
+-- by its parts for each list after which this is the next event; the stamp is what is held of the event's thread
+abbrev pub Taken : Tracking → Tracking → Event → Type 0
+Taken old new e = (roots : ℕ → Bool) (es : List Event) → IsNextEvent old roots es e → Tracks e old new (last_stamp new.threads (thread_of e))
 
-pub ok_stamp : {E : Type 0} (old new : Tracking) (e : Event) (result : Result Stamp E) → Answers old new e result
-    → IfOk result (λ stamp. (roots : ℕ → Bool) (es : List Event) → IsNextEvent old roots es e → IsStamp (es ++ e ∷ []) (length es) stamp)
-ok_stamp old new e (Ok stamp) is = λ roots es next. stamp_after old new es e stamp next.stands.clocks next.stands.locks (is roots es next)
+abbrev pub Answers : {A E : Type 0} → Tracking → Tracking → Event → Result A E → Type 0
+Answers old new e result = OnOk result (Taken old new e)
+
+pub stamp_taken : (old new : Tracking) (e : Event) → Taken old new e
+    → (roots : ℕ → Bool) (es : List Event) → IsNextEvent old roots es e → IsStamp (es ++ e ∷ []) (length es) (last_stamp new.threads (thread_of e))
+stamp_taken old new e is roots es next = stamp_after old new es e (last_stamp new.threads (thread_of e)) next.stands.clocks next.stands.locks (is roots es next)
+
+pub stands_taken : (old new : Tracking) (e : Event) → Taken old new e
+    → (roots : ℕ → Bool) (es : List Event) → IsNextEvent old roots es e → StandsFor new roots (es ++ e ∷ [])
+stands_taken old new e is roots es next = stands_after old new roots es e (last_stamp new.threads (thread_of e)) next (is roots es next)
+
+pub ok_stamp : {A E : Type 0} (old new : Tracking) (e : Event) (result : Result A E) → Answers old new e result
+    → OnOk result ((roots : ℕ → Bool) (es : List Event) → IsNextEvent old roots es e → IsStamp (es ++ e ∷ []) (length es) (last_stamp new.threads (thread_of e)))
+ok_stamp old new e (Ok value) is = stamp_taken old new e is
 ok_stamp old new e (Err error) is = tt
 
-pub ok_stands : {E : Type 0} (old new : Tracking) (e : Event) (result : Result Stamp E) → Answers old new e result
+pub ok_stands : {A E : Type 0} (old new : Tracking) (e : Event) (result : Result A E) → Answers old new e result
     → OnOk result ((roots : ℕ → Bool) (es : List Event) → IsNextEvent old roots es e → StandsFor new roots (es ++ e ∷ []))
-ok_stands old new e (Ok stamp) is = λ roots es next. stands_after old new roots es e stamp next (is roots es next)
+ok_stands old new e (Ok value) is = stands_taken old new e is
 ok_stands old new e (Err error) is = tt
 
-pub ok_call : {E : Type 0} (old new : Tracking) (call : CallOf) (result : Result Stamp E) → IfOk result (IsCounted call.thread old.threads new.threads) → new.locks ≡ old.locks
-    → Answers old new (Call call) result
-ok_call old new call (Ok stamp) is locks = λ roots es next.
-    learnt_tracks (Call call) old new old.threads [] stamp refl (λ u. refl) (omega arith) (nothing_learnt call.thread old.threads) is
-    (locks_stay (Call call) old.locks new.locks stamp refl locks)
-ok_call old new call (Err error) is locks = tt
+pub call_taken : (old new : Tracking) (call : CallOf) → IsCounted call.thread old.threads new.threads (last_stamp new.threads call.thread)
+    → new.locks ≡ old.locks → Taken old new (Call call)
+call_taken old new call is locks = λ roots es next.
+    learnt_tracks (Call call) old new old.threads [] (last_stamp new.threads call.thread) refl (λ u. refl) (omega arith) (nothing_learnt call.thread old.threads) is
+    (locks_stay (Call call) old.locks new.locks (last_stamp new.threads call.thread) refl locks)
 
-pub ok_release : {E : Type 0} (old new : Tracking) (thread lock : ℕ) (result : Result Stamp E) → IfOk result (IsCounted thread old.threads new.threads)
-    → IfOk result (IsReleased lock old.locks new.locks) → Answers old new (Release thread lock) result
-ok_release old new thread lock (Ok stamp) is gives = λ roots es next.
-    learnt_tracks (Release thread lock) old new old.threads [] stamp refl (λ u. refl) (omega arith) (nothing_learnt thread old.threads) is (
-      λ l same. subst (λ m. (last : Stamp) × (released new.locks m ≡ Some last) × IsAlike last stamp) (same_lock lock l (same_Some (exclusive lock) (exclusive l) same)) gives.given,
+pub ok_release : {A E : Type 0} (old new : Tracking) (thread lock : ℕ) (result : Result A E)
+    → OnOk result (IsCounted thread old.threads new.threads (last_stamp new.threads thread))
+    → OnOk result (IsReleased lock old.locks new.locks (last_stamp new.threads thread)) → Answers old new (Release thread lock) result
+ok_release old new thread lock (Ok value) is gives = λ roots es next.
+    learnt_tracks (Release thread lock) old new old.threads [] (last_stamp new.threads thread) refl (λ u. refl) (omega arith) (nothing_learnt thread old.threads) is (
+      λ l same. subst (λ m. (last : Stamp) × (released new.locks m ≡ Some last) × IsAlike last (last_stamp new.threads thread))
+          (same_lock lock l (same_Some (exclusive lock) (exclusive l) same)) gives.given,
       λ l other. gives.others l (λ same. other (ap (λ m. Some (exclusive m)) (sym same))),
     )
 ok_release old new thread lock (Err error) is gives = tt
 
-pub ok_fork : {E : Type 0} (old new : Tracking) (thread child : ℕ) (result : Result Stamp E)
-    → IfOk result (λ stamp. (middle : List Tracked) × IsBegun thread child old.threads middle × IsCounted thread middle new.threads stamp) → new.locks ≡ old.locks
-    → Answers old new (Fork thread child) result
-ok_fork old new thread child (Ok stamp) is locks = λ roots es next.
-    fork_tracks thread child old new is.0 stamp (next_inside old roots es (Fork thread child) next) (next.numbered child refl) is.1 is.2 locks
+pub ok_fork : {A E : Type 0} (old new : Tracking) (thread child : ℕ) (result : Result A E)
+    → OnOk result ((middle : List Tracked) × IsBegun thread child old.threads middle × IsCounted thread middle new.threads (last_stamp new.threads thread))
+    → new.locks ≡ old.locks → Answers old new (Fork thread child) result
+ok_fork old new thread child (Ok value) is locks = λ roots es next.
+    fork_tracks thread child old new is.0 (last_stamp new.threads thread) (next_inside old roots es (Fork thread child) next) (next.numbered child refl) is.1 is.2 locks
 ok_fork old new thread child (Err error) is locks = tt
 
-pub ok_join : {E : Type 0} (old new : Tracking) (thread child : ℕ) (result : Result Stamp E)
-    → IfOk result (λ stamp. (middle : List Tracked) × IsLearnt thread (tracked old.threads child).clock (Some child) old.threads middle × IsCounted thread middle new.threads stamp)
+pub ok_join : {A E : Type 0} (old new : Tracking) (thread child : ℕ) (result : Result A E)
+    → OnOk result ((middle : List Tracked) × IsLearnt thread (tracked old.threads child).clock (Some child) old.threads middle
+    × IsCounted thread middle new.threads (last_stamp new.threads thread))
     → new.locks ≡ old.locks → Answers old new (Join thread child) result
-ok_join old new thread child (Ok stamp) is locks = λ roots es next.
-    learnt_tracks (Join thread child) old new is.0 (tracked old.threads child).clock stamp refl (λ u. refl) (child_most old roots es child thread next.stands) is.1 is.2
-    (locks_stay (Join thread child) old.locks new.locks stamp refl locks)
+ok_join old new thread child (Ok value) is locks = λ roots es next.
+    learnt_tracks (Join thread child) old new is.0 (tracked old.threads child).clock (last_stamp new.threads thread) refl (λ u. refl)
+    (child_most old roots es child thread next.stands) is.1 is.2
+    (locks_stay (Join thread child) old.locks new.locks (last_stamp new.threads thread) refl locks)
 ok_join old new thread child (Err error) is locks = tt
 
-pub ok_acquire : {E : Type 0} (old new : Tracking) (thread lock : ℕ) (result : Result Stamp E)
-    → IfOk result (λ stamp. (middle : List Tracked) × IsLearnt thread (clock_of (released old.locks lock)) None old.threads middle × IsCounted thread middle new.threads stamp)
+pub ok_acquire : {A E : Type 0} (old new : Tracking) (thread lock : ℕ) (result : Result A E)
+    → OnOk result ((middle : List Tracked) × IsLearnt thread (clock_of (released old.locks lock)) None old.threads middle
+    × IsCounted thread middle new.threads (last_stamp new.threads thread))
     → new.locks ≡ old.locks → Answers old new (Acquire thread lock) result
-ok_acquire old new thread lock (Ok stamp) is locks = λ roots es next.
-    learnt_tracks (Acquire thread lock) old new is.0 (clock_of (released old.locks lock)) stamp refl (λ u. refl) (lock_most old roots es lock thread next.stands) is.1 is.2
-    (locks_stay (Acquire thread lock) old.locks new.locks stamp refl locks)
+ok_acquire old new thread lock (Ok value) is locks = λ roots es next.
+    learnt_tracks (Acquire thread lock) old new is.0 (clock_of (released old.locks lock)) (last_stamp new.threads thread) refl (λ u. refl)
+    (lock_most old roots es lock thread next.stands) is.1 is.2
+    (locks_stay (Acquire thread lock) old.locks new.locks (last_stamp new.threads thread) refl locks)
 ok_acquire old new thread lock (Err error) is locks = tt
+
+-- what is read of the thread makes up its stamp
+pub read_stamp : (threads : List Tracked) (thread t : ℕ) (own : Tracked) (clock : List ℕ) → own ≡ tracked threads t → thread ≡ t → clock ≡ own.clock
+    → record { thread = thread; number = own.events; clock = clock } ≡ last_stamp threads t
+read_stamp threads thread t own clock is same copied = rw (copied, same, is) refl

@@ -84,3 +84,7 @@ pub record IsStamp (es : List Event) (place : ℕ) (stamp : Stamp) : Type 0 wher
   pub thread : (e : Event) → slice_get es place ≡ Some e → stamp.thread ≡ thread_of e
   pub number : OwnNumber es stamp.thread place stamp.number
   pub clock : (u : ℕ) → IsClock es place u (component stamp.clock u)
+
+-- what is held of a thread as the stamp of its last event, where nothing was learnt since
+abbrev pub last_stamp : List Tracked → ℕ → Stamp
+last_stamp threads t = record { thread = t; number = (tracked threads t).events; clock = (tracked threads t).clock }

@@ -3,8 +3,9 @@ ghost use Rattle.std.specs.Prelude.{◌≡◌, ◌≢◌, ◌⊎◌, ◌↔◌, 
 ghost use Rattle.rd_event.specs.declared.events.Event.{Event as EventOf};
 ghost use Rattle.rd_event.specs.declared.events.Event.TheVariants as event;
 ghost use Rattle.rd_order.specs.EventLists.{threads_after};
+ghost use Rattle.rd_order.specs.Order.{thread_of};
 ghost use Rattle.rd_clock.specs.Clock.{component, IsJoin, IsTick};
-ghost use Rattle.rd_hb.specs.Tracker.{IsNextEvent, IsStamp, StandsFor, clock_of, event_bound, handed_by, known_to, released, tracked};
+ghost use Rattle.rd_hb.specs.Tracker.{IsNextEvent, IsStamp, StandsFor, clock_of, event_bound, handed_by, known_to, last_stamp, released, tracked};
 ghost use Rattle.rd_hb.specs.TrackerParts.{IsBegun, IsCounted, IsHeard, IsLearnt, IsReleased, IsShared};
 ghost use Rattle.rd_hb.specs.declared.tracker.Tracked.{Tracked as TrackedOf};
 
@@ -16,6 +17,7 @@ use rd_clock::{Clock, Stamp};
 use rd_event::Event;
 use std::alloc::Global;
 use std::marker::Model;
+use std::mem;
 use std::sync::ledger::Ledger;
 
 /// A thread: the clock that its next event carries on from, how many events it had, and whether it was joined.
@@ -82,8 +84,9 @@ impl Tracker {
     }
 
     /// Takes the next event of a well-formed list, in which a forked thread has the next number, and says where it
-    /// stands. After want of memory all is as before. It takes at most 2 steps for each thread that is known
-    /// once the event is done where it is a call, and 4 where it is another.
+    /// stands. The stamp takes memory; where it isn't asked for, `pass` does the same without it. After want of memory all
+    /// is as before. It takes at most 2 steps for each thread that is known once the event is done where it is a
+    /// call, and 4 where it is another.
     pub fn event<L: Ledger>(
         &mut self,
         event: &Event,
@@ -98,12 +101,40 @@ impl Tracker {
         ensures err { OnErr result (self.new ≡ self.old) }
         ensures cost { steps.new ≤ steps.old + event_bound event.now (threads_after event.now (length self.old.threads)) }
     {
+        let thread = actor(event);
+        let memory = Vec::with_capacity(self.alloc, self.threads.len())?;
+        self.pass(event, steps)?;
+        let own = &self.threads[thread as usize];
+        Ok(Stamp {
+            thread,
+            number: own.events,
+            clock: own.clock.copy_in(memory),
+        })
+    }
+
+    /// Takes the next event, as `event` does, but makes no stamp of it: for the events whose stamps aren't asked for. It takes
+    /// memory only where a thread begins, where one gives a lock back for the first time since it learnt something, or
+    /// where a clock or the list of locks has no room yet. After want of memory all is as before.
+    pub fn pass<L: Ledger>(&mut self, event: &Event, steps: &mut Steps<L>) -> Result<(), NoMemory>
+        requires next { (roots : ℕ → Bool) × (es : List EventOf) × IsNextEvent self.old roots es event.now }
+        ensures stamp { OnOk result ((roots : ℕ → Bool) (es : List EventOf) → IsNextEvent self.old roots es event.now →
+            IsStamp (es ++ event.now ∷ []) (length es) (last_stamp self.new.threads (thread_of event.now))) }
+        ensures stands { OnOk result ((roots : ℕ → Bool) (es : List EventOf) → IsNextEvent self.old roots es event.now →
+            StandsFor self.new roots (es ++ event.now ∷ [])) }
+        ensures count { OnOk result (length self.new.threads ≡ threads_after event.now (length self.old.threads)) }
+        ensures room { OnOk result (length (tracked self.new.threads (thread_of event.now)).clock ≤ length self.old.threads) }
+        ensures err { OnErr result (self.new ≡ self.old) }
+        ensures cost { steps.new ≤ steps.old + event_bound event.now (threads_after event.now (length self.old.threads)) }
+    {
         match event {
             Event::Fork { thread, child } => self.fork(*thread, *child, steps),
             Event::Join { thread, child } => self.join(*thread, *child, steps),
             Event::Acquire { thread, lock } => self.acquire(*thread, *lock, steps),
             Event::Release { thread, lock } => self.release(*thread, *lock, steps),
-            Event::Call(call) => self.alone(call.thread, steps),
+            Event::Call(call) => {
+                self.tick(call.thread, steps);
+                Ok(())
+            }
         }
     }
 
@@ -115,24 +146,21 @@ impl Tracker {
         self.threads[thread as usize].clock.copy(self.alloc)
     }
 
-    /// A thread counts its next event, in its clock and in a copy of it, which becomes the stamp's.
-    fn count<L: Ledger>(&mut self, thread: u32, mut copy: Clock, steps: &mut Steps<L>) -> Stamp
+    /// A thread counts its next event, and that is its own number.
+    fn tick<L: Ledger>(&mut self, thread: u32, steps: &mut Steps<L>) -> u32
         requires known { thread < length self.old.threads }
         requires below { known_to self.old.threads thread thread < 4294967295 }
-        requires equal { copy ≡ (tracked self.old.threads thread).clock }
-        ensures counted { IsCounted thread self.old.threads self.new.threads result }
+        ensures counted { IsCounted thread self.old.threads self.new.threads (last_stamp self.new.threads thread) }
+        ensures number { result ≡ (tracked self.new.threads thread).events }
+        ensures room { length (tracked self.new.threads thread).clock ≤ length self.old.threads }
+        ensures same_room { length (tracked self.new.threads thread).clock ≡ length (tracked self.old.threads thread).clock }
         ensures locks { self.new.locks ≡ self.old.locks }
-        ensures cost { steps.new ≡ steps.old + 2 }
+        ensures cost { steps.new ≡ steps.old + 1 }
     {
         let own = &mut self.threads[thread as usize];
         own.clock.tick(thread, steps);
         own.events += 1;
-        copy.tick(thread, steps);
-        Stamp {
-            thread,
-            number: own.events,
-            clock: copy,
-        }
+        own.events
     }
 
     /// The clock that a thread has after its next event, with room for the thread that this event begins.
@@ -157,6 +185,7 @@ impl Tracker {
     }
 
     /// Makes the next thread known, with the clock that another has after its next event.
+    #[inline(never)]
     fn begin<L: Ledger>(
         &mut self,
         thread: u32,
@@ -168,6 +197,7 @@ impl Tracker {
         requires range { child < 4294967295 }
         requires below { known_to self.old.threads thread thread < 4294967295 }
         ensures ok { OnOk result (IsBegun thread child self.old.threads self.new.threads) }
+        ensures room { OnOk result (length (tracked self.new.threads thread).clock ≤ length self.old.threads) }
         ensures locks { self.new.locks ≡ self.old.locks }
         ensures err { OnErr result (self.new ≡ self.old) }
         ensures cost { steps.new ≤ steps.old + 1 }
@@ -196,75 +226,31 @@ impl Tracker {
                 .covers(child, events, steps)
     }
 
-    /// Whether a lock brings no news: no event gave it back, or the thread knows the last one that did.
-    fn is_heard<L: Ledger>(&self, thread: u32, lock: u32, steps: &mut Steps<L>) -> bool
-        requires { thread < length self.now.threads }
-        ensures heard { IsTrue result ↔ IsHeard (released self.now.locks lock) (tracked self.now.threads thread).clock }
-        ensures cost { steps.new ≤ steps.old + 1 }
-    {
-        match self.locks.get(lock as usize) {
-            Some(Some(last)) => last.is_covered(&self.threads[thread as usize].clock, steps),
-            _ => true,
-        }
-    }
-
-    /// The clock that counts what either of two threads knows, with room for all threads.
-    fn meet<L: Ledger>(
-        &self,
+    /// A thread learns what another knows, and shares its clock no longer. It takes memory only where its own clock has no
+    /// room yet.
+    #[inline(never)]
+    fn learn<L: Ledger>(
+        &mut self,
         thread: u32,
         child: u32,
         steps: &mut Steps<L>,
-    ) -> Result<Clock, NoMemory>
-        requires known { thread < length self.now.threads }
-        requires awaited { child < length self.now.threads }
-        ensures joined { IfOk result (IsJoin (tracked self.now.threads thread).clock (tracked self.now.threads child).clock) }
-        ensures room { IfOk result (λ clock. length clock ≡ length self.now.threads) }
-        ensures cost { steps.new ≤ steps.old + 2 * length self.now.threads }
-    {
-        let own = &self.threads[thread as usize].clock;
-        let mut clock = own.copy_with_room(self.alloc, self.threads.len() as u32)?;
-        clock.join_reserved(&self.threads[child as usize].clock, steps);
-        Ok(clock)
-    }
-
-    /// The clock that counts what a thread knows or a lock does, with room for all threads.
-    fn meet_lock<L: Ledger>(
-        &self,
-        thread: u32,
-        lock: u32,
-        steps: &mut Steps<L>,
-    ) -> Result<Clock, NoMemory>
-        requires { thread < length self.now.threads }
-        ensures joined { IfOk result (IsJoin (tracked self.now.threads thread).clock (clock_of (released self.now.locks lock))) }
-        ensures room { IfOk result (λ clock. length clock ≡ length self.now.threads) }
-        ensures cost { steps.new ≤ steps.old + (2 * length self.now.threads + 1) }
-    {
-        let own = &self.threads[thread as usize].clock;
-        let mut clock = own.copy_with_room(self.alloc, self.threads.len() as u32)?;
-        if let Some(Some(last)) = self.locks.get(lock as usize) {
-            last.join_into(&mut clock, steps);
-        }
-        Ok(clock)
-    }
-
-    /// A thread begins to know what that clock counts, and shares its clock no longer. Its own clock takes memory
-    /// only where it has no room yet.
-    fn learn(&mut self, thread: u32, clock: &Clock) -> Result<(), NoMemory>
+    ) -> Result<(), NoMemory>
         requires known { thread < length self.old.threads }
-        requires room { length clock.now ≡ length self.old.threads }
-        requires own { component clock.now thread ≡ known_to self.old.threads thread thread }
-        ensures count { length self.new.threads ≡ length self.old.threads }
-        ensures own { OnOk result ((tracked self.new.threads thread).clock ≡ clock.now) }
-        ensures others { (t : ℕ) → t ≢ thread → tracked self.new.threads t ≡ tracked self.old.threads t }
-        ensures joined { (tracked self.new.threads thread).joined ≡ (tracked self.old.threads thread).joined }
+        requires awaited { child < length self.old.threads }
+        requires apart { child ≢ thread }
+        requires own { known_to self.old.threads child thread ≤ known_to self.old.threads thread thread }
+        ensures learnt { OnOk result (IsLearnt thread (tracked self.old.threads child).clock None self.old.threads self.new.threads) }
         ensures locks { self.new.locks ≡ self.old.locks }
         ensures err { OnErr result (self.new ≡ self.old) }
+        ensures cost { steps.new ≤ steps.old + 2 * length self.old.threads }
     {
         let room = self.threads.len() as u32;
-        let own = &mut self.threads[thread as usize].clock;
-        own.reserve(room)?;
-        own.assign_reserved(clock);
-        forget(&mut self.shared, thread as usize);
+        let place = thread as usize;
+        self.threads[place].clock.reserve(room)?;
+        let mut own = mem::replace(&mut self.threads[place].clock, Clock::new(self.alloc));
+        own.join_reserved(&self.threads[child as usize].clock, steps);
+        self.threads[place].clock = own;
+        forget(&mut self.shared, place);
         Ok(())
     }
 
@@ -291,6 +277,7 @@ impl Tracker {
     }
 
     /// A thread begins to share its clock, as it is now.
+    #[inline(never)]
     fn share_anew(&mut self, thread: u32) -> Result<SharedClock, NoMemory>
         requires { thread < length self.old.threads }
         ensures ok { IfOk result (IsShared self.old.threads thread) }
@@ -324,7 +311,11 @@ impl Tracker {
         ensures locks { (l : ℕ) → released self.new.locks l ≡ released self.old.locks l }
         ensures err { OnErr result (self.new ≡ self.old) }
     {
-        grow(&mut self.locks, lock as usize + 1)
+        let room = lock as usize + 1;
+        if room <= self.locks.len() {
+            return Ok(());
+        }
+        grow(&mut self.locks, room)
     }
 
     /// An event of a thread gave a lock back: its clock is the shared one, with its own number at the thread.
@@ -340,91 +331,82 @@ impl Tracker {
         self.locks[lock as usize] = Some(Release::new(shared, thread, number));
     }
 
-    /// An event that begins no thread, takes nothing in and gives nothing back.
-    fn alone<L: Ledger>(&mut self, thread: u32, steps: &mut Steps<L>) -> Result<Stamp, NoMemory>
-        requires known { thread < length self.old.threads }
-        requires below { known_to self.old.threads thread thread < 4294967295 }
-        ensures ok { IfOk result (IsCounted thread self.old.threads self.new.threads) }
-        ensures locks { self.new.locks ≡ self.old.locks }
-        ensures err { OnErr result (self.new ≡ self.old) }
-        ensures cost { steps.new ≤ steps.old + 2 }
-    {
-        let clock = self.clock(thread)?;
-        Ok(self.count(thread, clock, steps))
-    }
-
     /// A thread forks the next one, which begins with the clock of the fork.
     fn fork<L: Ledger>(
         &mut self,
         thread: u32,
         child: u32,
         steps: &mut Steps<L>,
-    ) -> Result<Stamp, NoMemory>
+    ) -> Result<(), NoMemory>
         requires known { thread < length self.old.threads }
         requires numbered { child ≡ length self.old.threads }
         requires range { child < 4294967295 }
         requires below { known_to self.old.threads thread thread < 4294967295 }
-        ensures ok { IfOk result (λ stamp. (middle : List TrackedOf) × IsBegun thread child self.old.threads middle × IsCounted thread middle self.new.threads stamp) }
+        ensures ok { OnOk result ((middle : List TrackedOf) × IsBegun thread child self.old.threads middle ×
+            IsCounted thread middle self.new.threads (last_stamp self.new.threads thread)) }
+        ensures room { OnOk result (length (tracked self.new.threads thread).clock ≤ length self.old.threads) }
         ensures locks { self.new.locks ≡ self.old.locks }
         ensures err { OnErr result (self.new ≡ self.old) }
-        ensures cost { steps.new ≤ steps.old + 3 }
+        ensures cost { steps.new ≤ steps.old + 2 }
     {
-        let clock = self.clock(thread)?;
         self.begin(thread, child, steps)?;
-        Ok(self.count(thread, clock, steps))
+        self.tick(thread, steps);
+        Ok(())
     }
 
-    /// The clock of a thread once it knows what another knew. Where that is no news it joins nothing: who knows an
-    /// event knows all that reaches it.
-    fn take_in<L: Ledger>(
+    /// A thread learns what another knew, where that is news: who knows an event knows all that reaches it.
+    fn hear<L: Ledger>(
         &mut self,
         thread: u32,
         child: u32,
         steps: &mut Steps<L>,
-    ) -> Result<Clock, NoMemory>
+    ) -> Result<(), NoMemory>
         requires known { thread < length self.old.threads }
         requires awaited { child < length self.old.threads }
+        requires apart { child ≢ thread }
         requires own { known_to self.old.threads child thread ≤ known_to self.old.threads thread thread }
         requires heard { 0 < known_to self.old.threads child child → known_to self.old.threads child child ≤ known_to self.old.threads thread child →
             (u : ℕ) → known_to self.old.threads child u ≤ known_to self.old.threads thread u }
-        ensures ok { IfOk result (λ clock. (tracked self.new.threads thread).clock ≡ clock) }
         ensures learnt { OnOk result (IsLearnt thread (tracked self.old.threads child).clock None self.old.threads self.new.threads) }
         ensures locks { self.new.locks ≡ self.old.locks }
         ensures err { OnErr result (self.new ≡ self.old) }
         ensures cost { steps.new ≤ steps.old + (2 * length self.old.threads + 1) }
     {
         if self.is_known(thread, child, steps) {
-            return self.clock(thread);
+            return Ok(());
         }
-        let clock = self.meet(thread, child, steps)?;
-        self.learn(thread, &clock)?;
-        Ok(clock)
+        self.learn(thread, child, steps)
     }
 
-    /// The same for a lock.
-    fn take_over<L: Ledger>(
+    /// The same for a lock, which brings no news where no event gave it back, or the thread knows the last one that did.
+    fn hear_lock<L: Ledger>(
         &mut self,
         thread: u32,
         lock: u32,
         steps: &mut Steps<L>,
-    ) -> Result<Clock, NoMemory>
+    ) -> Result<(), NoMemory>
         requires known { thread < length self.old.threads }
         requires own { handed_by self.old.locks lock thread ≤ known_to self.old.threads thread thread }
         requires heard { IsHeard (released self.old.locks lock) (tracked self.old.threads thread).clock →
             (u : ℕ) → handed_by self.old.locks lock u ≤ known_to self.old.threads thread u }
         requires news { IsHeard (released self.old.locks lock) (tracked self.old.threads thread).clock ⊎ (2 ≤ length self.old.threads) }
-        ensures ok { IfOk result (λ clock. (tracked self.new.threads thread).clock ≡ clock) }
         ensures learnt { OnOk result (IsLearnt thread (clock_of (released self.old.locks lock)) None self.old.threads self.new.threads) }
         ensures locks { self.new.locks ≡ self.old.locks }
         ensures err { OnErr result (self.new ≡ self.old) }
-        ensures cost { steps.new + 2 ≤ steps.old + 4 * length self.old.threads }
+        ensures cost { steps.new + 1 ≤ steps.old + 4 * length self.old.threads }
     {
-        if self.is_heard(thread, lock, steps) {
-            return self.clock(thread);
+        let room = self.threads.len() as u32;
+        let Some(Some(last)) = self.locks.get(lock as usize) else {
+            return Ok(());
+        };
+        let own = &mut self.threads[thread as usize].clock;
+        if last.is_covered(own, steps) {
+            return Ok(());
         }
-        let clock = self.meet_lock(thread, lock, steps)?;
-        self.learn(thread, &clock)?;
-        Ok(clock)
+        own.reserve(room)?;
+        last.join_into(own, steps);
+        forget(&mut self.shared, thread as usize);
+        Ok(())
     }
 
     /// A thread waits for the end of another, and from there on knows what that one knew.
@@ -433,22 +415,26 @@ impl Tracker {
         thread: u32,
         child: u32,
         steps: &mut Steps<L>,
-    ) -> Result<Stamp, NoMemory>
+    ) -> Result<(), NoMemory>
         requires known { thread < length self.old.threads }
         requires awaited { child < length self.old.threads }
+        requires apart { child ≢ thread }
         requires below { known_to self.old.threads thread thread < 4294967295 }
         requires own { known_to self.old.threads child thread ≤ known_to self.old.threads thread thread }
         requires heard { 0 < known_to self.old.threads child child → known_to self.old.threads child child ≤ known_to self.old.threads thread child →
             (u : ℕ) → known_to self.old.threads child u ≤ known_to self.old.threads thread u }
-        ensures ok { IfOk result (λ stamp. (middle : List TrackedOf) ×
-            IsLearnt thread (tracked self.old.threads child).clock (Some child) self.old.threads middle × IsCounted thread middle self.new.threads stamp) }
+        ensures ok { OnOk result ((middle : List TrackedOf) ×
+            IsLearnt thread (tracked self.old.threads child).clock (Some child) self.old.threads middle ×
+            IsCounted thread middle self.new.threads (last_stamp self.new.threads thread)) }
+        ensures room { OnOk result (length (tracked self.new.threads thread).clock ≤ length self.old.threads) }
         ensures locks { self.new.locks ≡ self.old.locks }
         ensures err { OnErr result (self.new ≡ self.old) }
-        ensures cost { steps.new ≤ steps.old + (2 * length self.old.threads + 3) }
+        ensures cost { steps.new ≤ steps.old + (2 * length self.old.threads + 2) }
     {
-        let clock = self.take_in(thread, child, steps)?;
+        self.hear(thread, child, steps)?;
         self.end(child);
-        Ok(self.count(thread, clock, steps))
+        self.tick(thread, steps);
+        Ok(())
     }
 
     /// A thread takes a lock, and from there on knows what was known where the lock was last given back.
@@ -457,21 +443,24 @@ impl Tracker {
         thread: u32,
         lock: u32,
         steps: &mut Steps<L>,
-    ) -> Result<Stamp, NoMemory>
+    ) -> Result<(), NoMemory>
         requires known { thread < length self.old.threads }
         requires below { known_to self.old.threads thread thread < 4294967295 }
         requires own { handed_by self.old.locks lock thread ≤ known_to self.old.threads thread thread }
         requires heard { IsHeard (released self.old.locks lock) (tracked self.old.threads thread).clock →
             (u : ℕ) → handed_by self.old.locks lock u ≤ known_to self.old.threads thread u }
         requires news { IsHeard (released self.old.locks lock) (tracked self.old.threads thread).clock ⊎ (2 ≤ length self.old.threads) }
-        ensures ok { IfOk result (λ stamp. (middle : List TrackedOf) ×
-            IsLearnt thread (clock_of (released self.old.locks lock)) None self.old.threads middle × IsCounted thread middle self.new.threads stamp) }
+        ensures ok { OnOk result ((middle : List TrackedOf) ×
+            IsLearnt thread (clock_of (released self.old.locks lock)) None self.old.threads middle ×
+            IsCounted thread middle self.new.threads (last_stamp self.new.threads thread)) }
+        ensures room { OnOk result (length (tracked self.new.threads thread).clock ≤ length self.old.threads) }
         ensures locks { self.new.locks ≡ self.old.locks }
         ensures err { OnErr result (self.new ≡ self.old) }
         ensures cost { steps.new ≤ steps.old + 4 * length self.old.threads }
     {
-        let clock = self.take_over(thread, lock, steps)?;
-        Ok(self.count(thread, clock, steps))
+        self.hear_lock(thread, lock, steps)?;
+        self.tick(thread, steps);
+        Ok(())
     }
 
     /// A thread gives a lock back, of which the stamp of this event is then held. The earlier events that gave it back
@@ -481,24 +470,38 @@ impl Tracker {
         thread: u32,
         lock: u32,
         steps: &mut Steps<L>,
-    ) -> Result<Stamp, NoMemory>
+    ) -> Result<(), NoMemory>
         requires known { thread < length self.old.threads }
         requires below { known_to self.old.threads thread thread < 4294967295 }
-        ensures ok { IfOk result (IsCounted thread self.old.threads self.new.threads) }
-        ensures given { IfOk result (IsReleased lock self.old.locks self.new.locks) }
+        ensures ok { OnOk result (IsCounted thread self.old.threads self.new.threads (last_stamp self.new.threads thread)) }
+        ensures room { OnOk result (length (tracked self.new.threads thread).clock ≤ length self.old.threads) }
+        ensures given { OnOk result (IsReleased lock self.old.locks self.new.locks (last_stamp self.new.threads thread)) }
         ensures err { OnErr result (self.new ≡ self.old) }
-        ensures cost { steps.new ≤ steps.old + 2 }
+        ensures cost { steps.new ≤ steps.old + 1 }
     {
-        let clock = self.clock(thread)?;
         let shared = self.share(thread)?;
         self.make_room(lock)?;
-        let stamp = self.count(thread, clock, steps);
-        self.hand(lock, shared, thread, stamp.number);
-        Ok(stamp)
+        let number = self.tick(thread, steps);
+        self.hand(lock, shared, thread, number);
+        Ok(())
+    }
+}
+
+/// The thread of an event.
+fn actor(event: &Event) -> u32
+    ensures { result ≡ thread_of event.now }
+{
+    match event {
+        Event::Fork { thread, .. }
+        | Event::Join { thread, .. }
+        | Event::Acquire { thread, .. }
+        | Event::Release { thread, .. } => *thread,
+        Event::Call(call) => call.thread,
     }
 }
 
 /// Makes a list at least that long, with nothing at its new places. After want of memory it is as before.
+#[inline(never)]
 fn grow<T: Drop>(list: &mut Vec<Option<T>>, room: usize) -> Result<(), NoMemory>
     ensures room { OnOk result (room ≤ length list.new.items) }
     ensures kept { (i : ℕ) → slice_index_or list.new.items i None ≡ slice_index_or list.old.items i None }

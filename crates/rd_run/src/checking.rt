@@ -131,11 +131,14 @@ impl Check {
             IsNextLine kinds self.old.tracker (items before) item (Accepted.Event event.now) → steps.new ≤ steps.old + line_bound (items before) item }
         ensures fault { TellsFault (S.faults out.old) (S.faults out.new) (S.at_fault out.new) (S.written out.new) result }
     {
+        let Event::Call(call) = event else {
+            return match self.tracker.pass(event, steps) {
+                Ok(()) => Ok(()),
+                Err(_) => Err(Halt::NoMemory),
+            };
+        };
         let Ok(stamp) = self.tracker.event(event, steps) else {
             return Err(Halt::NoMemory);
-        };
-        let Event::Call(call) = event else {
-            return Ok(());
         };
         self.detect(number, place, call, &stamp, out, steps)
     }

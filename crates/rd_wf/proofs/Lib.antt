@@ -2,6 +2,7 @@ pub mod CauseLemmas
 pub mod EventsLemmas
 pub mod FollowLemmas
 pub mod LockLemmas
+pub mod NearLemmas
 pub mod NextLemmas
 pub mod PlaceLemmas
 pub mod RosterLemmas

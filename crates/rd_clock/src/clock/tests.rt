@@ -47,6 +47,8 @@ fn joins_two_clocks<L: Ledger>(rt: &impl Abort, alloc: Global, blank: Blank) -> 
     has_components(rt, &ours, &[1, 0, 2], &mut steps);
     ours.reserve(1)?;
     has_components(rt, &ours, &[1, 0, 2], &mut steps);
+    let memory = Vec::with_capacity(alloc, 3)?;
+    has_components(rt, &ours.copy_in(memory), &[1, 0, 2], &mut steps);
     Ok(())
 }
 

@@ -1,5 +1,7 @@
-ghost use Rattle.std.specs.Prelude.{◌≡◌, ℕ, ◌<◌, Bool, IfOk, [], length};
-ghost use Rattle.rd_hb.specs.Tracker.{StandsFor};
+ghost use Rattle.std.specs.Prelude.{◌≡◌, ℕ, ◌<◌, Bool, List, IfOk, OnOk, [], ◌∷◌, ◌++◌, length};
+ghost use Rattle.rd_event.specs.declared.events.Event.{Event as EventOf};
+ghost use Rattle.rd_order.specs.EventLists.{threads_after};
+ghost use Rattle.rd_hb.specs.Tracker.{IsNextEvent, StandsFor};
 ghost use Rattle.rd_hb.specs.TestTraces.{MayTakeAll};
 ghost use Rattle.rd_order.specs.TestLists.{sample_call, one_root, two_roots};
 
@@ -78,7 +80,44 @@ fn has_rows<L: Ledger>(
     Ok(())
 }
 
-/// A thread forks two, each of which calls, joins both and calls.
+/// Takes the next event, and asks for its stamp only where it is a call.
+fn stamp_of_call<L: Ledger>(
+    tracker: &mut Tracker,
+    event: &Event,
+    steps: &mut Steps<L>,
+) -> Result<Option<Stamp>, NoMemory>
+    requires next { (roots : ℕ → Bool) × (es : List EventOf) × IsNextEvent tracker.old roots es event.now }
+    ensures stands { OnOk result ((roots : ℕ → Bool) (es : List EventOf) → IsNextEvent tracker.old roots es event.now →
+        StandsFor tracker.new roots (es ++ event.now ∷ [])) }
+    ensures count { OnOk result (length tracker.new.threads ≡ threads_after event.now (length tracker.old.threads)) }
+{
+    if let Event::Call(_) = event {
+        return Ok(Some(tracker.event(event, steps)?));
+    }
+    tracker.pass(event, steps)?;
+    Ok(None)
+}
+
+/// The stamps of the calls are those of the rows, where no other stamp is made.
+fn calls_have_rows<L: Ledger>(
+    rt: &impl Abort,
+    tracker: &mut Tracker,
+    events: &[Event],
+    rows: &[Row],
+    steps: &mut Steps<L>,
+) -> Result<(), NoMemory>
+    requires { (roots : ℕ → Bool) × MayTakeAll tracker.old roots events.now }
+{
+    for (i, event) in events.iter().enumerate() {
+        let stamp = stamp_of_call(tracker, event, steps)?;
+        if let (Some(stamp), Some(row)) = (stamp, rows.get(i)) {
+            has_row(rt, &stamp, row, steps);
+        }
+    }
+    Ok(())
+}
+
+/// A thread forks two, each of which calls, joins both and calls. The calls have the same stamps where the rest has none.
 fn two_children<L: Ledger>(rt: &impl Abort, alloc: Global, blank: Blank) -> Result<(), NoMemory>
     requires name { blank.name ≡ L.name }
     requires parts { blank.parts ≡ L.parts }
@@ -116,7 +155,9 @@ fn two_children<L: Ledger>(rt: &impl Abort, alloc: Global, blank: Blank) -> Resu
         (0, 4, [4, 1, 1]),
         (0, 5, [5, 1, 1]),
     ];
-    has_rows(rt, &mut tracker, &events, &rows, &mut steps)
+    has_rows(rt, &mut tracker, &events, &rows, &mut steps)?;
+    let mut passing = with_one_root(alloc)?;
+    calls_have_rows(rt, &mut passing, &events, &rows, &mut steps)
 }
 
 /// A thread joins one that had no event, and that another forked after a call: it knows that call.
@@ -161,7 +202,8 @@ fn strangers<L: Ledger>(rt: &impl Abort, alloc: Global, blank: Blank) -> Result<
     has_rows(rt, &mut tracker, &events, &rows, &mut steps)
 }
 
-/// A thread calls under a lock, then another does: the second call counts the three events of the first thread.
+/// A thread calls under a lock, then another does: the second call counts the three events of the first thread, also where the
+/// calls alone have stamps.
 fn guarded<L: Ledger>(rt: &impl Abort, alloc: Global, blank: Blank) -> Result<(), NoMemory>
     requires name { blank.name ≡ L.name }
     requires parts { blank.parts ≡ L.parts }
@@ -183,7 +225,9 @@ fn guarded<L: Ledger>(rt: &impl Abort, alloc: Global, blank: Blank) -> Result<()
         (1, 1, [3, 1, 0]),
         (1, 2, [3, 2, 0]),
     ];
-    has_rows(rt, &mut tracker, &events, &rows, &mut steps)
+    has_rows(rt, &mut tracker, &events, &rows, &mut steps)?;
+    let mut passing = with_two_roots(alloc)?;
+    calls_have_rows(rt, &mut passing, &events, &rows, &mut steps)
 }
 
 /// A lock is given back by its thread, taken and given back by another, and so on: each acquire counts what was known where the

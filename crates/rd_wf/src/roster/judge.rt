@@ -202,6 +202,15 @@ impl Roster {
         ensures value { (kinds : List Kind) (lines : List LineOf) → StandsFor kinds self.now lines → result ≡ found_thread lines name.now }
         ensures within { result.unknown ≡ false → result.number < thread_count self.now }
     {
+        if let Some((known, joined)) = self.threads.get_index(self.last_thread as usize)
+            && known == name
+        {
+            return FoundThread {
+                number: self.last_thread,
+                unknown: false,
+                joined: *joined,
+            };
+        }
         match self.threads.get_full(name) {
             None => FoundThread {
                 number: self.threads.len() as u32,
@@ -223,6 +232,15 @@ impl Roster {
         ensures within { result.unknown ≡ false → result.number < lock_count self.now }
         ensures new { result.unknown ≡ true → (result.number ≡ lock_count self.now) × (result.lock.depth ≡ 0) }
     {
+        if let Some((known, lock)) = self.locks.get_index(self.last_lock as usize)
+            && known == name
+        {
+            return FoundLock {
+                number: self.last_lock,
+                unknown: false,
+                lock: *lock,
+            };
+        }
         match self.locks.get_full(name) {
             None => FoundLock {
                 number: self.locks.len() as u32,

@@ -1,10 +1,10 @@
 use Rattle.std.proofs.Common.{◌≡◌, ◌<◌, ◌+◌, List, [], ◌∷◌, ◌++◌, length, false, arith, ap, subst, sym, ◌∙◌}
-use Rattle.rd_hb.specs.Tracker.{tracked}
+use Rattle.rd_hb.specs.Tracker.{no_thread, tracked}
 use Rattle.rd_hb.specs.TrackerParts.{AreKept, IsBegun}
 use Rattle.rd_hb.specs.declared.tracker.Tracked.{Tracked}
 use Rattle.rd_hb.proofs.KeptLemmas.{kept_push}
 use Rattle.rd_hb.proofs.TrackerLemmas.{begins_push}
-use Rattle.std.proofs.lemmas.List.{get_or_past}
+use Rattle.std.proofs.lemmas.List.{get_or_append_left, get_or_past}
 use Rattle.rd_clock.specs.Clock.{IsTick}
 use Rattle.rd_hb.proofs.tracker.Tracker.begin.Goals as goal
 
@@ -33,3 +33,13 @@ returns-clause-ok g c =
     subst (λ v. c.push.new.self.items ≡ v.threads ++ child ∷ []) c.self.view_is c.in_ok-push.ensures.items in
     subst (IsBegun c.args.thread c.args.child c.args.self.now.threads) (sym pushed)
     (begins_push c.args.self.now.threads c.args.thread c.args.child c.in_ok-clock.clock c.requires.numbered ticks)
+
+pub returns-clause-room : goal.returns-clause-room
+returns-clause-room g c =
+    let threads = c.self.inside.threads.items in
+    let thread = c.args.thread in
+    let inside : thread < length threads = subst (λ v. thread < length v.threads) (sym c.self.view_is) c.requires.known in
+    let child : Tracked = record { clock = c.in_ok-clock.clock; events = 0; joined = false } in
+    let same : tracked c.push.new.self.items thread ≡ tracked threads thread =
+    ap (λ ts. tracked ts thread) c.in_ok-push.ensures.items ∙ get_or_append_left threads (child ∷ []) no_thread thread inside in
+    omega (arith, ap (λ x. length x.clock) same, (c.self.invariant.tracked.each thread inside).room, ap (λ v. length v.threads) c.self.view_is)

@@ -4,3 +4,7 @@ use Rattle.rd_hb.proofs.tracker.tests.guarded.Goals as goal
 
 pub has_rows-requires : goal.has_rows-requires
 has_rows-requires g c = (two_roots, rw (c.call.ensures, c.call-2.ensures) (guarded_may c.in_ok-tracker.tracker c.in_ok-tracker.ensures.stands c.in_ok-tracker.ensures.count))
+
+pub calls_have_rows-requires : goal.calls_have_rows-requires
+calls_have_rows-requires g c =
+    (two_roots, rw (c.call.ensures, c.call-2.ensures) (guarded_may c.in_ok-passing.passing c.in_ok-passing.ensures.stands c.in_ok-passing.ensures.count))

@@ -7,3 +7,9 @@ has_rows-requires g c = (
   one_root,
   rw (c.call.ensures, c.call-2.ensures, c.call-3.ensures) (family_may c.in_ok-tracker.tracker c.in_ok-tracker.ensures.stands c.in_ok-tracker.ensures.count),
 )
+
+pub calls_have_rows-requires : goal.calls_have_rows-requires
+calls_have_rows-requires g c = (
+  one_root,
+  rw (c.call.ensures, c.call-2.ensures, c.call-3.ensures) (family_may c.in_ok-passing.passing c.in_ok-passing.ensures.stands c.in_ok-passing.ensures.count),
+)

@@ -1,6 +1,6 @@
 use Rattle.std.proofs.Common.{◌<◌, length, refl, subst, sym}
 use Rattle.rd_hb.proofs.KeptLemmas.{kept_count, read_at}
-use Rattle.rd_hb.proofs.tracker.Tracker.count.Goals as goal
+use Rattle.rd_hb.proofs.tracker.Tracker.tick.Goals as goal
 
 pub invariant_of-self : goal.invariant_of-self
 invariant_of-self g c =
