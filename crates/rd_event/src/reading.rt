@@ -38,10 +38,13 @@ pub(crate) fn is(bytes: &[u8], text: &str) -> bool
     bytes == text.as_bytes()
 }
 
-// What stands behind the text, if the bytes begin with it.
+// What stands behind the text, if the bytes begin with it. Most texts are told apart by their first byte.
 fn behind<'a>(bytes: &'a [u8], text: &[u8]) -> Option<&'a [u8]>
     ensures { IfSome result (λ rest. bytes.now ≡ text.now ++ rest.now) }
 {
+    if bytes.first() != text.first() {
+        return None;
+    }
     bytes.strip_prefix(text)
 }
 
@@ -128,7 +131,7 @@ fn put_pair(pair: Pair, first: Name, second: Name, line: &mut Line)
 }
 
 // Reads such a line with these bytes after the space behind its keyword.
-#[tactic(auto, using(rd_base::proofs::NameLemmas::is_name_decides), unfolding(crate::specs::Reading::name_of, crate::specs::Reading::names_of))]
+#[tactic(auto, using(rd_base::proofs::NameLemmas::is_name_decides, rd_base::proofs::NameLemmas::each_of_name, rd_base::proofs::NameLemmas::other_no_name), unfolding(crate::specs::Reading::name_of, crate::specs::Reading::names_of))]
 fn read_pair(pair: Pair, rest: &[u8], line: &mut Line) -> Result<(), LineRefused>
     ensures item { OnOk result (option_map (pair_item pair) (names_of rest.now) ≡ Some line.new) }
     ensures none { OnErr result (option_map (pair_item pair) (names_of rest.now) ≡ None) }
@@ -138,7 +141,10 @@ fn read_pair(pair: Pair, rest: &[u8], line: &mut Line) -> Result<(), LineRefused
     let Ok(first) = Name::from_name_bytes(first) else {
         return Err(LineRefused::BadLine);
     };
-    let Ok(second) = Name::from_bytes(second) else {
+    if name_length(second) < second.len() {
+        return Err(LineRefused::BadLine);
+    }
+    let Ok(second) = Name::from_name_bytes(second) else {
         return Err(LineRefused::BadLine);
     };
     put_pair(pair, first, second, line);
