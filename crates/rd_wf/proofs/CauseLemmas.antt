@@ -1,17 +1,12 @@
 -- The first broken rule, where flags tell which are broken.
-use Rattle.std.proofs.Common.{◌≡◌, ◌≢◌, ℕ, zero, suc, ◌+◌, ◌<◌, ◌≤◌, Bool, true, false, cond, ◌==◌, List, [], ◌∷◌, ◌++◌, map, length, Option, Some, None, IfSome, refl, sym, ap, subst, ◌∙◌, arith}
+use Rattle.std.proofs.Common.{◌≡◌, ◌≢◌, ℕ, zero, suc, ◌+◌, ◌<◌, ◌≤◌, Bool, true, false, cond, ◌==◌, List, ◌++◌, map, Option, Some, None, refl, sym, ap, ◌∙◌, arith}
 use Rattle.std.specs.Prelude.{find}
 use Rattle.std.specs.List.{range_with_len}
-use Rattle.std.proofs.lemmas.Bool.{cases_eq}
 use Rattle.std.proofs.lemmas.Bool.Decides.{Decides-eqb, not_from_Decides}
-use Rattle.rd_base.specs.declared.limits.Limits.{Limits}
-use Rattle.rd_base.specs.declared.limits.LimitName.TheVariants.{Events, Threads, Locks, Objects, Depth}
-use Rattle.rd_event.specs.declared.items.Line.{Line}
-use Rattle.rd_ecl.specs.Kinds.{Kind}
 use Rattle.rd_wf.specs.declared.causes.WfCause.{WfCause}
-use Rattle.rd_wf.specs.declared.causes.WfCause.TheVariants.{HeaderFirst, LateRoot, NameTaken, UnknownThread, ThreadEnded, OwnThread, UnknownKind, UnknownObject, UnknownMethod, WrongCount, LockHeld, NotHeld, Limit}
+use Rattle.rd_wf.specs.declared.causes.WfCause.TheVariants.{LockHeld}
 use Rattle.rd_wf.specs.declared.roster.judge.Broken.{Broken}
-use Rattle.rd_wf.specs.MayFollow.{threads_of, passes, is_skip, is_broken, causes, first_broken}
+use Rattle.rd_wf.specs.MayFollow.{passes}
 use Rattle.rd_wf.specs.Roster.{flag}
 
 -- ---- of the threads, the one that has the lock

@@ -1,10 +1,10 @@
 -- Names and their places, and what the lines acquire and release.
-use Rattle.std.proofs.Common.{◌≡◌, ◌≢◌, inl, inr, ℕ, zero, suc, ◌+◌, ◌-◌, ◌<◌, ◌≤◌, Bool, true, false, not, cond, ◌==◌, ◌&&◌, ◌||◌, leb, ltb, List, [], ◌∷◌, ◌++◌, map, take, drop, Option, Some, None, IfSome, length, get_or, slice_get, unwrap_or, Decides, refl, sym, ap, subst, ◌∙◌, arith, true≢false, add-zero}
-use Rattle.std.specs.List.{position_or_len, IsDistinct}
+use Rattle.std.proofs.Common.{◌≡◌, inl, inr, ℕ, zero, suc, ◌+◌, ◌-◌, ◌<◌, ◌≤◌, Bool, true, false, not, cond, ◌==◌, ◌&&◌, ◌||◌, leb, ltb, List, [], ◌∷◌, ◌++◌, take, drop, Option, Some, None, IfSome, length, get_or, refl, sym, ap, subst, ◌∙◌, arith, true≢false}
+use Rattle.std.specs.List.{IsDistinct}
 use Rattle.std.specs.Map.{lookup, keys_of}
 use Rattle.std.specs.Cmp.Lexicographic.{bytes_decides, nat_list_eq_equiv}
 use Rattle.std.proofs.lemmas.Bool.{cases_eq, cases_lt, not-false, false_from_ne_true}
-use Rattle.std.proofs.lemmas.Bool.Decides.{Decides-eqb, Decides-ltb, not_from_Decides, nat_tests}
+use Rattle.std.proofs.lemmas.Bool.Decides.{Decides-eqb, Decides-ltb, nat_tests}
 use Rattle.std.proofs.lemmas.List.{take-append-drop, length-take}
 use Rattle.std.proofs.lemmas.List.Folds.{prefix_len-append}
 use Rattle.std.proofs.lemmas.List.Sums.{prefix_len-le-length, prefix_len_stops, position_or_len_is, sum_by_push}
@@ -13,7 +13,7 @@ use Rattle.std.proofs.lemmas.Option.{none-some}
 use Rattle.indexmap.specs.Layout.{set_value_at}
 use Rattle.rd_event.specs.declared.items.Line.{Line}
 use Rattle.rd_wf.specs.declared.roster.Lock.{Lock}
-use Rattle.rd_wf.specs.MayFollow.{acquired_name, released_name, same_name, is_among, place, passes, with_lock, with_locks, locks_of, acquires, releases, is_acquire_of, is_release_of}
+use Rattle.rd_wf.specs.MayFollow.{acquired_name, same_name, is_among, place, passes, with_lock, with_locks, locks_of, acquires, releases, is_acquire_of, is_release_of}
 use Rattle.rd_wf.specs.Roster.{depth_of, other_holder}
 
 -- two tests of the same

@@ -1,16 +1,15 @@
 -- What stands at a number of a roster is what its name is looked up to.
-use Rattle.std.proofs.Common.{◌≡◌, ℕ, ◌<◌, Bool, true, false, not, cond, List, [], ◌∷◌, ◌++◌, length, map, get_or, slice_get, Option, Some, None, option_map, refl, sym, ap, subst, ◌∙◌, arith}
+use Rattle.std.proofs.Common.{◌≡◌, ℕ, Bool, true, false, not, cond, List, [], ◌∷◌, ◌++◌, slice_get, Option, Some, None, option_map, refl, sym, ap, subst, ◌∙◌}
 use Rattle.std.specs.List.{IsDistinct}
 use Rattle.std.specs.Cmp.Lexicographic.{nat_list_eq_equiv}
 use Rattle.std.proofs.lemmas.Map.Keys.{IsDistinct-push}
 use Rattle.std.proofs.lemmas.Option.{same_Some, slice_get-map, slice_get_within, get_or_from_slice_get}
 use Rattle.rd_event.specs.declared.items.Line.{Line}
 use Rattle.rd_ecl.specs.Kinds.{Kind}
-use Rattle.rd_wf.specs.MayFollow.{acquired_name, threads_of, joined_of, locks_of, same_name, is_among, place, with_lock, with_locks}
+use Rattle.rd_wf.specs.MayFollow.{acquired_name, threads_of, locks_of, same_name, is_among, place, with_lock, with_locks}
 use Rattle.rd_wf.specs.Roster.{StandsFor, thread_entry, found_thread}
 use Rattle.rd_wf.specs.declared.roster.Lock.{Lock}
 use Rattle.rd_wf.specs.declared.roster.Roster.{Roster}
-use Rattle.rd_wf.specs.declared.roster.judge.FoundThread.{FoundThread}
 use Rattle.rd_wf.proofs.LockLemmas.{place_at}
 use Rattle.rd_wf.proofs.PlaceLemmas.{got_contained}
 use Rattle.rd_wf.proofs.RosterLemmas.{lock_at, thread_keys}

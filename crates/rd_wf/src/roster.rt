@@ -7,7 +7,7 @@ mod judge;
 use crate::causes::{Accepted, WfCause, WfRefused};
 use crate::methods::Methods;
 use indexmap::IndexMap;
-use judge::Declared;
+use judge::{Declared, near_place};
 use rd_base::{Limits, Name, NoMemory, Slots};
 use rd_ecl::Spec;
 use rd_event::{Call, Event, Line, LineEvent};
@@ -34,9 +34,9 @@ pub struct Roster {
     locks: IndexMap<Name, Lock>,
     /// each with the number of its kind
     objects: IndexMap<Name, u32>,
-    /// the thread and the lock of the last event that was accepted, where names are looked for first
-    last_thread: u32,
-    last_lock: u32,
+    /// numbers of threads and of locks, each where `near_place` puts its name, which is looked for there first
+    near_threads: [u32; 1024],
+    near_locks: [u32; 1024],
     ghost few_kinds: { index_map_len kinds < 2 ^ 32 },
     ghost few_threads: { index_map_len threads < 2 ^ 32 },
     ghost few_locks: { index_map_len locks < 2 ^ 32 },
@@ -71,8 +71,8 @@ impl Roster {
             threads: IndexMap::new(alloc),
             locks: IndexMap::new(alloc),
             objects: IndexMap::new(alloc),
-            last_thread: 0,
-            last_lock: 0,
+            near_threads: [0; 1024],
+            near_locks: [0; 1024],
         })
     }
 
@@ -138,7 +138,7 @@ impl Roster {
             Ok(pair) => {
                 self.threads.insert(child.copy(), false)?;
                 self.events += 1;
-                self.last_thread = pair.thread;
+                self.near_threads[near_place(thread)] = pair.thread;
                 Ok(Accepted::Event(Event::Fork {
                     thread: pair.thread,
                     child: pair.child,
@@ -162,7 +162,7 @@ impl Roster {
             Ok(pair) => {
                 *self.threads.get_index_mut(pair.child as usize).unwrap() = true;
                 self.events += 1;
-                self.last_thread = pair.thread;
+                self.near_threads[near_place(thread)] = pair.thread;
                 Ok(Accepted::Event(Event::Join {
                     thread: pair.thread,
                     child: pair.child,
@@ -194,8 +194,8 @@ impl Roster {
                     *self.locks.get_index_mut(used.lock as usize).unwrap() = held;
                 }
                 self.events += 1;
-                self.last_thread = used.thread;
-                self.last_lock = used.lock;
+                self.near_threads[near_place(thread)] = used.thread;
+                self.near_locks[near_place(lock)] = used.lock;
                 Ok(Accepted::Event(Event::Acquire {
                     thread: used.thread,
                     lock: used.lock,
@@ -222,8 +222,8 @@ impl Roster {
                     depth: used.depth - 1,
                 };
                 self.events += 1;
-                self.last_thread = used.thread;
-                self.last_lock = used.lock;
+                self.near_threads[near_place(thread)] = used.thread;
+                self.near_locks[near_place(lock)] = used.lock;
                 Ok(Accepted::Event(Event::Release {
                     thread: used.thread,
                     lock: used.lock,
@@ -249,7 +249,7 @@ impl Roster {
             Ok(numbers) => {
                 let slots = slots.copy(self.alloc)?;
                 self.events += 1;
-                self.last_thread = numbers.thread;
+                self.near_threads[near_place(thread)] = numbers.thread;
                 Ok(Accepted::Event(Event::Call(Call {
                     thread: numbers.thread,
                     object: numbers.object,

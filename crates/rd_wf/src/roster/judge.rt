@@ -1,5 +1,5 @@
 //! Whether a line may follow the accepted lines, by what a roster holds of them.
-ghost use Rattle.std.specs.Prelude.{◌≡◌, false, IfNone};
+ghost use Rattle.std.specs.Prelude.{◌≡◌, ◌<◌, false, IfNone};
 
 use super::{Lock, Roster};
 use crate::causes::{Accepted, WfCause};
@@ -191,6 +191,20 @@ impl Broken {
     }
 }
 
+/// The place of the name in the tables of near numbers, by its last bytes. Names that have one place hide each other there.
+#[inline(always)]
+pub(super) fn near_place(name: &Name) -> usize
+    ensures { result < 1024 }
+{
+    match name.items() {
+        [.., third, second, last] => {
+            (100 * usize::from(*third) + 10 * usize::from(*second) + usize::from(*last)) % 1024
+        }
+        [.., last] => usize::from(*last),
+        [] => 0,
+    }
+}
+
 impl Roster {
     ghost use Rattle.std.specs.Prelude.{◌≡◌, ◌<◌, ◌^◌, ◌+◌, List, IfOk, IfErr, OnOk, false, true, not};
     ghost use Rattle.rd_event.specs.declared.items.Line.{Line as LineOf};
@@ -198,19 +212,29 @@ impl Roster {
     ghost use Rattle.rd_wf.specs.Roster.{StandsFor, Permits, Forbids, depth_of, found_method, found_object, found_thread, lock_in, thread_count, lock_count, object_count};
     ghost use Rattle.rd_wf.specs.MayFollow.{is_among, locks_of, place};
 
+    #[inline(always)]
     fn find_thread(&self, name: &Name) -> FoundThread
         ensures value { (kinds : List Kind) (lines : List LineOf) → StandsFor kinds self.now lines → result ≡ found_thread lines name.now }
         ensures within { result.unknown ≡ false → result.number < thread_count self.now }
     {
-        if let Some((known, joined)) = self.threads.get_index(self.last_thread as usize)
+        let near = self.near_threads[near_place(name)];
+        if let Some((known, ended)) = self.threads.get_index(near as usize)
             && known == name
         {
             return FoundThread {
-                number: self.last_thread,
+                number: near,
                 unknown: false,
-                joined: *joined,
+                joined: *ended,
             };
         }
+        self.look_up_thread(name)
+    }
+
+    #[inline(never)]
+    fn look_up_thread(&self, name: &Name) -> FoundThread
+        ensures value { (kinds : List Kind) (lines : List LineOf) → StandsFor kinds self.now lines → result ≡ found_thread lines name.now }
+        ensures within { result.unknown ≡ false → result.number < thread_count self.now }
+    {
         match self.threads.get_full(name) {
             None => FoundThread {
                 number: self.threads.len() as u32,
@@ -225,6 +249,7 @@ impl Roster {
         }
     }
 
+    #[inline(always)]
     fn find_lock(&self, name: &Name) -> FoundLock
         ensures number { (kinds : List Kind) (lines : List LineOf) → StandsFor kinds self.now lines →
             (result.number ≡ place (locks_of lines) name.now) × (result.unknown ≡ not (is_among (locks_of lines) name.now)) }
@@ -232,15 +257,27 @@ impl Roster {
         ensures within { result.unknown ≡ false → result.number < lock_count self.now }
         ensures new { result.unknown ≡ true → (result.number ≡ lock_count self.now) × (result.lock.depth ≡ 0) }
     {
-        if let Some((known, lock)) = self.locks.get_index(self.last_lock as usize)
+        let near = self.near_locks[near_place(name)];
+        if let Some((known, lock)) = self.locks.get_index(near as usize)
             && known == name
         {
             return FoundLock {
-                number: self.last_lock,
+                number: near,
                 unknown: false,
                 lock: *lock,
             };
         }
+        self.look_up_lock(name)
+    }
+
+    #[inline(never)]
+    fn look_up_lock(&self, name: &Name) -> FoundLock
+        ensures number { (kinds : List Kind) (lines : List LineOf) → StandsFor kinds self.now lines →
+            (result.number ≡ place (locks_of lines) name.now) × (result.unknown ≡ not (is_among (locks_of lines) name.now)) }
+        ensures lock { result.lock ≡ lock_in self.now name.now }
+        ensures within { result.unknown ≡ false → result.number < lock_count self.now }
+        ensures new { result.unknown ≡ true → (result.number ≡ lock_count self.now) × (result.lock.depth ≡ 0) }
+    {
         match self.locks.get_full(name) {
             None => FoundLock {
                 number: self.locks.len() as u32,
