@@ -1,13 +1,15 @@
 -- The first broken rule, where flags tell which are broken.
-use Rattle.std.proofs.Common.{◌≡◌, ◌≢◌, ℕ, zero, suc, ◌+◌, ◌<◌, ◌≤◌, Bool, true, false, cond, ◌==◌, List, ◌++◌, map, Option, Some, None, refl, sym, ap, ◌∙◌, arith}
+use Rattle.std.proofs.Common.{◌≡◌, ◌≢◌, ℕ, zero, suc, ◌+◌, ◌<◌, ◌≤◌, Bool, true, false, cond, ◌==◌, List, ◌++◌, length, map, Option, Some, None, refl, sym, ap, ◌∙◌, arith}
 use Rattle.std.specs.Prelude.{find}
 use Rattle.std.specs.List.{range_with_len}
 use Rattle.std.proofs.lemmas.Bool.Decides.{Decides-eqb, not_from_Decides}
 use Rattle.rd_wf.specs.declared.causes.WfCause.{WfCause}
 use Rattle.rd_wf.specs.declared.causes.WfCause.TheVariants.{LockHeld}
 use Rattle.rd_wf.specs.declared.roster.judge.Broken.{Broken}
-use Rattle.rd_wf.specs.MayFollow.{passes}
-use Rattle.rd_wf.specs.Roster.{flag}
+use Rattle.rd_wf.specs.MayFollow.{passes, causes, threads_of}
+use Rattle.rd_base.specs.declared.limits.Limits.{Limits}
+use Rattle.rd_event.specs.declared.items.Line.{Line}
+use Rattle.rd_wf.specs.Roster.{flag, unbroken}
 
 -- ---- of the threads, the one that has the lock
 
@@ -43,24 +45,6 @@ module _ (broken : Broken) (rest : List WfCause) where
           let other : holder ≢ a = not_from_Decides _ (Decides-eqb holder a) is in
           ap (λ b. cond b (Some (LockHeld a)) (from (a + 1) n)) is ∙ rest (omega (arith, other))
 
--- no rule is broken
-abbrev pub unbroken : Broken
-unbroken = record {
-  header_first = false;
-  late_root = false;
-  name_taken = false;
-  unknown_thread = false;
-  thread_ended = false;
-  own_thread = false;
-  unknown_kind = false;
-  unknown_object = false;
-  unknown_method = false;
-  wrong_count = false;
-  held_by = None;
-  not_held = false;
-  events = false;
-  threads = false;
-  locks = false;
-  objects = false;
-  depth = false;
-}
+-- where no rule is broken, no cause is found
+pub none_found : (limits : Limits) (before : List Line) → find (flag unbroken) (causes limits before) ≡ None
+none_found limits before = none_holds unbroken _ refl 0 (length (threads_of before))

@@ -28,11 +28,11 @@ use Rattle.std.specs.Prelude.{find}
 use Rattle.rd_wf.specs.declared.roster.Lock.{Lock}
 use Rattle.rd_wf.specs.declared.roster.judge.Broken.{Broken}
 use Rattle.rd_wf.specs.declared.roster.judge.FoundLock.{FoundLock}
-use Rattle.rd_wf.proofs.CauseLemmas.{same_found, none_holds, unbroken}
+use Rattle.rd_wf.proofs.CauseLemmas.{same_found, none_holds}
 use Rattle.rd_wf.proofs.LockLemmas.{same_place, place_at, place_unknown, free_test, not_held_test, deep_test, holder_test, holder_below}
 use Rattle.rd_wf.specs.MayFollow.{threads_of, joined_of, locks_of, objects_of, acquires, releases, headers, events, same_name, is_among, passes, place, methods_of, object_kinds, holders, causes, is_broken, first_broken}
 use Rattle.rd_ecl.specs.Kinds.{Kind, Method, kind_names, method_names, methods_at, slots_at}
-use Rattle.rd_wf.specs.Roster.{StandsFor, kind_entry, method_entry, methods_in, thread_entry, object_entry, thread_count, lock_count, object_count, lock_in, depth_of, other_holder, flag, found_method, found_thread, found_object}
+use Rattle.rd_wf.specs.Roster.{StandsFor, kind_entry, method_entry, methods_in, thread_entry, object_entry, thread_count, lock_count, object_count, lock_in, depth_of, other_holder, flag, found_method, found_thread, found_object, unbroken}
 
 -- ---- look-ups
 

@@ -98,6 +98,28 @@ found_object kinds lines name = record {
 
 -- ---- the rules that a line breaks
 
+-- none
+abbrev pub unbroken : Broken
+unbroken = record {
+  header_first = false;
+  late_root = false;
+  name_taken = false;
+  unknown_thread = false;
+  thread_ended = false;
+  own_thread = false;
+  unknown_kind = false;
+  unknown_object = false;
+  unknown_method = false;
+  wrong_count = false;
+  held_by = None;
+  not_held = false;
+  events = false;
+  threads = false;
+  locks = false;
+  objects = false;
+  depth = false;
+}
+
 -- the flag of a cause
 abbrev pub flag : Broken → WfCause → Bool
 flag broken HeaderFirst = broken.header_first

@@ -138,18 +138,58 @@ const UNBROKEN: Broken = Broken {
 };
 
 impl Broken {
-    ghost use Rattle.std.specs.Prelude.{◌≡◌, ◌<◌, List, None, IfSome, find, length};
+    ghost use Rattle.std.specs.Prelude.{◌≡◌, ◌<◌, List, None, true, IfSome, find, length};
     ghost use Rattle.rd_event.specs.declared.items.Line.{Line as LineOf};
     ghost use Rattle.rd_wf.specs.MayFollow.{causes, threads_of};
-    ghost use Rattle.rd_wf.specs.Roster.{flag};
+    ghost use Rattle.rd_wf.specs.Roster.{flag, unbroken};
+
+    /// Whether no rule is broken.
+    #[inline(always)]
+    fn is_unbroken(&self) -> bool
+        ensures { result ≡ true → self.now ≡ unbroken }
+    {
+        !(self.header_first
+            | self.late_root
+            | self.name_taken
+            | self.unknown_thread
+            | self.thread_ended
+            | self.own_thread
+            | self.unknown_kind
+            | self.unknown_object
+            | self.unknown_method
+            | self.wrong_count
+            | self.held_by.is_some()
+            | self.not_held
+            | self.events
+            | self.threads
+            | self.locks
+            | self.objects
+            | self.depth)
+    }
 
     /// The cause of the first rule that is broken.
+    #[inline(always)]
     fn first(&self, limits: &Limits) -> Option<WfCause>
         ensures first { (before : List LineOf) → IfSome self.now.held_by (λ holder. holder < length (threads_of before)) →
             result ≡ find (flag self.now) (causes limits.now before) }
         ensures known { IfNone result (self.now.unknown_thread ≡ false) }
         ensures held { IfNone result ((self.now.held_by ≡ None) × (self.now.not_held ≡ false)) }
         ensures room { IfNone result ((self.now.events ≡ false) × (self.now.threads ≡ false) × (self.now.locks ≡ false) × (self.now.objects ≡ false) × (self.now.depth ≡ false)) }
+    {
+        if self.is_unbroken() {
+            return None;
+        }
+        self.choose(limits)
+    }
+
+    // Taken by value, so that the flags need no place in memory where no rule is broken.
+    #[inline(never)]
+    fn choose(self, limits: &Limits) -> Option<WfCause>
+        ensures first { (before : List LineOf) → IfSome self.held_by (λ holder. holder < length (threads_of before)) →
+            result ≡ find (flag self) (causes limits.now before) }
+        ensures known { IfNone result (self.unknown_thread ≡ false) }
+        ensures held { IfNone result ((self.held_by ≡ None) × (self.not_held ≡ false)) }
+        ensures room { IfNone result ((self.events ≡ false) × (self.threads ≡ false) × (self.locks ≡ false) × (self.objects ≡ false) × (self.depth ≡ false)) }
     {
         if self.header_first {
             Some(WfCause::HeaderFirst)
