@@ -138,12 +138,12 @@ fn read_pair(pair: Pair, rest: &[u8], line: &mut Line) -> Result<(), LineRefused
     ensures refused { IfErr result (λ e. e ≡ LineRefused.BadLine) }
 {
     let (first, second) = cut_name(rest);
-    let Ok(first) = Name::from_name_bytes(first) else {
-        return Err(LineRefused::BadLine);
-    };
     if name_length(second) < second.len() {
         return Err(LineRefused::BadLine);
     }
+    let Ok(first) = Name::from_name_bytes(first) else {
+        return Err(LineRefused::BadLine);
+    };
     let Ok(second) = Name::from_name_bytes(second) else {
         return Err(LineRefused::BadLine);
     };
