@@ -9,43 +9,10 @@ use Rattle.rd_event.specs.declared.events.Event.TheVariants.{Acquire, Release}
 use Rattle.rd_order.specs.Order.{thread_of, forked_thread, Hold, exclusive, Against, hold_taken, hold_given}
 use Rattle.rd_order.specs.EventLists.{calls, forks, joins, takings, givings, is_hold, Follow, Known, MayHappen}
 use Rattle.rd_order.specs.TestLists.{sample_call, two_roots, NextNumbers}
-use Rattle.rd_order.proofs.EventListLemmas.{may_call}
+use Rattle.rd_order.proofs.EventListLemmas.{may_acquire, may_call, may_release}
 use Rattle.rd_order.proofs.TestListLemmas.{few_by_numbers, numbered_call, two_below}
 use Rattle.rd_hb.specs.Tracker.{StandsFor, Tracking}
 use Rattle.rd_hb.specs.TestTraces.{MayTakeAll}
-
--- ---- which events on locks may follow
-
-pub may_acquire : (roots : ℕ → Bool) (before : List Event) (t lock : ℕ) → Known roots before t → joins before t ≡ 0
-    → ((u : ℕ) → u ≢ t → takings before u (exclusive lock) ≡ givings before u (exclusive lock)) → MayHappen roots before (Acquire t lock)
-may_acquire roots before t lock known running free = record {
-  fresh = λ v is. absurd (none-some v is);
-  known_actor = known;
-  known_joined = λ v is. absurd (none-some v is);
-  running = running;
-  other_joined = λ v is. absurd (none-some v is);
-  free = none_against;
-  held = λ h is. absurd (none-some h is);
-  one_kind = λ call is. absurd (none-some call is);
-}
-  where
-    none_against : (h k : Hold) → hold_taken (Acquire t lock) ≡ Some h → Against h k → (u : ℕ) → u ≢ t → takings before u k ≡ givings before u k
-    none_against (exclusive l) (exclusive m) is same u other =
-        subst (λ h. Against h (exclusive m) → takings before u (exclusive m) ≡ givings before u (exclusive m)) (same_Some (exclusive lock) (exclusive l) is)
-        (λ here. subst (λ n. takings before u (exclusive n) ≡ givings before u (exclusive n)) here (free u other)) same
-
-pub may_release : (roots : ℕ → Bool) (before : List Event) (t lock : ℕ) → Known roots before t → joins before t ≡ 0
-    → givings before t (exclusive lock) < takings before t (exclusive lock) → MayHappen roots before (Release t lock)
-may_release roots before t lock known running has = record {
-  fresh = λ v is. absurd (none-some v is);
-  known_actor = known;
-  known_joined = λ v is. absurd (none-some v is);
-  running = running;
-  other_joined = λ v is. absurd (none-some v is);
-  free = λ h k is. absurd (none-some h is);
-  held = λ h is. subst (λ k. givings before t k < takings before t k) (same_Some (exclusive lock) h is) has;
-  one_kind = λ call is. absurd (none-some call is);
-}
 
 -- ---- lists in which only threads 0 and 1 act
 

@@ -17,7 +17,7 @@ use Rattle.rd_event.specs.declared.items.Line.{Line}
 use Rattle.rd_event.specs.declared.items.Line.TheVariants.{Skip, Header, Thread, Object, Event}
 use Rattle.rd_event.specs.declared.items.LineEvent.{LineEvent}
 use Rattle.rd_event.specs.declared.items.LineEvent.TheVariants.{Fork, Join, Acquire, Release, Call}
-use Rattle.rd_order.proofs.EventListLemmas.{few_known, formed_more, may_call, may_fork, may_join}
+use Rattle.rd_order.proofs.EventListLemmas.{few_known, formed_more, may_acquire, may_call, may_fork, may_join, may_release}
 use Rattle.rd_order.specs.EventLists.{calls, Follow, forks, givings, is_call_on, joins, takings, IsBounded, IsCallOf, Known, MayHappen, WellFormedWith}
 use Rattle.rd_order.specs.Order.{Against, Hold, call_in, exclusive, forked_thread, joined_thread}
 use Rattle.rd_order.specs.OrderTests.{is_this}
@@ -158,42 +158,6 @@ no_other_kind es objects call at one kind other = elim (cases_eq (calls es call.
 -- the bounds of a list whose known threads are those below a number
 bounded : (roots : ℕ → Bool) (es : List Numbered) (n : ℕ) → KnownBelow roots es n → n ≤ 4294967295 → length es ≤ 4294967294 → IsBounded roots es
 bounded roots es n known fits few = record { few_events = few; few_threads = few_known roots es n fits known }
-
--- ---- events that take a hold or give it back
-
-lock_in : Hold → ℕ
-lock_in (exclusive lock) = lock
-
-pub may_acquire : (roots : ℕ → Bool) (before : List Numbered) (t l : ℕ) → Known roots before t → joins before t ≡ 0
-    → ((u : ℕ) → u ≢ t → takings before u (exclusive l) ≡ givings before u (exclusive l)) → MayHappen roots before (numbered.Acquire t l)
-unfolding lock_in
-may_acquire roots before t l known running others = record {
-  fresh = λ v is. absurd (none-some v is);
-  known_actor = known;
-  known_joined = λ v is. absurd (none-some v is);
-  running = running;
-  other_joined = λ v is. absurd (none-some v is);
-  free = free;
-  held = λ h is. absurd (none-some h is);
-  one_kind = λ call is. absurd (none-some call is);
-}
-  where
-    free : (h k : Hold) → Some (exclusive l) ≡ Some h → Against h k → (u : ℕ) → u ≢ t → takings before u k ≡ givings before u k
-    free (exclusive a) (exclusive b) is against u other =
-        subst (λ m. takings before u (exclusive m) ≡ givings before u (exclusive m)) (ap lock_in (same_Some (exclusive l) (exclusive a) is) ∙ against) (others u other)
-
-pub may_release : (roots : ℕ → Bool) (before : List Numbered) (t l : ℕ) → Known roots before t → joins before t ≡ 0
-    → givings before t (exclusive l) < takings before t (exclusive l) → MayHappen roots before (numbered.Release t l)
-may_release roots before t l known running has = record {
-  fresh = λ v is. absurd (none-some v is);
-  known_actor = known;
-  known_joined = λ v is. absurd (none-some v is);
-  running = running;
-  other_joined = λ v is. absurd (none-some v is);
-  free = λ h k is. absurd (none-some h is);
-  held = λ h is. subst (λ k. givings before t k < takings before t k) (same_Some (exclusive l) h is) has;
-  one_kind = λ call is. absurd (none-some call is);
-}
 
 -- ---- what is told, with one event more
 
