@@ -1,13 +1,13 @@
 -- Traces of tests with locks: they are well-formed.
-use Rattle.std.proofs.Common.{◌≡◌, ◌≢◌, ℕ, ◌+◌, ◌<◌, ◌≤◌, inl, inr, Bool, List, [], ◌∷◌, length, Some, None, cond, refl, sym, ◌∙◌, ap, subst, arith, lit<, lit≤}
+use Rattle.std.proofs.Common.{◌≡◌, ◌≢◌, ℕ, ◌+◌, ◌<◌, ◌≤◌, inl, inr, List, [], ◌∷◌, length, None, cond, refl, sym, ◌∙◌, ap, subst, arith, lit<, lit≤}
 use Rattle.std.specs.Prelude.{◌==◌, ◌&&◌, is_some, if◌then◌else◌}
 use Rattle.std.proofs.lemmas.Bool.{cases_lt, ne_eqb}
 use Rattle.std.proofs.lemmas.List.Sums.{sum_by-cons}
-use Rattle.std.proofs.lemmas.Option.{none-some, same_Some}
+use Rattle.std.proofs.lemmas.Option.{none-some}
 use Rattle.rd_event.specs.declared.events.Event.{Event}
 use Rattle.rd_event.specs.declared.events.Event.TheVariants.{Acquire, Release}
-use Rattle.rd_order.specs.Order.{thread_of, forked_thread, Hold, exclusive, Against, hold_taken, hold_given}
-use Rattle.rd_order.specs.EventLists.{calls, forks, joins, takings, givings, is_hold, Follow, Known, MayHappen}
+use Rattle.rd_order.specs.Order.{thread_of, forked_thread, Hold, exclusive, hold_taken, hold_given}
+use Rattle.rd_order.specs.EventLists.{calls, forks, joins, takings, givings, is_hold, Follow, MayHappen}
 use Rattle.rd_order.specs.TestLists.{sample_call, two_roots, NextNumbers}
 use Rattle.rd_order.proofs.EventListLemmas.{may_acquire, may_call, may_release}
 use Rattle.rd_order.proofs.TestListLemmas.{few_by_numbers, numbered_call, two_below}

@@ -1,5 +1,5 @@
 -- The lines that a walk accepts are accepted, each after those in front of it.
-use Rattle.std.proofs.Common.{◌≡◌, ℕ, ◌+◌, ◌<◌, ◌^◌, Bool, true, false, cond, List, [], ◌∷◌, ◌++◌, Option, Some, None, Result, Ok, Err, refl, subst}
+use Rattle.std.proofs.Common.{◌≡◌, ℕ, ◌+◌, ◌<◌, ◌^◌, List, [], ◌∷◌, ◌++◌, Option, Some, None, Result, Ok, Err, refl, subst}
 use Rattle.rd_base.specs.Limits.{AreUsable}
 use Rattle.rd_io.specs.Lines.{Stop, Reading, reading}
 use Rattle.rd_io.specs.Lines.Reading.{stops, line}

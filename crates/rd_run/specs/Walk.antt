@@ -1,5 +1,5 @@
 -- The walk over the lines of a trace: which are accepted, and how they end. This project's profile.
-use Rattle.std.specs.Prelude.{ℕ, ◌+◌, ◌*◌, ◌==◌, Bool, true, false, ◌||◌, nat_eq, List, [], ◌∷◌, ◌++◌, map, length, codes, Option, Some, None, Result, Ok, Err, if◌then◌else◌}
+use Rattle.std.specs.Prelude.{ℕ, ◌+◌, ◌*◌, ◌==◌, List, [], ◌∷◌, ◌++◌, map, length, codes, Option, Some, None, Result, Ok, Err, if◌then◌else◌}
 use Rattle.rd_io.specs.Lines.{Stop, Reading, reading, Ending as LinesEnding}
 use Rattle.rd_io.specs.Lines.Ending.{at_end, no_final_newline, line_too_long, bytes_limit, faulted}
 use Rattle.rd_io.specs.Lines.Reading.{stops, line}

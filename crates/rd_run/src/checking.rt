@@ -4,9 +4,9 @@ ghost use Rattle.std.specs.Prelude.{◌≡◌, ◌+◌, ◌≤◌, List, ◌∷�
 use crate::analysis::{Analysis, Halt};
 use crate::writing::write_race;
 use rd_base::{Bytes, Steps};
+use rd_clock::Stamp;
 use rd_detect::Detector;
 use rd_event::{Call, Event, Line};
-use rd_clock::Stamp;
 use rd_hb::Tracker;
 use rd_io::Sink;
 use rd_wf::{Accepted, Roster};

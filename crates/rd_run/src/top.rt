@@ -144,13 +144,7 @@ fn check_status(races: u64, ending: Ending) -> Status
 }
 
 /// Writes how `check` ends, and gives its status.
-fn report<S: Sink>(
-    alloc: Global,
-    names: &Roster,
-    races: u64,
-    ending: Ending,
-    out: &mut S,
-) -> Status
+fn report<S: Sink>(alloc: Global, names: &Roster, races: u64, ending: Ending, out: &mut S) -> Status
     ensures output { (part : List ℕ) × Appends (S.written out.old) (S.written out.new) part
         × IsOutput result part (record { text = ending_text (names_in names.now) races ending; status = check_status races ending }) }
     ensures input { result ≡ Status.InputFault ↔ (ending ≡ Ending.Fault) }
