@@ -133,12 +133,13 @@ impl Roster {
         ensures ok { IfOk result (Accepts self.old self.new limits.now (Line.Event (LineEvent.Fork thread.now child.now))) }
         ensures refused { IfErr result (Refuses self.old self.new limits.now (Line.Event (LineEvent.Fork thread.now child.now))) }
     {
-        match self.judge_fork(thread, child, limits) {
+        let near = near_place(thread);
+        match self.judge_fork(thread, near, child, limits) {
             Err(cause) => Err(WfRefused::Cause(cause)),
             Ok(pair) => {
                 self.threads.insert(child.copy(), false)?;
                 self.events += 1;
-                self.near_threads[near_place(thread)] = pair.thread;
+                self.near_threads[near % 1024] = pair.thread;
                 Ok(Accepted::Event(Event::Fork {
                     thread: pair.thread,
                     child: pair.child,
@@ -157,12 +158,13 @@ impl Roster {
         ensures ok { IfOk result (Accepts self.old self.new limits.now (Line.Event (LineEvent.Join thread.now child.now))) }
         ensures refused { IfErr result (Refuses self.old self.new limits.now (Line.Event (LineEvent.Join thread.now child.now))) }
     {
-        match self.judge_join(thread, child, limits) {
+        let near = near_place(thread);
+        match self.judge_join(thread, near, child, limits) {
             Err(cause) => Err(WfRefused::Cause(cause)),
             Ok(pair) => {
                 *self.threads.get_index_mut(pair.child as usize).unwrap() = true;
                 self.events += 1;
-                self.near_threads[near_place(thread)] = pair.thread;
+                self.near_threads[near % 1024] = pair.thread;
                 Ok(Accepted::Event(Event::Join {
                     thread: pair.thread,
                     child: pair.child,
@@ -181,7 +183,9 @@ impl Roster {
         ensures ok { IfOk result (Accepts self.old self.new limits.now (Line.Event (LineEvent.Acquire thread.now lock.now))) }
         ensures refused { IfErr result (Refuses self.old self.new limits.now (Line.Event (LineEvent.Acquire thread.now lock.now))) }
     {
-        match self.judge_acquire(thread, lock, limits) {
+        let near = near_place(thread);
+        let lock_near = near_place(lock);
+        match self.judge_acquire(thread, near, lock, lock_near, limits) {
             Err(cause) => Err(WfRefused::Cause(cause)),
             Ok(used) => {
                 let held = Lock {
@@ -189,13 +193,13 @@ impl Roster {
                     depth: used.depth + 1,
                 };
                 if used.unknown {
-                    self.locks.insert(lock.copy(), held)?;
+                    held.put_last(lock, &mut self.locks)?;
                 } else {
                     *self.locks.get_index_mut(used.lock as usize).unwrap() = held;
                 }
                 self.events += 1;
-                self.near_threads[near_place(thread)] = used.thread;
-                self.near_locks[near_place(lock)] = used.lock;
+                self.near_threads[near % 1024] = used.thread;
+                self.near_locks[lock_near % 1024] = used.lock;
                 Ok(Accepted::Event(Event::Acquire {
                     thread: used.thread,
                     lock: used.lock,
@@ -214,7 +218,9 @@ impl Roster {
         ensures ok { IfOk result (Accepts self.old self.new limits.now (Line.Event (LineEvent.Release thread.now lock.now))) }
         ensures refused { IfErr result (Refuses self.old self.new limits.now (Line.Event (LineEvent.Release thread.now lock.now))) }
     {
-        match self.judge_release(thread, lock, limits) {
+        let near = near_place(thread);
+        let lock_near = near_place(lock);
+        match self.judge_release(thread, near, lock, lock_near, limits) {
             Err(cause) => Err(WfRefused::Cause(cause)),
             Ok(used) => {
                 *self.locks.get_index_mut(used.lock as usize).unwrap() = Lock {
@@ -222,8 +228,8 @@ impl Roster {
                     depth: used.depth - 1,
                 };
                 self.events += 1;
-                self.near_threads[near_place(thread)] = used.thread;
-                self.near_locks[near_place(lock)] = used.lock;
+                self.near_threads[near % 1024] = used.thread;
+                self.near_locks[lock_near % 1024] = used.lock;
                 Ok(Accepted::Event(Event::Release {
                     thread: used.thread,
                     lock: used.lock,
@@ -244,12 +250,13 @@ impl Roster {
         ensures ok { IfOk result (Accepts self.old self.new limits.now (Line.Event (LineEvent.Call thread.now object.now method.now slots.now))) }
         ensures refused { IfErr result (Refuses self.old self.new limits.now (Line.Event (LineEvent.Call thread.now object.now method.now slots.now))) }
     {
-        match self.judge_call(thread, object, method, slots, limits) {
+        let near = near_place(thread);
+        match self.judge_call(thread, near, object, method, slots, limits) {
             Err(cause) => Err(WfRefused::Cause(cause)),
             Ok(numbers) => {
                 let slots = slots.copy(self.alloc)?;
                 self.events += 1;
-                self.near_threads[near_place(thread)] = numbers.thread;
+                self.near_threads[near % 1024] = numbers.thread;
                 Ok(Accepted::Event(Event::Call(Call {
                     thread: numbers.thread,
                     object: numbers.object,

@@ -4,7 +4,8 @@ ghost use Rattle.std.specs.Prelude.{◌≡◌, ◌<◌, false, IfNone};
 use super::{Lock, Roster};
 use crate::causes::{Accepted, WfCause};
 use crate::methods::Method;
-use rd_base::{LimitName, Limits, Name, Slots};
+use indexmap::IndexMap;
+use rd_base::{LimitName, Limits, Name, NoMemory, Slots};
 use rd_event::{Call, Event, Line, LineEvent};
 
 /// What a look-up of a thread's name finds: its number, which is the next one where it was not begun, and whether it was joined.
@@ -48,8 +49,25 @@ pub(super) struct Used {
 }
 
 impl Lock {
-    ghost use Rattle.std.specs.Prelude.{◌≡◌};
+    ghost use Rattle.std.specs.Prelude.{◌≡◌, ◌≤◌, ◌+◌, OnOk, OnErr};
+    ghost use Rattle.indexmap.specs.IndexMap.{index_map_len, insert_entry, IsUnchanged};
+    ghost use Rattle.rd_wf.specs.MayFollow.{same_name};
     ghost use Rattle.rd_wf.specs.Roster.{depth_of, other_holder};
+
+    /// Puts the lock last, under a name that no other has.
+    #[inline(never)]
+    pub(super) fn put_last(
+        self,
+        name: &Name,
+        locks: &mut IndexMap<Name, Lock>,
+    ) -> Result<(), NoMemory>
+        ensures entries { OnOk result (locks.new.entries ≡ insert_entry same_name locks.old.entries name.now self) }
+        ensures len { OnOk result (index_map_len locks.new ≤ index_map_len locks.old + 1) }
+        ensures err { OnErr result (IsUnchanged locks.old locks.new) }
+    {
+        locks.insert(name.copy(), self)?;
+        Ok(())
+    }
 
     /// How often the thread has acquired the lock and not released it.
     fn depth_of(self, thread: u32) -> u32
@@ -231,14 +249,12 @@ impl Broken {
     }
 }
 
-/// The place of the name in the tables of near numbers, by its last bytes. Names that have one place hide each other there.
+/// A place for the name in the tables of near numbers, by its last bytes: up to a multiple of their length.
 #[inline(always)]
-pub(super) fn near_place(name: &Name) -> usize
-    ensures { result < 1024 }
-{
+pub(super) fn near_place(name: &Name) -> usize {
     match name.items() {
         [.., third, second, last] => {
-            (100 * usize::from(*third) + 10 * usize::from(*second) + usize::from(*last)) % 1024
+            (usize::from(*third) * 10 + usize::from(*second)) * 10 + usize::from(*last)
         }
         [.., last] => usize::from(*last),
         [] => 0,
@@ -253,21 +269,27 @@ impl Roster {
     ghost use Rattle.rd_wf.specs.MayFollow.{is_among, locks_of, place};
 
     #[inline(always)]
-    fn find_thread(&self, name: &Name) -> FoundThread
+    fn find_thread(&self, name: &Name, near: usize) -> FoundThread
         ensures value { (kinds : List Kind) (lines : List LineOf) → StandsFor kinds self.now lines → result ≡ found_thread lines name.now }
         ensures within { result.unknown ≡ false → result.number < thread_count self.now }
     {
-        let near = self.near_threads[near_place(name)];
-        if let Some((known, ended)) = self.threads.get_index(near as usize)
+        let guess = self.near_threads[near % 1024];
+        if let Some((known, ended)) = self.threads.get_index(guess as usize)
             && known == name
         {
             return FoundThread {
-                number: near,
+                number: guess,
                 unknown: false,
                 joined: *ended,
             };
         }
-        self.look_up_thread(name)
+        // Field by field, so that a number that is found near needs no place in memory.
+        let found = self.look_up_thread(name);
+        FoundThread {
+            number: found.number,
+            unknown: found.unknown,
+            joined: found.joined,
+        }
     }
 
     #[inline(never)]
@@ -290,19 +312,19 @@ impl Roster {
     }
 
     #[inline(always)]
-    fn find_lock(&self, name: &Name) -> FoundLock
+    fn find_lock(&self, name: &Name, near: usize) -> FoundLock
         ensures number { (kinds : List Kind) (lines : List LineOf) → StandsFor kinds self.now lines →
             (result.number ≡ place (locks_of lines) name.now) × (result.unknown ≡ not (is_among (locks_of lines) name.now)) }
         ensures lock { result.lock ≡ lock_in self.now name.now }
         ensures within { result.unknown ≡ false → result.number < lock_count self.now }
         ensures new { result.unknown ≡ true → (result.number ≡ lock_count self.now) × (result.lock.depth ≡ 0) }
     {
-        let near = self.near_locks[near_place(name)];
-        if let Some((known, lock)) = self.locks.get_index(near as usize)
+        let guess = self.near_locks[near % 1024];
+        if let Some((known, lock)) = self.locks.get_index(guess as usize)
             && known == name
         {
             return FoundLock {
-                number: near,
+                number: guess,
                 unknown: false,
                 lock: *lock,
             };
@@ -413,6 +435,7 @@ impl Roster {
     pub(super) fn judge_fork(
         &self,
         thread: &Name,
+        near: usize,
         child: &Name,
         limits: &Limits,
     ) -> Result<Pair, WfCause>
@@ -421,7 +444,7 @@ impl Roster {
         ensures room { OnOk result ((thread_count self.now + 1 < 2 ^ 32) × (self.now.events + 1 < 2 ^ 32)) }
         ensures err { IfErr result (Forbids self.now limits.now (Line.Event (LineEvent.Fork thread.now child.now))) }
     {
-        let actor = self.find_thread(thread);
+        let actor = self.find_thread(thread, near);
         let new = self.threads.len() as u32;
         let broken = Broken {
             header_first: !self.header,
@@ -444,6 +467,7 @@ impl Roster {
     pub(super) fn judge_join(
         &self,
         thread: &Name,
+        near: usize,
         child: &Name,
         limits: &Limits,
     ) -> Result<Pair, WfCause>
@@ -452,8 +476,8 @@ impl Roster {
         ensures room { IfOk result (λ pair. (pair.child < thread_count self.now) × (self.now.events + 1 < 2 ^ 32)) }
         ensures err { IfErr result (Forbids self.now limits.now (Line.Event (LineEvent.Join thread.now child.now))) }
     {
-        let actor = self.find_thread(thread);
-        let awaited = self.find_thread(child);
+        let actor = self.find_thread(thread, near);
+        let awaited = self.find_thread(child, near_place(child));
         let broken = Broken {
             header_first: !self.header,
             unknown_thread: actor.unknown | awaited.unknown,
@@ -474,7 +498,9 @@ impl Roster {
     pub(super) fn judge_acquire(
         &self,
         thread: &Name,
+        near: usize,
         lock: &Name,
+        lock_near: usize,
         limits: &Limits,
     ) -> Result<Used, WfCause>
         ensures ok { IfOk result (λ used. Permits self.now limits.now (Line.Event (LineEvent.Acquire thread.now lock.now))
@@ -488,8 +514,8 @@ impl Roster {
         ensures room { IfOk result (λ used. (self.now.events + 1 < 2 ^ 32) × (used.depth + 1 < 2 ^ 32)) }
         ensures err { IfErr result (Forbids self.now limits.now (Line.Event (LineEvent.Acquire thread.now lock.now))) }
     {
-        let actor = self.find_thread(thread);
-        let found = self.find_lock(lock);
+        let actor = self.find_thread(thread, near);
+        let found = self.find_lock(lock, lock_near);
         let depth = found.lock.depth_of(actor.number);
         let broken = Broken {
             header_first: !self.header,
@@ -515,7 +541,9 @@ impl Roster {
     pub(super) fn judge_release(
         &self,
         thread: &Name,
+        near: usize,
         lock: &Name,
+        lock_near: usize,
         limits: &Limits,
     ) -> Result<Used, WfCause>
         ensures ok { IfOk result (λ used. Permits self.now limits.now (Line.Event (LineEvent.Release thread.now lock.now))
@@ -526,8 +554,8 @@ impl Roster {
         ensures room { OnOk result (self.now.events + 1 < 2 ^ 32) }
         ensures err { IfErr result (Forbids self.now limits.now (Line.Event (LineEvent.Release thread.now lock.now))) }
     {
-        let actor = self.find_thread(thread);
-        let found = self.find_lock(lock);
+        let actor = self.find_thread(thread, near);
+        let found = self.find_lock(lock, lock_near);
         let depth = found.lock.depth_of(actor.number);
         let broken = Broken {
             header_first: !self.header,
@@ -551,6 +579,7 @@ impl Roster {
     pub(super) fn judge_call(
         &self,
         thread: &Name,
+        near: usize,
         object: &Name,
         method: &Name,
         slots: &Slots,
@@ -561,7 +590,7 @@ impl Roster {
         ensures room { OnOk result (self.now.events + 1 < 2 ^ 32) }
         ensures err { IfErr result (Forbids self.now limits.now (Line.Event (LineEvent.Call thread.now object.now method.now slots.now))) }
     {
-        let actor = self.find_thread(thread);
+        let actor = self.find_thread(thread, near);
         let object = self.find_object(object);
         let method = self.find_method(object.kind, method);
         let broken = Broken {

@@ -1,27 +1,24 @@
-use Rattle.std.proofs.Common.{◌≡◌, ℕ, ◌<◌, ◌+◌, Bool, true, false, not, if◌then◌else◌, is_some, subst, sym, refl, ap, ◌∙◌, arith}
+use Rattle.std.proofs.Common.{◌≡◌, ℕ, ◌<◌, ◌≤◌, ◌+◌, Bool, true, false, not, subst, sym, refl, ap, ◌∙◌, arith}
 use Rattle.std.proofs.Math.Bool.{not-not}
-use Rattle.indexmap.specs.IndexMap.{index_map_len, insert_entry}
+use Rattle.indexmap.specs.IndexMap.{index_map_len}
 use Rattle.indexmap.specs.Layout.{set_value_at}
 use Rattle.indexmap.proofs.CallerLemmas.{index_map_len-with_value_at}
 use Rattle.rd_wf.specs.declared.roster.Lock.{Lock}
-use Rattle.rd_wf.specs.MayFollow.{same_name, is_among, place, threads_of, locks_of, accepted_of}
+use Rattle.rd_wf.specs.MayFollow.{is_among, place, threads_of, locks_of, accepted_of}
 use Rattle.rd_wf.specs.Roster.{depth_of, lock_in}
 use Rattle.rd_wf.proofs.FollowLemmas.{known_lock}
 use Rattle.rd_wf.proofs.NextLemmas.{IsWritten, written_new, written_known, after_acquire}
 use Rattle.rd_wf.proofs.roster.Roster.accept_acquire.Goals as goal
-use Rattle.rd_wf.proofs.roster.Roster.accept_acquire.Goals.{then-used+in_ok-insert-in-Ok, else-used}
+use Rattle.rd_wf.proofs.roster.Roster.accept_acquire.Goals.{then-used+in_ok-put_last-in-Ok, else-used}
 
 pub invariant_of-self-in-Ok : goal.invariant_of-self-in-Ok
 invariant_of-self-in-Ok c = record {
   few_kinds = c.args.self.now.few_kinds;
   few_threads = c.args.self.now.few_threads;
   few_locks = elim c.if-used.branch [
-    | then-used+in_ok-insert-in-Ok w ↦
-        let old = w.in_ok-insert-in-Ok.field-0 in
-        let more : index_map_len w.insert.new.self ≡ index_map_len c.args.self.now.locks + (if is_some old then 0 else 1) = w.in_ok-insert-in-Ok.ensures.len in
-        let room : index_map_len c.args.self.now.locks + 1 < 4294967296 = c.in-Ok.ensures.new w.if-used.true in
-        let is : index_map_len c.if-used.self.1.1.1.1.1.1.0 ≡ index_map_len w.insert.new.self = ap (λ self. index_map_len self.1.1.1.1.1.1.0) w.self-is in
-        one_more _ _ _ (is_some old) (is ∙ more) room
+    | then-used+in_ok-put_last-in-Ok w ↦
+        let is = ap (λ self. index_map_len self.1.1.1.1.1.1.0) w.self-is in
+        one_more _ _ _ is w.in_ok-put_last-in-Ok.ensures.len (c.in-Ok.ensures.new w.if-used.true)
     | else-used w ↦
         let held : Lock = record { holder = c.in-Ok.used.thread; depth = c.in-Ok.used.depth + 1 } in
         let is = ap (λ self. index_map_len self.1.1.1.1.1.1.0) w.self-is in
@@ -31,9 +28,8 @@ invariant_of-self-in-Ok c = record {
   few_objects = c.args.self.now.few_objects;
 }
   where
-    one_more : (new old most : ℕ) (known : Bool) → new ≡ old + (if known then 0 else 1) → old + 1 < most → new < most
-    one_more new old most true e room = omega arith
-    one_more new old most false e room = omega arith
+    one_more : (new put old : ℕ) → new ≡ put → put ≤ old + 1 → old + 1 < 4294967296 → new < 4294967296
+    one_more new put old e most room = omega arith
 
 pub returns-after-used-clause-ok : goal.returns-after-used-clause-ok
 unfolding accepted_of
@@ -48,9 +44,9 @@ returns-after-used-clause-ok c = λ kinds lines stands.
     let among : (b : Bool) → c.in-Ok.used.unknown ≡ b → is_among (locks_of lines) lock ≡ not b =
     λ b e. sym (not-not _) ∙ ap not (sym (c.in-Ok.ensures.unknown kinds lines stands) ∙ e) in
     let written : IsWritten kinds self lines stands lock held c.if-used.self.1.1.1.1.1.1.0.entries = elim c.if-used.branch [
-      | then-used+in_ok-insert-in-Ok w ↦
+      | then-used+in_ok-put_last-in-Ok w ↦
           subst (IsWritten kinds self lines stands lock held)
-          (sym (ap (λ self. self.1.1.1.1.1.1.0.entries) w.self-is ∙ w.in_ok-insert-in-Ok.ensures.entries ∙ ap (λ key. insert_entry same_name self.locks.entries key held) w.copy.ensures))
+          (sym (ap (λ self. self.1.1.1.1.1.1.0.entries) w.self-is ∙ w.in_ok-put_last-in-Ok.ensures.entries))
           (written_new kinds self lines stands lock held (among true w.if-used.true))
       | else-used w ↦
           subst (IsWritten kinds self lines stands lock held)

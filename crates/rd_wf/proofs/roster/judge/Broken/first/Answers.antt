@@ -1,4 +1,4 @@
-use Rattle.std.proofs.Common.{refl, sym, subst}
+use Rattle.std.proofs.Common.{sym, subst}
 use Rattle.std.specs.Prelude.{find, None, ◌≡◌}
 use Rattle.rd_wf.specs.MayFollow.{causes}
 use Rattle.rd_wf.specs.Roster.{flag}
