@@ -220,22 +220,21 @@ impl Roster {
     {
         let near = near_place(thread);
         let lock_near = near_place(lock);
-        match self.judge_release(thread, near, lock, lock_near, limits) {
-            Err(cause) => Err(WfRefused::Cause(cause)),
-            Ok(used) => {
-                *self.locks.get_index_mut(used.lock as usize).unwrap() = Lock {
-                    holder: used.thread,
-                    depth: used.depth - 1,
-                };
-                self.events += 1;
-                self.near_threads[near % 1024] = used.thread;
-                self.near_locks[lock_near % 1024] = used.lock;
-                Ok(Accepted::Event(Event::Release {
-                    thread: used.thread,
-                    lock: used.lock,
-                }))
-            }
-        }
+        let used = match self.judge_release(thread, near, lock, lock_near, limits) {
+            Ok(used) => used,
+            Err(cause) => return Err(WfRefused::Cause(cause)),
+        };
+        *self.locks.get_index_mut(used.lock as usize).unwrap() = Lock {
+            holder: used.thread,
+            depth: used.depth - 1,
+        };
+        self.events += 1;
+        self.near_threads[near % 1024] = used.thread;
+        self.near_locks[lock_near % 1024] = used.lock;
+        Ok(Accepted::Event(Event::Release {
+            thread: used.thread,
+            lock: used.lock,
+        }))
     }
 
     #[inline(never)]

@@ -16,9 +16,9 @@ invariant_of-self c = record {
   few_objects = c.args.self.now.few_objects;
 }
 
-pub returns-in-Ok-clause-ok : goal.returns-in-Ok-clause-ok
+pub returns-clause-ok : goal.returns-clause-ok
 unfolding accepted_of
-returns-in-Ok-clause-ok c = λ kinds lines stands.
+returns-clause-ok c = λ kinds lines stands.
     let self = c.args.self.now in
     let lock = c.args.lock.now in
     let held : Lock = record { holder = c.in-Ok.used.thread; depth = c.in-Ok.used.depth - 1 } in
