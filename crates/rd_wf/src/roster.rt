@@ -95,13 +95,12 @@ impl Roster {
         ensures ok { IfOk result (Accepts self.old self.new limits.now (Line.Thread name.now)) }
         ensures refused { IfErr result (Refuses self.old self.new limits.now (Line.Thread name.now)) }
     {
-        match self.judge_root(name, limits) {
-            Err(cause) => Err(WfRefused::Cause(cause)),
-            Ok(thread) => {
-                self.threads.insert(name.copy(), false)?;
-                Ok(Accepted::Root(thread))
-            }
-        }
+        let thread = match self.judge_root(name, limits) {
+            Ok(thread) => thread,
+            Err(cause) => return Err(WfRefused::Cause(cause)),
+        };
+        self.threads.insert(name.copy(), false)?;
+        Ok(Accepted::Root(thread))
     }
 
     #[inline(never)]
@@ -114,13 +113,12 @@ impl Roster {
         ensures ok { IfOk result (Accepts self.old self.new limits.now (Line.Object name.now kind.now)) }
         ensures refused { IfErr result (Refuses self.old self.new limits.now (Line.Object name.now kind.now)) }
     {
-        match self.judge_object(name, kind, limits) {
-            Err(cause) => Err(WfRefused::Cause(cause)),
-            Ok(Declared { object, kind }) => {
-                self.objects.insert(name.copy(), kind)?;
-                Ok(Accepted::Object { object, kind })
-            }
-        }
+        let Declared { object, kind } = match self.judge_object(name, kind, limits) {
+            Ok(new) => new,
+            Err(cause) => return Err(WfRefused::Cause(cause)),
+        };
+        self.objects.insert(name.copy(), kind)?;
+        Ok(Accepted::Object { object, kind })
     }
 
     #[inline(never)]
@@ -134,18 +132,17 @@ impl Roster {
         ensures refused { IfErr result (Refuses self.old self.new limits.now (Line.Event (LineEvent.Fork thread.now child.now))) }
     {
         let near = near_place(thread);
-        match self.judge_fork(thread, near, child, limits) {
-            Err(cause) => Err(WfRefused::Cause(cause)),
-            Ok(pair) => {
-                self.threads.insert(child.copy(), false)?;
-                self.events += 1;
-                self.near_threads[near % 1024] = pair.thread;
-                Ok(Accepted::Event(Event::Fork {
-                    thread: pair.thread,
-                    child: pair.child,
-                }))
-            }
-        }
+        let pair = match self.judge_fork(thread, near, child, limits) {
+            Ok(pair) => pair,
+            Err(cause) => return Err(WfRefused::Cause(cause)),
+        };
+        self.threads.insert(child.copy(), false)?;
+        self.events += 1;
+        self.near_threads[near % 1024] = pair.thread;
+        Ok(Accepted::Event(Event::Fork {
+            thread: pair.thread,
+            child: pair.child,
+        }))
     }
 
     #[inline(never)]
@@ -159,18 +156,17 @@ impl Roster {
         ensures refused { IfErr result (Refuses self.old self.new limits.now (Line.Event (LineEvent.Join thread.now child.now))) }
     {
         let near = near_place(thread);
-        match self.judge_join(thread, near, child, limits) {
-            Err(cause) => Err(WfRefused::Cause(cause)),
-            Ok(pair) => {
-                *self.threads.get_index_mut(pair.child as usize).unwrap() = true;
-                self.events += 1;
-                self.near_threads[near % 1024] = pair.thread;
-                Ok(Accepted::Event(Event::Join {
-                    thread: pair.thread,
-                    child: pair.child,
-                }))
-            }
-        }
+        let pair = match self.judge_join(thread, near, child, limits) {
+            Ok(pair) => pair,
+            Err(cause) => return Err(WfRefused::Cause(cause)),
+        };
+        *self.threads.get_index_mut(pair.child as usize).unwrap() = true;
+        self.events += 1;
+        self.near_threads[near % 1024] = pair.thread;
+        Ok(Accepted::Event(Event::Join {
+            thread: pair.thread,
+            child: pair.child,
+        }))
     }
 
     #[inline(never)]
@@ -185,27 +181,26 @@ impl Roster {
     {
         let near = near_place(thread);
         let lock_near = near_place(lock);
-        match self.judge_acquire(thread, near, lock, lock_near, limits) {
-            Err(cause) => Err(WfRefused::Cause(cause)),
-            Ok(used) => {
-                let held = Lock {
-                    holder: used.thread,
-                    depth: used.depth + 1,
-                };
-                if used.unknown {
-                    held.put_last(lock, &mut self.locks)?;
-                } else {
-                    *self.locks.get_index_mut(used.lock as usize).unwrap() = held;
-                }
-                self.events += 1;
-                self.near_threads[near % 1024] = used.thread;
-                self.near_locks[lock_near % 1024] = used.lock;
-                Ok(Accepted::Event(Event::Acquire {
-                    thread: used.thread,
-                    lock: used.lock,
-                }))
-            }
+        let used = match self.judge_acquire(thread, near, lock, lock_near, limits) {
+            Ok(used) => used,
+            Err(cause) => return Err(WfRefused::Cause(cause)),
+        };
+        let held = Lock {
+            holder: used.thread,
+            depth: used.depth + 1,
+        };
+        if used.unknown {
+            held.put_last(lock, &mut self.locks)?;
+        } else {
+            *self.locks.get_index_mut(used.lock as usize).unwrap() = held;
         }
+        self.events += 1;
+        self.near_threads[near % 1024] = used.thread;
+        self.near_locks[lock_near % 1024] = used.lock;
+        Ok(Accepted::Event(Event::Acquire {
+            thread: used.thread,
+            lock: used.lock,
+        }))
     }
 
     #[inline(never)]
@@ -250,21 +245,20 @@ impl Roster {
         ensures refused { IfErr result (Refuses self.old self.new limits.now (Line.Event (LineEvent.Call thread.now object.now method.now slots.now))) }
     {
         let near = near_place(thread);
-        match self.judge_call(thread, near, object, method, slots, limits) {
-            Err(cause) => Err(WfRefused::Cause(cause)),
-            Ok(numbers) => {
-                let slots = slots.copy(self.alloc)?;
-                self.events += 1;
-                self.near_threads[near % 1024] = numbers.thread;
-                Ok(Accepted::Event(Event::Call(Call {
-                    thread: numbers.thread,
-                    object: numbers.object,
-                    kind: numbers.kind,
-                    method: numbers.method,
-                    slots,
-                })))
-            }
-        }
+        let numbers = match self.judge_call(thread, near, object, method, slots, limits) {
+            Ok(numbers) => numbers,
+            Err(cause) => return Err(WfRefused::Cause(cause)),
+        };
+        let slots = slots.copy(self.alloc)?;
+        self.events += 1;
+        self.near_threads[near % 1024] = numbers.thread;
+        Ok(Accepted::Event(Event::Call(Call {
+            thread: numbers.thread,
+            object: numbers.object,
+            kind: numbers.kind,
+            method: numbers.method,
+            slots,
+        })))
     }
 
     fn take(&mut self, line: &Line, limits: &Limits) -> Result<Accepted, WfRefused>

@@ -9,16 +9,16 @@ use Rattle.rd_wf.specs.Roster.{depth_of, lock_in}
 use Rattle.rd_wf.proofs.FollowLemmas.{known_lock}
 use Rattle.rd_wf.proofs.NextLemmas.{IsWritten, written_new, written_known, after_acquire}
 use Rattle.rd_wf.proofs.roster.Roster.accept_acquire.Goals as goal
-use Rattle.rd_wf.proofs.roster.Roster.accept_acquire.Goals.{then-used+in_ok-put_last-in-Ok, else-used}
+use Rattle.rd_wf.proofs.roster.Roster.accept_acquire.Goals.{then-used+in_ok-put_last, else-used}
 
-pub invariant_of-self-in-Ok : goal.invariant_of-self-in-Ok
-invariant_of-self-in-Ok c = record {
+pub invariant_of-self-2 : goal.invariant_of-self-2
+invariant_of-self-2 c = record {
   few_kinds = c.args.self.now.few_kinds;
   few_threads = c.args.self.now.few_threads;
   few_locks = elim c.if-used.branch [
-    | then-used+in_ok-put_last-in-Ok w ↦
+    | then-used+in_ok-put_last w ↦
         let is = ap (λ self. index_map_len self.1.1.1.1.1.1.0) w.self-is in
-        one_more _ _ _ is w.in_ok-put_last-in-Ok.ensures.len (c.in-Ok.ensures.new w.if-used.true)
+        one_more _ _ _ is w.in_ok-put_last.ensures.len (c.in-Ok.ensures.new w.if-used.true)
     | else-used w ↦
         let held : Lock = record { holder = c.in-Ok.used.thread; depth = c.in-Ok.used.depth + 1 } in
         let is = ap (λ self. index_map_len self.1.1.1.1.1.1.0) w.self-is in
@@ -31,9 +31,9 @@ invariant_of-self-in-Ok c = record {
     one_more : (new put old : ℕ) → new ≡ put → put ≤ old + 1 → old + 1 < 4294967296 → new < 4294967296
     one_more new put old e most room = omega arith
 
-pub returns-after-used-clause-ok : goal.returns-after-used-clause-ok
+pub returns-clause-ok : goal.returns-clause-ok
 unfolding accepted_of
-returns-after-used-clause-ok c = λ kinds lines stands.
+returns-clause-ok c = λ kinds lines stands.
     let self = c.args.self.now in
     let lock = c.args.lock.now in
     let held : Lock = record { holder = c.in-Ok.used.thread; depth = c.in-Ok.used.depth + 1 } in
@@ -44,9 +44,9 @@ returns-after-used-clause-ok c = λ kinds lines stands.
     let among : (b : Bool) → c.in-Ok.used.unknown ≡ b → is_among (locks_of lines) lock ≡ not b =
     λ b e. sym (not-not _) ∙ ap not (sym (c.in-Ok.ensures.unknown kinds lines stands) ∙ e) in
     let written : IsWritten kinds self lines stands lock held c.if-used.self.1.1.1.1.1.1.0.entries = elim c.if-used.branch [
-      | then-used+in_ok-put_last-in-Ok w ↦
+      | then-used+in_ok-put_last w ↦
           subst (IsWritten kinds self lines stands lock held)
-          (sym (ap (λ self. self.1.1.1.1.1.1.0.entries) w.self-is ∙ w.in_ok-put_last-in-Ok.ensures.entries))
+          (sym (ap (λ self. self.1.1.1.1.1.1.0.entries) w.self-is ∙ w.in_ok-put_last.ensures.entries))
           (written_new kinds self lines stands lock held (among true w.if-used.true))
       | else-used w ↦
           subst (IsWritten kinds self lines stands lock held)

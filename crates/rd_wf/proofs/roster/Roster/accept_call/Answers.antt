@@ -5,8 +5,8 @@ use Rattle.rd_wf.specs.declared.causes.Accepted.TheVariants as accepted
 use Rattle.rd_wf.proofs.NextLemmas.{after_call}
 use Rattle.rd_wf.proofs.roster.Roster.accept_call.Goals as goal
 
-pub returns-in_ok-slots-in-Ok-clause-ok : goal.returns-in_ok-slots-in-Ok-clause-ok
-returns-in_ok-slots-in-Ok-clause-ok c = λ kinds lines stands.
+pub returns-clause-ok : goal.returns-clause-ok
+returns-clause-ok c = λ kinds lines stands.
     let permitted = c.in-Ok.ensures.ok kinds lines stands in
     let numbers = c.in-Ok.numbers in (
       permitted.0,
@@ -15,7 +15,7 @@ returns-in_ok-slots-in-Ok-clause-ok c = λ kinds lines stands.
         object = numbers.object;
         kind = numbers.kind;
         method = numbers.method;
-        slots = c.in_ok-slots-in-Ok.ensures i;
+        slots = c.in_ok-slots.ensures i;
       } in call))) ∙ permitted.1,
       after_call kinds c.args.self.now _ lines stands refl refl c.args.thread.now c.args.object.now c.args.method.now c.args.slots.now refl refl refl refl,
     )

@@ -10,9 +10,9 @@ pub invariant_of-self-clause-few_threads : goal.invariant_of-self-clause-few_thr
 invariant_of-self-clause-few_threads c =
     rw index_map_len-with_value_at c.args.self.now.few_threads
 
-pub returns-in-Ok-clause-ok : goal.returns-in-Ok-clause-ok
+pub returns-clause-ok : goal.returns-clause-ok
 unfolding accepted_of
-returns-in-Ok-clause-ok c = λ kinds lines stands.
+returns-clause-ok c = λ kinds lines stands.
     let permitted = c.in-Ok.ensures.ok kinds lines stands in
     let known = known_child kinds c.args.limits.now lines c.args.thread.now c.args.child.now permitted.0 in
     let number : c.in-Ok.pair.child ≡ place (threads_of lines) c.args.child.now = cc permitted.1 in (

@@ -7,16 +7,16 @@ use Rattle.rd_wf.proofs.RosterLemmas.{inserted_object}
 use Rattle.rd_wf.proofs.NextLemmas.{after_object}
 use Rattle.rd_wf.proofs.roster.Roster.accept_object.Goals as goal
 
-pub returns-in_ok-insert-in-Ok-clause-ok : goal.returns-in_ok-insert-in-Ok-clause-ok
+pub returns-clause-ok : goal.returns-clause-ok
 unfolding accepted_of
-returns-in_ok-insert-in-Ok-clause-ok c = λ kinds lines stands.
+returns-clause-ok c = λ kinds lines stands.
     let permitted = c.in-Ok.ensures.ok kinds lines stands in
     let fresh = fresh_object kinds c.args.limits.now lines c.args.name.now c.args.kind.now permitted.0 in
-    let number : c.in-Ok.field-0.kind ≡ place (kind_names kinds) c.args.kind.now = cc permitted.1 in (
+    let number : c.in-Ok.new.kind ≡ place (kind_names kinds) c.args.kind.now = cc permitted.1 in (
       permitted.0,
       permitted.1,
       after_object kinds c.args.self.now _ lines stands refl refl c.args.name.now c.args.kind.now refl refl refl
-          (c.in_ok-insert-in-Ok.ensures.entries ∙ ap (λ key. insert_entry same_name c.args.self.now.objects.entries key c.in-Ok.field-0.kind) c.copy.ensures
-          ∙ inserted_object kinds c.args.self.now lines stands c.args.name.now c.in-Ok.field-0.kind fresh
+          (c.in_ok-insert.ensures.entries ∙ ap (λ key. insert_entry same_name c.args.self.now.objects.entries key c.in-Ok.new.kind) c.copy.ensures
+          ∙ inserted_object kinds c.args.self.now lines stands c.args.name.now c.in-Ok.new.kind fresh
           ∙ ap (λ kind. c.args.self.now.objects.entries ++ (c.args.name.now, kind) ∷ []) number),
     )
