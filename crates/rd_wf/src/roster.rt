@@ -13,6 +13,9 @@ use rd_ecl::Spec;
 use rd_event::{Call, Event, Line, LineEvent};
 use std::alloc::Global;
 
+/// The length of a table of near numbers.
+const NEAR_LENGTH: usize = 1024;
+
 /// What is held of a lock: the number of the thread that acquired it last, and how often that thread acquired it and hasn't
 /// released it.
 #[derive(Clone, Copy, Debug)]
@@ -35,8 +38,8 @@ pub struct Roster {
     /// each with the number of its kind
     objects: IndexMap<Name, u32>,
     /// numbers of threads and of locks, each where `near_place` puts its name, which is looked for there first
-    near_threads: [u32; 1024],
-    near_locks: [u32; 1024],
+    near_threads: [u32; NEAR_LENGTH],
+    near_locks: [u32; NEAR_LENGTH],
     ghost few_kinds: { index_map_len kinds < 2 ^ 32 },
     ghost few_threads: { index_map_len threads < 2 ^ 32 },
     ghost few_locks: { index_map_len locks < 2 ^ 32 },
@@ -71,8 +74,8 @@ impl Roster {
             threads: IndexMap::new(alloc),
             locks: IndexMap::new(alloc),
             objects: IndexMap::new(alloc),
-            near_threads: [0; 1024],
-            near_locks: [0; 1024],
+            near_threads: [0; NEAR_LENGTH],
+            near_locks: [0; NEAR_LENGTH],
         })
     }
 
@@ -138,7 +141,7 @@ impl Roster {
         };
         self.threads.insert(child.copy(), false)?;
         self.events += 1;
-        self.near_threads[near % 1024] = pair.thread;
+        self.near_threads[near % NEAR_LENGTH] = pair.thread;
         Ok(Accepted::Event(Event::Fork {
             thread: pair.thread,
             child: pair.child,
@@ -162,7 +165,7 @@ impl Roster {
         };
         *self.threads.get_index_mut(pair.child as usize).unwrap() = true;
         self.events += 1;
-        self.near_threads[near % 1024] = pair.thread;
+        self.near_threads[near % NEAR_LENGTH] = pair.thread;
         Ok(Accepted::Event(Event::Join {
             thread: pair.thread,
             child: pair.child,
@@ -195,8 +198,8 @@ impl Roster {
             *self.locks.get_index_mut(used.lock as usize).unwrap() = held;
         }
         self.events += 1;
-        self.near_threads[near % 1024] = used.thread;
-        self.near_locks[lock_near % 1024] = used.lock;
+        self.near_threads[near % NEAR_LENGTH] = used.thread;
+        self.near_locks[lock_near % NEAR_LENGTH] = used.lock;
         Ok(Accepted::Event(Event::Acquire {
             thread: used.thread,
             lock: used.lock,
@@ -224,8 +227,8 @@ impl Roster {
             depth: used.depth - 1,
         };
         self.events += 1;
-        self.near_threads[near % 1024] = used.thread;
-        self.near_locks[lock_near % 1024] = used.lock;
+        self.near_threads[near % NEAR_LENGTH] = used.thread;
+        self.near_locks[lock_near % NEAR_LENGTH] = used.lock;
         Ok(Accepted::Event(Event::Release {
             thread: used.thread,
             lock: used.lock,
@@ -251,7 +254,7 @@ impl Roster {
         };
         let slots = slots.copy(self.alloc)?;
         self.events += 1;
-        self.near_threads[near % 1024] = numbers.thread;
+        self.near_threads[near % NEAR_LENGTH] = numbers.thread;
         Ok(Accepted::Event(Event::Call(Call {
             thread: numbers.thread,
             object: numbers.object,

@@ -1,7 +1,7 @@
 //! Whether a line may follow the accepted lines, by what a roster holds of them.
 ghost use Rattle.std.specs.Prelude.{◌≡◌, ◌<◌, false, IfNone};
 
-use super::{Lock, Roster};
+use super::{Lock, NEAR_LENGTH, Roster};
 use crate::causes::{Accepted, WfCause};
 use crate::methods::Method;
 use indexmap::IndexMap;
@@ -249,7 +249,7 @@ impl Broken {
     }
 }
 
-/// A place for the name in the tables of near numbers, by its last bytes: up to a multiple of their length.
+/// Where the name is looked for first: its place in the tables of near numbers, modulo their length, by its last bytes.
 #[inline(always)]
 pub(super) fn near_place(name: &Name) -> usize {
     match name.items() {
@@ -273,7 +273,7 @@ impl Roster {
         ensures value { (kinds : List Kind) (lines : List LineOf) → StandsFor kinds self.now lines → result ≡ found_thread lines name.now }
         ensures within { result.unknown ≡ false → result.number < thread_count self.now }
     {
-        let guess = self.near_threads[near % 1024];
+        let guess = self.near_threads[near % NEAR_LENGTH];
         if let Some((known, ended)) = self.threads.get_index(guess as usize)
             && known == name
         {
@@ -319,7 +319,7 @@ impl Roster {
         ensures within { result.unknown ≡ false → result.number < lock_count self.now }
         ensures new { result.unknown ≡ true → (result.number ≡ lock_count self.now) × (result.lock.depth ≡ 0) }
     {
-        let guess = self.near_locks[near % 1024];
+        let guess = self.near_locks[near % NEAR_LENGTH];
         if let Some((known, lock)) = self.locks.get_index(guess as usize)
             && known == name
         {
@@ -514,8 +514,8 @@ impl Roster {
         ensures room { IfOk result (λ used. (self.now.events + 1 < 2 ^ 32) × (used.depth + 1 < 2 ^ 32)) }
         ensures err { IfErr result (Forbids self.now limits.now (Line.Event (LineEvent.Acquire thread.now lock.now))) }
     {
-        let actor = self.find_thread(thread, near);
         let found = self.find_lock(lock, lock_near);
+        let actor = self.find_thread(thread, near);
         let depth = found.lock.depth_of(actor.number);
         let broken = Broken {
             header_first: !self.header,
@@ -554,8 +554,8 @@ impl Roster {
         ensures room { OnOk result (self.now.events + 1 < 2 ^ 32) }
         ensures err { IfErr result (Forbids self.now limits.now (Line.Event (LineEvent.Release thread.now lock.now))) }
     {
-        let actor = self.find_thread(thread, near);
         let found = self.find_lock(lock, lock_near);
+        let actor = self.find_thread(thread, near);
         let depth = found.lock.depth_of(actor.number);
         let broken = Broken {
             header_first: !self.header,
