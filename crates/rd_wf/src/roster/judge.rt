@@ -397,10 +397,10 @@ impl Roster {
             threads: limits.threads <= thread,
             ..UNBROKEN
         };
-        match broken.first(limits) {
-            Some(cause) => Err(cause),
-            None => Ok(thread),
+        if let Some(cause) = broken.first(limits) {
+            return Err(cause);
         }
+        Ok(thread)
     }
 
     pub(super) fn judge_object(
@@ -423,13 +423,13 @@ impl Roster {
             objects: limits.objects <= object,
             ..UNBROKEN
         };
-        match broken.first(limits) {
-            Some(cause) => Err(cause),
-            None => Ok(Declared {
-                object,
-                kind: kind as u32,
-            }),
+        if let Some(cause) = broken.first(limits) {
+            return Err(cause);
         }
+        Ok(Declared {
+            object,
+            kind: kind as u32,
+        })
     }
 
     pub(super) fn judge_fork(
@@ -455,13 +455,13 @@ impl Roster {
             threads: limits.threads <= new,
             ..UNBROKEN
         };
-        match broken.first(limits) {
-            Some(cause) => Err(cause),
-            None => Ok(Pair {
-                thread: actor.number,
-                child: new,
-            }),
+        if let Some(cause) = broken.first(limits) {
+            return Err(cause);
         }
+        Ok(Pair {
+            thread: actor.number,
+            child: new,
+        })
     }
 
     pub(super) fn judge_join(
@@ -486,13 +486,13 @@ impl Roster {
             events: limits.events <= self.events,
             ..UNBROKEN
         };
-        match broken.first(limits) {
-            Some(cause) => Err(cause),
-            None => Ok(Pair {
-                thread: actor.number,
-                child: awaited.number,
-            }),
+        if let Some(cause) = broken.first(limits) {
+            return Err(cause);
         }
+        Ok(Pair {
+            thread: actor.number,
+            child: awaited.number,
+        })
     }
 
     pub(super) fn judge_acquire(
@@ -514,8 +514,8 @@ impl Roster {
         ensures room { IfOk result (λ used. (self.now.events + 1 < 2 ^ 32) × (used.depth + 1 < 2 ^ 32)) }
         ensures err { IfErr result (Forbids self.now limits.now (Line.Event (LineEvent.Acquire thread.now lock.now))) }
     {
-        let found = self.find_lock(lock, lock_near);
         let actor = self.find_thread(thread, near);
+        let found = self.find_lock(lock, lock_near);
         let depth = found.lock.depth_of(actor.number);
         let broken = Broken {
             header_first: !self.header,
@@ -527,15 +527,15 @@ impl Roster {
             depth: limits.depth <= depth,
             ..UNBROKEN
         };
-        match broken.first(limits) {
-            Some(cause) => Err(cause),
-            None => Ok(Used {
-                thread: actor.number,
-                lock: found.number,
-                unknown: found.unknown,
-                depth,
-            }),
+        if let Some(cause) = broken.first(limits) {
+            return Err(cause);
         }
+        Ok(Used {
+            thread: actor.number,
+            lock: found.number,
+            unknown: found.unknown,
+            depth,
+        })
     }
 
     pub(super) fn judge_release(
@@ -554,8 +554,8 @@ impl Roster {
         ensures room { OnOk result (self.now.events + 1 < 2 ^ 32) }
         ensures err { IfErr result (Forbids self.now limits.now (Line.Event (LineEvent.Release thread.now lock.now))) }
     {
-        let found = self.find_lock(lock, lock_near);
         let actor = self.find_thread(thread, near);
+        let found = self.find_lock(lock, lock_near);
         let depth = found.lock.depth_of(actor.number);
         let broken = Broken {
             header_first: !self.header,
@@ -565,15 +565,15 @@ impl Roster {
             events: limits.events <= self.events,
             ..UNBROKEN
         };
-        match broken.first(limits) {
-            Some(cause) => Err(cause),
-            None => Ok(Used {
-                thread: actor.number,
-                lock: found.number,
-                unknown: found.unknown,
-                depth,
-            }),
+        if let Some(cause) = broken.first(limits) {
+            return Err(cause);
         }
+        Ok(Used {
+            thread: actor.number,
+            lock: found.number,
+            unknown: found.unknown,
+            depth,
+        })
     }
 
     pub(super) fn judge_call(
@@ -603,14 +603,14 @@ impl Roster {
             events: limits.events <= self.events,
             ..UNBROKEN
         };
-        match broken.first(limits) {
-            Some(cause) => Err(cause),
-            None => Ok(Numbers {
-                thread: actor.number,
-                object: object.number,
-                kind: object.kind,
-                method: method.number,
-            }),
+        if let Some(cause) = broken.first(limits) {
+            return Err(cause);
         }
+        Ok(Numbers {
+            thread: actor.number,
+            object: object.number,
+            kind: object.kind,
+            method: method.number,
+        })
     }
 }

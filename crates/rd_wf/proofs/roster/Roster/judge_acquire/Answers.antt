@@ -11,14 +11,14 @@ returns-in-Some-clause-err c = λ kinds lines stands.
     (c.find_lock-found.ensures.number kinds lines stands) c.find_lock-found.ensures.lock c.held_by_other.ensures c.depth_of-depth.ensures
     ∙ sym (c.in-Some.ensures.first lines (holder_within kinds c.args.self.now lines stands c.args.lock.now _ _ _ c.find_lock-found.ensures.lock c.held_by_other.ensures))
 
-pub returns-in-None-clause-ok : goal.returns-in-None-clause-ok
+pub returns-clause-ok : goal.returns-clause-ok
 unfolding accepted_of
-returns-in-None-clause-ok c = λ kinds lines stands. (
+returns-clause-ok c = λ kinds lines stands. (
   acquire_judged kinds c.args.self.now lines stands c.args.limits.now c.args.thread.now c.args.lock.now _ c.find_lock-found.result _ _ (c.find_thread-actor.ensures.value kinds lines stands)
       (c.find_lock-found.ensures.number kinds lines stands) c.find_lock-found.ensures.lock c.held_by_other.ensures c.depth_of-depth.ensures
-      ∙ sym (c.in-None.ensures.first lines (holder_within kinds c.args.self.now lines stands c.args.lock.now _ _ _ c.find_lock-found.ensures.lock c.held_by_other.ensures)),
+      ∙ sym (c.in_default.ensures.first lines (holder_within kinds c.args.self.now lines stands c.args.lock.now _ _ _ c.find_lock-found.ensures.lock c.held_by_other.ensures)),
   λ i. accepted.Event (numbered.Acquire (c.find_thread-actor.ensures.value kinds lines stands i).number ((c.find_lock-found.ensures.number kinds lines stands).0 i)),
 )
 
-pub returns-in-None-clause-unknown : goal.returns-in-None-clause-unknown
-returns-in-None-clause-unknown c = λ kinds lines stands. (c.find_lock-found.ensures.number kinds lines stands).1
+pub returns-clause-unknown : goal.returns-clause-unknown
+returns-clause-unknown c = λ kinds lines stands. (c.find_lock-found.ensures.number kinds lines stands).1

@@ -10,12 +10,12 @@ pub returns-in-Some-clause-err : goal.returns-in-Some-clause-err
 returns-in-Some-clause-err c = λ kinds lines stands.
     join_judged kinds c.args.self.now lines stands c.args.limits.now c.args.thread.now c.args.child.now _ _ _ (c.find_thread-actor.ensures.value kinds lines stands) (c.find_thread-awaited.ensures.value kinds lines stands) c.eq.ensures ∙ sym (c.in-Some.ensures.first lines tt)
 
-pub returns-in-None-clause-ok : goal.returns-in-None-clause-ok
+pub returns-clause-ok : goal.returns-clause-ok
 unfolding accepted_of
-returns-in-None-clause-ok c = λ kinds lines stands. (
-  join_judged kinds c.args.self.now lines stands c.args.limits.now c.args.thread.now c.args.child.now _ _ _ (c.find_thread-actor.ensures.value kinds lines stands) (c.find_thread-awaited.ensures.value kinds lines stands) c.eq.ensures ∙ sym (c.in-None.ensures.first lines tt),
+returns-clause-ok c = λ kinds lines stands. (
+  join_judged kinds c.args.self.now lines stands c.args.limits.now c.args.thread.now c.args.child.now _ _ _ (c.find_thread-actor.ensures.value kinds lines stands) (c.find_thread-awaited.ensures.value kinds lines stands) c.eq.ensures ∙ sym (c.in_default.ensures.first lines tt),
   λ i. accepted.Event (numbered.Join (c.find_thread-actor.ensures.value kinds lines stands i).number (c.find_thread-awaited.ensures.value kinds lines stands i).number),
 )
 
-pub returns-in-None-clause-room : goal.returns-in-None-clause-room
-returns-in-None-clause-room c = (c.find_thread-awaited.ensures.within (or_parts _ _ c.in-None.ensures.known).1, search rules)
+pub returns-clause-room : goal.returns-clause-room
+returns-clause-room c = (c.find_thread-awaited.ensures.within (or_parts _ _ c.in_default.ensures.known).1, search rules)

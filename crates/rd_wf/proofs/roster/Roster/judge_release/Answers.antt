@@ -10,10 +10,10 @@ returns-in-Some-clause-err c = λ kinds lines stands.
     release_judged kinds c.args.self.now lines stands c.args.limits.now c.args.thread.now c.args.lock.now _ _ _ (c.find_thread-actor.ensures.value kinds lines stands)
     c.find_lock-found.ensures.lock c.depth_of-depth.ensures ∙ sym (c.in-Some.ensures.first lines tt)
 
-pub returns-in-None-clause-ok : goal.returns-in-None-clause-ok
+pub returns-clause-ok : goal.returns-clause-ok
 unfolding accepted_of
-returns-in-None-clause-ok c = λ kinds lines stands. (
+returns-clause-ok c = λ kinds lines stands. (
   release_judged kinds c.args.self.now lines stands c.args.limits.now c.args.thread.now c.args.lock.now _ _ _ (c.find_thread-actor.ensures.value kinds lines stands)
-      c.find_lock-found.ensures.lock c.depth_of-depth.ensures ∙ sym (c.in-None.ensures.first lines tt),
+      c.find_lock-found.ensures.lock c.depth_of-depth.ensures ∙ sym (c.in_default.ensures.first lines tt),
   λ i. accepted.Event (numbered.Release (c.find_thread-actor.ensures.value kinds lines stands i).number ((c.find_lock-found.ensures.number kinds lines stands).0 i)),
 )
