@@ -54,7 +54,7 @@ impl Lock {
     ghost use Rattle.rd_wf.specs.MayFollow.{same_name};
     ghost use Rattle.rd_wf.specs.Roster.{depth_of, other_holder};
 
-    /// Puts the lock last, under a name that no other has.
+    /// Keeps the lock under this name, which comes last if it is new.
     #[inline(never)]
     pub(super) fn put_last(
         self,
