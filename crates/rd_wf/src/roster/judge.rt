@@ -320,8 +320,8 @@ impl Roster {
         ensures new { result.unknown ≡ true → (result.number ≡ lock_count self.now) × (result.lock.depth ≡ 0) }
     {
         let guess = self.near_locks[near % NEAR_LENGTH];
-        if let Some((known, lock)) = self.locks.get_index(guess as usize)
-            && known == name
+        if let Some((near_name, lock)) = self.locks.get_index(guess as usize)
+            && near_name == name
         {
             return FoundLock {
                 number: guess,
