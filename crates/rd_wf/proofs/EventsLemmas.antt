@@ -18,8 +18,8 @@ use Rattle.rd_event.specs.declared.items.Line.TheVariants.{Skip, Header, Thread,
 use Rattle.rd_event.specs.declared.items.LineEvent.{LineEvent}
 use Rattle.rd_event.specs.declared.items.LineEvent.TheVariants.{Fork, Join, Acquire, Release, Call}
 use Rattle.rd_order.proofs.EventListLemmas.{few_known, formed_more, may_acquire, may_call, may_fork, may_join, may_release}
-use Rattle.rd_order.specs.EventLists.{calls, Follow, forks, givings, is_call_on, joins, takings, IsBounded, IsCallOf, Known, MayHappen, WellFormedWith}
-use Rattle.rd_order.specs.Order.{Against, Hold, call_in, exclusive, forked_thread, joined_thread}
+use Rattle.rd_order.specs.EventLists.{calls, Follow, forks, is_call_on, joins, IsBounded, IsCallOf, Known, MayHappen, WellFormedWith}
+use Rattle.rd_order.specs.Order.{call_in, forked_thread, joined_thread}
 use Rattle.rd_order.specs.OrderTests.{is_this}
 use Rattle.rd_wf.proofs.FollowLemmas.{Meets, met}
 use Rattle.rd_wf.proofs.UseLemmas.{none_and, once, one_for, used_acquire, used_free, used_held, used_release, used_still, used_thread}
