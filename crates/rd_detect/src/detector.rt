@@ -7,8 +7,8 @@ ghost use Rattle.rd_detect.specs.Detect.{IsAnswer, IsNewest, IsNextCall, Meets, 
 
 use crate::register::commute;
 use rd_base::{NoMemory, Steps};
-use rd_event::Call;
 use rd_clock::{Clock, Stamp};
+use rd_event::Call;
 use rd_hb::Tracker;
 use std::alloc::Global;
 use std::marker::Model;
