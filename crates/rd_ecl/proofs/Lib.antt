@@ -1,2 +1,3 @@
 pub mod VariableLemmas
 pub mod MethodLemmas
+mod FragmentLemmas

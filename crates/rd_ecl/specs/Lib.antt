@@ -1,3 +1,4 @@
+pub mod Formulas
 pub mod Kinds
 pub mod Specified
 pub mod Variables

@@ -1,12 +1,14 @@
 //! Specifications of kinds of objects: the methods of each kind.
 #![tactic(auto)]
 
+mod formulas;
 mod kinds;
 mod names;
 mod specifications;
 #[cfg(test)]
 mod tests;
 
+pub use formulas::{Formula, Outside, Predicate, Reason, Rel, Side, Term};
 pub use kinds::{KindDraft, KindSpec, Method, law_of_variables};
 pub use names::Names;
 pub use specifications::Spec;
