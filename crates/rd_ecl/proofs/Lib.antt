@@ -1,3 +1,4 @@
-pub mod VariableLemmas
-pub mod MethodLemmas
 mod FragmentLemmas
+pub mod MethodLemmas
+pub mod PairLemmas
+pub mod VariableLemmas

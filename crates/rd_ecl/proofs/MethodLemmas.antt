@@ -10,7 +10,7 @@ use Rattle.std.proofs.lemmas.Map.Keys.{IsDistinct-push}
 use Rattle.std.proofs.lemmas.Map.Made.{AllPairs-from_IsDistinct, IsDistinct-from_AllPairs}
 use Rattle.rd_ecl.specs.declared.kinds.Method.{Method}
 use Rattle.rd_ecl.specs.Variables.{IsVariable, is_variable, is_among}
-use Rattle.rd_ecl.specs.Specified.{AreMethods, MayAdd, IsMethod, names_of}
+use Rattle.rd_ecl.specs.Specified.{SpecifiedKind, AreMethods, MayAdd, IsMethod, names_of}
 use Rattle.rd_ecl.proofs.VariableLemmas.{different_decides, negated, variable_decides}
 
 no_pairs : AllPairs {X = List ℕ} (λ x y. x ≢ y) []
@@ -27,12 +27,12 @@ one_more names name different fresh =
     AllPairs-from_IsDistinct bytes_decides (names ++ name ∷ [])
     (IsDistinct-push nat_list_eq_equiv names name (IsDistinct-from_AllPairs bytes_decides names different) fresh)
 
-pub one_method_more : (name : List ℕ) (methods : List Method) (method : Method) → AreMethods methods
-    → MayAdd (record { name = name; methods = methods }) method.name method.variables → AreMethods (methods ++ method ∷ [])
-one_method_more name methods method are may =
+pub one_method_more : (kind : SpecifiedKind) (method : Method) → AreMethods kind.methods → MayAdd kind method.name method.variables
+    → AreMethods (kind.methods ++ method ∷ [])
+one_method_more kind method are may =
     record {
-      few = let room = may.room in rw (length-append methods (method ∷ [])) (omega (arith, room));
-      different = rw (map-append (λ m. m.name) methods (method ∷ [])) (one_more (names_of methods) method.name are.different (negated _ may.fresh));
-      each = All-push IsMethod methods method are.each
+      few = let room = may.room in rw (length-append kind.methods (method ∷ [])) (omega (arith, room));
+      different = rw (map-append (λ m. m.name) kind.methods (method ∷ [])) (one_more (names_of kind.methods) method.name are.different (negated _ may.fresh));
+      each = All-push IsMethod kind.methods method are.each
           (record { some = may.some; few = may.few; different = (different_decides method.variables).0 may.different; each = all_variables method.variables may.each });
     }

@@ -1,6 +1,6 @@
 -- Formulas: what they mean, and which are in the fragment. The fragment is this project's profile of the logic of Dimitrov,
 -- Raychev, Vechev and Koskinen 2014.
-use Rattle.std.specs.Prelude.{ℕ, ◌+◌, ◌<◌, max, nat_eq, Bool, true, false, not, ◌&&◌, ◌||◌, if◌then◌else◌, List, [], ◌∷◌, ◌++◌, length, slice_get, Option, Some, None, ⊤}
+use Rattle.std.specs.Prelude.{ℕ, ◌+◌, ◌<◌, max, nat_eq, ◌==◌, Bool, true, false, not, ◌&&◌, ◌||◌, if◌then◌else◌, List, [], ◌∷◌, ◌++◌, length, slice_get, Option, Some, None, ⊤}
 use Rattle.std.specs.Bool.{beq}
 use Rattle.std.specs.Cmp.Lexicographic.{pointwise}
 use Rattle.std.specs.List.{list_any}
@@ -93,14 +93,14 @@ abbrev pub FitsTerm : Term → ℕ → Type 0
 FitsTerm (Slot number) count = number < count
 FitsTerm (Const value) count = ⊤
 
-abbrev pub count_of : Side → ℕ → ℕ → ℕ
-count_of First m n = m
-count_of Second m n = n
+abbrev pub of_side : Side → ℕ → ℕ → ℕ
+of_side First m n = m
+of_side Second m n = n
 
 -- each slot is one of the m slots of side 1 or of the n of side 2
 abbrev pub Fits : Tree → ℕ → ℕ → Type 0
 Fits (truth value) m n = ⊤
-Fits (atom side rel left right) m n = FitsTerm left (count_of side m n) × FitsTerm right (count_of side m n)
+Fits (atom side rel left right) m n = FitsTerm left (of_side side m n) × FitsTerm right (of_side side m n)
 Fits (cross first second) m n = (first < m) × (second < n)
 Fits (mixed rel flipped first second) m n = (first < m) × (second < n)
 Fits (negation f) m n = Fits f m n
@@ -195,11 +195,6 @@ levels _ = 1
 
 -- The relations on one side, without their sides
 
-abbrev pub same_side : Side → Side → Bool
-same_side First First = true
-same_side Second Second = true
-same_side _ _ = false
-
 abbrev pub same_rel : Rel → Rel → Bool
 same_rel Eq Eq = true
 same_rel Lt Lt = true
@@ -214,13 +209,14 @@ same_term _ _ = false
 abbrev pub same_predicate : Predicate → Predicate → Bool
 same_predicate p q = same_rel p.rel q.rel && (same_term p.left q.left && same_term p.right q.right)
 
--- those of a side, from left to right
-abbrev pub predicates_in : Side → Tree → List Predicate
-predicates_in asked (atom side rel left right) = if same_side asked side then record { rel = rel; left = left; right = right } ∷ [] else []
-predicates_in asked (negation f) = predicates_in asked f
-predicates_in asked (both f g) = predicates_in asked f ++ predicates_in asked g
-predicates_in asked (either f g) = predicates_in asked f ++ predicates_in asked g
-predicates_in asked _ = []
+-- those of the method with this number, from left to right, in the formula of a pair of methods
+abbrev pub predicates_of : ℕ → ℕ → ℕ → Tree → List Predicate
+predicates_of method first second (atom side rel left right) =
+    if of_side side first second == method then record { rel = rel; left = left; right = right } ∷ [] else []
+predicates_of method first second (negation f) = predicates_of method first second f
+predicates_of method first second (both f g) = predicates_of method first second f ++ predicates_of method first second g
+predicates_of method first second (either f g) = predicates_of method first second f ++ predicates_of method first second g
+predicates_of method first second _ = []
 
 -- the predicates that aren't among these, each once
 abbrev pub distinct_from : List Predicate → List Predicate → List Predicate

@@ -1,3 +1,4 @@
+pub mod Codes
 pub mod Formulas
 pub mod Kinds
 pub mod Specified

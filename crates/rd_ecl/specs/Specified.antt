@@ -1,13 +1,18 @@
 -- What a specification says of kinds: this project's profile.
-use Rattle.std.specs.Prelude.{ℕ, ◌<◌, ◌≤◌, not, List, [], ◌∷◌, ◌++◌, length, map, All, AllPairs, ◌≢◌, IsTrue}
-use Rattle.std.specs.List.{list_all}
+use Rattle.std.specs.Prelude.{ℕ, ◌+◌, ◌*◌, ◌-◌, ◌<◌, ◌≤◌, ◌≢◌, ◌≡◌, nat_le, Bool, false, not, ◌&&◌, ◌||◌, if◌then◌else◌, List, [], ◌∷◌, ◌++◌, length, map, flat_map, replicate, set, slice_get, slice_index_or, All, AllPairs, IsTrue, Option, Some, None, option_map, unwrap_or, IsSome}
+use Rattle.std.specs.List.{list_all, range_with_len}
+use Rattle.rd_base.specs.declared.values.Value.{Value}
+use Rattle.rd_ecl.specs.declared.formulas.Predicate.{Predicate}
 use Rattle.rd_ecl.specs.declared.kinds.Method.{Method}
+use Rattle.rd_ecl.specs.Formulas.{Tree, Fits, has_slots, InFragment, nodes, levels, predicates_of, distinct, holds}
 use Rattle.rd_ecl.specs.Variables.{AreVariables, are_different, is_among, is_variable}
 
--- a kind, by its name, and its methods
+-- a kind, by its name, its methods, and the formula of each pair of them, where it is set: that of methods m and n, with m
+-- at most n, stands at 16 n + m
 pub record SpecifiedKind : Type 0 where
   pub name : List ℕ
   pub methods : List Method
+  pub pairs : List (Option Tree)
 
 abbrev pub IsMethod : Method → Type 0
 IsMethod method = AreVariables method.variables
@@ -21,8 +26,53 @@ pub record AreMethods (methods : List Method) : Type 0 where
   pub different : AllPairs (λ x y. x ≢ y) (names_of methods)
   pub each : All IsMethod methods
 
-abbrev pub IsKind : SpecifiedKind → Type 0
-IsKind kind = AreMethods kind.methods
+-- how many slots the method with this number has; 0 where no method has it
+abbrev pub slots_at : List Method → ℕ → ℕ
+slots_at methods number = unwrap_or (option_map (λ method. length method.variables) (slice_get methods number)) 0
+
+-- the formula of a pair, where it is set
+abbrev pub formula_at : SpecifiedKind → ℕ → ℕ → Option Tree
+formula_at kind first second = if nat_le first second then slice_index_or kind.pairs (16 * second + first) None else None
+
+-- a formula that a pair may have, of methods with m and n slots
+pub record IsPair (formula : Tree) (m n : ℕ) : Type 0 where
+  pub fits : Fits formula m n
+  pub slots : IsTrue (has_slots formula)
+  pub inside : InFragment formula
+  pub few : nodes formula ≤ 64
+  pub shallow : levels formula ≤ 32
+
+-- each two numbers that the methods of a pair may have, by the first, then by the second
+unfoldable pub all_pairs : List (ℕ × ℕ)
+all_pairs = flat_map (λ first. map (λ second. (first, second)) (range_with_len first (16 - first))) (range_with_len 0 16)
+
+-- what a pair's formula says of the method with this number alone
+abbrev pub predicates_at : SpecifiedKind → ℕ → ℕ × ℕ → List Predicate
+predicates_at kind method pair = unwrap_or (option_map (predicates_of method pair.0 pair.1) (formula_at kind pair.0 pair.1)) []
+
+-- the predicates of a method, pair by pair, each once
+abbrev pub method_predicates : SpecifiedKind → ℕ → List Predicate
+method_predicates kind method = distinct (flat_map (predicates_at kind method) all_pairs)
+
+-- the formulas of a kind's pairs
+pub record ArePairs (kind : SpecifiedKind) : Type 0 where
+  pub rows : length kind.pairs ≡ 16 * length kind.methods
+  pub each : (first second : ℕ) (formula : Tree) → formula_at kind first second ≡ Some formula → IsPair formula (slots_at kind.methods first) (slots_at kind.methods second)
+  pub few : (method : ℕ) → length (method_predicates kind method) ≤ 5
+
+-- a kind that is being made
+pub record IsDraft (kind : SpecifiedKind) : Type 0 where
+  pub methods : AreMethods kind.methods
+  pub pairs : ArePairs kind
+
+-- each pair has its formula
+abbrev pub IsWhole : SpecifiedKind → Type 0
+IsWhole kind = (first second : ℕ) → first ≤ second → second < length kind.methods → IsSome (formula_at kind first second)
+
+-- a kind: its methods, and a formula for each pair of them
+pub record IsKind (kind : SpecifiedKind) : Type 0 where
+  pub draft : IsDraft kind
+  pub whole : IsWhole kind
 
 -- a method of this name, with these variables, may stand behind those of the kind
 pub record MayAdd (kind : SpecifiedKind) (name : List ℕ) (variables : List (List ℕ)) : Type 0 where
@@ -33,6 +83,28 @@ pub record MayAdd (kind : SpecifiedKind) (name : List ℕ) (variables : List (Li
   pub different : IsTrue (are_different variables)
   pub each : IsTrue (list_all is_variable variables)
 
--- the kind with one method more
+-- the kind with one method more, of which no pair is set
 abbrev pub with_method : SpecifiedKind → Method → SpecifiedKind
-with_method kind method = record kind { methods = kind.methods ++ method ∷ [] }
+with_method kind method = record kind { methods = kind.methods ++ method ∷ []; pairs = kind.pairs ++ replicate 16 None }
+
+-- the kind with the formula of one pair more
+abbrev pub with_pair : SpecifiedKind → ℕ → ℕ → Tree → SpecifiedKind
+with_pair kind first second formula = record kind { pairs = set kind.pairs (16 * second + first) (Some formula) }
+
+-- this may be the formula of that pair of the kind
+pub record MayPair (kind : SpecifiedKind) (first second : ℕ) (formula : Tree) : Type 0 where
+  pub ordered : first ≤ second
+  pub known : second < length kind.methods
+  pub unset : formula_at kind first second ≡ None
+  pub pair : IsPair formula (slots_at kind.methods first) (slots_at kind.methods second)
+  pub few_first : length (method_predicates (with_pair kind first second formula) first) ≤ 5
+  pub few_second : length (method_predicates (with_pair kind first second formula) second) ≤ 5
+
+-- the formula of two methods, in the order in which they are declared, holds of two calls
+abbrev pub pair_holds : SpecifiedKind → ℕ → ℕ → List Value → List Value → Bool
+pair_holds kind first second a b = unwrap_or (option_map (λ formula. holds formula a b) (formula_at kind first second)) false
+
+-- two calls commute, of the methods m and n: the formula holds with the call of the method declared first on side 1, and for
+-- one method with either call there
+abbrev pub commutes : SpecifiedKind → ℕ → List Value → ℕ → List Value → Bool
+commutes kind m a n b = (not (nat_le m n) || pair_holds kind m n a b) && (not (nat_le n m) || pair_holds kind n m b a)

@@ -1,10 +1,12 @@
 //! A kind of objects and its methods.
-ghost use Rattle.std.specs.Prelude.{◌≡◌, ◌≢◌, ◌↔◌, ℕ, List, [], ◌∷◌, ◌++◌, IfOk, OnOk, OnErr, IsTrue, AllPairs, Contains};
+ghost use Rattle.std.specs.Prelude.{◌≡◌, ◌≢◌, ◌↔◌, ℕ, List, [], ◌∷◌, ◌++◌, IfOk, OnOk, OnErr, IsTrue, AllPairs, Contains, IsOk, Some, None, replicate, length, ◌+◌, ◌*◌, ◌<◌, ◌≤◌};
 ghost use Rattle.rd_ecl.specs.Variables.{IsVariable, is_variable, is_among, are_different};
-ghost use Rattle.rd_ecl.specs.Specified.{AreMethods, MayAdd, with_method};
+ghost use Rattle.rd_ecl.specs.Formulas.{tree_of};
+ghost use Rattle.rd_ecl.specs.Specified.{IsKind, IsPair, IsWhole, MayAdd, MayPair, commutes, formula_at, slots_at, with_method, with_pair};
 
+use crate::formulas::Formula;
 use crate::names::Names;
-use rd_base::{Name, NoMemory};
+use rd_base::{Name, NoMemory, Value};
 use std::alloc::Global;
 use std::marker::Model;
 
@@ -21,16 +23,25 @@ pub struct Method {
 pub struct KindSpec {
     name: Name,
     methods: Vec<Method>,
+    // the formula of methods m and n, with m at most n, stands at 16 n + m
+    pairs: Vec<Option<Formula>>,
 }
 
 impl Model for KindSpec {
-    ghost use Rattle.rd_ecl.specs.Specified.{SpecifiedKind, AreMethods};
+    ghost use Rattle.std.specs.Prelude.{map, option_map};
+    ghost use Rattle.rd_ecl.specs.Formulas.{tree_of};
+    ghost use Rattle.rd_ecl.specs.Specified.{SpecifiedKind, IsKind, IsDraft};
+
+    ghost use Rattle.std.specs.Coded.{codes};
+    ghost use Rattle.rd_ecl.specs.Codes.{coded_tree};
 
     ghost Value = { SpecifiedKind };
 
-    ghost view = { λ k. record { name = k.name; methods = k.methods.items } };
+    ghost coded = { Prim.hlevel (codes, coded_tree) };
 
-    ghost invariant = { λ k. AreMethods k.methods.items };
+    ghost view = { λ k. record { name = k.name; methods = k.methods.items; pairs = map (option_map tree_of) k.pairs.items } };
+
+    ghost invariant = { λ k. IsKind (record { name = k.name; methods = k.methods.items; pairs = map (option_map tree_of) k.pairs.items }) };
 }
 
 impl KindSpec {
@@ -44,10 +55,55 @@ impl KindSpec {
     /// Its methods. It takes no memory.
     pub fn methods(&self) -> &[Method]
         ensures value { result.now ≡ self.now.methods }
-        ensures valid { AreMethods self.now.methods }
+        ensures valid { IsKind self.now }
     {
         self.methods.as_slice()
     }
+
+    /// The formula of two methods, or of one with itself, by their numbers: `first` is at most `second`. It takes no memory.
+    pub fn formula(&self, first: u8, second: u8) -> &Formula
+        requires { (first ≤ second) × (second < length self.now.methods) }
+        ensures value { formula_at self.now first second ≡ Some (tree_of result.now) }
+        ensures valid { IsPair (tree_of result.now) (slots_at self.now.methods first) (slots_at self.now.methods second) }
+    {
+        self.pairs[place(first, second)].as_ref().unwrap()
+    }
+
+    /// Do two calls commute, of the methods `m` and `n` with the slots `a` and `b`? For different methods it is their formula
+    /// with the method declared first on side 1. For one method the formula holds with either call on side 1. It takes no memory.
+    pub fn commute(&self, m: u8, a: &[Value], n: u8, b: &[Value]) -> bool
+        requires known { (m < length self.now.methods) × (n < length self.now.methods) }
+        requires slots { (length a.now ≡ slots_at self.now.methods m) × (length b.now ≡ slots_at self.now.methods n) }
+        ensures { result ≡ commutes self.now m a.now n b.now }
+    {
+        if m < n {
+            return self.formula(m, n).holds(a, b);
+        }
+        if n < m {
+            return self.formula(n, m).holds(b, a);
+        }
+        let formula = self.formula(m, m);
+        formula.holds(a, b) && formula.holds(b, a)
+    }
+}
+
+// Where the formula of two methods stands.
+fn place(first: u8, second: u8) -> usize
+    ensures { result ≡ 16 * second + first }
+{
+    16 * usize::from(second) + usize::from(first)
+}
+
+// Puts 16 pairs last that aren't set. After want of memory the pairs are as before.
+fn add_pairs(pairs: &mut Vec<Option<Formula>>) -> Result<(), NoMemory>
+    ensures ok { OnOk result (pairs.new.items ≡ pairs.old.items ++ replicate 16 None) }
+    ensures err { OnErr result (pairs.new.items ≡ pairs.old.items) }
+{
+    pairs.reserve(16)?;
+    for _ in 0..16_usize {
+        pairs.push_reserved(None);
+    }
+    Ok(())
 }
 
 /// A kind that is being made. Contracts see it as a kind: its name and the methods so far.
@@ -55,26 +111,36 @@ impl KindSpec {
 pub struct KindDraft {
     name: Name,
     methods: Vec<Method>,
+    // the formula of methods m and n, with m at most n, stands at 16 n + m
+    pairs: Vec<Option<Formula>>,
 }
 
 impl Model for KindDraft {
-    ghost use Rattle.rd_ecl.specs.Specified.{SpecifiedKind, AreMethods};
+    ghost use Rattle.std.specs.Prelude.{map, option_map};
+    ghost use Rattle.rd_ecl.specs.Formulas.{tree_of};
+    ghost use Rattle.rd_ecl.specs.Specified.{SpecifiedKind, IsKind, IsDraft};
+
+    ghost use Rattle.std.specs.Coded.{codes};
+    ghost use Rattle.rd_ecl.specs.Codes.{coded_tree};
 
     ghost Value = { SpecifiedKind };
 
-    ghost view = { λ d. record { name = d.name; methods = d.methods.items } };
+    ghost coded = { Prim.hlevel (codes, coded_tree) };
 
-    ghost invariant = { λ d. AreMethods d.methods.items };
+    ghost view = { λ d. record { name = d.name; methods = d.methods.items; pairs = map (option_map tree_of) d.pairs.items } };
+
+    ghost invariant = { λ d. IsDraft (record { name = d.name; methods = d.methods.items; pairs = map (option_map tree_of) d.pairs.items }) };
 }
 
 impl KindDraft {
     /// A kind of this name, without a method.
     pub fn new(alloc: Global, name: Name) -> Result<KindDraft, NoMemory>
-        ensures { IfOk result (λ draft. draft ≡ record { name = name; methods = [] }) }
+        ensures { IfOk result (λ draft. draft ≡ record { name = name; methods = []; pairs = [] }) }
     {
         Ok(KindDraft {
             name,
             methods: Vec::new(alloc),
+            pairs: Vec::new(alloc),
         })
     }
 
@@ -86,17 +152,33 @@ impl KindDraft {
         ensures ok { OnOk result (self.new ≡ with_method self.old (record { name = name; variables = variables })) }
         ensures err { OnErr result (self.new ≡ self.old) }
     {
-        self.methods.push(Method { name, variables })?;
+        self.methods.reserve(1)?;
+        add_pairs(&mut self.pairs)?;
+        self.methods.push_reserved(Method { name, variables });
         Ok(())
     }
 
-    /// The kind that was drafted. It takes no memory.
+    /// Sets the formula of two methods, or of one with itself, by their numbers: `first` is at most `second`, and the pair isn't
+    /// set yet. Its slots are those of the methods, each of its relations has one, it is in the fragment, and it has at most 64
+    /// nodes and 32 levels. With it neither method has more than 5 distinct relations on its side alone. It takes no memory.
+    pub fn pair(&mut self, first: u8, second: u8, formula: Formula) -> Result<(), NoMemory>
+        requires { MayPair self.old first second (tree_of formula) }
+        ensures ok { IsOk result }
+        ensures value { self.new ≡ with_pair self.old first second (tree_of formula) }
+    {
+        self.pairs[place(first, second)] = Some(formula);
+        Ok(())
+    }
+
+    /// The kind that was drafted. Each pair of its methods is set. It takes no memory.
     pub fn finish(self) -> KindSpec
+        requires { IsWhole self }
         ensures { result ≡ self }
     {
         KindSpec {
             name: self.name,
             methods: self.methods,
+            pairs: self.pairs,
         }
     }
 }

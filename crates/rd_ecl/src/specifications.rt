@@ -17,7 +17,12 @@ impl Model for Spec {
     ghost use Rattle.std.specs.Prelude.{List, All};
     ghost use Rattle.rd_ecl.specs.Specified.{SpecifiedKind, IsKind};
 
+    ghost use Rattle.std.specs.Coded.{codes};
+    ghost use Rattle.rd_ecl.specs.Codes.{coded_tree};
+
     ghost Value = { List SpecifiedKind };
+
+    ghost coded = { Prim.hlevel (codes, coded_tree) };
 
     ghost view = { λ s. s.kinds.items };
 
