@@ -144,7 +144,7 @@ inside_clean (of_sided_or {f} {g} h k) =
     (not_from_false (crosses f && crosses g) (and_left (crosses f) (crosses g) (apart h)))
 
 -- a formula is in the fragment exactly where no node of it offends
-inside : (f : Tree) → is_none (first_offence 0 (post_order f)) ≡ true → InFragment f
+pub inside : (f : Tree) → is_none (first_offence 0 (post_order f)) ≡ true → InFragment f
 inside f e = inside_if f (sym (none_clean f) ∙ e)
 
 none_offends : (f : Tree) → InFragment f → is_none (first_offence 0 (post_order f)) ≡ true

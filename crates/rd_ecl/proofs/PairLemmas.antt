@@ -1,7 +1,7 @@
 -- The pairs of a kind's methods, and what one more method or one more pair leaves of them.
-use Rattle.std.proofs.Common.{◌≡◌, ◌≢◌, ℕ, ◌+◌, ◌*◌, ◌<◌, ◌≤◌, zero, suc, Bool, true, false, not, ◌&&◌, ◌||◌, ◌==◌, if◌then◌else◌, List, [], ◌∷◌, ◌++◌, length, Option, Some, None, refl, ap, sym, subst, ◌⊎◌, inl, inr, ⊎_elim, ◌∙◌, arith, length-append, replicate, set, get_or, leb, is_some}
-use Rattle.std.specs.Prelude.{IsTrue, All, flat_map, nat_le, map, option_map, unwrap_or, slice_get, slice_index_or}
-use Rattle.std.proofs.lemmas.Bool.{leb-true, ne_eqb, le-leb, cases_eq, cases_Bool}
+use Rattle.std.proofs.Common.{◌≡◌, ◌≢◌, ℕ, ◌+◌, ◌*◌, ◌<◌, ◌≤◌, zero, suc, Bool, true, false, ◌==◌, if◌then◌else◌, List, [], ◌∷◌, ◌++◌, length, Option, Some, None, refl, ap, sym, subst, ◌⊎◌, inl, inr, ⊎_elim, ◌∙◌, arith, length-append, replicate, set, get_or, is_some}
+use Rattle.std.specs.Prelude.{flat_map, nat_le, map, option_map}
+use Rattle.std.proofs.lemmas.Bool.{leb-true, ne_eqb, le-leb, cases_eq}
 use Rattle.std.proofs.lemmas.List.{length-set, length-replicate, length-map, get_or-set_same, get_or-set_other}
 use Rattle.rd_ecl.specs.declared.formulas.Predicate.{Predicate}
 use Rattle.rd_ecl.specs.declared.formulas.Formula.{Formula}
@@ -9,7 +9,7 @@ use Rattle.rd_ecl.specs.declared.formulas.Side.{Side}
 use Rattle.rd_ecl.specs.declared.formulas.Side.TheVariants.{First, Second}
 use Rattle.rd_ecl.specs.declared.kinds.Method.{Method}
 use Rattle.rd_ecl.specs.Formulas.{Tree, tree_of, truth, atom, cross, mixed, negation, both, either, of_side, predicates_of, distinct}
-use Rattle.rd_ecl.specs.Specified.{SpecifiedKind, AreMethods, ArePairs, IsDraft, IsPair, MayAdd, MayPair, all_pairs, formula_at, method_predicates, predicates_at, slots_at, with_method, with_pair}
+use Rattle.rd_ecl.specs.Specified.{SpecifiedKind, ArePairs, IsDraft, IsPair, MayAdd, MayPair, all_pairs, formula_at, method_predicates, predicates_at, slots_at, with_method, with_pair}
 use Rattle.rd_ecl.proofs.MethodLemmas.{no_methods, one_method_more}
 
 -- the same parts give the same whole
@@ -183,9 +183,9 @@ each_more kind first second f is may within few i j g e (inl same) =
     let h = known_by (nat_le i j) (set kind.pairs (16 * second + first) (Some f)) (16 * j + i) g e in
     let at = same_place i j first second (leb-true i j h.0) may.ordered few same in
     let set_is = at_set kind first second f may.ordered within in
-    let here : formula_at (with_pair kind first second f) first second ≡ Some g = 
-        subst (λ (a : ℕ). formula_at (with_pair kind first second f) a second ≡ Some g) at.0
-        (subst (λ (b : ℕ). formula_at (with_pair kind first second f) i b ≡ Some g) at.1 e) in
+    let here : formula_at (with_pair kind first second f) first second ≡ Some g =
+    subst (λ (a : ℕ). formula_at (with_pair kind first second f) a second ≡ Some g) at.0
+    (subst (λ (b : ℕ). formula_at (with_pair kind first second f) i b ≡ Some g) at.1 e) in
     let is_f : f ≡ g = cc in
     rw (at.0, at.1, ← is_f) may.pair
 each_more kind first second f is may within few i j g e (inr other) =

@@ -1,14 +1,12 @@
 -- How a formula is stored in what contracts see: as the list of its nodes in post-order.
-use Rattle.std.specs.Prelude.{ℕ, ◌≡◌, ◌==◌, refl, Bool, true, false, if◌then◌else◌, List, [], ◌∷◌, ◌++◌}
+use Rattle.std.specs.Prelude.{ℕ, ◌≡◌, ◌==◌, refl, true, false, if◌then◌else◌, List, [], ◌∷◌, ◌++◌}
 use Rattle.std.specs.Coded.{Coded, code_by, coded×, coded_ℕ, coded_list}
 use Rattle.std.proofs.Common.{ap}
 use Rattle.std.proofs.lemmas.List.{append_assoc, append-nil}
 use Rattle.rd_ecl.specs.contracts.formulas.Predicate as stored
-use Rattle.rd_ecl.specs.declared.formulas.Side.{Side}
 use Rattle.rd_ecl.specs.declared.formulas.Side.TheVariants.{First, Second}
 use Rattle.rd_ecl.specs.declared.formulas.Rel.{Rel}
 use Rattle.rd_ecl.specs.declared.formulas.Rel.TheVariants.{Eq}
-use Rattle.rd_ecl.specs.declared.formulas.Term.{Term}
 use Rattle.rd_ecl.specs.declared.formulas.Term.TheVariants.{Slot}
 use Rattle.rd_ecl.specs.declared.formulas.Predicate.{Predicate}
 use Rattle.rd_ecl.specs.Formulas.{Tree, truth, atom, cross, mixed, negation, both, either}

@@ -1,6 +1,6 @@
 -- Formulas: what they mean, and which are in the fragment. The fragment is this project's profile of the logic of Dimitrov,
 -- Raychev, Vechev and Koskinen 2014.
-use Rattle.std.specs.Prelude.{ℕ, ◌+◌, ◌<◌, max, nat_eq, ◌==◌, Bool, true, false, not, ◌&&◌, ◌||◌, if◌then◌else◌, List, [], ◌∷◌, ◌++◌, length, slice_get, Option, Some, None, ⊤}
+use Rattle.std.specs.Prelude.{ℕ, ◌+◌, ◌<◌, max, nat_eq, nat_lt, ◌==◌, Bool, true, false, not, ◌&&◌, ◌||◌, if◌then◌else◌, List, [], ◌∷◌, ◌++◌, length, slice_get, Option, Some, None, ⊤}
 use Rattle.std.specs.Bool.{beq}
 use Rattle.std.specs.Cmp.Lexicographic.{pointwise}
 use Rattle.std.specs.List.{list_any}
@@ -106,6 +106,20 @@ Fits (mixed rel flipped first second) m n = (first < m) × (second < n)
 Fits (negation f) m n = Fits f m n
 Fits (both f g) m n = Fits f m n × Fits g m n
 Fits (either f g) m n = Fits f m n × Fits g m n
+
+-- the same, as a test
+abbrev pub term_fits : Term → ℕ → Bool
+term_fits (Slot number) count = nat_lt number count
+term_fits (Const value) count = true
+
+abbrev pub formula_fits : Tree → ℕ → ℕ → Bool
+formula_fits (truth value) m n = true
+formula_fits (atom side rel left right) m n = term_fits left (of_side side m n) && term_fits right (of_side side m n)
+formula_fits (cross first second) m n = nat_lt first m && nat_lt second n
+formula_fits (mixed rel flipped first second) m n = nat_lt first m && nat_lt second n
+formula_fits (negation f) m n = formula_fits f m n
+formula_fits (both f g) m n = formula_fits f m n && formula_fits g m n
+formula_fits (either f g) m n = formula_fits f m n && formula_fits g m n
 
 abbrev pub is_slot : Term → Bool
 is_slot (Slot number) = true

@@ -1,10 +1,10 @@
 -- What a specification says of kinds: this project's profile.
-use Rattle.std.specs.Prelude.{ℕ, ◌+◌, ◌*◌, ◌-◌, ◌<◌, ◌≤◌, ◌≢◌, ◌≡◌, nat_le, Bool, false, not, ◌&&◌, ◌||◌, if◌then◌else◌, List, [], ◌∷◌, ◌++◌, length, map, flat_map, replicate, set, slice_get, slice_index_or, All, AllPairs, IsTrue, Option, Some, None, option_map, unwrap_or, IsSome}
+use Rattle.std.specs.Prelude.{ℕ, ◌+◌, ◌*◌, ◌-◌, ◌<◌, ◌≤◌, ◌≢◌, ◌≡◌, nat_le, nat_lt, is_none, Bool, false, not, ◌&&◌, ◌||◌, if◌then◌else◌, List, [], ◌∷◌, ◌++◌, length, map, flat_map, replicate, set, slice_get, slice_index_or, All, AllPairs, IsTrue, Option, Some, None, option_map, unwrap_or, IsSome}
 use Rattle.std.specs.List.{list_all, range_with_len}
 use Rattle.rd_base.specs.declared.values.Value.{Value}
 use Rattle.rd_ecl.specs.declared.formulas.Predicate.{Predicate}
 use Rattle.rd_ecl.specs.declared.kinds.Method.{Method}
-use Rattle.rd_ecl.specs.Formulas.{Tree, Fits, has_slots, InFragment, nodes, levels, predicates_of, distinct, holds}
+use Rattle.rd_ecl.specs.Formulas.{Tree, Fits, formula_fits, has_slots, post_order, first_offence, InFragment, nodes, levels, predicates_of, distinct, holds}
 use Rattle.rd_ecl.specs.Variables.{AreVariables, are_different, is_among, is_variable}
 
 -- a kind, by its name, its methods, and the formula of each pair of them, where it is set: that of methods m and n, with m
@@ -99,6 +99,19 @@ pub record MayPair (kind : SpecifiedKind) (first second : ℕ) (formula : Tree) 
   pub pair : IsPair formula (slots_at kind.methods first) (slots_at kind.methods second)
   pub few_first : length (method_predicates (with_pair kind first second formula) first) ≤ 5
   pub few_second : length (method_predicates (with_pair kind first second formula) second) ≤ 5
+
+-- the test of what a pair's formula may be, for kinds that are written out
+abbrev pub is_pair : Tree → ℕ → ℕ → Bool
+is_pair formula m n =
+    formula_fits formula m n && (has_slots formula && (is_none (first_offence 0 (post_order formula))
+    && (nat_le (nodes formula) 64 && nat_le (levels formula) 32)))
+
+abbrev pub may_pair : SpecifiedKind → ℕ → ℕ → Tree → Bool
+may_pair kind first second formula =
+    nat_le first second && (nat_lt second (length kind.methods) && (is_none (formula_at kind first second)
+    && (is_pair formula (slots_at kind.methods first) (slots_at kind.methods second)
+    && (nat_le (length (method_predicates (with_pair kind first second formula) first)) 5
+    && nat_le (length (method_predicates (with_pair kind first second formula) second)) 5))))
 
 -- the formula of two methods, in the order in which they are declared, holds of two calls
 abbrev pub pair_holds : SpecifiedKind → ℕ → ℕ → List Value → List Value → Bool

@@ -1,11 +1,16 @@
 //! Formulas: when two calls of a pair of methods commute.
 ghost use Rattle.std.specs.Prelude.{◌≡◌, ◌+◌, ◌≤◌, ◌<◌, ◌^◌, ◌&&◌, ◌↔◌, ℕ, List, IfNone, IsNone, IsTrue, IsFalse, length, Option, Some, None, if◌then◌else◌, slice_get};
+ghost use Rattle.rd_base.specs.declared.values.Value.{Value};
+ghost use Rattle.rd_ecl.specs.declared.formulas.Predicate.{Predicate};
 ghost use Rattle.rd_ecl.specs.declared.formulas.Rel.{Rel};
 ghost use Rattle.rd_ecl.specs.declared.formulas.Rel.TheVariants.{Lt, Le};
 ghost use Rattle.rd_ecl.specs.declared.formulas.Reason.TheVariants.{NotOverCross, OrOfCross};
-ghost use Rattle.rd_ecl.specs.Formulas.{tree_of, holds, Fits, post_order, first_offence, nodes, levels, InFragment, FitsTerm, term_value, relates, relate, slots_of, crosses, same_value, offence, or_later, earlier_of};
+ghost use Rattle.rd_ecl.specs.Formulas.{tree_of, holds, Fits, post_order, first_offence, nodes, levels, InFragment, FitsTerm, term_value, relates, relate, slots_of, crosses, same_predicate, same_value, offence, or_later, earlier_of};
 
 use rd_base::Value;
+
+#[cfg(test)]
+mod tests;
 
 /// The two sides of a formula: the calls that it speaks of.
 #[derive(Clone, Copy, Debug, PartialEq, Eq)]
@@ -344,3 +349,10 @@ impl Formula {
         }
     }
 }
+
+/// The law of equal terms: the tests of equal values and of equal relations find exactly the equal ones.
+#[tactic(auto, using(crate::proofs::EqualLemmas::value_decides, crate::proofs::EqualLemmas::predicate_decides))]
+pub fn law_of_formulas()
+    ensures values { (a b : Value) → IsTrue (same_value a b) ↔ (a ≡ b) }
+    ensures predicates { (p q : Predicate) → IsTrue (same_predicate p q) ↔ (p ≡ q) }
+{}

@@ -1,8 +1,9 @@
 //! A kind of objects and its methods.
-ghost use Rattle.std.specs.Prelude.{◌≡◌, ◌≢◌, ◌↔◌, ℕ, List, [], ◌∷◌, ◌++◌, IfOk, OnOk, OnErr, IsTrue, AllPairs, Contains, IsOk, Some, None, replicate, length, ◌+◌, ◌*◌, ◌<◌, ◌≤◌};
+ghost use Rattle.std.specs.Prelude.{◌≡◌, ◌≢◌, ◌↔◌, ℕ, List, [], ◌∷◌, ◌++◌, IfOk, OnOk, OnErr, IsTrue, AllPairs, Contains, IsOk, Some, None, replicate, length, ◌+◌, ◌*◌, ◌<◌, ◌≤◌, ◌&&◌};
+ghost use Rattle.rd_base.specs.declared.values.Value.{Value};
 ghost use Rattle.rd_ecl.specs.Variables.{IsVariable, is_variable, is_among, are_different};
-ghost use Rattle.rd_ecl.specs.Formulas.{tree_of};
-ghost use Rattle.rd_ecl.specs.Specified.{IsKind, IsPair, IsWhole, MayAdd, MayPair, commutes, formula_at, slots_at, with_method, with_pair};
+ghost use Rattle.rd_ecl.specs.Formulas.{Tree, tree_of};
+ghost use Rattle.rd_ecl.specs.Specified.{IsKind, IsPair, IsWhole, MayAdd, MayPair, SpecifiedKind, commutes, formula_at, may_pair, pair_holds, slots_at, with_method, with_pair};
 
 use crate::formulas::Formula;
 use crate::names::Names;
@@ -31,7 +32,6 @@ impl Model for KindSpec {
     ghost use Rattle.std.specs.Prelude.{map, option_map};
     ghost use Rattle.rd_ecl.specs.Formulas.{tree_of};
     ghost use Rattle.rd_ecl.specs.Specified.{SpecifiedKind, IsKind, IsDraft};
-
     ghost use Rattle.std.specs.Coded.{codes};
     ghost use Rattle.rd_ecl.specs.Codes.{coded_tree};
 
@@ -119,7 +119,6 @@ impl Model for KindDraft {
     ghost use Rattle.std.specs.Prelude.{map, option_map};
     ghost use Rattle.rd_ecl.specs.Formulas.{tree_of};
     ghost use Rattle.rd_ecl.specs.Specified.{SpecifiedKind, IsKind, IsDraft};
-
     ghost use Rattle.std.specs.Coded.{codes};
     ghost use Rattle.rd_ecl.specs.Codes.{coded_tree};
 
@@ -188,4 +187,19 @@ pub fn law_of_variables()
     ensures variable { (bytes : List ℕ) → (IsTrue (is_variable bytes) ↔ IsVariable bytes) }
     ensures among { (name : List ℕ) (names : List (List ℕ)) → (IsTrue (is_among name names) ↔ Contains names name) }
     ensures different { (names : List (List ℕ)) → (IsTrue (are_different names) ↔ AllPairs (λ x y. x ≢ y) names) }
+{}
+
+/// The law of commuting calls: calls commute in either order; those of different methods by their formula with the method
+/// declared first on side 1, those of one method by its formula with either call there.
+#[tactic(auto, using(crate::proofs::CommuteLemmas::symmetric, crate::proofs::CommuteLemmas::straight, crate::proofs::CommuteLemmas::behind, crate::proofs::CommuteLemmas::alike))]
+pub fn law_of_commuting()
+    ensures symmetric { (kind : SpecifiedKind) (m n : ℕ) (a b : List Value) → commutes kind m a n b ≡ commutes kind n b m a }
+    ensures before { (kind : SpecifiedKind) (m n : ℕ) (a b : List Value) → m < n → commutes kind m a n b ≡ pair_holds kind m n a b }
+    ensures behind { (kind : SpecifiedKind) (m n : ℕ) (a b : List Value) → n < m → commutes kind m a n b ≡ pair_holds kind n m b a }
+    ensures alike { (kind : SpecifiedKind) (m : ℕ) (a b : List Value) → commutes kind m a m b ≡ (pair_holds kind m m a b && pair_holds kind m m b a) }
+{}
+
+/// The law of pairs: the test of a pair's formula, which computes on a kind that is written out, finds only those that may be set.
+pub fn law_of_pairs()
+    ensures { (kind : SpecifiedKind) (first second : ℕ) (formula : Tree) → IsTrue (may_pair kind first second formula) → MayPair kind first second formula }
 {}

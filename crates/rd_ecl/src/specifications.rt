@@ -16,7 +16,6 @@ pub struct Spec {
 impl Model for Spec {
     ghost use Rattle.std.specs.Prelude.{List, All};
     ghost use Rattle.rd_ecl.specs.Specified.{SpecifiedKind, IsKind};
-
     ghost use Rattle.std.specs.Coded.{codes};
     ghost use Rattle.rd_ecl.specs.Codes.{coded_tree};
 

@@ -1,37 +1,65 @@
-ghost use Rattle.std.specs.Prelude.{◌≡◌, [], ◌∷◌, length, codes, IfOk};
-ghost use Rattle.rd_ecl.specs.Kinds.{kinds_of};
+ghost use Rattle.std.specs.Prelude.{◌≡◌, [], ◌∷◌, length, codes, IfOk, replicate, None};
+ghost use Rattle.rd_ecl.specs.declared.formulas.Rel.TheVariants.{Eq};
+ghost use Rattle.rd_ecl.specs.declared.formulas.Side.TheVariants.{First, Second};
+ghost use Rattle.rd_ecl.specs.declared.formulas.Term.TheVariants.{Slot};
+ghost use Rattle.rd_ecl.specs.Formulas.{tree_of, atom, both};
 ghost use Rattle.rd_ecl.specs.Specified.{names_of};
 
 use super::*;
-use rd_base::{Name, NoMemory};
+use rd_base::{Name, NoMemory, Value};
 use std::alloc::Global;
 use std::test::Fail;
 
-// The kind `register`, by literal names: what `method` asks is proved by computation.
-fn register(alloc: Global) -> Result<Spec, NoMemory>
-    ensures { IfOk result (λ spec. kinds_of spec ≡ record {
-      name = codes "register";
-      methods = record { name = codes "read"; slots = 1 } ∷ record { name = codes "write"; slots = 2 }
-          ∷ record { name = codes "swap"; slots = 2 } ∷ [];
-    } ∷ []) }
+// The methods of a cell: `put` answers what was there, `get` what is there.
+fn cell_methods(alloc: Global) -> Result<KindDraft, NoMemory>
+    ensures { IfOk result (λ draft. draft ≡ record {
+      name = codes "cell";
+      methods = record { name = codes "put"; variables = codes "value" ∷ codes "prev" ∷ [] } ∷ record { name = codes "get"; variables = codes "value" ∷ [] } ∷ [];
+      pairs = replicate 32 None;
+    }) }
 {
-    let mut read = Names::new(alloc);
-    read.push(Name::from_bytes(b"value").unwrap())?;
-    let mut write = Names::new(alloc);
-    write.push(Name::from_bytes(b"value").unwrap())?;
-    write.push(Name::from_bytes(b"done").unwrap())?;
-    let mut swap = Names::new(alloc);
-    swap.push(Name::from_bytes(b"value").unwrap())?;
-    swap.push(Name::from_bytes(b"prev").unwrap())?;
-    let mut kind = KindDraft::new(alloc, Name::from_bytes(b"register").unwrap())?;
-    kind.method(Name::from_bytes(b"read").unwrap(), read)?;
-    kind.method(Name::from_bytes(b"write").unwrap(), write)?;
-    kind.method(Name::from_bytes(b"swap").unwrap(), swap)?;
-    let mut spec = Spec::empty(alloc);
-    match spec.push(kind.finish()) {
-        Ok(()) => Ok(spec),
-        Err((_, NoMemory)) => Err(NoMemory),
+    let mut put = Names::new(alloc);
+    put.push(Name::from_bytes(b"value").unwrap())?;
+    put.push(Name::from_bytes(b"prev").unwrap())?;
+    let mut get = Names::new(alloc);
+    get.push(Name::from_bytes(b"value").unwrap())?;
+    let mut kind = KindDraft::new(alloc, Name::from_bytes(b"cell").unwrap())?;
+    kind.method(Name::from_bytes(b"put").unwrap(), put)?;
+    kind.method(Name::from_bytes(b"get").unwrap(), get)?;
+    Ok(kind)
+}
+
+// A kind of cells.
+fn cell(alloc: Global) -> Result<KindSpec, NoMemory>
+    ensures { IfOk result (λ kind. kind.methods ≡ record { name = codes "put"; variables = codes "value" ∷ codes "prev" ∷ [] }
+        ∷ record { name = codes "get"; variables = codes "value" ∷ [] } ∷ []) }
+{
+    let mut kind = cell_methods(alloc)?;
+    let puts = both_keep(alloc)?;
+    kind.pair(0, 0, puts)?;
+    kind.pair(0, 1, keeps(Side::First))?;
+    kind.pair(1, 1, Formula::True)?;
+    Ok(kind.finish())
+}
+
+// The first two slots of a side are equal.
+fn keeps(side: Side) -> Formula
+    ensures { tree_of result ≡ atom side Eq (Slot 0) (Slot 1) }
+{
+    Formula::Atom {
+        side,
+        rel: Rel::Eq,
+        left: Term::Slot(0),
+        right: Term::Slot(1),
     }
+}
+
+// Both calls leave what was there.
+fn both_keep(alloc: Global) -> Result<Formula, NoMemory>
+    ensures { IfOk result (λ formula. tree_of formula ≡ both (atom First Eq (Slot 0) (Slot 1)) (atom Second Eq (Slot 0) (Slot 1))) }
+{
+    let left = Box::new(alloc, keeps(Side::First))?;
+    Ok(Formula::And(left, Box::new(alloc, keeps(Side::Second))?))
 }
 
 // 7 variables, the most that a method may have.
@@ -67,7 +95,7 @@ fn half(alloc: Global) -> Result<KindDraft, NoMemory>
 }
 
 // A kind with 16 methods, the most that there may be.
-fn whole(alloc: Global) -> Result<KindSpec, NoMemory> {
+fn whole(alloc: Global) -> Result<KindDraft, NoMemory> {
     let mut kind = half(alloc)?;
     kind.method(Name::from_bytes(b"m8").unwrap(), seven(alloc)?)?;
     kind.method(Name::from_bytes(b"m9").unwrap(), seven(alloc)?)?;
@@ -77,37 +105,53 @@ fn whole(alloc: Global) -> Result<KindSpec, NoMemory> {
     kind.method(Name::from_bytes(b"m").unwrap(), seven(alloc)?)?;
     kind.method(Name::from_bytes(b"a").unwrap(), seven(alloc)?)?;
     kind.method(Name::from_bytes(b"last").unwrap(), seven(alloc)?)?;
-    Ok(kind.finish())
+    Ok(kind)
 }
 
-fn flag(alloc: Global) -> Result<KindSpec, NoMemory>
-    ensures { IfOk result (λ kind. kind ≡ record {
+// The method of a flag.
+fn flag_methods(alloc: Global) -> Result<KindDraft, NoMemory>
+    ensures { IfOk result (λ draft. draft ≡ record {
       name = codes "flag";
       methods = record { name = codes "set"; variables = codes "done" ∷ [] } ∷ [];
+      pairs = replicate 16 None;
     }) }
 {
     let mut variables = Names::new(alloc);
     variables.push(Name::from_bytes(b"done").unwrap())?;
     let mut kind = KindDraft::new(alloc, Name::from_bytes(b"flag").unwrap())?;
     kind.method(Name::from_bytes(b"set").unwrap(), variables)?;
+    Ok(kind)
+}
+
+// A kind of flags.
+fn flag(alloc: Global) -> Result<KindSpec, NoMemory>
+    ensures { IfOk result (λ kind. kind.methods ≡ record { name = codes "set"; variables = codes "done" ∷ [] } ∷ []) }
+{
+    let mut kind = flag_methods(alloc)?;
+    let done = Formula::Atom {
+        side: Side::First,
+        rel: Rel::Eq,
+        left: Term::Slot(0),
+        right: Term::Const(Value::Bool(true)),
+    };
+    kind.pair(0, 0, done)?;
     Ok(kind.finish())
 }
 
 #[test]
 fn kinds_of_a_specification(rt: HostRuntime) -> Result<(), Fail> {
-    let mut spec = register(rt.alloc())?;
+    let mut spec = Spec::empty(rt.alloc());
+    assert!(rt; spec.push(cell(rt.alloc())?).is_ok());
     assert!(rt; spec.push(flag(rt.alloc())?).is_ok());
-    assert!(rt; spec.push(whole(rt.alloc())?).is_ok());
     let rows = [
         (
-            b"register".as_slice(),
-            3,
-            b"swap".as_slice(),
+            b"cell".as_slice(),
             2,
-            b"prev".as_slice(),
+            b"get".as_slice(),
+            1,
+            b"value".as_slice(),
         ),
         (b"flag", 1, b"set", 1, b"done"),
-        (b"whole", 16, b"last", 7, b"x9"),
     ];
     assert_eq!(rt; spec.kinds().len(), rows.len());
     for (kind, (name, methods, last, variables, result)) in spec.kinds().iter().zip(rows) {
@@ -119,6 +163,49 @@ fn kinds_of_a_specification(rt: HostRuntime) -> Result<(), Fail> {
         assert_eq!(rt; names.len(), variables);
         assert_eq!(rt; names.last().expect(&rt, "a variable").items(), result);
     }
+    Ok(())
+}
+
+// Two calls of `set` commute where both are done: the formula is asked with either call on side 1.
+#[test]
+fn an_asymmetric_formula(rt: HostRuntime) -> Result<(), Fail> {
+    let flag = flag(rt.alloc())?;
+    let rows = [
+        (true, true, true),
+        (true, false, false),
+        (false, true, false),
+        (false, false, false),
+    ];
+    for (first, second, expected) in rows {
+        let (a, b) = ([Value::Bool(first)], [Value::Bool(second)]);
+        assert_eq!(rt; flag.commute(0, &a, 0, &b), expected);
+    }
+    Ok(())
+}
+
+// A `put` that changes nothing commutes with a `get` on either side, and one that changes the value doesn't.
+#[test]
+fn calls_of_different_methods(rt: HostRuntime) -> Result<(), Fail> {
+    let cell = cell(rt.alloc())?;
+    let get = [Value::Int(1)];
+    for (value, previous, expected) in [(1, 1, true), (1, 2, false)] {
+        let put = [Value::Int(value), Value::Int(previous)];
+        assert_eq!(rt; cell.commute(0, &put, 1, &get), expected);
+        assert_eq!(rt; cell.commute(1, &get, 0, &put), expected);
+        assert_eq!(rt;
+            cell.commute(0, &put, 0, &[Value::Int(3), Value::Int(3)]),
+            expected
+        );
+    }
+    assert!(rt; cell.commute(1, &get, 1, &[Value::Nil]));
+    assert_eq!(rt; cell.formula(0, 0).nodes(), 3);
+    assert_eq!(rt; cell.formula(1, 1).nodes(), 1);
+    Ok(())
+}
+
+#[test]
+fn sixteen_methods(rt: HostRuntime) -> Result<(), Fail> {
+    assert!(rt; whole(rt.alloc()).is_ok());
     Ok(())
 }
 

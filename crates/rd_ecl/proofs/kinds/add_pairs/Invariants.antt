@@ -1,6 +1,5 @@
-use Rattle.std.proofs.Common.{◌≡◌, ◌≤◌, ◌+◌, ◌++◌, Option, None, replicate}
+use Rattle.std.proofs.Common.{◌≡◌, ◌≤◌, ◌+◌, ◌++◌, None, replicate}
 use Rattle.std.specs.Prelude.{vec_len, vec_capacity}
-use Rattle.rd_ecl.specs.declared.formulas.Formula.{Formula}
 use Rattle.rd_ecl.proofs.kinds.add_pairs.Given as goal
 
 abbrev pub invariant-loop : goal.invariant-loop

@@ -1,0 +1,58 @@
+-- The test of a pair's formula finds only those that may be set.
+use Rattle.std.proofs.Common.{◌≡◌, ℕ, true, refl, is_none, length, Option, Some, None}
+use Rattle.std.specs.Prelude.{nat_le, nat_lt, IsTrue}
+use Rattle.std.proofs.lemmas.Bool.{and_parts, leb-true, ltb-true}
+use Rattle.rd_ecl.specs.declared.formulas.Term.{Term}
+use Rattle.rd_ecl.specs.declared.formulas.Term.TheVariants.{Slot, Const}
+use Rattle.rd_ecl.specs.Formulas.{Tree, truth, atom, cross, mixed, negation, both, either, Fits, FitsTerm, formula_fits, term_fits, of_side, has_slots, post_order, first_offence, nodes, levels}
+use Rattle.rd_ecl.specs.Specified.{SpecifiedKind, IsPair, MayPair, formula_at, is_pair, may_pair, method_predicates, slots_at, with_pair}
+use Rattle.rd_ecl.proofs.FragmentLemmas.{inside}
+
+fits_term : (t : Term) (n : ℕ) → term_fits t n ≡ true → FitsTerm t n
+fits_term (Slot number) n e = ltb-true number n e
+fits_term (Const value) n e = tt
+
+fits : (f : Tree) (m n : ℕ) → formula_fits f m n ≡ true → Fits f m n
+fits (truth value) m n e = tt
+fits (atom side rel left right) m n e =
+    let h = and_parts (term_fits left (of_side side m n)) (term_fits right (of_side side m n)) e in
+    (fits_term left (of_side side m n) h.0, fits_term right (of_side side m n) h.1)
+fits (cross first second) m n e = let h = and_parts (nat_lt first m) (nat_lt second n) e in (ltb-true first m h.0, ltb-true second n h.1)
+fits (mixed rel flipped first second) m n e = let h = and_parts (nat_lt first m) (nat_lt second n) e in (ltb-true first m h.0, ltb-true second n h.1)
+fits (negation f) m n e = fits f m n e
+fits (both f g) m n e = let h = and_parts (formula_fits f m n) (formula_fits g m n) e in (fits f m n h.0, fits g m n h.1)
+fits (either f g) m n e = let h = and_parts (formula_fits f m n) (formula_fits g m n) e in (fits f m n h.0, fits g m n h.1)
+
+pair_by : (f : Tree) (m n : ℕ) → is_pair f m n ≡ true → IsPair f m n
+pair_by f m n e =
+    let h = and_parts (formula_fits f m n) _ e in
+    let k = and_parts (has_slots f) _ h.1 in
+    let l = and_parts (is_none (first_offence 0 (post_order f))) _ k.1 in
+    let s = and_parts (nat_le (nodes f) 64) (nat_le (levels f) 32) l.1 in
+    record {
+      fits = fits f m n h.0;
+      slots = k.0;
+      inside = inside f l.0;
+      few = leb-true (nodes f) 64 s.0;
+      shallow = leb-true (levels f) 32 s.1;
+    }
+
+unset_by : (o : Option Tree) → is_none o ≡ true → o ≡ None
+unset_by None e = refl
+unset_by (Some f) e = absurd (cc)
+
+pub may_by : (kind : SpecifiedKind) (first second : ℕ) (f : Tree) → IsTrue (may_pair kind first second f) → MayPair kind first second f
+may_by kind first second f e =
+    let h = and_parts (nat_le first second) _ e in
+    let k = and_parts (nat_lt second (length kind.methods)) _ h.1 in
+    let l = and_parts (is_none (formula_at kind first second)) _ k.1 in
+    let p = and_parts (is_pair f (slots_at kind.methods first) (slots_at kind.methods second)) _ l.1 in
+    let s = and_parts (nat_le (length (method_predicates (with_pair kind first second f) first)) 5) (nat_le (length (method_predicates (with_pair kind first second f) second)) 5) p.1 in
+    record {
+      ordered = leb-true first second h.0;
+      known = ltb-true second (length kind.methods) k.0;
+      unset = unset_by (formula_at kind first second) l.0;
+      pair = pair_by f (slots_at kind.methods first) (slots_at kind.methods second) p.0;
+      few_first = leb-true (length (method_predicates (with_pair kind first second f) first)) 5 s.0;
+      few_second = leb-true (length (method_predicates (with_pair kind first second f) second)) 5 s.1;
+    }
