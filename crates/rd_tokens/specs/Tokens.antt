@@ -34,7 +34,7 @@ HasNoEnd bytes = (inside behind : List ℕ) → IsInside inside → ¬ (bytes �
 abbrev pub SpellsText : List ℕ → Type 0
 SpellsText bytes = (text : List ℕ) × IsText text × (bytes ≡ spelling (TextValue text))
 
--- what is wrong, with the bytes behind it: a byte that no other token has, what is quoted and spells no text, a quote without an end
+-- what is wrong, with the bytes behind it: a byte that isn't plain, what is quoted and spells no text, a quote without an end
 pub data IsWrong : List ℕ → List ℕ → Type 0 where
   wrong_byte : {b : ℕ} {behind : List ℕ} → is_plain b ≡ false → IsWrong (b ∷ []) behind
   wrong_text : (inside : List ℕ) {behind : List ℕ} → IsInside inside → ¬ (SpellsText (quoted inside)) → IsWrong (quoted inside) behind

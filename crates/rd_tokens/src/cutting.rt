@@ -1,5 +1,5 @@
 //! Cutting a line into tokens.
-ghost use Rattle.std.specs.Prelude.{◌≡◌, ◌≢◌, ℕ, ◌+◌, ◌-◌, ◌<◌, ◌≤◌, ◌^◌, List, false, not, length, take, drop, slice_index, All, AllPairs, Any, IfOk, is_some, if◌then◌else◌};
+ghost use Rattle.std.specs.Prelude.{◌≡◌, ◌≢◌, ◌==◌, ℕ, ◌+◌, ◌-◌, ◌<◌, ◌≤◌, ◌^◌, List, false, not, length, take, drop, slice_index, All, AllPairs, Any, IfOk, is_some, if◌then◌else◌};
 ghost use Rattle.std.specs.List.{position, prefix_len};
 ghost use Rattle.rd_base.specs.ReadingValues.{value_of};
 ghost use Rattle.rd_tokens.specs.declared.items.Sort.TheVariants.{Text, Wrong, Word};
@@ -10,6 +10,12 @@ ghost use Rattle.rd_tokens.specs.ReadingTokens.{is_end, takes_next, inside_lengt
 use crate::items::{Sort, Token, Tokens};
 use rd_base::{NoMemory, is_value};
 use std::alloc::Global;
+
+fn is_space(byte: u8) -> bool
+    ensures { result ≡ (byte == 32) }
+{
+    byte == b' '
+}
 
 fn is_word_byte(byte: u8) -> bool
     ensures { result ≡ is_word_byte byte }
@@ -145,7 +151,7 @@ pub fn tokens(alloc: Global, line: &[u8]) -> Result<Tokens, NoMemory>
     let mut found = Tokens::new(alloc);
     let mut start = 0;
     while start < line.len() {
-        if line[start] == b' ' {
+        if is_space(line[start]) {
             start += 1;
             continue;
         }
