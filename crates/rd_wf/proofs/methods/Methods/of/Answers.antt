@@ -14,5 +14,5 @@ loop-method-preserved c =
     let methods = c.methods-method-items.ensures in
     let table = c.loop-method.slots in
     ap (map method_entry) (c.in_ok-insert.ensures.entries ∙ (λ i. insert_entry same_name table.entries (c.copy.ensures i) (length (c.items.ensures i))))
-    ∙ method_added c.methods-method-items.result.now (subst AreMethods (sym methods.value) methods.valid) table c.loop-method.method-index c.method-item.result
+    ∙ method_added c.methods-method-items.result.now (subst AreMethods (sym methods.value) methods.valid.draft.methods) table c.loop-method.method-index c.method-item.result
     c.loop-method-test.true (sym c.method-item.is) c.loop-method.invariant
