@@ -1,0 +1,4 @@
+pub mod FirstWrong
+pub mod RunLemmas
+pub mod StandLemmas
+pub mod ReadLemmas

@@ -1,0 +1,3 @@
+pub mod FirstWrong
+pub mod Grammar
+pub mod Machine

@@ -1,0 +1,167 @@
+-- The machine that the reader runs. Nobody has to believe it: the reader's contract speaks of the grammar alone.
+use Rattle.std.specs.Prelude.{ℕ, Bool, Option, Some, None, List, [], ◌∷◌, map, reverse, option_map}
+use Rattle.rd_grammar.specs.Grammar.{Tree, truth, relation, negation, both, either, tree_of}
+use Rattle.rd_grammar.specs.declared.marks.Mark.{Mark}
+use Rattle.rd_grammar.specs.declared.marks.Sign.{Sign}
+use Rattle.rd_grammar.specs.declared.marks.Symbol.{Symbol}
+use Rattle.rd_grammar.specs.declared.marks.Symbol.TheVariants.{Open, Close, Not, And, Or, Truth, Sign as SignOf, Term, Other}
+use Rattle.rd_grammar.specs.declared.reader.LeftPart.{LeftPart}
+use Rattle.rd_grammar.specs.declared.reader.Pending.{Pending as PendingCode}
+use Rattle.rd_grammar.specs.declared.reader.Mode.{Mode}
+use Rattle.rd_grammar.specs.declared.reader.Mode.TheVariants.{Wanting, Lead, Sided, Signed, Complete}
+use Rattle.rd_grammar.specs.declared.reader.Reader.{Reader}
+
+-- a formula before an `and` or an `or`, and the number of that word
+pub record Left : Type 0 where
+  pub tree : Tree
+  pub token : ℕ
+
+-- what waits for an operand since the last open parenthesis; the latest `not` stands first
+pub record Pending : Type 0 where
+  pub ors : Option Left
+  pub ands : Option Left
+  pub nots : List ℕ
+
+pub data State : Type 0 where
+  -- an operand is due
+  want : Pending → List Pending → State
+  -- a truth value, which is a term where a sign follows
+  lead : Bool → ℕ → Pending → List Pending → State
+  -- a term, whose sign is due
+  sided : ℕ → Pending → List Pending → State
+  -- a term and a sign
+  signed : ℕ → Sign → ℕ → Pending → List Pending → State
+  -- a formula is complete
+  have : Tree → Option Left → List Pending → State
+
+abbrev pub empty : Pending
+empty = record { ors = None; ands = None; nots = [] }
+
+abbrev pub start : State
+start = want empty []
+
+abbrev pub nots_of : List ℕ → Tree → Tree
+nots_of [] f = f
+nots_of (n ∷ ns) f = nots_of ns (negation n f)
+
+abbrev pub and_with : Option Left → Tree → Tree
+and_with None g = g
+and_with (Some left) g = both left.tree left.token g
+
+abbrev pub or_with : Option Left → Tree → Tree
+or_with None g = g
+or_with (Some left) g = either left.tree left.token g
+
+-- an operand is complete
+abbrev pub done : Tree → Pending → List Pending → State
+done f p st = have (and_with p.ands (nots_of p.nots f)) p.ors st
+
+abbrev pub with_not : Pending → ℕ → Pending
+with_not p token = record p { nots = token ∷ p.nots }
+
+abbrev pub behind_and : Tree → Option Left → ℕ → Pending
+behind_and f o token = record { ors = o; ands = Some (record { tree = f; token = token }); nots = [] }
+
+abbrev pub behind_or : Tree → Option Left → ℕ → Pending
+behind_or f o token = record { ors = Some (record { tree = or_with o f; token = token }); ands = None; nots = [] }
+
+abbrev pub closed : Tree → Option Left → List Pending → Option State
+closed f o [] = None
+closed f o (p ∷ st) = Some (done (or_with o f) p st)
+
+abbrev pub from_want : Pending → List Pending → Symbol → ℕ → Option State
+from_want p st Open token = Some (want empty (p ∷ st))
+from_want p st Close token = None
+from_want p st Not token = Some (want (with_not p token) st)
+from_want p st And token = None
+from_want p st Or token = None
+from_want p st (Truth value) token = Some (lead value token p st)
+from_want p st (SignOf sign) token = None
+from_want p st Term token = Some (sided token p st)
+from_want p st Other token = None
+
+abbrev pub from_have : Tree → Option Left → List Pending → Symbol → ℕ → Option State
+from_have f o st Open token = None
+from_have f o st Close token = closed f o st
+from_have f o st Not token = None
+from_have f o st And token = Some (want (behind_and f o token) st)
+from_have f o st Or token = Some (want (behind_or f o token) st)
+from_have f o st (Truth value) token = None
+from_have f o st (SignOf sign) token = None
+from_have f o st Term token = None
+from_have f o st Other token = None
+
+abbrev pub from_lead : Bool → ℕ → Pending → List Pending → Symbol → ℕ → Option State
+from_lead value n p st Open token = None
+from_lead value n p st Close token = closed (and_with p.ands (nots_of p.nots (truth value n))) p.ors st
+from_lead value n p st Not token = None
+from_lead value n p st And token = Some (want (behind_and (and_with p.ands (nots_of p.nots (truth value n))) p.ors token) st)
+from_lead value n p st Or token = Some (want (behind_or (and_with p.ands (nots_of p.nots (truth value n))) p.ors token) st)
+from_lead value n p st (Truth other) token = None
+from_lead value n p st (SignOf sign) token = Some (signed n sign token p st)
+from_lead value n p st Term token = None
+from_lead value n p st Other token = None
+
+abbrev pub from_sided : ℕ → Pending → List Pending → Symbol → ℕ → Option State
+from_sided n p st Open token = None
+from_sided n p st Close token = None
+from_sided n p st Not token = None
+from_sided n p st And token = None
+from_sided n p st Or token = None
+from_sided n p st (Truth value) token = None
+from_sided n p st (SignOf sign) token = Some (signed n sign token p st)
+from_sided n p st Term token = None
+from_sided n p st Other token = None
+
+abbrev pub from_signed : Tree → Pending → List Pending → Symbol → Option State
+from_signed f p st Open = None
+from_signed f p st Close = None
+from_signed f p st Not = None
+from_signed f p st And = None
+from_signed f p st Or = None
+from_signed f p st (Truth value) = Some (done f p st)
+from_signed f p st (SignOf sign) = None
+from_signed f p st Term = Some (done f p st)
+from_signed f p st Other = None
+
+abbrev pub step_on : State → Symbol → ℕ → Option State
+step_on (want p st) symbol token = from_want p st symbol token
+step_on (lead value n p st) symbol token = from_lead value n p st symbol token
+step_on (sided n p st) symbol token = from_sided n p st symbol token
+step_on (signed n sign k p st) symbol token = from_signed (relation n sign k token) p st symbol
+step_on (have f o st) symbol token = from_have f o st symbol token
+
+abbrev pub step : State → Mark → Option State
+step s m = step_on s m.symbol m.token
+
+abbrev pub whole : Tree → Option Left → List Pending → Option Tree
+whole f o [] = Some (or_with o f)
+whole f o (p ∷ st) = None
+
+abbrev pub result_of : State → Option Tree
+result_of (want p st) = None
+result_of (lead value n p st) = whole (and_with p.ands (nots_of p.nots (truth value n))) p.ors st
+result_of (sided n p st) = None
+result_of (signed n sign k p st) = None
+result_of (have f o st) = whole f o st
+
+-- the state of the reader in the code
+
+abbrev pub left_of : LeftPart → Left
+left_of left = record { tree = tree_of left.formula; token = left.token }
+
+abbrev pub pending_of : PendingCode → Pending
+pending_of p = record { ors = option_map left_of p.or; ands = option_map left_of p.and; nots = reverse p.nots.items }
+
+abbrev pub stack_of : List PendingCode → List Pending
+stack_of stack = reverse (map pending_of stack)
+
+abbrev pub state_in : Mode → List PendingCode → State
+state_in (Wanting pending) stack = want (pending_of pending) (stack_of stack)
+state_in (Lead value token pending) stack = lead value token (pending_of pending) (stack_of stack)
+state_in (Sided left pending) stack = sided left (pending_of pending) (stack_of stack)
+state_in (Signed left sign token pending) stack = signed left sign token (pending_of pending) (stack_of stack)
+state_in (Complete formula left) stack = have (tree_of formula) (option_map left_of left) (stack_of stack)
+
+abbrev pub state_of : Reader → State
+state_of reader = state_in reader.mode reader.stack.items

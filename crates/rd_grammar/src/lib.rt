@@ -1,0 +1,10 @@
+//! The reader of a formula's marks: exactly by the grammar, to the first wrong mark.
+#![tactic(auto)]
+
+mod marks;
+mod parsed;
+mod reader;
+
+pub use marks::{Mark, Sign, Symbol};
+pub use parsed::{ParseRefused, Parsed};
+pub use reader::{MOST_TOKENS, parse_formula};
