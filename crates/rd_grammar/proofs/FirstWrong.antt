@@ -1,7 +1,7 @@
 -- The first wrong token, for any machine that reads a line token by token and any meaning of lines: if a line that says
 -- something is read so, if a line that is read says what was read, and if each state can be finished, then the machine stops
 -- at the first wrong token.
-use Rattle.std.proofs.Common.{◌≡◌, ◌≤◌, ℕ, Option, Some, None, List, [], ◌∷◌, ◌++◌, length, take, drop, refl, sym, ◌∙◌, ap, subst, arith, append_assoc, append-nil, length-append, length-drop}
+use Rattle.std.proofs.Common.{◌≡◌, ◌≤◌, ℕ, Option, Some, None, List, [], ◌∷◌, ◌++◌, ◌⊎◌, inl, inr, length, take, drop, refl, sym, ◌∙◌, ap, subst, arith, append_assoc, append-nil, length-append, length-drop}
 use Rattle.std.proofs.Math.Seq.{take-append_seam}
 use Rattle.rd_grammar.specs.FirstWrong.{Begins, WrongAt}
 
@@ -12,6 +12,55 @@ pub data Outcome (T R : Type 0) : Type 0 where
 
 take_front : {T : Type 0} (n : ℕ) (front back : List T) → length front ≡ n → take n (front ++ back) ≡ front
 take_front n front back is = subst (λ k. take k (front ++ back) ≡ front) is (take-append_seam front back)
+
+begins_front : {T R : Type 0} (Says : List T → R → Type 0) (front rest : List T) → WrongAt Says front rest → Begins Says front
+begins_front Says front [] wrong = wrong.0
+begins_front Says front (t ∷ rest) wrong = wrong.0
+
+-- two ways to cut a line
+data Cuts {T : Type 0} (a b c d : List T) : Type 0 where
+  alike : a ≡ c → Cuts a b c d
+  longer : (t : T) (x : List T) → c ≡ a ++ t ∷ x → b ≡ t ∷ (x ++ d) → Cuts a b c d
+  shorter : (t : T) (x : List T) → a ≡ c ++ t ∷ x → d ≡ t ∷ (x ++ b) → Cuts a b c d
+
+cut_behind : {T : Type 0} (u : T) (a b c d : List T) → Cuts a b c d → Cuts (u ∷ a) b (u ∷ c) d
+cut_behind u a b c d (alike same) = alike (ap (λ x. u ∷ x) same)
+cut_behind u a b c d (longer t x same rest) = longer t x (ap (λ y. u ∷ y) same) rest
+cut_behind u a b c d (shorter t x same rest) = shorter t x (ap (λ y. u ∷ y) same) rest
+
+cuts : {T : Type 0} (a b c d : List T) → a ++ b ≡ c ++ d → Cuts a b c d
+cuts [] b [] d same = alike refl
+cuts [] b (t ∷ c) d same = longer t c refl same
+cuts (t ∷ a) b [] d same = shorter t a refl (sym same)
+cuts (t ∷ a) b (u ∷ c) d same =
+    let head : t ≡ u = cc in
+    let tail : a ++ b ≡ c ++ d = cc in
+    subst (λ v. Cuts (t ∷ a) b (v ∷ c) d) head (cut_behind t a b c d (cuts a b c d tail))
+
+begins_sooner : {T R : Type 0} (Says : List T → R → Type 0) (a c x : List T) (t : T) → c ≡ a ++ t ∷ x → Begins Says c → Begins Says (a ++ t ∷ [])
+begins_sooner Says a c x t same begins =
+    let more = subst (Begins Says) same begins in
+    let regrouped : (a ++ t ∷ x) ++ more.0 ≡ (a ++ t ∷ []) ++ (x ++ more.0) = simp append_assoc in
+    (x ++ more.0, more.1, subst (λ y. Says y more.1) regrouped more.2)
+
+not_longer : {T R : Type 0} (Says : List T → R → Type 0) (a b c d x : List T) (t : T) → c ≡ a ++ t ∷ x → b ≡ t ∷ (x ++ d) → WrongAt Says a b → WrongAt Says c d → ⊥
+not_longer Says a b c d x t same rest wrong also =
+    let wrong_here : WrongAt Says a (t ∷ (x ++ d)) = subst (WrongAt Says a) rest wrong in
+    wrong_here.1 (begins_sooner Says a c x t same (begins_front Says c d also))
+
+at_one_place : {T R : Type 0} (Says : List T → R → Type 0) (a b c d : List T) → WrongAt Says a b → WrongAt Says c d → Cuts a b c d → a ≡ c
+at_one_place Says a b c d wrong also (alike same) = same
+at_one_place Says a b c d wrong also (longer t x same rest) = absurd (not_longer Says a b c d x t same rest wrong also)
+at_one_place Says a b c d wrong also (shorter t x same rest) = absurd (not_longer Says c d a b x t same rest also wrong)
+
+-- a line is wrong at one place at most
+pub one_place : {T R : Type 0} (Says : List T → R → Type 0) (a b c d : List T) → a ++ b ≡ c ++ d → WrongAt Says a b → WrongAt Says c d → a ≡ c
+one_place Says a b c d same wrong also = at_one_place Says a b c d wrong also (cuts a b c d same)
+
+-- a line that says something is wrong nowhere
+pub right_nowhere : {T R : Type 0} (Says : List T → R → Type 0) (front rest : List T) (said : R) → Says (front ++ rest) said → ¬ (WrongAt Says front rest)
+right_nowhere Says front [] said says wrong = wrong.1 said (subst (λ x. Says x said) (append-nil front) says)
+right_nowhere Says front (t ∷ rest) said says wrong = wrong.1 (rest, said, subst (λ x. Says x said) (sym (append_assoc front (t ∷ []) rest)) says)
 
 module _ {T R S : Type 0} (step : S → T → Option S) (result : S → Option R) where
   abbrev pub ended : Option R → Outcome T R
@@ -124,3 +173,12 @@ module _ {T R S : Type 0} (step : S → T → Option S) (result : S → Option R
         let read : walk start ts ≡ correct r = whole ts r says in
         let again : walk start ts ≡ correct q = whole ts q also in
         cc
+
+    judged_as : (ts : List T) (o : Outcome T R) → walk start ts ≡ o
+        → ((r : R) × Says ts r) ⊎ ((front : List T) × (rest : List T) × (ts ≡ front ++ rest) × WrongAt Says front rest)
+    judged_as ts (correct r) e = inl (r, sound ts r e)
+    judged_as ts (stuck rest) e = let at = first_wrong ts rest e in inr (at.0, rest, at.1, at.2)
+
+    -- each line says something or is wrong somewhere
+    pub judged : (ts : List T) → ((r : R) × Says ts r) ⊎ ((front : List T) × (rest : List T) × (ts ≡ front ++ rest) × WrongAt Says front rest)
+    judged ts = judged_as ts (walk start ts) refl

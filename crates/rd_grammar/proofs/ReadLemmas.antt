@@ -1,10 +1,10 @@
 -- What the reader's answers say, by what the machine made of the marks.
-use Rattle.std.proofs.Common.{◌≡◌, ◌≤◌, ◌<◌, ℕ, suc, Option, Some, None, List, [], ◌∷◌, ◌++◌, length, get_or, take, drop, refl, sym, ◌∙◌, ap, subst, arith, drop-cons, drop_of_length-le, le_refl, append_assoc, append-nil}
+use Rattle.std.proofs.Common.{◌≡◌, ◌≤◌, ◌<◌, ℕ, suc, Option, Some, None, List, [], ◌∷◌, ◌++◌, ◌⊎◌, length, get_or, take, drop, refl, sym, ◌∙◌, ap, subst, arith, drop-cons, drop_of_length-le, le_refl, append_assoc, append-nil}
 use Rattle.rd_grammar.specs.declared.marks.Mark.{Mark}
 use Rattle.rd_grammar.specs.FirstWrong.{WrongAt}
 use Rattle.rd_grammar.specs.Grammar.{Tree, Says, disj}
 use Rattle.rd_grammar.specs.Machine.{State, start, step, result_of}
-use Rattle.rd_grammar.proofs.FirstWrong.{correct, stuck, ended, first_wrong_at, never_refused, says_one, walk_stops}
+use Rattle.rd_grammar.proofs.FirstWrong.{correct, stuck, ended, first_wrong_at, never_refused, says_one, judged, walk_stops}
 use Rattle.rd_grammar.proofs.RunLemmas.{run, reads_whole}
 use Rattle.rd_grammar.proofs.StandLemmas.{says_what_it_reads, finishes}
 
@@ -35,6 +35,5 @@ nothing_said = never_refused step result_of (Says disj) start reads_whole says_w
 pub one_tree : (ms : List Mark) (f g : Tree) → Says disj ms f → Says disj ms g → f ≡ g
 one_tree = says_one step result_of (Says disj) start reads_whole says_what_it_reads finishes
 
-pub right_nowhere : (front rest : List Mark) (f : Tree) → Says disj (front ++ rest) f → ¬ (WrongAt (Says disj) front rest)
-right_nowhere front [] f says wrong = wrong.1 f (subst (λ x. Says disj x f) (append-nil front) says)
-right_nowhere front (m ∷ rest) f says wrong = wrong.1 (rest, f, subst (λ x. Says disj x f) (sym (append_assoc front (m ∷ []) rest)) says)
+pub each_judged : (ms : List Mark) → ((f : Tree) × Says disj ms f) ⊎ ((front : List Mark) × (rest : List Mark) × (ms ≡ front ++ rest) × WrongAt (Says disj) front rest)
+each_judged = judged step result_of (Says disj) start reads_whole says_what_it_reads finishes

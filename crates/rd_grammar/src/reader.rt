@@ -1,9 +1,6 @@
 //! The reader: a machine that takes one mark after another, with a stack of what waits outside open parentheses.
-ghost use Rattle.std.specs.Prelude.{◌≡◌, ◌≤◌, ℕ, List, ◌++◌, reverse, length, IfOk, IfErr, option_map};
+ghost use Rattle.std.specs.Prelude.{◌≡◌, ◌≤◌, ℕ, reverse, length, IfOk, IfErr, option_map};
 ghost use Rattle.rd_grammar.specs.Grammar.{Tree, Says, disj, is_term, tree_of, IsRefused};
-ghost use Rattle.rd_grammar.specs.FirstWrong.{WrongAt};
-ghost use Rattle.rd_grammar.specs.Canonical.{AreCanonical};
-ghost use Rattle.rd_grammar.specs.Numbers.{AreNumbered, NamesMarks, named_by, numbers_of};
 ghost use Rattle.rd_grammar.specs.Machine.{start, done, step, from_want, from_lead, from_sided, from_signed, from_have, result_of, whole, closed, empty, nots_of, and_with, or_with, left_of, pending_of, stack_of, state_of};
 ghost use Rattle.rd_grammar.specs.declared.parsed.ParseRefused.TheVariants.{Syntax};
 
@@ -419,19 +416,3 @@ pub fn parse_formula(alloc: Global, marks: &[Mark]) -> Result<Parsed, ParseRefus
         None => Err(ParseRefused::Syntax(marks.len() as u32)),
     }
 }
-
-/// The law of the grammar: marks say one formula at most; marks that say one are wrong nowhere; the canonical marks of a
-/// formula, which it has, are read again as that formula.
-pub fn law_of_grammar()
-    ensures one { (ms : List Mark) (f g : Tree) → Says disj ms f → Says disj ms g → f ≡ g }
-    ensures right { (front rest : List Mark) (f : Tree) → Says disj (front ++ rest) f → ¬ (WrongAt (Says disj) front rest) }
-    ensures canonical { (f : Tree) (ms : List Mark) → AreCanonical f ms → Says disj ms f }
-    ensures shown { (f : Tree) → (ms : List Mark) × AreCanonical f ms }
-{}
-
-/// The law of the numbers: where each mark's number is its place, each node of a formula names the place of its own mark;
-/// and the numbers that a formula names, from left to right, are those of its marks without the parentheses.
-pub fn law_of_numbers()
-    ensures names { (ms : List Mark) (f : Tree) → AreNumbered ms → Says disj ms f → NamesMarks ms f }
-    ensures order { (ms : List Mark) (f : Tree) → Says disj ms f → named_by f ≡ numbers_of ms }
-{}
