@@ -21,7 +21,7 @@ placed : (all : List Mark) → AreNumbered all → (front back : List Mark) (m :
 placed all numbered front back m same =
     let within : length front < length (front ++ m ∷ back) = omega (arith, length-append front (m ∷ back)) in
     let seam : slice_get (front ++ m ∷ back) (length front) ≡ Some m =
-        slice_get-get_or (front ++ m ∷ back) (length front) m within ∙ ap Some (get_or-append_seam front m back m) in
+    slice_get-get_or (front ++ m ∷ back) (length front) m within ∙ ap Some (get_or-append_seam front m back m) in
     let here : slice_get all (length front) ≡ Some m = subst (λ x. slice_get x (length front) ≡ Some m) (sym same) seam in
     let number : m.token ≡ length front = numbered (length front) m here in
     record { at = subst (λ n. slice_get all n ≡ Some m) (sym number) here; number = number }
@@ -40,8 +40,7 @@ relation_names all numbered front back l m r sign first signs second same =
     let at_r = placed all numbered (front ++ l ∷ m ∷ []) back r (rw same (simp append_assoc)) in
     let number_l : l.token ≡ length front = at_l.number in
     let number_m : m.token ≡ length (front ++ l ∷ []) = at_m.number in
-    let number_r : r.token ≡ length (front ++ l ∷ m ∷ []) = at_r.number in
-    (
+    let number_r : r.token ≡ length (front ++ l ∷ m ∷ []) = at_r.number in (
       term_at all front l at_l first,
       stands_at all (front ++ l ∷ []) m (SignOf sign) at_m signs,
       term_at all (front ++ l ∷ m ∷ []) r at_r second,

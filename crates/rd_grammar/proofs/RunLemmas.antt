@@ -5,7 +5,7 @@ use Rattle.rd_grammar.specs.declared.marks.Sign.{Sign}
 use Rattle.rd_grammar.specs.declared.marks.Symbol.{Symbol}
 use Rattle.rd_grammar.specs.declared.marks.Symbol.TheVariants.{Open, Close, Not, And, Or, Truth, Sign as SignOf, Term, Other}
 use Rattle.rd_grammar.specs.Grammar.{Tree, truth, relation, negation, both, either, is_term, Level, disj, conj, neg, prim, Says, disj_one, disj_or, conj_one, conj_and, neg_one, neg_not, prim_truth, prim_in, prim_relation}
-use Rattle.rd_grammar.specs.Machine.{Left, Pending, State, want, lead, sided, signed, have, empty, start, nots_of, and_with, or_with, done, with_not, behind_and, behind_or, step_on, step, result_of}
+use Rattle.rd_grammar.specs.Machine.{Left, Pending, State, want, lead, sided, signed, have, empty, start, nots_of, and_with, or_with, done, with_not, behind_and, behind_or, is_sign, step_on, step, result_of}
 use Rattle.rd_grammar.proofs.FirstWrong.{Outcome, correct, stuck, ended, walk, onward, walk_on}
 
 abbrev pub run : State → List Mark → Outcome Mark Tree
@@ -13,17 +13,6 @@ run s ms = walk step result_of s ms
 
 pub on_symbol : (s u : State) (m : Mark) (x : Symbol) (ms : List Mark) → m.symbol ≡ x → step_on s x m.token ≡ Some u → run s (m ∷ ms) ≡ run u ms
 on_symbol s u m x ms is steps = walk_on step result_of s m ms u (ap (λ y. step_on s y m.token) is ∙ steps)
-
-abbrev pub is_sign : Symbol → Bool
-is_sign Open = false
-is_sign Close = false
-is_sign Not = false
-is_sign And = false
-is_sign Or = false
-is_sign (Truth value) = false
-is_sign (SignOf sign) = true
-is_sign Term = false
-is_sign Other = false
 
 -- no sign comes next
 abbrev pub Free : List Mark → Type 0

@@ -1,5 +1,5 @@
 -- The machine that the reader runs. Nobody has to believe it: the reader's contract speaks of the grammar alone.
-use Rattle.std.specs.Prelude.{ℕ, Bool, Option, Some, None, List, [], ◌∷◌, map, reverse, option_map}
+use Rattle.std.specs.Prelude.{ℕ, Bool, true, false, Option, Some, None, List, [], ◌∷◌, map, reverse, option_map}
 use Rattle.rd_grammar.specs.Grammar.{Tree, truth, relation, negation, both, either, tree_of}
 use Rattle.rd_grammar.specs.declared.marks.Mark.{Mark}
 use Rattle.rd_grammar.specs.declared.marks.Sign.{Sign}
@@ -124,6 +124,17 @@ from_signed f p st (SignOf sign) = None
 from_signed f p st Term = Some (done f p st)
 from_signed f p st Other = None
 
+abbrev pub is_sign : Symbol → Bool
+is_sign Open = false
+is_sign Close = false
+is_sign Not = false
+is_sign And = false
+is_sign Or = false
+is_sign (Truth value) = false
+is_sign (SignOf sign) = true
+is_sign Term = false
+is_sign Other = false
+
 abbrev pub step_on : State → Symbol → ℕ → Option State
 step_on (want p st) symbol token = from_want p st symbol token
 step_on (lead value n p st) symbol token = from_lead value n p st symbol token
@@ -161,7 +172,7 @@ state_in (Wanting pending) stack = want (pending_of pending) (stack_of stack)
 state_in (Lead value token pending) stack = lead value token (pending_of pending) (stack_of stack)
 state_in (Sided left pending) stack = sided left (pending_of pending) (stack_of stack)
 state_in (Signed left sign token pending) stack = signed left sign token (pending_of pending) (stack_of stack)
-state_in (Complete formula left) stack = have (tree_of formula) (option_map left_of left) (stack_of stack)
+state_in (Complete right) stack = have (tree_of right.formula) (option_map left_of right.or) (stack_of stack)
 
 abbrev pub state_of : Reader → State
 state_of reader = state_in reader.mode reader.stack.items

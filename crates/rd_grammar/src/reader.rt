@@ -1,7 +1,7 @@
 //! The reader: a machine that takes one mark after another, with a stack of what waits outside open parentheses.
 ghost use Rattle.std.specs.Prelude.{◌≡◌, ◌≤◌, ℕ, reverse, length, IfOk, IfErr, option_map};
 ghost use Rattle.rd_grammar.specs.Grammar.{Tree, Says, disj, is_term, tree_of, IsRefused};
-ghost use Rattle.rd_grammar.specs.Machine.{start, done, step, from_want, from_lead, from_sided, from_signed, from_have, result_of, whole, closed, empty, nots_of, and_with, or_with, left_of, pending_of, stack_of, state_of};
+ghost use Rattle.rd_grammar.specs.Machine.{start, is_sign, step, from_want, from_lead, from_sided, from_signed, from_have, result_of, whole, closed, empty, nots_of, and_with, or_with, left_of, pending_of, stack_of, state_of};
 ghost use Rattle.rd_grammar.specs.declared.parsed.ParseRefused.TheVariants.{Syntax};
 
 use crate::marks::{Mark, Sign, Symbol};
@@ -27,6 +27,13 @@ struct Pending {
     nots: Vec<u32>,
 }
 
+// A formula that ends where the reader is, unless an `and` follows, and what an `or` joins it to.
+#[derive(Drop)]
+struct RightPart {
+    formula: Parsed,
+    or: Option<LeftPart>,
+}
+
 // What has been read since the last operand, and what may come.
 #[derive(Drop)]
 enum Mode {
@@ -50,11 +57,8 @@ enum Mode {
         token: u32,
         pending: Pending,
     },
-    // a formula is complete, before which an `or` may stand
-    Complete {
-        formula: Parsed,
-        left: Option<LeftPart>,
-    },
+    // a formula, which may end here
+    Complete(RightPart),
 }
 
 // The reader: where it is, and what waits outside each open parenthesis, the innermost last.
@@ -62,17 +66,6 @@ enum Mode {
 struct Reader {
     mode: Mode,
     stack: Vec<Pending>,
-}
-
-// Nothing waits.
-fn nothing(alloc: Global) -> Pending
-    ensures { pending_of result ≡ empty }
-{
-    Pending {
-        or: None,
-        and: None,
-        nots: Vec::new(alloc),
-    }
 }
 
 // The formula with these `not` before it, the last of them innermost.
@@ -104,57 +97,50 @@ fn behind_and(alloc: Global, left: Option<LeftPart>, right: Parsed) -> Result<Pa
     }
 }
 
-// The formula behind an `or`, if there is one.
-fn behind_or(alloc: Global, left: Option<LeftPart>, right: Parsed) -> Result<Parsed, NoMemory>
-    ensures { IfOk result (λ f. tree_of f ≡ or_with (option_map left_of left) (tree_of right)) }
-{
-    match left {
-        None => Ok(right),
-        Some(LeftPart { formula, token }) => Ok(Parsed::Or {
-            left: Box::new(alloc, formula)?,
-            token,
-            right: Box::new(alloc, right)?,
-        }),
+impl Pending {
+    // Nothing waits.
+    fn new(alloc: Global) -> Pending
+        ensures { pending_of result ≡ empty }
+    {
+        Pending {
+            or: None,
+            and: None,
+            nots: Vec::new(alloc),
+        }
+    }
+
+    // What the operand completes.
+    fn filled(self, alloc: Global, operand: Parsed) -> Result<RightPart, NoMemory>
+        ensures formula { let p = pending_of self in IfOk result (λ r. tree_of r.formula ≡ and_with p.ands (nots_of p.nots (tree_of operand))) }
+        ensures or { let p = pending_of self in IfOk result (λ r. option_map left_of r.or ≡ p.ors) }
+    {
+        let Pending { or, and, nots } = self;
+        let inner = negated(alloc, operand, nots)?;
+        let formula = behind_and(alloc, and, inner)?;
+        Ok(RightPart { formula, or })
     }
 }
 
-// The operand that was waited for is complete.
-fn operand(
-    alloc: Global,
-    formula: Parsed,
-    pending: Pending,
-    stack: Vec<Pending>,
-) -> Result<Reader, NoMemory>
-    ensures { IfOk result (λ r. state_of r ≡ done (tree_of formula) (pending_of pending) (stack_of stack.items)) }
-{
-    let Pending { or, and, nots } = pending;
-    let inner = negated(alloc, formula, nots)?;
-    let whole = behind_and(alloc, and, inner)?;
-    Ok(Reader {
-        mode: Mode::Complete {
-            formula: whole,
-            left: or,
-        },
-        stack,
-    })
-}
-
-// A closing parenthesis behind a formula.
-fn closed(
-    alloc: Global,
-    formula: Parsed,
-    left: Option<LeftPart>,
-    stack: Vec<Pending>,
-) -> Result<Option<Reader>, NoMemory>
-    ensures { IfOk result (λ next. option_map state_of next ≡ closed (tree_of formula) (option_map left_of left) (stack_of stack.items)) }
-{
-    let mut rest = stack;
-    let Some(pending) = rest.pop() else {
-        return Ok(None);
-    };
-    let inside = behind_or(alloc, left, formula)?;
-    let reader = operand(alloc, inside, pending, rest)?;
-    Ok(Some(reader))
+impl RightPart {
+    // The formula with what an `or` joins it to.
+    fn whole(self, alloc: Global) -> Result<Parsed, NoMemory>
+        ensures { IfOk result (λ f. tree_of f ≡ or_with (option_map left_of self.or) (tree_of self.formula)) }
+    {
+        let RightPart { formula, or } = self;
+        match or {
+            None => Ok(formula),
+            Some(
+                LeftPart {
+                    formula: left,
+                    token,
+                },
+            ) => Ok(Parsed::Or {
+                left: Box::new(alloc, left)?,
+                token,
+                right: Box::new(alloc, formula)?,
+            }),
+        }
+    }
 }
 
 // A mark where an operand is due.
@@ -169,18 +155,18 @@ fn wanting(
     let token = mark.token;
     match mark.symbol {
         Symbol::Open => {
-            let mut stack = stack;
-            stack.push(pending)?;
+            let mut outside = stack;
+            outside.push(pending)?;
             Ok(Some(Reader {
-                mode: Mode::Wanting(nothing(alloc)),
-                stack,
+                mode: Mode::Wanting(Pending::new(alloc)),
+                stack: outside,
             }))
         }
         Symbol::Not => {
-            let mut pending = pending;
-            pending.nots.push(token)?;
+            let mut negated = pending;
+            negated.nots.push(token)?;
             Ok(Some(Reader {
-                mode: Mode::Wanting(pending),
+                mode: Mode::Wanting(negated),
                 stack,
             }))
         }
@@ -203,28 +189,46 @@ fn wanting(
     }
 }
 
-// A mark behind a complete formula.
+// A closing parenthesis behind a formula.
+fn closed(alloc: Global, inside: RightPart, stack: Vec<Pending>) -> Result<Option<Reader>, NoMemory>
+    ensures { IfOk result (λ next. option_map state_of next ≡ closed (tree_of inside.formula) (option_map left_of inside.or) (stack_of stack.items)) }
+{
+    let mut outside = stack;
+    let Some(pending) = outside.pop() else {
+        return Ok(None);
+    };
+    let operand = inside.whole(alloc)?;
+    let right = pending.filled(alloc, operand)?;
+    Ok(Some(Reader {
+        mode: Mode::Complete(right),
+        stack: outside,
+    }))
+}
+
+// A mark behind a formula.
 fn complete(
     alloc: Global,
-    formula: Parsed,
-    left: Option<LeftPart>,
+    right: RightPart,
     stack: Vec<Pending>,
     mark: Mark,
 ) -> Result<Option<Reader>, NoMemory>
-    ensures { IfOk result (λ next. option_map state_of next ≡ from_have (tree_of formula) (option_map left_of left) (stack_of stack.items) mark.symbol mark.token) }
+    ensures { IfOk result (λ next. option_map state_of next ≡ from_have (tree_of right.formula) (option_map left_of right.or) (stack_of stack.items) mark.symbol mark.token) }
 {
     let token = mark.token;
     match mark.symbol {
-        Symbol::And => Ok(Some(Reader {
-            mode: Mode::Wanting(Pending {
-                or: left,
-                and: Some(LeftPart { formula, token }),
-                nots: Vec::new(alloc),
-            }),
-            stack,
-        })),
+        Symbol::And => {
+            let RightPart { formula, or } = right;
+            Ok(Some(Reader {
+                mode: Mode::Wanting(Pending {
+                    or,
+                    and: Some(LeftPart { formula, token }),
+                    nots: Vec::new(alloc),
+                }),
+                stack,
+            }))
+        }
         Symbol::Or => {
-            let formula = behind_or(alloc, left, formula)?;
+            let formula = right.whole(alloc)?;
             Ok(Some(Reader {
                 mode: Mode::Wanting(Pending {
                     or: Some(LeftPart { formula, token }),
@@ -234,7 +238,7 @@ fn complete(
                 stack,
             }))
         }
-        Symbol::Close => closed(alloc, formula, left, stack),
+        Symbol::Close => closed(alloc, right, stack),
         Symbol::Open
         | Symbol::Not
         | Symbol::Truth(_)
@@ -242,57 +246,6 @@ fn complete(
         | Symbol::Term
         | Symbol::Other => Ok(None),
     }
-}
-
-// Is it a mark that may stand beside a sign?
-fn is_term(symbol: Symbol) -> bool
-    ensures { result ≡ is_term symbol }
-{
-    matches!(symbol, Symbol::Truth(_) | Symbol::Term)
-}
-
-// The formula that ends here, if no parenthesis is open.
-fn ended(
-    alloc: Global,
-    formula: Parsed,
-    left: Option<LeftPart>,
-    stack: Vec<Pending>,
-) -> Result<Option<Parsed>, NoMemory>
-    ensures { IfOk result (λ read. option_map tree_of read ≡ whole (tree_of formula) (option_map left_of left) (stack_of stack.items)) }
-{
-    if !stack.is_empty() {
-        return Ok(None);
-    }
-    let whole = behind_or(alloc, left, formula)?;
-    Ok(Some(whole))
-}
-
-// A mark behind a truth value: a sign makes the value a term.
-fn lead(
-    alloc: Global,
-    value: bool,
-    token: u32,
-    pending: Pending,
-    stack: Vec<Pending>,
-    mark: Mark,
-) -> Result<Option<Reader>, NoMemory>
-    ensures { IfOk result (λ next. option_map state_of next ≡ from_lead value token (pending_of pending) (stack_of stack.items) mark.symbol mark.token) }
-{
-    if let Symbol::Sign(sign) = mark.symbol {
-        return Ok(Some(Reader {
-            mode: Mode::Signed {
-                left: token,
-                sign,
-                token: mark.token,
-                pending,
-            },
-            stack,
-        }));
-    }
-    let Pending { or, and, nots } = pending;
-    let inner = negated(alloc, Parsed::Truth { value, token }, nots)?;
-    let whole = behind_and(alloc, and, inner)?;
-    complete(alloc, whole, or, stack, mark)
 }
 
 // A mark behind a term, whose sign is due.
@@ -313,7 +266,39 @@ fn sided(left: u32, pending: Pending, stack: Vec<Pending>, mark: Mark) -> Option
     })
 }
 
-// A mark behind a term and a sign: a term makes this relation.
+// Is it a sign?
+fn is_sign(symbol: Symbol) -> bool
+    ensures { result ≡ is_sign symbol }
+{
+    matches!(symbol, Symbol::Sign(_))
+}
+
+// A mark behind a truth value, which a sign makes a term.
+fn lead(
+    alloc: Global,
+    value: bool,
+    token: u32,
+    pending: Pending,
+    stack: Vec<Pending>,
+    mark: Mark,
+) -> Result<Option<Reader>, NoMemory>
+    ensures { IfOk result (λ next. option_map state_of next ≡ from_lead value token (pending_of pending) (stack_of stack.items) mark.symbol mark.token) }
+{
+    if is_sign(mark.symbol) {
+        return Ok(sided(token, pending, stack, mark));
+    }
+    let right = pending.filled(alloc, Parsed::Truth { value, token })?;
+    complete(alloc, right, stack, mark)
+}
+
+// Is it a mark that may stand beside a sign?
+fn is_term(symbol: Symbol) -> bool
+    ensures { result ≡ is_term symbol }
+{
+    matches!(symbol, Symbol::Truth(_) | Symbol::Term)
+}
+
+// A mark behind a term and a sign, which a term makes this relation.
 fn signed(
     alloc: Global,
     relation: Parsed,
@@ -326,8 +311,22 @@ fn signed(
     if !is_term(mark.symbol) {
         return Ok(None);
     }
-    let reader = operand(alloc, relation, pending, stack)?;
-    Ok(Some(reader))
+    let right = pending.filled(alloc, relation)?;
+    Ok(Some(Reader {
+        mode: Mode::Complete(right),
+        stack,
+    }))
+}
+
+// The formula, if no parenthesis is open.
+fn ended(alloc: Global, right: RightPart, stack: Vec<Pending>) -> Result<Option<Parsed>, NoMemory>
+    ensures { IfOk result (λ read. option_map tree_of read ≡ whole (tree_of right.formula) (option_map left_of right.or) (stack_of stack.items)) }
+{
+    if !stack.is_empty() {
+        return Ok(None);
+    }
+    let formula = right.whole(alloc)?;
+    Ok(Some(formula))
 }
 
 impl Reader {
@@ -336,7 +335,7 @@ impl Reader {
         ensures { state_of result ≡ start }
     {
         Reader {
-            mode: Mode::Wanting(nothing(alloc)),
+            mode: Mode::Wanting(Pending::new(alloc)),
             stack: Vec::new(alloc),
         }
     }
@@ -359,19 +358,16 @@ impl Reader {
                 sign,
                 token,
                 pending,
-            } => signed(
-                alloc,
-                Parsed::Relation {
+            } => {
+                let relation = Parsed::Relation {
                     left,
                     sign,
                     token,
                     right: mark.token,
-                },
-                pending,
-                stack,
-                mark,
-            ),
-            Mode::Complete { formula, left } => complete(alloc, formula, left, stack, mark),
+                };
+                signed(alloc, relation, pending, stack, mark)
+            }
+            Mode::Complete(right) => complete(alloc, right, stack, mark),
         }
     }
 
@@ -386,12 +382,10 @@ impl Reader {
                 token,
                 pending,
             } => {
-                let Pending { or, and, nots } = pending;
-                let inner = negated(alloc, Parsed::Truth { value, token }, nots)?;
-                let whole = behind_and(alloc, and, inner)?;
-                ended(alloc, whole, or, stack)
+                let right = pending.filled(alloc, Parsed::Truth { value, token })?;
+                ended(alloc, right, stack)
             }
-            Mode::Complete { formula, left } => ended(alloc, formula, left, stack),
+            Mode::Complete(right) => ended(alloc, right, stack),
             Mode::Wanting(_) | Mode::Sided { .. } | Mode::Signed { .. } => Ok(None),
         }
     }
