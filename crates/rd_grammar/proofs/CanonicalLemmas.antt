@@ -1,9 +1,9 @@
 -- The canonical marks of a formula are read again as that formula.
-use Rattle.std.proofs.Common.{◌≡◌, ℕ, Bool, true, false, List, [], ◌∷◌, ◌++◌, refl, sym, subst}
+use Rattle.std.proofs.Common.{Bool, true, false, List, refl, sym, subst}
 use Rattle.rd_grammar.specs.declared.marks.Mark.{Mark}
 use Rattle.rd_grammar.specs.declared.marks.Symbol.TheVariants.{Term}
-use Rattle.rd_grammar.specs.Grammar.{Tree, truth, relation, negation, both, either, is_term, Level, disj, conj, neg, prim, Says, disj_one, disj_or, conj_one, conj_and, neg_one, neg_not, prim_truth, prim_in, prim_relation}
-use Rattle.rd_grammar.specs.Canonical.{mark, is_either, is_of_two, ArePart, AreCanonical}
+use Rattle.rd_grammar.specs.Grammar.{Tree, truth, relation, negation, both, either, Level, disj, conj, neg, prim, Says, disj_one, disj_or, conj_one, conj_and, neg_one, neg_not, prim_truth, prim_in, prim_relation}
+use Rattle.rd_grammar.specs.Canonical.{is_either, is_of_two, ArePart, AreCanonical}
 
 -- the closest level at which the canonical marks stand
 abbrev level_of : Tree → Level

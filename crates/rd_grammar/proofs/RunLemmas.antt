@@ -1,12 +1,12 @@
 -- What the grammar says is read so: the machine reads each right list of marks to its end, with the tree that it says.
-use Rattle.std.proofs.Common.{◌≡◌, ℕ, Bool, true, false, Option, Some, None, List, [], ◌∷◌, ◌++◌, refl, sym, ◌∙◌, ap, subst, append_assoc, append-nil}
+use Rattle.std.proofs.Common.{◌≡◌, ℕ, Bool, true, false, Option, Some, None, List, [], ◌∷◌, ◌++◌, refl, sym, ◌∙◌, ap, append_assoc, append-nil}
 use Rattle.rd_grammar.specs.declared.marks.Mark.{Mark}
 use Rattle.rd_grammar.specs.declared.marks.Sign.{Sign}
 use Rattle.rd_grammar.specs.declared.marks.Symbol.{Symbol}
 use Rattle.rd_grammar.specs.declared.marks.Symbol.TheVariants.{Open, Close, Not, And, Or, Truth, Sign as SignOf, Term, Other}
 use Rattle.rd_grammar.specs.Grammar.{Tree, truth, relation, negation, both, either, is_term, Level, disj, conj, neg, prim, Says, disj_one, disj_or, conj_one, conj_and, neg_one, neg_not, prim_truth, prim_in, prim_relation}
-use Rattle.rd_grammar.specs.Machine.{Left, Pending, State, want, lead, sided, signed, have, empty, start, nots_of, and_with, or_with, done, with_not, behind_and, behind_or, is_sign, step_on, step, result_of}
-use Rattle.rd_grammar.proofs.FirstWrong.{Outcome, correct, stuck, ended, walk, onward, walk_on}
+use Rattle.rd_grammar.specs.Machine.{Left, Pending, State, want, lead, sided, signed, have, empty, start, or_with, done, with_not, behind_and, is_sign, step_on, step, result_of}
+use Rattle.rd_grammar.proofs.FirstWrong.{Outcome, correct, walk, onward, walk_on}
 
 abbrev pub run : State → List Mark → Outcome Mark Tree
 run s ms = walk step result_of s ms

@@ -1,13 +1,13 @@
 -- What the machine reads is what the grammar says: what the marks in front of each state are, mark by mark.
-use Rattle.std.proofs.Common.{◌≡◌, ℕ, Bool, true, false, Option, Some, None, List, [], ◌∷◌, ◌++◌, refl, sym, ◌∙◌, ap, subst, append_assoc, append-nil}
+use Rattle.std.proofs.Common.{◌≡◌, ℕ, Bool, true, Option, Some, None, List, [], ◌∷◌, ◌++◌, refl, sym, ◌∙◌, ap, subst, append_assoc, append-nil}
 use Rattle.rd_grammar.specs.declared.marks.Mark.{Mark}
 use Rattle.rd_grammar.specs.declared.marks.Sign.{Sign}
 use Rattle.rd_grammar.specs.declared.marks.Sign.TheVariants.{Equal}
 use Rattle.rd_grammar.specs.declared.marks.Symbol.{Symbol}
 use Rattle.rd_grammar.specs.declared.marks.Symbol.TheVariants.{Open, Close, Not, And, Or, Truth, Sign as SignOf, Term, Other}
-use Rattle.rd_grammar.specs.Grammar.{Tree, truth, relation, negation, both, either, is_term, Level, disj, conj, neg, prim, Says, disj_one, disj_or, conj_one, conj_and, neg_one, neg_not, prim_truth, prim_in, prim_relation}
-use Rattle.rd_grammar.specs.Machine.{Left, Pending, State, want, lead, sided, signed, have, empty, start, nots_of, and_with, or_with, done, with_not, behind_and, behind_or, closed, from_want, from_lead, from_sided, from_signed, from_have, step_on, step, whole, result_of}
-use Rattle.rd_grammar.proofs.FirstWrong.{Outcome, correct, stuck, ended, walk, onward, walk_on}
+use Rattle.rd_grammar.specs.Grammar.{Tree, truth, relation, negation, either, is_term, disj, conj, neg, prim, Says, disj_one, disj_or, conj_one, conj_and, neg_one, neg_not, prim_truth, prim_in, prim_relation}
+use Rattle.rd_grammar.specs.Machine.{Left, Pending, State, want, lead, sided, signed, have, empty, start, nots_of, and_with, or_with, done, with_not, behind_and, behind_or, closed, from_want, from_lead, from_sided, from_signed, from_have, step, whole, result_of}
+use Rattle.rd_grammar.proofs.FirstWrong.{correct, ended, onward}
 use Rattle.rd_grammar.proofs.RunLemmas.{run, Free, lead_is_have}
 
 -- the marks are two lists, one after the other

@@ -391,7 +391,10 @@ impl Reader {
     }
 }
 
-/// Reads a formula of at most 512 marks. It takes memory.
+/// Reads a formula of at most 512 marks, each of which it looks at once. `or` binds loosest, then `and`, then `not`; `and` and
+/// `or` gather to the left. A word `true` or `false` is a term where a sign stands beside it, and else a formula. Where the
+/// marks are no formula, the place of the first wrong one is told: no formula begins with the marks up to it, but some formula
+/// begins with those before it.
 pub fn parse_formula(alloc: Global, marks: &[Mark]) -> Result<Parsed, ParseRefused>
     requires { length marks.now ≤ MOST_TOKENS }
     ensures ok { IfOk result (λ f. Says disj marks.now (tree_of f)) }
