@@ -5,9 +5,11 @@ use Rattle.rd_grammar.specs.declared.marks.Symbol.{Symbol}
 use Rattle.rd_grammar.specs.declared.marks.Symbol.TheVariants.{Open, Close, Not, And, Or, Truth, Sign as SignOf}
 use Rattle.rd_grammar.specs.Grammar.{Tree, truth, relation, negation, both, either, is_term}
 
+-- the mark of a symbol with a number
 abbrev pub mark : Symbol → ℕ → Mark
 mark symbol token = record { symbol = symbol; token = token }
 
+-- is it of two formulas with `or` between them?
 abbrev pub is_either : Tree → Bool
 is_either (truth value token) = false
 is_either (relation left sign token right) = false

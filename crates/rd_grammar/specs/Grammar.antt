@@ -11,13 +11,16 @@ use Rattle.rd_grammar.specs.declared.parsed.ParseRefused.TheVariants.{Syntax, No
 
 -- a formula; each number is that of a token: of the node's own, and of a relation's two terms
 pub data Tree : Type 0 where
+  -- true or false
   truth : Bool → ℕ → Tree
+  -- the first term, the sign and its number, the second term
   relation : ℕ → Sign → ℕ → ℕ → Tree
+  -- not, and, or
   negation : ℕ → Tree → Tree
   both : Tree → ℕ → Tree → Tree
   either : Tree → ℕ → Tree → Tree
 
--- may the symbol stand beside a sign?
+-- is it a term beside a sign? The words true and false are, and each is a formula where no sign stands beside it
 abbrev pub is_term : Symbol → Bool
 is_term Open = false
 is_term Close = false
@@ -38,14 +41,18 @@ pub data Level : Type 0 where
 
 -- the marks are a formula of the level, with this tree
 pub data Says : Level → List Mark → Tree → Type 0 where
+  -- disj := conj | disj or conj
   disj_one : {ms : List Mark} {f : Tree} → Says conj ms f → Says disj ms f
   disj_or : {ms ns : List Mark} {f g : Tree} → Says disj ms f → (m : Mark) → m.symbol ≡ Or → Says conj ns g
       → Says disj (ms ++ m ∷ ns) (either f m.token g)
+  -- conj := neg | conj and neg
   conj_one : {ms : List Mark} {f : Tree} → Says neg ms f → Says conj ms f
   conj_and : {ms ns : List Mark} {f g : Tree} → Says conj ms f → (m : Mark) → m.symbol ≡ And → Says neg ns g
       → Says conj (ms ++ m ∷ ns) (both f m.token g)
+  -- neg := prim | not neg
   neg_one : {ms : List Mark} {f : Tree} → Says prim ms f → Says neg ms f
   neg_not : {ms : List Mark} {f : Tree} → (m : Mark) → m.symbol ≡ Not → Says neg ms f → Says neg (m ∷ ms) (negation m.token f)
+  -- prim := true | false | ( disj ) | term sign term
   prim_truth : (m : Mark) (value : Bool) → m.symbol ≡ Truth value → Says prim (m ∷ []) (truth value m.token)
   prim_in : {ms : List Mark} {f : Tree} → (opening closing : Mark) → opening.symbol ≡ Open → Says disj ms f → closing.symbol ≡ Close
       → Says prim (opening ∷ ms ++ closing ∷ []) f

@@ -34,20 +34,25 @@ pub data State : Type 0 where
   -- a formula is complete
   have : Tree → Option Left → List Pending → State
 
+-- nothing waits
 abbrev pub empty : Pending
 empty = record { ors = None; ands = None; nots = [] }
 
+-- nothing is read yet
 abbrev pub start : State
 start = want empty []
 
+-- the formula with each `not` that waits for it, the latest innermost
 abbrev pub nots_of : List ℕ → Tree → Tree
 nots_of [] f = f
 nots_of (n ∷ ns) f = nots_of ns (negation n f)
 
+-- the formula with what an `and` joins it to
 abbrev pub and_with : Option Left → Tree → Tree
 and_with None g = g
 and_with (Some left) g = both left.tree left.token g
 
+-- the formula with what an `or` joins it to
 abbrev pub or_with : Option Left → Tree → Tree
 or_with None g = g
 or_with (Some left) g = either left.tree left.token g
@@ -56,6 +61,7 @@ or_with (Some left) g = either left.tree left.token g
 abbrev pub done : Tree → Pending → List Pending → State
 done f p st = have (and_with p.ands (nots_of p.nots f)) p.ors st
 
+-- behind a `not`, an `and` and an `or`
 abbrev pub with_not : Pending → ℕ → Pending
 with_not p token = record p { nots = token ∷ p.nots }
 
@@ -65,10 +71,12 @@ behind_and f o token = record { ors = o; ands = Some (record { tree = f; token =
 abbrev pub behind_or : Tree → Option Left → ℕ → Pending
 behind_or f o token = record { ors = Some (record { tree = or_with o f; token = token }); ands = None; nots = [] }
 
+-- behind a closing parenthesis
 abbrev pub closed : Tree → Option Left → List Pending → Option State
 closed f o [] = None
 closed f o (p ∷ st) = Some (done (or_with o f) p st)
 
+-- the state behind a mark where an operand is due
 abbrev pub from_want : Pending → List Pending → Symbol → ℕ → Option State
 from_want p st Open token = Some (want empty (p ∷ st))
 from_want p st Close token = None
@@ -80,6 +88,7 @@ from_want p st (SignOf sign) token = None
 from_want p st Term token = Some (sided token p st)
 from_want p st Other token = None
 
+-- behind a formula
 abbrev pub from_have : Tree → Option Left → List Pending → Symbol → ℕ → Option State
 from_have f o st Open token = None
 from_have f o st Close token = closed f o st
@@ -91,6 +100,7 @@ from_have f o st (SignOf sign) token = None
 from_have f o st Term token = None
 from_have f o st Other token = None
 
+-- behind a truth value: as behind a formula, but for a sign
 abbrev pub from_lead : Bool → ℕ → Pending → List Pending → Symbol → ℕ → Option State
 from_lead value n p st Open token = None
 from_lead value n p st Close token = closed (and_with p.ands (nots_of p.nots (truth value n))) p.ors st
@@ -102,6 +112,7 @@ from_lead value n p st (SignOf sign) token = Some (signed n sign token p st)
 from_lead value n p st Term token = None
 from_lead value n p st Other token = None
 
+-- behind a term
 abbrev pub from_sided : ℕ → Pending → List Pending → Symbol → ℕ → Option State
 from_sided n p st Open token = None
 from_sided n p st Close token = None
@@ -113,6 +124,7 @@ from_sided n p st (SignOf sign) token = Some (signed n sign token p st)
 from_sided n p st Term token = None
 from_sided n p st Other token = None
 
+-- behind a term and a sign, of which a further term makes this relation
 abbrev pub from_signed : Tree → Pending → List Pending → Symbol → Option State
 from_signed f p st Open = None
 from_signed f p st Close = None
@@ -124,6 +136,7 @@ from_signed f p st (SignOf sign) = None
 from_signed f p st Term = Some (done f p st)
 from_signed f p st Other = None
 
+-- is it a sign?
 abbrev pub is_sign : Symbol → Bool
 is_sign Open = false
 is_sign Close = false
@@ -135,6 +148,7 @@ is_sign (SignOf sign) = true
 is_sign Term = false
 is_sign Other = false
 
+-- the state behind a mark of this symbol and number, if it may come
 abbrev pub step_on : State → Symbol → ℕ → Option State
 step_on (want p st) symbol token = from_want p st symbol token
 step_on (lead value n p st) symbol token = from_lead value n p st symbol token
@@ -142,13 +156,16 @@ step_on (sided n p st) symbol token = from_sided n p st symbol token
 step_on (signed n sign k p st) symbol token = from_signed (relation n sign k token) p st symbol
 step_on (have f o st) symbol token = from_have f o st symbol token
 
+-- the state behind the mark, if it may come
 abbrev pub step : State → Mark → Option State
 step s m = step_on s m.symbol m.token
 
+-- the formula, if no parenthesis is open
 abbrev pub whole : Tree → Option Left → List Pending → Option Tree
 whole f o [] = Some (or_with o f)
 whole f o (p ∷ st) = None
 
+-- the formula that was read, if the marks may end in this state
 abbrev pub result_of : State → Option Tree
 result_of (want p st) = None
 result_of (lead value n p st) = whole (and_with p.ands (nots_of p.nots (truth value n))) p.ors st
@@ -156,8 +173,7 @@ result_of (sided n p st) = None
 result_of (signed n sign k p st) = None
 result_of (have f o st) = whole f o st
 
--- the state of the reader in the code
-
+-- what the parts of the reader in the code stand for
 abbrev pub left_of : LeftPart → Left
 left_of left = record { tree = tree_of left.formula; token = left.token }
 

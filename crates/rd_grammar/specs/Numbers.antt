@@ -13,6 +13,7 @@ AreNumbered marks = (place : ℕ) (m : Mark) → slice_get marks place ≡ Some 
 abbrev pub StandsAt : List Mark → Symbol → ℕ → Type 0
 StandsAt marks symbol place = slice_get marks place ≡ Some (record { symbol = symbol; token = place })
 
+-- a term stands at the place
 abbrev pub TermAt : List Mark → ℕ → Type 0
 TermAt marks place = (symbol : Symbol) × (is_term symbol ≡ true) × StandsAt marks symbol place
 
@@ -25,6 +26,7 @@ NamesMarks marks (negation token f) = StandsAt marks Not token × NamesMarks mar
 NamesMarks marks (both f token g) = NamesMarks marks f × StandsAt marks And token × NamesMarks marks g
 NamesMarks marks (either f token g) = NamesMarks marks f × StandsAt marks Or token × NamesMarks marks g
 
+-- is it an open or a closing parenthesis?
 abbrev pub is_parenthesis : Symbol → Bool
 is_parenthesis Open = true
 is_parenthesis Close = true
