@@ -8,7 +8,7 @@ use Rattle.std.proofs.lemmas.List.Elements.{filter-append}
 use Rattle.rd_grammar.specs.declared.marks.Mark.{Mark}
 use Rattle.rd_grammar.specs.declared.marks.Sign.{Sign}
 use Rattle.rd_grammar.specs.declared.marks.Symbol.{Symbol}
-use Rattle.rd_grammar.specs.declared.marks.Symbol.TheVariants.{Open, Close, Not, And, Or, Truth, Sign as SignOf, Term, Other}
+use Rattle.rd_grammar.specs.declared.marks.Symbol.TheVariants.{Open, Close, Not, And, Or, Truth, Sign as SignOf, Term}
 use Rattle.rd_grammar.specs.Grammar.{Tree, relation, is_term, Level, disj, Says, disj_one, disj_or, conj_one, conj_and, neg_one, neg_not, prim_truth, prim_in, prim_relation}
 use Rattle.rd_grammar.specs.Numbers.{AreNumbered, StandsAt, TermAt, NamesMarks, is_parenthesis, numbers_of, named_by}
 
@@ -96,13 +96,7 @@ left_out m ms is = ap (numbers_with m ms) is
 term_counted : (x : Symbol) → is_term x ≡ true → is_parenthesis x ≡ false
 term_counted (Truth value) is = refl
 term_counted Term is = refl
-term_counted Open is = absurd (cc)
-term_counted Close is = absurd (cc)
-term_counted Not is = absurd (cc)
-term_counted And is = absurd (cc)
-term_counted Or is = absurd (cc)
-term_counted (SignOf sign) is = absurd (cc)
-term_counted Other is = absurd (cc)
+term_counted _ is = absurd (cc)
 
 of_two : (ms ns : List Mark) (f g : Tree) (m : Mark) → is_parenthesis m.symbol ≡ false → numbers_of ms ≡ named_by f → numbers_of ns ≡ named_by g
     → numbers_of (ms ++ m ∷ ns) ≡ named_by f ++ m.token ∷ named_by g

@@ -3,7 +3,7 @@ use Rattle.std.proofs.Common.{◌≡◌, ℕ, Bool, true, false, Option, Some, N
 use Rattle.rd_grammar.specs.declared.marks.Mark.{Mark}
 use Rattle.rd_grammar.specs.declared.marks.Sign.{Sign}
 use Rattle.rd_grammar.specs.declared.marks.Symbol.{Symbol}
-use Rattle.rd_grammar.specs.declared.marks.Symbol.TheVariants.{Open, Close, Not, And, Or, Truth, Sign as SignOf, Term, Other}
+use Rattle.rd_grammar.specs.declared.marks.Symbol.TheVariants.{Open, Close, Not, And, Or, Truth, Sign as SignOf, Term}
 use Rattle.rd_grammar.specs.Grammar.{Tree, truth, relation, negation, both, either, is_term, Level, disj, conj, neg, prim, Says, disj_one, disj_or, conj_one, conj_and, neg_one, neg_not, prim_truth, prim_in, prim_relation}
 use Rattle.rd_grammar.specs.Machine.{Left, Pending, State, want, lead, sided, signed, have, empty, start, or_with, done, with_not, behind_and, is_sign, step_on, step, result_of}
 use Rattle.rd_grammar.proofs.FirstWrong.{Outcome, correct, walk, onward, walk_on}
@@ -25,15 +25,8 @@ free_before m ms x is sign = ap is_sign is ∙ sign
 -- a truth value before which and behind which no sign stands is a formula
 steps_alike : (value : Bool) (n : ℕ) (p : Pending) (st : List Pending) (x : Symbol) (t : ℕ) → is_sign x ≡ false
     → step_on (lead value n p st) x t ≡ step_on (done (truth value n) p st) x t
-steps_alike value n p st Open t free = refl
-steps_alike value n p st Close t free = refl
-steps_alike value n p st Not t free = refl
-steps_alike value n p st And t free = refl
-steps_alike value n p st Or t free = refl
-steps_alike value n p st (Truth other) t free = refl
 steps_alike value n p st (SignOf sign) t free = absurd (cc)
-steps_alike value n p st Term t free = refl
-steps_alike value n p st Other t free = refl
+steps_alike value n p st _ t free = refl
 
 pub lead_is_have : (value : Bool) (n : ℕ) (p : Pending) (st : List Pending) (rest : List Mark) → Free rest
     → run (lead value n p st) rest ≡ run (done (truth value n) p st) rest
@@ -110,13 +103,7 @@ second_term n sign k p st r (Truth value) rest is term =
     on_symbol (signed n sign k p st) (done (relation n sign k r.token) p st) r (Truth value) rest is refl
 second_term n sign k p st r Term rest is term =
     on_symbol (signed n sign k p st) (done (relation n sign k r.token) p st) r Term rest is refl
-second_term n sign k p st r Open rest is term = absurd (cc)
-second_term n sign k p st r Close rest is term = absurd (cc)
-second_term n sign k p st r Not rest is term = absurd (cc)
-second_term n sign k p st r And rest is term = absurd (cc)
-second_term n sign k p st r Or rest is term = absurd (cc)
-second_term n sign k p st r (SignOf other) rest is term = absurd (cc)
-second_term n sign k p st r Other rest is term = absurd (cc)
+second_term n sign k p st r _ rest is term = absurd (cc)
 
 first_term : (p : Pending) (st : List Pending) (l m : Mark) (x : Symbol) (sign : Sign) (rest : List Mark) → l.symbol ≡ x → is_term x ≡ true → m.symbol ≡ SignOf sign
     → run (want p st) (l ∷ m ∷ rest) ≡ run (signed l.token sign m.token p st) rest
@@ -126,13 +113,7 @@ first_term p st l m (Truth value) sign rest is term signs =
 first_term p st l m Term sign rest is term signs =
     on_symbol (want p st) (sided l.token p st) l Term (m ∷ rest) is refl
     ∙ on_symbol (sided l.token p st) (signed l.token sign m.token p st) m (SignOf sign) rest signs refl
-first_term p st l m Open sign rest is term signs = absurd (cc)
-first_term p st l m Close sign rest is term signs = absurd (cc)
-first_term p st l m Not sign rest is term signs = absurd (cc)
-first_term p st l m And sign rest is term signs = absurd (cc)
-first_term p st l m Or sign rest is term signs = absurd (cc)
-first_term p st l m (SignOf other) sign rest is term signs = absurd (cc)
-first_term p st l m Other sign rest is term signs = absurd (cc)
+first_term p st l m _ sign rest is term signs = absurd (cc)
 
 operand_of_relation : (l m r : Mark) (sign : Sign) → is_term l.symbol ≡ true → m.symbol ≡ SignOf sign → is_term r.symbol ≡ true
     → RunsOperand (l ∷ m ∷ r ∷ []) (relation l.token sign m.token r.token)

@@ -4,7 +4,7 @@ use Rattle.rd_grammar.specs.declared.marks.Mark.{Mark}
 use Rattle.rd_grammar.specs.declared.marks.Sign.{Sign}
 use Rattle.rd_grammar.specs.declared.marks.Sign.TheVariants.{Equal}
 use Rattle.rd_grammar.specs.declared.marks.Symbol.{Symbol}
-use Rattle.rd_grammar.specs.declared.marks.Symbol.TheVariants.{Open, Close, Not, And, Or, Truth, Sign as SignOf, Term, Other}
+use Rattle.rd_grammar.specs.declared.marks.Symbol.TheVariants.{Open, Close, Not, And, Or, Truth, Sign as SignOf, Term}
 use Rattle.rd_grammar.specs.Grammar.{Tree, truth, relation, negation, either, is_term, disj, conj, neg, prim, Says, disj_one, disj_or, conj_one, conj_and, neg_one, neg_not, prim_truth, prim_in, prim_relation}
 use Rattle.rd_grammar.specs.Machine.{Left, Pending, State, want, lead, sided, signed, have, empty, start, nots_of, and_with, or_with, done, with_not, behind_and, behind_or, closed, from_want, from_lead, from_sided, from_signed, from_have, step, whole, result_of}
 use Rattle.rd_grammar.proofs.FirstWrong.{correct, ended, onward}
@@ -154,14 +154,10 @@ Next P (Some u) = P u
 next_want : (p : Pending) (st : List Pending) (ms : List Mark) (m : Mark) (x : Symbol) → m.symbol ≡ x → Takes p st ms
     → Next (λ u. Stands u (ms ++ m ∷ [])) (from_want p st x m.token)
 next_want p st ms m Open is takes = open_takes p st ms m is takes
-next_want p st ms m Close is takes = tt
 next_want p st ms m Not is takes = not_takes p st ms m is takes
-next_want p st ms m And is takes = tt
-next_want p st ms m Or is takes = tt
 next_want p st ms m (Truth value) is takes = record { front = ms; mark = m; parts = refl; is = is; number = refl; takes = takes }
-next_want p st ms m (SignOf sign) is takes = tt
 next_want p st ms m Term is takes = record { front = ms; mark = m; parts = refl; is = ap is_term is; number = refl; takes = takes }
-next_want p st ms m Other is takes = tt
+next_want p st ms m _ is takes = tt
 
 next_closed : (f : Tree) (o : Option Left) (st : List Pending) (ms : List Mark) (m : Mark) → m.symbol ≡ Close → HasRead f o st ms
     → Next (λ u. Stands u (ms ++ m ∷ [])) (closed f o st)
@@ -170,15 +166,10 @@ next_closed f o (p ∷ st) ms m is read = close_reads f o p st ms m is read
 
 next_have : (f : Tree) (o : Option Left) (st : List Pending) (ms : List Mark) (m : Mark) (x : Symbol) → m.symbol ≡ x → HasRead f o st ms
     → Next (λ u. Stands u (ms ++ m ∷ [])) (from_have f o st x m.token)
-next_have f o st ms m Open is read = tt
 next_have f o st ms m Close is read = next_closed f o st ms m is read
-next_have f o st ms m Not is read = tt
 next_have f o st ms m And is read = and_takes f o st ms m is read
 next_have f o st ms m Or is read = or_takes f o st ms m is read
-next_have f o st ms m (Truth value) is read = tt
-next_have f o st ms m (SignOf sign) is read = tt
-next_have f o st ms m Term is read = tt
-next_have f o st ms m Other is read = tt
+next_have f o st ms m _ is read = tt
 
 -- a truth value that is a formula
 lead_reads : (value : Bool) (n : ℕ) (p : Pending) (st : List Pending) (ms : List Mark) → LeadStands value n p st ms
@@ -192,12 +183,9 @@ lead_reads value n p st ms stands =
 
 next_lead : (value : Bool) (n : ℕ) (p : Pending) (st : List Pending) (ms : List Mark) (m : Mark) (x : Symbol) → m.symbol ≡ x → LeadStands value n p st ms
     → Next (λ u. Stands u (ms ++ m ∷ [])) (from_lead value n p st x m.token)
-next_lead value n p st ms m Open is stands = tt
 next_lead value n p st ms m Close is stands = next_closed _ p.ors st ms m is (lead_reads value n p st ms stands)
-next_lead value n p st ms m Not is stands = tt
 next_lead value n p st ms m And is stands = and_takes _ p.ors st ms m is (lead_reads value n p st ms stands)
 next_lead value n p st ms m Or is stands = or_takes _ p.ors st ms m is (lead_reads value n p st ms stands)
-next_lead value n p st ms m (Truth other) is stands = tt
 next_lead value n p st ms m (SignOf sign) is stands =
     let parts = stands.parts in
     record {
@@ -211,17 +199,10 @@ next_lead value n p st ms m (SignOf sign) is stands =
       sign_number = refl;
       takes = stands.takes;
     }
-next_lead value n p st ms m Term is stands = tt
-next_lead value n p st ms m Other is stands = tt
+next_lead value n p st ms m _ is stands = tt
 
 next_sided : (n : ℕ) (p : Pending) (st : List Pending) (ms : List Mark) (m : Mark) (x : Symbol) → m.symbol ≡ x → SidedStands n p st ms
     → Next (λ u. Stands u (ms ++ m ∷ [])) (from_sided n p st x m.token)
-next_sided n p st ms m Open is stands = tt
-next_sided n p st ms m Close is stands = tt
-next_sided n p st ms m Not is stands = tt
-next_sided n p st ms m And is stands = tt
-next_sided n p st ms m Or is stands = tt
-next_sided n p st ms m (Truth other) is stands = tt
 next_sided n p st ms m (SignOf sign) is stands =
     let parts = stands.parts in
     record {
@@ -235,8 +216,7 @@ next_sided n p st ms m (SignOf sign) is stands =
       sign_number = refl;
       takes = stands.takes;
     }
-next_sided n p st ms m Term is stands = tt
-next_sided n p st ms m Other is stands = tt
+next_sided n p st ms m _ is stands = tt
 
 -- a relation is an operand
 relation_reads : (n : ℕ) (sign : Sign) (k : ℕ) (p : Pending) (st : List Pending) (ms : List Mark) (m : Mark) → is_term m.symbol ≡ true
@@ -254,15 +234,9 @@ relation_reads n sign k p st ms m is stands =
 
 next_signed : (n : ℕ) (sign : Sign) (k : ℕ) (p : Pending) (st : List Pending) (ms : List Mark) (m : Mark) (x : Symbol) → m.symbol ≡ x → SignedStands n sign k p st ms
     → Next (λ u. Stands u (ms ++ m ∷ [])) (from_signed (relation n sign k m.token) p st x)
-next_signed n sign k p st ms m Open is stands = tt
-next_signed n sign k p st ms m Close is stands = tt
-next_signed n sign k p st ms m Not is stands = tt
-next_signed n sign k p st ms m And is stands = tt
-next_signed n sign k p st ms m Or is stands = tt
 next_signed n sign k p st ms m (Truth value) is stands = relation_reads n sign k p st ms m (ap is_term is) stands
-next_signed n sign k p st ms m (SignOf other) is stands = tt
 next_signed n sign k p st ms m Term is stands = relation_reads n sign k p st ms m (ap is_term is) stands
-next_signed n sign k p st ms m Other is stands = tt
+next_signed n sign k p st ms m _ is stands = tt
 
 step_stands : (s : State) (ms : List Mark) (m : Mark) → Stands s ms → Next (λ u. Stands u (ms ++ m ∷ [])) (step s m)
 step_stands (want p st) ms m stands = next_want p st ms m m.symbol refl stands

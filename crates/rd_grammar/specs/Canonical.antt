@@ -11,19 +11,14 @@ mark symbol token = record { symbol = symbol; token = token }
 
 -- is it of two formulas with `or` between them?
 abbrev pub is_either : Tree → Bool
-is_either (truth value token) = false
-is_either (relation left sign token right) = false
-is_either (negation token f) = false
-is_either (both f token g) = false
 is_either (either f token g) = true
+is_either _ = false
 
 -- is it of two formulas, with `and` or `or` between them?
 abbrev pub is_of_two : Tree → Bool
-is_of_two (truth value token) = false
-is_of_two (relation left sign token right) = false
-is_of_two (negation token f) = false
 is_of_two (both f token g) = true
 is_of_two (either f token g) = true
+is_of_two _ = false
 
 -- the marks of a part: in parentheses, of any numbers, where it needs them
 abbrev pub ArePart : Bool → (List Mark → Type 0) → List Mark → Type 0

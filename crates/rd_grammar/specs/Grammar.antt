@@ -4,7 +4,7 @@ use Rattle.rd_grammar.specs.FirstWrong.{WrongAt}
 use Rattle.rd_grammar.specs.declared.marks.Mark.{Mark}
 use Rattle.rd_grammar.specs.declared.marks.Sign.{Sign}
 use Rattle.rd_grammar.specs.declared.marks.Symbol.{Symbol}
-use Rattle.rd_grammar.specs.declared.marks.Symbol.TheVariants.{Open, Close, Not, And, Or, Truth, Sign as SignOf, Term, Other}
+use Rattle.rd_grammar.specs.declared.marks.Symbol.TheVariants.{Open, Close, Not, And, Or, Truth, Sign as SignOf, Term}
 use Rattle.rd_grammar.specs.declared.parsed.Parsed.{Parsed, Truth as ParsedTruth, Relation, Not', And', Or'}
 use Rattle.rd_grammar.specs.declared.parsed.ParseRefused.{ParseRefused}
 use Rattle.rd_grammar.specs.declared.parsed.ParseRefused.TheVariants.{Syntax, NoMemory}
@@ -22,15 +22,9 @@ pub data Tree : Type 0 where
 
 -- is it a term beside a sign? The words true and false are, and each is a formula where no sign stands beside it
 abbrev pub is_term : Symbol → Bool
-is_term Open = false
-is_term Close = false
-is_term Not = false
-is_term And = false
-is_term Or = false
 is_term (Truth value) = true
-is_term (SignOf sign) = false
 is_term Term = true
-is_term Other = false
+is_term _ = false
 
 -- the levels of the grammar, the loosest first
 pub data Level : Type 0 where

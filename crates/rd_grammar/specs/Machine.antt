@@ -4,7 +4,7 @@ use Rattle.rd_grammar.specs.Grammar.{Tree, truth, relation, negation, both, eith
 use Rattle.rd_grammar.specs.declared.marks.Mark.{Mark}
 use Rattle.rd_grammar.specs.declared.marks.Sign.{Sign}
 use Rattle.rd_grammar.specs.declared.marks.Symbol.{Symbol}
-use Rattle.rd_grammar.specs.declared.marks.Symbol.TheVariants.{Open, Close, Not, And, Or, Truth, Sign as SignOf, Term, Other}
+use Rattle.rd_grammar.specs.declared.marks.Symbol.TheVariants.{Open, Close, Not, And, Or, Truth, Sign as SignOf, Term}
 use Rattle.rd_grammar.specs.declared.reader.LeftPart.{LeftPart}
 use Rattle.rd_grammar.specs.declared.reader.Pending.{Pending as PendingCode}
 use Rattle.rd_grammar.specs.declared.reader.Mode.{Mode}
@@ -79,74 +79,38 @@ closed f o (p ∷ st) = Some (done (or_with o f) p st)
 -- the state behind a mark where an operand is due
 abbrev pub from_want : Pending → List Pending → Symbol → ℕ → Option State
 from_want p st Open token = Some (want empty (p ∷ st))
-from_want p st Close token = None
 from_want p st Not token = Some (want (with_not p token) st)
-from_want p st And token = None
-from_want p st Or token = None
 from_want p st (Truth value) token = Some (lead value token p st)
-from_want p st (SignOf sign) token = None
 from_want p st Term token = Some (sided token p st)
-from_want p st Other token = None
+from_want p st _ token = None
 
 -- behind a formula
 abbrev pub from_have : Tree → Option Left → List Pending → Symbol → ℕ → Option State
-from_have f o st Open token = None
 from_have f o st Close token = closed f o st
-from_have f o st Not token = None
 from_have f o st And token = Some (want (behind_and f o token) st)
 from_have f o st Or token = Some (want (behind_or f o token) st)
-from_have f o st (Truth value) token = None
-from_have f o st (SignOf sign) token = None
-from_have f o st Term token = None
-from_have f o st Other token = None
+from_have f o st _ token = None
 
 -- behind a truth value: as behind a formula, but for a sign
 abbrev pub from_lead : Bool → ℕ → Pending → List Pending → Symbol → ℕ → Option State
-from_lead value n p st Open token = None
-from_lead value n p st Close token = closed (and_with p.ands (nots_of p.nots (truth value n))) p.ors st
-from_lead value n p st Not token = None
-from_lead value n p st And token = Some (want (behind_and (and_with p.ands (nots_of p.nots (truth value n))) p.ors token) st)
-from_lead value n p st Or token = Some (want (behind_or (and_with p.ands (nots_of p.nots (truth value n))) p.ors token) st)
-from_lead value n p st (Truth other) token = None
 from_lead value n p st (SignOf sign) token = Some (signed n sign token p st)
-from_lead value n p st Term token = None
-from_lead value n p st Other token = None
+from_lead value n p st symbol token = from_have (and_with p.ands (nots_of p.nots (truth value n))) p.ors st symbol token
 
 -- behind a term
 abbrev pub from_sided : ℕ → Pending → List Pending → Symbol → ℕ → Option State
-from_sided n p st Open token = None
-from_sided n p st Close token = None
-from_sided n p st Not token = None
-from_sided n p st And token = None
-from_sided n p st Or token = None
-from_sided n p st (Truth value) token = None
 from_sided n p st (SignOf sign) token = Some (signed n sign token p st)
-from_sided n p st Term token = None
-from_sided n p st Other token = None
+from_sided n p st _ token = None
 
 -- behind a term and a sign, of which a further term makes this relation
 abbrev pub from_signed : Tree → Pending → List Pending → Symbol → Option State
-from_signed f p st Open = None
-from_signed f p st Close = None
-from_signed f p st Not = None
-from_signed f p st And = None
-from_signed f p st Or = None
 from_signed f p st (Truth value) = Some (done f p st)
-from_signed f p st (SignOf sign) = None
 from_signed f p st Term = Some (done f p st)
-from_signed f p st Other = None
+from_signed f p st _ = None
 
 -- is it a sign?
 abbrev pub is_sign : Symbol → Bool
-is_sign Open = false
-is_sign Close = false
-is_sign Not = false
-is_sign And = false
-is_sign Or = false
-is_sign (Truth value) = false
 is_sign (SignOf sign) = true
-is_sign Term = false
-is_sign Other = false
+is_sign _ = false
 
 -- the state behind a mark of this symbol and number, if it may come
 abbrev pub step_on : State → Symbol → ℕ → Option State
@@ -167,11 +131,9 @@ whole f o (p ∷ st) = None
 
 -- the formula that was read, if the marks may end in this state
 abbrev pub result_of : State → Option Tree
-result_of (want p st) = None
 result_of (lead value n p st) = whole (and_with p.ands (nots_of p.nots (truth value n))) p.ors st
-result_of (sided n p st) = None
-result_of (signed n sign k p st) = None
 result_of (have f o st) = whole f o st
+result_of _ = None
 
 -- what the parts of the reader in the code stand for
 abbrev pub left_of : LeftPart → Left

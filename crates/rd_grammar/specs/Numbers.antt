@@ -2,7 +2,7 @@
 use Rattle.std.specs.Prelude.{◌≡◌, ◌+◌, ℕ, Bool, true, false, not, Some, List, [], ◌∷◌, ◌++◌, map, filter, slice_get}
 use Rattle.rd_grammar.specs.declared.marks.Mark.{Mark}
 use Rattle.rd_grammar.specs.declared.marks.Symbol.{Symbol}
-use Rattle.rd_grammar.specs.declared.marks.Symbol.TheVariants.{Open, Close, Not, And, Or, Truth, Sign as SignOf, Term, Other}
+use Rattle.rd_grammar.specs.declared.marks.Symbol.TheVariants.{Open, Close, Not, And, Or, Truth, Sign as SignOf}
 use Rattle.rd_grammar.specs.Grammar.{Tree, truth, relation, negation, both, either, is_term}
 
 -- each mark's number is its place
@@ -30,13 +30,7 @@ NamesMarks marks (either f token g) = NamesMarks marks f × StandsAt marks Or to
 abbrev pub is_parenthesis : Symbol → Bool
 is_parenthesis Open = true
 is_parenthesis Close = true
-is_parenthesis Not = false
-is_parenthesis And = false
-is_parenthesis Or = false
-is_parenthesis (Truth value) = false
-is_parenthesis (SignOf sign) = false
-is_parenthesis Term = false
-is_parenthesis Other = false
+is_parenthesis _ = false
 
 -- the numbers of the marks that are no parentheses, in their order
 abbrev pub numbers_of : List Mark → List ℕ
