@@ -1,0 +1,15 @@
+use Rattle.rd_grammar.specs.Grammar.{Says, disj}
+use Rattle.rd_grammar.proofs.CanonicalLemmas.{canonical_are_read, has_canonical}
+use Rattle.rd_grammar.proofs.FirstWrong.{one_place, right_nowhere}
+use Rattle.rd_grammar.proofs.ReadLemmas.{each_judged, one_tree}
+use Rattle.rd_grammar.proofs.laws.law_of_grammar.Goals as goal
+
+pub returns : goal.returns
+returns c = record {
+  one = one_tree;
+  judged = each_judged;
+  right = right_nowhere (Says disj);
+  place = λ front rest others more. one_place (Says disj) front rest others more;
+  canonical = canonical_are_read;
+  shown = has_canonical;
+}

@@ -1,0 +1,5 @@
+pub mod Canonical
+pub mod FirstWrong
+pub mod Grammar
+pub mod Machine
+pub mod Numbers

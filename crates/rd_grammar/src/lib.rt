@@ -1,0 +1,14 @@
+//! The reader of a formula's marks: exactly by the grammar, to the first wrong mark.
+#![tactic(auto)]
+
+mod laws;
+mod marks;
+mod parsed;
+mod reader;
+#[cfg(test)]
+mod tests;
+
+pub use laws::{law_of_grammar, law_of_numbers};
+pub use marks::{Mark, Sign, Symbol};
+pub use parsed::{ParseRefused, Parsed};
+pub use reader::{MOST_TOKENS, parse_formula};
