@@ -29,5 +29,13 @@ pair-requires-5 c =
 pub pair-requires-6 : goal.pair-requires-6
 unfolding all_pairs
 pair-requires-6 c =
-    rw (c.pair-5.ensures.value, c.pair-4.ensures.value, c.pair-3.ensures.value, c.pair-2.ensures.value, c.pair.ensures.value, c.in_ok-kind.ensures,
-    c.keeps.ensures, c.in_ok-swaps.ensures) (may_by _ 2 2 _ refl)
+    rw (
+      c.pair-5.ensures.value,
+      c.pair-4.ensures.value,
+      c.pair-3.ensures.value,
+      c.pair-2.ensures.value,
+      c.pair.ensures.value,
+      c.in_ok-kind.ensures,
+      c.keeps.ensures,
+      c.in_ok-swaps.ensures,
+    ) (may_by _ 2 2 _ refl)
