@@ -1,0 +1,77 @@
+-- The words of a formula's tokens, and its variables: this project's profile.
+use Rattle.std.specs.Prelude.{◌≡◌, ℕ, ◌<◌, ◌≤◌, ◌+◌, List, [], length, slice_get, Some, option_map, unwrap_or, All, Contains}
+use Rattle.rd_ecl.specs.declared.formulas.Side.{Side}
+use Rattle.rd_ecl.specs.declared.formulas.Side.TheVariants.{First, Second}
+use Rattle.rd_formulas.specs.declared.scope.Scope.{Scope}
+use Rattle.rd_formulas.specs.declared.terms.Meant.{Meant}
+use Rattle.rd_formulas.specs.declared.terms.Meant.TheVariants.{Slot, Value as ValueOf}
+use Rattle.rd_formulas.specs.Meaning.{Related}
+use Rattle.rd_grammar.specs.Grammar.{Tree as Read, truth, relation, negation, both, either}
+use Rattle.rd_tokens.specs.declared.items.Token.{Token}
+use Rattle.rd_tokens.specs.Tokens.{IsToken, LiesIn, bytes_behind, bytes_of}
+use Rattle.rd_words.specs.declared.terms.Said.TheVariants.{Variable, Value as ValueSaid}
+use Rattle.rd_words.specs.Words.{IsTerm, SaysTerm}
+
+-- the token is of its sort in the line
+abbrev pub IsTokenOf : List ℕ → Token → Type 0
+IsTokenOf line token = IsToken token.sort (bytes_of line token) (bytes_behind line token)
+
+-- the tokens are tokens of the line, and the methods have at most 7 variables
+pub record IsScope (scope : Scope) : Type 0 where
+  pub within : All (LiesIn scope.line.now) scope.tokens.now
+  pub sorts : All (IsTokenOf scope.line.now) scope.tokens.now
+  pub first : length scope.first.now ≤ 7
+  pub second : length scope.second.now ≤ 7
+
+-- the bytes of the token with this number; none where there is no such token
+abbrev pub word_at : Scope → ℕ → List ℕ
+word_at scope number = unwrap_or (option_map (bytes_of scope.line.now) (slice_get scope.tokens.now number)) []
+
+-- where the token with this number begins, in bytes from 1; behind the line where there is no such token
+abbrev pub place_at : Scope → ℕ → ℕ
+place_at scope number = unwrap_or (option_map (λ token. token.place) (slice_get scope.tokens.now number)) (length scope.line.now + 1)
+
+-- the variables of a side
+abbrev pub variables_of : Scope → Side → List (List ℕ)
+variables_of scope First = scope.first.now
+variables_of scope Second = scope.second.now
+
+-- a token of this number is there, and is a term
+abbrev pub IsTermAt : Scope → ℕ → Type 0
+IsTermAt scope number = (number < length scope.tokens.now) × IsTerm (word_at scope number)
+
+-- it is a variable
+abbrev pub IsVariableAt : Scope → ℕ → Type 0
+IsVariableAt scope number = (side : Side) × (name : List ℕ) × SaysTerm (word_at scope number) (Variable side name)
+
+-- it is a variable that isn't one of its side's method
+abbrev pub IsUnknown : Scope → ℕ → Type 0
+IsUnknown scope number =
+    (side : Side) × (name : List ℕ) × SaysTerm (word_at scope number) (Variable side name) × ¬ (Contains (variables_of scope side) name)
+
+-- a relation has no variable
+abbrev pub IsBare : Scope → Related → Type 0
+IsBare scope asked = ¬ (IsVariableAt scope asked.left) × ¬ (IsVariableAt scope asked.right)
+
+-- what it means: a slot, which its variable names, or a value
+abbrev pub MeansAt : Scope → ℕ → Meant → Type 0
+MeansAt scope number (Slot side slot) =
+    (name : List ℕ) × SaysTerm (word_at scope number) (Variable side name) × (slice_get (variables_of scope side) slot ≡ Some name)
+MeansAt scope number (ValueOf value) = SaysTerm (word_at scope number) (ValueSaid value)
+
+-- each term of the formula that was read is one
+abbrev pub HasTerms : Scope → Read → Type 0
+HasTerms scope (truth value token) = Unit {0}
+HasTerms scope (relation left sign token right) = IsTermAt scope left × IsTermAt scope right
+HasTerms scope (negation token f) = HasTerms scope f
+HasTerms scope (both f token g) = HasTerms scope f × HasTerms scope g
+HasTerms scope (either f token g) = HasTerms scope f × HasTerms scope g
+
+-- each term has a meaning, and each relation a variable
+abbrev pub IsReady : Scope → Read → Type 0
+IsReady scope (truth value token) = Unit {0}
+IsReady scope (relation left sign token right) =
+    ¬ (IsUnknown scope left) × ¬ (IsUnknown scope right) × ¬ (IsBare scope (record { sign = token; left = left; right = right }))
+IsReady scope (negation token f) = IsReady scope f
+IsReady scope (both f token g) = IsReady scope f × IsReady scope g
+IsReady scope (either f token g) = IsReady scope f × IsReady scope g

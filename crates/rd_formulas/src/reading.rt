@@ -1,0 +1,123 @@
+//! Reading a formula.
+ghost use Rattle.std.specs.Prelude.{◌≡◌, ◌≤◌, ◌<◌, ◌-◌, ◌^◌, ℕ, length, IfOk, IfErr, Some};
+ghost use Rattle.rd_ecl.specs.Formulas.{first_offence, post_order, tree_of as formula_of};
+ghost use Rattle.rd_formulas.specs.declared.reading.FormulaRefused.TheVariants.{NoMemory as MemoryRefused};
+ghost use Rattle.rd_formulas.specs.Meaning.{Gives};
+ghost use Rattle.rd_formulas.specs.Reading.{IsFormula, IsRefused, IsTroubled, SaysFormula};
+ghost use Rattle.rd_formulas.specs.Scope.{HasTerms, IsReady, IsScope, MeansAt};
+ghost use Rattle.rd_grammar.specs.Grammar.{tree_of};
+ghost use Rattle.rd_grammar.specs.Numbers.{named_by};
+
+use crate::building::build;
+use crate::finding::{first_bare, first_unknown};
+use crate::places::token_of_node;
+use crate::scope::Scope;
+use rd_base::NoMemory;
+use rd_ecl::{Formula, Outside, Reason};
+use rd_grammar::{ParseRefused, Parsed, parse_formula};
+use rd_words::marks;
+use std::alloc::Global;
+use thiserror::Error;
+
+/// Why tokens say no formula. Places are numbers of bytes in the line, from 1.
+#[derive(Clone, Copy, Debug, PartialEq, Eq, Error)]
+pub enum FormulaRefused {
+    /// the first wrong token; behind the line, where it ends too early
+    #[error("wrong at byte {place}")]
+    Syntax { place: u32 },
+    /// the first variable that isn't one of its side's method
+    #[error("unknown variable at byte {place}")]
+    UnknownVariable { place: u32 },
+    /// the sign of the first relation that has no variable
+    #[error("no variable beside the sign at byte {place}")]
+    NoVariable { place: u32 },
+    /// the token of the first node that isn't in the fragment, and why
+    #[error("outside the fragment at byte {place}")]
+    OutsideFragment { place: u32, reason: Reason },
+    /// memory ran out
+    #[error("out of memory")]
+    NoMemory,
+}
+
+impl From<NoMemory> for FormulaRefused {
+    ghost from_gives = { λ _ e. e ≡ MemoryRefused };
+
+    fn from(_error: NoMemory) -> FormulaRefused {
+        FormulaRefused::NoMemory
+    }
+}
+
+// The refusal of a formula outside the fragment.
+fn refused_outside(
+    scope: &Scope,
+    parsed: &Parsed,
+    formula: &Formula,
+    outside: Outside,
+) -> FormulaRefused
+    requires scope { length scope.now.line.now < 2 ^ 32 - 1 }
+    requires outside { first_offence 0 (post_order (formula_of formula.now)) ≡ Some outside }
+    requires gives { Gives (MeansAt scope.now) (tree_of parsed.now) (formula_of formula.now) }
+    ensures { IsTroubled scope.now (tree_of parsed.now) result }
+{
+    let number = token_of_node(parsed, formula, outside.node).unwrap();
+    FormulaRefused::OutsideFragment {
+        place: scope.place(number),
+        reason: outside.reason,
+    }
+}
+
+// The formula of what was read whose terms all have a meaning.
+fn built(alloc: Global, scope: &Scope, parsed: &Parsed) -> Result<Formula, FormulaRefused>
+    requires scope { IsScope scope.now × (length scope.now.line.now < 2 ^ 32 - 1) }
+    requires ready { HasTerms scope.now (tree_of parsed.now) × IsReady scope.now (tree_of parsed.now) }
+    requires few { length (named_by (tree_of parsed.now)) ≤ 512 }
+    ensures gives { IfOk result (λ formula. Gives (MeansAt scope.now) (tree_of parsed.now) (formula_of formula)) }
+    ensures formula { IfOk result (λ formula. IsFormula scope.now (formula_of formula)) }
+    ensures refused { IfErr result (IsTroubled scope.now (tree_of parsed.now)) }
+{
+    let formula = build(alloc, scope, parsed)?;
+    match formula.place_outside() {
+        Some(outside) => Err(refused_outside(scope, parsed, &formula, outside)),
+        None => Ok(formula),
+    }
+}
+
+/// The formula of what was read, or the first thing that is wrong with it.
+pub fn resolve(alloc: Global, scope: &Scope, parsed: &Parsed) -> Result<Formula, FormulaRefused>
+    requires scope { IsScope scope.now × (length scope.now.line.now < 2 ^ 32 - 1) }
+    requires terms { HasTerms scope.now (tree_of parsed.now) }
+    requires few { length (named_by (tree_of parsed.now)) ≤ 512 }
+    ensures gives { IfOk result (λ formula. Gives (MeansAt scope.now) (tree_of parsed.now) (formula_of formula)) }
+    ensures formula { IfOk result (λ formula. IsFormula scope.now (formula_of formula)) }
+    ensures refused { IfErr result (IsTroubled scope.now (tree_of parsed.now)) }
+{
+    if let Some(number) = first_unknown(scope, parsed) {
+        return Err(FormulaRefused::UnknownVariable {
+            place: scope.place(number),
+        });
+    }
+    if let Some(number) = first_bare(scope, parsed) {
+        return Err(FormulaRefused::NoVariable {
+            place: scope.place(number),
+        });
+    }
+    built(alloc, scope, parsed)
+}
+
+/// The formula that tokens say, at most 512 of them; else the first thing that is wrong with them.
+pub fn read_formula(alloc: Global, scope: &Scope) -> Result<Formula, FormulaRefused>
+    requires scope { IsScope scope.now × (length scope.now.line.now < 2 ^ 32 - 1) }
+    requires few { length scope.now.tokens.now ≤ 512 }
+    ensures says { IfOk result (λ formula. SaysFormula scope.now (formula_of formula)) }
+    ensures formula { IfOk result (λ formula. IsFormula scope.now (formula_of formula)) }
+    ensures refused { IfErr result (IsRefused scope.now) }
+{
+    let marks = marks(alloc, scope.line, scope.tokens)?;
+    match parse_formula(alloc, marks.items()) {
+        Ok(parsed) => resolve(alloc, scope, &parsed),
+        Err(ParseRefused::Syntax(number)) => Err(FormulaRefused::Syntax {
+            place: scope.place(number),
+        }),
+        Err(ParseRefused::NoMemory) => Err(FormulaRefused::NoMemory),
+    }
+}

@@ -1,0 +1,3 @@
+pub mod TermLemmas
+pub mod WordLemmas
+pub mod MarkLemmas
