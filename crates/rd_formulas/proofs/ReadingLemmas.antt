@@ -12,7 +12,7 @@ use Rattle.rd_formulas.specs.Meaning.{Gives, node_tokens}
 use Rattle.rd_formulas.specs.declared.reading.FormulaRefused.{FormulaRefused}
 use Rattle.rd_formulas.specs.declared.reading.FormulaRefused.TheVariants.{Syntax, UnknownVariable, NoVariable, OutsideFragment, NoMemory}
 use Rattle.rd_formulas.specs.Reading.{IsFormula, IsRefused, IsTroubled, Reads}
-use Rattle.rd_formulas.specs.Scope.{HasTerms, IsScope, IsTermAt, IsTokenOf, MeansAt}
+use Rattle.rd_formulas.specs.Scope.{HasTerms, IsScope, IsTermAt, MeansAt}
 use Rattle.rd_formulas.proofs.BuildingLemmas.{given_nodes, given_of}
 use Rattle.rd_grammar.specs.declared.marks.Mark.{Mark}
 use Rattle.rd_grammar.specs.declared.marks.Sign.{Sign}
@@ -20,7 +20,7 @@ use Rattle.rd_grammar.specs.Grammar.{Tree as Read, Says, disj, truth as read_tru
 use Rattle.rd_grammar.specs.Numbers.{NamesMarks, TermAt, is_parenthesis, named_by, numbers_of}
 use Rattle.rd_grammar.proofs.NumberLemmas.{names_marks, in_order}
 use Rattle.rd_tokens.specs.declared.items.Token.{Token}
-use Rattle.rd_tokens.specs.Tokens.{bytes_behind, bytes_of}
+use Rattle.rd_tokens.specs.Tokens.{IsTokenOf, bytes_behind, bytes_of}
 use Rattle.rd_words.specs.Words.{AreMarks}
 use Rattle.rd_words.proofs.MarkLemmas.{numbered}
 use Rattle.rd_words.proofs.WordLemmas.{token_said}

@@ -7,14 +7,9 @@ use Rattle.rd_formulas.specs.declared.terms.Meant.{Meant}
 use Rattle.rd_formulas.specs.declared.terms.Meant.TheVariants.{Slot, Value as ValueOf}
 use Rattle.rd_formulas.specs.Meaning.{Related}
 use Rattle.rd_grammar.specs.Grammar.{Tree as Read, truth, relation, negation, both, either}
-use Rattle.rd_tokens.specs.declared.items.Token.{Token}
-use Rattle.rd_tokens.specs.Tokens.{IsToken, LiesIn, bytes_behind, bytes_of}
+use Rattle.rd_tokens.specs.Tokens.{IsTokenOf, LiesIn, bytes_of}
 use Rattle.rd_words.specs.declared.terms.Said.TheVariants.{Variable, Value as ValueSaid}
 use Rattle.rd_words.specs.Words.{IsTerm, SaysTerm}
-
--- the token is of its sort in the line
-abbrev pub IsTokenOf : List ℕ → Token → Type 0
-IsTokenOf line token = IsToken token.sort (bytes_of line token) (bytes_behind line token)
 
 -- the tokens are tokens of the line, and the methods have at most 7 variables
 pub record IsScope (scope : Scope) : Type 0 where

@@ -73,6 +73,10 @@ bytes_of line token = take token.length (drop (token.place - 1) line)
 abbrev pub bytes_behind : List ℕ → Token → List ℕ
 bytes_behind line token = drop (token.place - 1 + token.length) line
 
+-- the token is one of its sort
+abbrev pub IsTokenOf : List ℕ → Token → Type 0
+IsTokenOf line token = IsToken token.sort (bytes_of line token) (bytes_behind line token)
+
 -- the token has the byte of this number
 abbrev pub HasByte : ℕ → Token → Type 0
 HasByte place token = (token.place ≤ place) × (place < token.place + token.length)

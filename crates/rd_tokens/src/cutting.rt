@@ -4,7 +4,7 @@ ghost use Rattle.std.specs.List.{position, prefix_len};
 ghost use Rattle.rd_base.specs.ReadingValues.{value_of};
 ghost use Rattle.rd_tokens.specs.declared.items.Sort.TheVariants.{Text, Wrong, Word};
 ghost use Rattle.rd_tokens.specs.declared.items.Token.{Token};
-ghost use Rattle.rd_tokens.specs.Tokens.{is_word_byte, IsToken, AreTokens, LiesIn, HasByte, ComesAfter, bytes_of, bytes_behind};
+ghost use Rattle.rd_tokens.specs.Tokens.{is_word_byte, IsToken, IsTokenOf, AreTokens, LiesIn, HasByte, ComesAfter, bytes_of, bytes_behind};
 ghost use Rattle.rd_tokens.specs.ReadingTokens.{is_end, takes_next, inside_length, first_length, sort_of, token_of};
 
 use crate::items::{Sort, Token, Tokens};
@@ -147,6 +147,7 @@ pub fn tokens(alloc: Global, line: &[u8]) -> Result<Tokens, NoMemory>
     requires { length line.now < 2 ^ 32 - 1 }
     ensures value { IfOk result (AreTokens line.now) }
     ensures within { IfOk result (All (LiesIn line.now)) }
+    ensures sorts { IfOk result (All (IsTokenOf line.now)) }
 {
     let mut found = Tokens::new(alloc);
     let mut start = 0;
@@ -168,7 +169,7 @@ pub fn law_of_tokens()
     ensures some { (line : List ℕ) → (tokens : List Token) × AreTokens line tokens }
     ensures one { (line : List ℕ) (first second : List Token) → AreTokens line first → AreTokens line second → first ≡ second }
     ensures within { (line : List ℕ) (tokens : List Token) → AreTokens line tokens → All (LiesIn line) tokens }
-    ensures sorts { (line : List ℕ) (tokens : List Token) → AreTokens line tokens → All (λ token. IsToken token.sort (bytes_of line token) (bytes_behind line token)) tokens }
+    ensures sorts { (line : List ℕ) (tokens : List Token) → AreTokens line tokens → All (IsTokenOf line) tokens }
     ensures rise { (line : List ℕ) (tokens : List Token) → AreTokens line tokens → AllPairs ComesAfter tokens }
     ensures whole { (line : List ℕ) (tokens : List Token) → AreTokens line tokens → (k : ℕ) → k < length line → slice_index line k ≢ 32 → Any (HasByte (k + 1)) tokens }
 {}

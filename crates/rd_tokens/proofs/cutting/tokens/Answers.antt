@@ -1,5 +1,5 @@
 use Rattle.std.proofs.Common.{◌≡◌, ◌≢◌, ◌<◌, ◌≤◌, length, get_or, rules}
-use Rattle.rd_tokens.proofs.CutLemmas.{so_far_space, so_far_push, so_far_all, each_lies}
+use Rattle.rd_tokens.proofs.CutLemmas.{so_far_space, so_far_push, so_far_all, each_lies, each_is}
 use Rattle.rd_tokens.proofs.cutting.tokens.Goals as goal
 
 pub loop-start-preserved-then-is_space : goal.loop-start-preserved-then-is_space
@@ -31,4 +31,10 @@ pub returns-clause-within : goal.returns-clause-within
 returns-clause-within c =
     let all : length c.args.line.now ≤ c.loop-start.start = search rules in
     each_lies c.args.line.now c.loop-start.found
+    (so_far_all c.args.line.now c.loop-start.start c.loop-start.found all c.loop-start.invariant.so_far)
+
+pub returns-clause-sorts : goal.returns-clause-sorts
+returns-clause-sorts c =
+    let all : length c.args.line.now ≤ c.loop-start.start = search rules in
+    each_is c.args.line.now c.loop-start.found
     (so_far_all c.args.line.now c.loop-start.start c.loop-start.found all c.loop-start.invariant.so_far)
