@@ -1,10 +1,10 @@
-ghost use Rattle.std.specs.Prelude.{◌≡◌, [], ◌∷◌, codes, IfOk};
+ghost use Rattle.std.specs.Prelude.{◌≡◌, [], ◌∷◌, codes, replicate, None, IfOk};
 ghost use Rattle.rd_base.specs.Limits.{AreUsable};
 ghost use Rattle.rd_ecl.specs.Kinds.{kind_names, kinds_of};
 
 use super::{Accepted, Roster, WfCause, WfRefused};
 use rd_base::{LimitName, Limits, Name, NoMemory, Slots, Value};
-use rd_ecl::{KindDraft, KindSpec, Names, Spec};
+use rd_ecl::{Formula, KindDraft, KindSpec, Names, Spec};
 use rd_event::{Call, Event, Line, read_line};
 use std::alloc::Global;
 use std::process::Abort;
@@ -16,8 +16,14 @@ fn line(rt: &impl Abort, alloc: Global, text: &str) -> Line {
 
 // The kinds by literal names: what `method` asks is proved by computation.
 
-fn register(alloc: Global) -> Result<KindSpec, NoMemory>
-    ensures { IfOk result (λ kind. kind.name ≡ codes "register") }
+fn register_methods(alloc: Global) -> Result<KindDraft, NoMemory>
+    ensures { IfOk result (λ draft. draft ≡ record {
+      name = codes "register";
+      methods = record { name = codes "read"; variables = codes "value" ∷ [] }
+          ∷ record { name = codes "write"; variables = codes "value" ∷ codes "done" ∷ [] }
+          ∷ record { name = codes "swap"; variables = codes "value" ∷ codes "prev" ∷ [] } ∷ [];
+      pairs = replicate 48 None;
+    }) }
 {
     let mut read = Names::new(alloc);
     read.push(Name::from_bytes(b"value").unwrap())?;
@@ -31,16 +37,42 @@ fn register(alloc: Global) -> Result<KindSpec, NoMemory>
     kind.method(Name::from_bytes(b"read").unwrap(), read)?;
     kind.method(Name::from_bytes(b"write").unwrap(), write)?;
     kind.method(Name::from_bytes(b"swap").unwrap(), swap)?;
+    Ok(kind)
+}
+
+// Which calls commute is no matter here: each pair has a formula.
+fn register(alloc: Global) -> Result<KindSpec, NoMemory>
+    ensures { IfOk result (λ kind. kind.name ≡ codes "register") }
+{
+    let mut kind = register_methods(alloc)?;
+    kind.pair(0, 0, Formula::True)?;
+    kind.pair(0, 1, Formula::True)?;
+    kind.pair(0, 2, Formula::True)?;
+    kind.pair(1, 1, Formula::True)?;
+    kind.pair(1, 2, Formula::True)?;
+    kind.pair(2, 2, Formula::True)?;
     Ok(kind.finish())
 }
 
-fn flag(alloc: Global) -> Result<KindSpec, NoMemory>
-    ensures { IfOk result (λ kind. kind.name ≡ codes "flag") }
+fn flag_methods(alloc: Global) -> Result<KindDraft, NoMemory>
+    ensures { IfOk result (λ draft. draft ≡ record {
+      name = codes "flag";
+      methods = record { name = codes "set"; variables = codes "done" ∷ [] } ∷ [];
+      pairs = replicate 16 None;
+    }) }
 {
     let mut variables = Names::new(alloc);
     variables.push(Name::from_bytes(b"done").unwrap())?;
     let mut kind = KindDraft::new(alloc, Name::from_bytes(b"flag").unwrap())?;
     kind.method(Name::from_bytes(b"set").unwrap(), variables)?;
+    Ok(kind)
+}
+
+fn flag(alloc: Global) -> Result<KindSpec, NoMemory>
+    ensures { IfOk result (λ kind. kind.name ≡ codes "flag") }
+{
+    let mut kind = flag_methods(alloc)?;
+    kind.pair(0, 0, Formula::True)?;
     Ok(kind.finish())
 }
 
