@@ -1,4 +1,4 @@
-use Rattle.std.proofs.Common.{◌≤◌, arith, length}
+use Rattle.std.proofs.Common.{arith}
 use Rattle.std.proofs.lemmas.List.Elements.{All-drop}
 use Rattle.rd_tokens.specs.Tokens.{IsTokenOf, LiesIn}
 use Rattle.rd_formulas.proofs.tests.read.Goals as goal
