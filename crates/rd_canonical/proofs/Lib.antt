@@ -1,0 +1,4 @@
+pub mod FewLemmas
+pub mod OneLemmas
+pub mod StandLemmas
+pub mod AgainLemmas
