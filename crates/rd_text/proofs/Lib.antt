@@ -1,0 +1,5 @@
+pub mod JoinLemmas
+pub mod AgainLemmas
+pub mod PlainLemmas
+pub mod SoundLemmas
+pub mod FormulaLemmas

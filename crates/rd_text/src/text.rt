@@ -1,0 +1,39 @@
+//! Writing words as a text.
+ghost use Rattle.std.specs.Prelude.{◌≡◌, [], ◌++◌, codes, if◌then◌else◌, OnOk};
+ghost use Rattle.rd_text.specs.Text.{gap, text_of};
+
+use rd_base::{Bytes, NoMemory};
+use rd_canonical::Word;
+use rd_tokens::Sort;
+
+// Does a space stand between two words of these sorts?
+fn has_space(first: Sort, second: Sort) -> bool
+    ensures { gap first second ≡ (if result then codes " " else []) }
+{
+    first != Sort::Open && second != Sort::Close
+}
+
+// Puts last what stands between two words of these sorts.
+fn append_gap(text: &mut Bytes, first: Sort, second: Sort) -> Result<(), NoMemory>
+    ensures { OnOk result (text.new ≡ text.old ++ gap first second) }
+{
+    if has_space(first, second) {
+        text.push(b' ')
+    } else {
+        Ok(())
+    }
+}
+
+/// Puts the text of words last.
+pub fn append_text(text: &mut Bytes, words: &[Word]) -> Result<(), NoMemory>
+    ensures { OnOk result (text.new ≡ text.old ++ text_of words.now) }
+{
+    // no space stands before the first word, as behind `(`
+    let mut before = Sort::Open;
+    for word in words {
+        append_gap(text, before, word.sort)?;
+        text.append(word.bytes.items())?;
+        before = word.sort;
+    }
+    Ok(())
+}
