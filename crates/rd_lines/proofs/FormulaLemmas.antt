@@ -1,0 +1,252 @@
+-- Where the words of a formula are wrong: where its marks are.
+use Rattle.std.proofs.Common.{◌≡◌, ◌≢◌, ◌≤◌, ℕ, zero, suc, ◌+◌, true, List, [], ◌∷◌, ◌++◌, length, take, drop, codes, Some, refl, sym, ◌∙◌, ap, subst, arith, length-drop}
+use Rattle.std.specs.Prelude.{slice_get}
+use Rattle.std.specs.List.{AllByRecursion}
+use Rattle.rd_tokens.specs.declared.items.Sort.TheVariants.{Open as OpenToken, Close as CloseToken, Text}
+use Rattle.rd_tokens.specs.declared.items.Token.{Token}
+use Rattle.rd_grammar.specs.FirstWrong.{Begins, WrongAt}
+use Rattle.rd_grammar.specs.Grammar.{Tree, both, either, is_term, Level, disj, conj, prim, Says, disj_one, disj_or, conj_one, conj_and, neg_one, neg_not, prim_truth, prim_in, prim_relation}
+use Rattle.rd_grammar.specs.declared.marks.Mark.{Mark}
+use Rattle.rd_grammar.specs.declared.marks.Symbol.{Symbol}
+use Rattle.rd_grammar.specs.declared.marks.Symbol.TheVariants.{Open, Close, Not, And, Or, Truth, Sign as SignOf, Term, Other}
+use Rattle.rd_words.specs.Words.{IsSymbol, IsMark, AreMarks, sign_word, truth_word}
+use Rattle.rd_lines.specs.Lines.{Word, plain, word_at, words_of, AreMarksFrom, IsWrongBehind}
+use Rattle.rd_lines.specs.Reading.{SaysFormula, IsFormulaRefused, count_of}
+use Rattle.std.proofs.Common.{Result, Ok, Err, IfOk}
+use Rattle.std.specs.Prelude.{IfErr}
+use Rattle.std.proofs.lemmas.List.{length-map}
+use Rattle.rd_grammar.specs.Grammar.{tree_of, IsRefused}
+use Rattle.rd_grammar.specs.declared.parsed.Parsed.{Parsed}
+use Rattle.rd_grammar.specs.declared.parsed.ParseRefused.{ParseRefused}
+use Rattle.rd_grammar.specs.declared.parsed.ParseRefused.TheVariants.{Syntax, NoMemory}
+use Rattle.rd_lines.proofs.LawLemmas.{one_marks}
+
+-- marks of tokens are marks of their words
+marks_from : (line : List ℕ) (k : ℕ) (tokens : List Token) (marks : List Mark) → length marks ≡ length tokens
+    → ((place : ℕ) (token : Token) (mark : Mark) → slice_get tokens place ≡ Some token → slice_get marks place ≡ Some mark → IsMark line (k + place) token mark)
+    → AreMarksFrom k (words_of line tokens) marks
+marks_from line k [] [] count each = tt
+marks_from line k [] (mark ∷ marks) count each = absurd (omega arith)
+marks_from line k (token ∷ tokens) [] count each = absurd (omega arith)
+marks_from line k (token ∷ tokens) (mark ∷ marks) count each =
+    let first = each 0 token mark refl refl in
+    let number : mark.token ≡ k = omega (arith, first.number) in
+    let count_behind : length marks ≡ length tokens = omega (arith, count) in (
+      first.symbol,
+      number,
+      marks_from line (suc k) tokens marks count_behind
+          (λ place t m here there. let sum : k + suc place ≡ suc k + place = omega arith in subst (λ n. IsMark line n t m) sum (each (suc place) t m here there)),
+    )
+
+pub words_marked : (line : List ℕ) (tokens : List Token) (marks : List Mark) → AreMarks line tokens marks → AreMarksFrom 0 (words_of line tokens) marks
+words_marked line tokens marks are =
+    marks_from line 0 tokens marks are.count
+    (λ place t m here there. let sum : place ≡ 0 + place = omega arith in subst (λ n. IsMark line n t m) sum (are.each place t m here there))
+
+-- a formula with other numbers is a formula
+abbrev numbered : ℕ → List Mark → List Mark
+numbered k [] = []
+numbered k (m ∷ ms) = record { symbol = m.symbol; token = k } ∷ numbered (suc k) ms
+
+numbered_behind : (k : ℕ) (ms ns : List Mark) → numbered k (ms ++ ns) ≡ numbered k ms ++ numbered (k + length ms) ns
+numbered_behind k [] ns = let same : k ≡ k + 0 = omega arith in ap (λ (n : ℕ). numbered n ns) same
+numbered_behind k (m ∷ ms) ns =
+    let sum : suc k + length ms ≡ k + length (m ∷ ms) = omega arith in
+    let tails : numbered (suc k) (ms ++ ns) ≡ numbered (suc k) ms ++ numbered (k + length (m ∷ ms)) ns =
+    numbered_behind (suc k) ms ns ∙ ap (λ (n : ℕ). numbered (suc k) ms ++ numbered n ns) sum in
+    ap (λ (l : List Mark). record { symbol = m.symbol; token = k } ∷ l) tails
+
+renumbered : {l : Level} {ms : List Mark} {f : Tree} → Says l ms f → (k : ℕ) → (g : Tree) × Says l (numbered k ms) g
+renumbered (disj_one says) k = let part = renumbered says k in (part.0, disj_one part.1)
+renumbered (disj_or {ms = ms} {ns = ns} says m is also) k =
+    let left = renumbered says k in
+    let right = renumbered also (suc (k + length ms)) in
+    let whole = disj_or left.1 (record { symbol = m.symbol; token = k + length ms }) is right.1 in
+    let f = either left.0 (k + length ms) right.0 in (f, subst (λ (l : List Mark). Says disj l f) (sym (numbered_behind k ms (m ∷ ns))) whole)
+renumbered (conj_one says) k = let part = renumbered says k in (part.0, conj_one part.1)
+renumbered (conj_and {ms = ms} {ns = ns} says m is also) k =
+    let left = renumbered says k in
+    let right = renumbered also (suc (k + length ms)) in
+    let whole = conj_and left.1 (record { symbol = m.symbol; token = k + length ms }) is right.1 in
+    let f = both left.0 (k + length ms) right.0 in (f, subst (λ (l : List Mark). Says conj l f) (sym (numbered_behind k ms (m ∷ ns))) whole)
+renumbered (neg_one says) k = let part = renumbered says k in (part.0, neg_one part.1)
+renumbered (neg_not m is says) k = let part = renumbered says (suc k) in (_, neg_not (record { symbol = m.symbol; token = k }) is part.1)
+renumbered (prim_truth m value is) k = (_, prim_truth (record { symbol = m.symbol; token = k }) value is)
+renumbered (prim_in {ms = ms} opening closing is says also) k =
+    let part = renumbered says (suc k) in
+    let whole = prim_in (record { symbol = opening.symbol; token = k }) (record { symbol = closing.symbol; token = suc k + length ms }) is part.1 also in
+    let parts : numbered k (opening ∷ ms ++ closing ∷ []) ≡ record { symbol = opening.symbol; token = k } ∷ numbered (suc k) ms ++ record { symbol = closing.symbol; token = suc k + length ms } ∷ [] =
+    ap (λ (l : List Mark). record { symbol = opening.symbol; token = k } ∷ l) (numbered_behind (suc k) ms (closing ∷ [])) in
+    (part.0, subst (λ (l : List Mark). Says prim l part.0) (sym parts) whole)
+renumbered (prim_relation l m r sign is signed also) k =
+    (_, prim_relation (record { symbol = l.symbol; token = k }) (record { symbol = m.symbol; token = suc k }) (record { symbol = r.symbol; token = suc (suc k) }) sign is signed also)
+
+-- a formula has no mark that formulas don't have
+abbrev IsSaid : Mark → Type 0
+IsSaid m = m.symbol ≢ Other
+
+said_behind : (xs ys : List Mark) → AllByRecursion IsSaid xs → AllByRecursion IsSaid ys → AllByRecursion IsSaid (xs ++ ys)
+said_behind [] ys first second = second
+said_behind (x ∷ xs) ys first second = (first.0, said_behind xs ys first.1 second)
+
+said_in_rest : (xs ys : List Mark) → AllByRecursion IsSaid (xs ++ ys) → AllByRecursion IsSaid ys
+said_in_rest [] ys each = each
+said_in_rest (x ∷ xs) ys each = said_in_rest xs ys each.1
+
+is_said : (m : Mark) (symbol : Symbol) → symbol ≢ Other → m.symbol ≡ symbol → IsSaid m
+is_said m symbol other is same = other (sym is ∙ same)
+
+term_said : (m : Mark) → is_term m.symbol ≡ true → IsSaid m
+term_said m is same = let clash : is_term Other ≡ true = subst (λ (s : Symbol). is_term s ≡ true) same is in cc
+
+each_said : {l : Level} {ms : List Mark} {f : Tree} → Says l ms f → AllByRecursion IsSaid ms
+each_said (disj_one says) = each_said says
+each_said (disj_or {ms = ms} {ns = ns} says m is also) = said_behind ms (m ∷ ns) (each_said says) (is_said m Or (λ e. cc) is, each_said also)
+each_said (conj_one says) = each_said says
+each_said (conj_and {ms = ms} {ns = ns} says m is also) = said_behind ms (m ∷ ns) (each_said says) (is_said m And (λ e. cc) is, each_said also)
+each_said (neg_one says) = each_said says
+each_said (neg_not m is says) = (is_said m Not (λ e. cc) is, each_said says)
+each_said (prim_truth m value is) = (is_said m (Truth value) (λ e. cc) is, tt)
+each_said (prim_in {ms = ms} opening closing is says also) =
+    (is_said opening Open (λ e. cc) is, said_behind ms (closing ∷ []) (each_said says) (is_said closing Close (λ e. cc) also, tt))
+each_said (prim_relation l m r sign is signed also) = (term_said l is, (is_said m (SignOf sign) (λ e. cc) signed, (term_said r also, tt)))
+
+-- a word that is the symbol
+abbrev word_for : Symbol → Word
+word_for Open = record { sort = OpenToken; bytes = 40 ∷ [] }
+word_for Close = record { sort = CloseToken; bytes = 41 ∷ [] }
+word_for Not = plain (codes "not")
+word_for And = plain (codes "and")
+word_for Or = plain (codes "or")
+word_for (Truth value) = plain (truth_word value)
+word_for (SignOf sign) = plain (sign_word sign)
+word_for Term = record { sort = Text; bytes = 34 ∷ 34 ∷ [] }
+word_for Other = plain (codes "when")
+
+word_is : (symbol : Symbol) → symbol ≢ Other → IsSymbol (word_for symbol).sort (word_for symbol).bytes symbol
+word_is Open said = refl
+word_is Close said = refl
+word_is Not said = refl
+word_is And said = refl
+word_is Or said = refl
+word_is (Truth value) said = refl
+word_is (SignOf sign) said = refl
+word_is Term said = refl
+word_is Other said = absurd (said refl)
+
+abbrev words_for : List Mark → List Word
+words_for [] = []
+words_for (m ∷ ms) = word_for m.symbol ∷ words_for ms
+
+extended : (k : ℕ) (front : List Word) (marks more : List Mark) → AreMarksFrom k front marks → AllByRecursion IsSaid more
+    → AreMarksFrom k (front ++ words_for more) (numbered k (marks ++ more))
+extended k [] [] [] are each = tt
+extended k [] [] (m ∷ more) are each = (word_is m.symbol each.0, refl, extended (suc k) [] [] more tt each.1)
+extended k [] (mark ∷ marks) more are each = absurd are
+extended k (word ∷ front) [] more are each = absurd are
+extended k (word ∷ front) (mark ∷ marks) more are each = (are.0, refl, extended (suc k) front marks more are.2 each)
+
+-- words begin a formula exactly where their marks do
+begins_words : (front : List Word) (marks : List Mark) → AreMarksFrom 0 front marks → Begins (Says disj) marks → Begins SaysFormula front
+begins_words front marks are (more, f, says) =
+    let again = renumbered says 0 in (
+      words_for more,
+      again.0,
+      record { marks = numbered 0 (marks ++ more); marked = extended 0 front marks more are (said_in_rest marks more (each_said says)); says = again.1 },
+    )
+
+pub record FrontMarks (k : ℕ) (front : List Word) (marks : List Mark) : Type 0 where
+  pub here : List Mark
+  pub behind : List Mark
+  pub parts : marks ≡ here ++ behind
+  pub are : AreMarksFrom k front here
+
+front_marks : (k : ℕ) (front more : List Word) (marks : List Mark) → AreMarksFrom k (front ++ more) marks → FrontMarks k front marks
+front_marks k [] more marks are = record { here = []; behind = marks; parts = refl; are = tt }
+front_marks k (word ∷ front) more [] are = absurd are
+front_marks k (word ∷ front) more (mark ∷ marks) are =
+    let rest = front_marks (suc k) front more marks are.2 in
+    record {
+      here = mark ∷ rest.here;
+      behind = rest.behind;
+      parts = ap (λ (l : List Mark). mark ∷ l) rest.parts;
+      are = (are.0, are.1, rest.are);
+    }
+
+never_words : (front : List Word) (marks : List Mark) → AreMarksFrom 0 front marks → ¬ (Begins (Says disj) marks) → ¬ (Begins SaysFormula front)
+never_words front marks are none (more, f, says) =
+    let cut = front_marks 0 front more says.marks says.marked in
+    let same : cut.here ≡ marks = one_marks 0 front cut.here marks cut.are are in
+    let parts : says.marks ≡ marks ++ cut.behind = cut.parts ∙ ap (λ (l : List Mark). l ++ cut.behind) same in
+    none (cut.behind, f, subst (λ (l : List Mark). Says disj l f) parts says.says)
+
+no_words_said : (words : List Word) (marks : List Mark) → AreMarksFrom 0 words marks → ((f : Tree) → ¬ (Says disj marks f)) → (f : Tree) → ¬ (SaysFormula words f)
+no_words_said words marks are none f says =
+    let same : says.marks ≡ marks = one_marks 0 words says.marks marks says.marked are in
+    none f (subst (λ (l : List Mark). Says disj l f) same says.says)
+
+-- the first marks are those of the first words
+marked_first : (k n : ℕ) (words : List Word) (marks : List Mark) → AreMarksFrom k words marks → AreMarksFrom k (take n words) (take n marks)
+marked_first k zero words marks are = tt
+marked_first k (suc n) [] [] are = tt
+marked_first k (suc n) [] (mark ∷ marks) are = absurd are
+marked_first k (suc n) (word ∷ words) [] are = absurd are
+marked_first k (suc n) (word ∷ words) (mark ∷ marks) are = (are.0, are.1, marked_first (suc k) n words marks are.2)
+
+as_many : (k : ℕ) (words : List Word) (marks : List Mark) → AreMarksFrom k words marks → length words ≡ length marks
+as_many k [] [] are = refl
+as_many k [] (mark ∷ marks) are = absurd are
+as_many k (word ∷ words) [] are = absurd are
+as_many k (word ∷ words) (mark ∷ marks) are = let rest = as_many (suc k) words marks are.2 in ap suc rest
+
+take_next : {T : Type 0} (n : ℕ) (xs rest : List T) (x : T) → drop n xs ≡ x ∷ rest → take (suc n) xs ≡ take n xs ++ x ∷ []
+take_next zero [] rest x same = absurd (cc)
+take_next zero (y ∷ xs) rest x same = let heads : y ≡ x = cc in ap (λ (t : _). t ∷ []) heads
+take_next (suc n) [] rest x same = absurd (cc)
+take_next (suc n) (y ∷ xs) rest x same = ap (λ (l : List _). y ∷ l) (take_next n xs rest x same)
+
+wrong_words : (words : List Word) (marks : List Mark) (n : ℕ) (rest : List Word) (behind : List Mark) → AreMarksFrom 0 words marks
+    → drop n words ≡ rest → drop n marks ≡ behind → WrongAt (Says disj) (take n marks) behind → WrongAt SaysFormula (take n words) rest
+wrong_words words marks n [] [] are same also wrong = (
+  begins_words (take n words) (take n marks) (marked_first 0 n words marks are) wrong.0,
+  no_words_said (take n words) (take n marks) (marked_first 0 n words marks are) wrong.1,
+)
+wrong_words words marks n [] (mark ∷ behind) are same also wrong =
+    absurd (omega (arith, length-drop n words, length-drop n marks, as_many 0 words marks are, ap length same, ap length also))
+wrong_words words marks n (word ∷ rest) [] are same also wrong =
+    absurd (omega (arith, length-drop n words, length-drop n marks, as_many 0 words marks are, ap length same, ap length also))
+wrong_words words marks n (word ∷ rest) (mark ∷ behind) are same also wrong =
+    let first = take_next n words rest word same in
+    let second = take_next n marks behind mark also in
+    let next : AreMarksFrom 0 (take n words ++ word ∷ []) (take n marks ++ mark ∷ []) =
+    rw (← first, ← second) (marked_first 0 (suc n) words marks are) in (
+      begins_words (take n words) (take n marks) (marked_first 0 n words marks are) wrong.0,
+      never_words (take n words ++ word ∷ []) (take n marks ++ mark ∷ []) next wrong.1,
+    )
+
+pub formula_wrong : (words : List Word) (marks : List Mark) (n : ℕ) → AreMarksFrom 0 words marks → n ≤ length marks
+    → WrongAt (Says disj) (take n marks) (drop n marks) → IsWrongBehind SaysFormula words n
+formula_wrong words marks n are within wrong =
+    (omega (arith, as_many 0 words marks are), wrong_words words marks n (drop n words) (drop n marks) are refl refl wrong)
+
+pub formula_is : (words : List Word) (marks : List Mark) (f : Tree) → AreMarksFrom 0 words marks → Says disj marks f → SaysFormula words f
+formula_is words marks f are says = record { marks = marks; marked = are; says = says }
+
+-- what reading the marks gives, said of the words
+pub words_say : (line : List ℕ) (tokens : List Token) (marks : List Mark) (result : Result Parsed ParseRefused) → AreMarks line tokens marks
+    → IfOk result (λ f. Says disj marks (tree_of f)) → IfOk result (λ f. SaysFormula (words_of line tokens) (tree_of f))
+words_say line tokens marks (Ok parsed) are says = formula_is (words_of line tokens) marks (tree_of parsed) (words_marked line tokens marks are) says
+words_say line tokens marks (Err refused) are says = tt
+
+pub words_refused : (line : List ℕ) (tokens : List Token) (marks : List Mark) (result : Result Parsed ParseRefused) → AreMarks line tokens marks
+    → IfErr result (IsRefused marks) → IfErr result (IsFormulaRefused (words_of line tokens))
+words_refused line tokens marks (Ok parsed) are refused = tt
+words_refused line tokens marks (Err (Syntax count)) are refused =
+    formula_wrong (words_of line tokens) marks count (words_marked line tokens marks are) refused.0 refused.1
+words_refused line tokens marks (Err NoMemory) are refused = tt
+
+pub count_bound : (line : List ℕ) (tokens : List Token) (result : Result Parsed ParseRefused) → length tokens ≤ 512
+    → IfErr result (IsFormulaRefused (words_of line tokens)) → IfErr result (λ refused. count_of refused ≤ 512)
+count_bound line tokens (Ok parsed) few refused = tt
+count_bound line tokens (Err (Syntax count)) few refused = omega (arith, refused.0, length-map tokens (word_at line))
+count_bound line tokens (Err NoMemory) few refused = omega arith

@@ -1,0 +1,9 @@
+pub mod LawLemmas
+pub mod LiftLemmas
+pub mod KindLemmas
+pub mod MethodLemmas
+pub mod OrderLemmas
+pub mod FormulaLemmas
+pub mod CommuteLemmas
+pub mod LineLemmas
+pub mod WordLemmas

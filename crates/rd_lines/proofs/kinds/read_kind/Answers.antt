@@ -1,0 +1,17 @@
+use Rattle.rd_lines.proofs.KindLemmas.{refused_alone, refused_name, refused_longer}
+use Rattle.rd_lines.proofs.WordLemmas.{no_words, first_word, some_word}
+use Rattle.rd_lines.proofs.kinds.read_kind.Goals as goal
+
+pub returns-in_default-clause-refused : goal.returns-in_default-clause-refused
+returns-in_default-clause-refused c = refused_alone _ (no_words c.args.line.now c.args.tokens.now c.in_default.ensures.cases)
+
+pub returns-in_default-name_of-clause-refused : goal.returns-in_default-name_of-clause-refused
+returns-in_default-name_of-clause-refused c =
+    refused_name _ _ _ (first_word c.args.line.now c.args.tokens.now c.in-Some.rest.now c.in-Some.second.now c.in-Some.ensures.cases.0) c.in_default-name_of.ensures.none
+
+pub returns-then-not-is_empty-clause-refused : goal.returns-then-not-is_empty-clause-refused
+returns-then-not-is_empty-clause-refused c =
+    let more = some_word c.args.line.now c.in-Some.rest.now (cc) in
+    refused_longer _ _ more.rest _ more.first c.in-Some-name_of.name
+    (first_word c.args.line.now c.args.tokens.now c.in-Some.rest.now c.in-Some.second.now c.in-Some.ensures.cases.0)
+    c.in-Some-name_of.ensures.some c.in-Some-name_of.ensures.named more.written

@@ -1,0 +1,110 @@
+-- The lines of a specification's text: this project's profile.
+use Rattle.std.specs.Prelude.{◌≡◌, ◌≢◌, ◌≤◌, ℕ, suc, List, [], ◌∷◌, ◌++◌, length, map, take, drop, codes, Contains}
+use Rattle.std.specs.List.{AllByRecursion}
+use Rattle.rd_base.specs.Names.{IsName}
+use Rattle.rd_ecl.specs.Variables.{IsVariable}
+use Rattle.rd_grammar.specs.FirstWrong.{WrongAt}
+use Rattle.rd_grammar.specs.Grammar.{Tree, Says, disj, tree_of}
+use Rattle.rd_grammar.specs.declared.marks.Mark.{Mark}
+use Rattle.rd_lines.specs.declared.forms.Form.{Form}
+use Rattle.rd_lines.specs.declared.forms.Form.TheVariants.{Kind, Method, Commute}
+use Rattle.rd_lines.specs.declared.forms.FormRefused.{FormRefused}
+use Rattle.rd_lines.specs.declared.forms.FormRefused.TheVariants.{Syntax, NoMemory}
+use Rattle.rd_lines.specs.declared.forms.Stage.{Stage}
+use Rattle.rd_lines.specs.declared.forms.Stage.TheVariants.{Outside, Methods}
+use Rattle.rd_tokens.specs.declared.items.Sort.{Sort}
+use Rattle.rd_tokens.specs.declared.items.Sort.TheVariants.{Word as PlainWord}
+use Rattle.rd_tokens.specs.declared.items.Token.{Token}
+use Rattle.rd_tokens.specs.Tokens.{bytes_of}
+use Rattle.rd_words.specs.Words.{IsSymbol}
+
+-- a token of a line without its place
+pub record Word : Type 0 where
+  pub sort : Sort
+  pub bytes : List ℕ
+
+-- the words of tokens of the line
+abbrev pub word_at : List ℕ → Token → Word
+word_at line token = record { sort = token.sort; bytes = bytes_of line token }
+
+abbrev pub words_of : List ℕ → List Token → List Word
+words_of line tokens = map (word_at line) tokens
+
+-- a run of visible bytes
+abbrev pub plain : List ℕ → Word
+plain bytes = record { sort = PlainWord; bytes = bytes }
+
+-- what a line says
+pub data SaidForm : Type 0 where
+  -- a kind's name
+  kind : List ℕ → SaidForm
+  -- a method's name, its arguments and its result
+  method : List ℕ → List (List ℕ) → List ℕ → SaidForm
+  -- the two methods and the formula by which they commute
+  commute : List ℕ → List ℕ → Tree → SaidForm
+
+abbrev pub said_of : Form → SaidForm
+said_of (Kind name) = kind name
+said_of (Method name arguments result) = method name arguments result
+said_of (Commute first second formula) = commute first second (tree_of formula)
+
+-- the marks of words, numbered from this number
+abbrev pub AreMarksFrom : ℕ → List Word → List Mark → Type 0
+AreMarksFrom number [] [] = Unit {0}
+AreMarksFrom number (word ∷ words) (mark ∷ marks) =
+    IsSymbol word.sort word.bytes mark.symbol × (mark.token ≡ number) × AreMarksFrom (suc number) words marks
+AreMarksFrom number words marks = ⊥
+
+-- of two methods, the second is declared before the first
+abbrev pub IsOutOfOrder : List (List ℕ) → List ℕ → List ℕ → Type 0
+IsOutOfOrder methods first second =
+    (before : List (List ℕ)) × (behind : List (List ℕ)) × (methods ≡ before ++ second ∷ behind) × Contains behind first × (first ≢ second)
+
+-- a kind: `kind K`
+pub record IsKindLine (words : List Word) (name : List ℕ) : Type 0 where
+  pub named : IsName name
+  pub written : words ≡ plain (codes "kind") ∷ plain name ∷ []
+
+-- a method, its arguments and its result: `method M V V -> V`, before any pair of its kind
+pub record IsMethodLine (stage : Stage) (words : List Word) (name : List ℕ) (arguments : List (List ℕ)) (result : List ℕ) : Type 0 where
+  pub stands : stage ≡ Methods
+  pub named : IsName name
+  pub each_argument : AllByRecursion IsVariable arguments
+  pub gives : IsVariable result
+  pub written : words ≡ plain (codes "method") ∷ plain name ∷ (map plain arguments ++ plain (codes "->") ∷ plain result ∷ [])
+
+-- a pair: `commute M M when FORMULA`, in a kind, with its methods in their order
+pub record IsCommuteLine (stage : Stage) (methods : List (List ℕ)) (words : List Word) (first second : List ℕ) (formula : Tree) : Type 0 where
+  pub stands : stage ≢ Outside
+  pub named_first : IsName first
+  pub named_second : IsName second
+  pub order : ¬ (IsOutOfOrder methods first second)
+  pub behind : List Word
+  pub marks : List Mark
+  pub written : words ≡ plain (codes "commute") ∷ plain first ∷ plain second ∷ plain (codes "when") ∷ behind
+  pub marked : AreMarksFrom 0 behind marks
+  pub says : Says disj marks formula
+
+-- the words are a right line at this stage, behind these methods of the kind, and say this
+abbrev pub RightLine : Stage → List (List ℕ) → List Word → SaidForm → Type 0
+RightLine stage methods words (kind name) = IsKindLine words name
+RightLine stage methods words (method name arguments result) = IsMethodLine stage words name arguments result
+RightLine stage methods words (commute first second formula) = IsCommuteLine stage methods words first second formula
+
+-- the line begins as one of a kind
+abbrev pub BeginsKind : List Word → Type 0
+BeginsKind words = (behind : List Word) × (words ≡ plain (codes "kind") ∷ behind)
+
+-- a formula has at most 512 words
+pub record IsShort (words : List Word) : Type 0 where
+  pub few : (first second : Word) (behind : List Word) → words ≡ plain (codes "commute") ∷ first ∷ second ∷ plain (codes "when") ∷ behind
+      → length behind ≤ 512
+
+-- the first wrong word has so many words before it; all of them where the line ends too early
+abbrev pub IsWrongBehind : {R : Type 0} → (List Word → R → Type 0) → List Word → ℕ → Type 0
+IsWrongBehind Says words count = (count ≤ length words) × WrongAt Says (take count words) (drop count words)
+
+-- what a refusal says of the words; want of memory says nothing
+abbrev pub IsRefused : Stage → List (List ℕ) → List Word → FormRefused → Type 0
+IsRefused stage methods words (Syntax count) = IsWrongBehind (RightLine stage methods) words count
+IsRefused stage methods words NoMemory = Unit {0}

@@ -1,0 +1,21 @@
+//! The lines of a specification's text: what a line says, or its first wrong token.
+//!
+//! A line is `kind K`, `method M V V -> V` or `commute M M when FORMULA`, its tokens apart by spaces. K and M are names and
+//! V variables; a method has any number of them before `->`. A kind may stand anywhere, a method in a kind before its first
+//! pair, and a pair in a kind. A pair that names two methods of its kind names the one first that is declared first.
+#![tactic(auto)]
+
+mod forms;
+mod kinds;
+mod laws;
+mod lines;
+mod methods;
+mod order;
+mod pairs;
+#[cfg(test)]
+mod tests;
+mod words;
+
+pub use forms::{Form, FormRefused, Stage};
+pub use laws::law_of_lines;
+pub use lines::read_form;

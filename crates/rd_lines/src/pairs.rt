@@ -1,0 +1,101 @@
+//! The line of two methods that commute.
+ghost use Rattle.std.specs.Prelude.{◌≡◌, ◌≢◌, ◌≤◌, ◌∷◌, ℕ, List, All, IfOk, IfErr, codes, length};
+ghost use Rattle.rd_tokens.specs.Tokens.{LiesIn};
+ghost use Rattle.rd_grammar.specs.Grammar.{tree_of};
+ghost use Rattle.rd_lines.specs.declared.forms.Stage.{Stage};
+ghost use Rattle.rd_lines.specs.declared.forms.Stage.TheVariants.{Outside};
+ghost use Rattle.rd_lines.specs.Lines.{IsRefused, IsShort, RightLine, plain, said_of, words_of};
+ghost use Rattle.rd_lines.specs.Reading.{IsFormulaRefused, IsPairInFront, SaysFormula, behind_when, count_of};
+
+use crate::forms::{Form, FormRefused};
+use crate::order::is_out_of_order;
+use crate::words::{is, name_of};
+use rd_base::Name;
+use rd_grammar::{ParseRefused, Parsed, parse_formula};
+use rd_tokens::Token;
+use rd_words::marks;
+use std::alloc::Global;
+
+// The names of the two methods in front, and the tokens behind `when`.
+fn read_pair<'a>(
+    methods: &[Name],
+    line: &[u8],
+    tokens: &'a [Token],
+) -> Result<(Name, Name, &'a [Token]), FormRefused>
+    requires { All (LiesIn line.now) tokens.now }
+    ensures ok { IfOk result (λ read. IsPairInFront methods.now line.now tokens.now read.2.now read.0 read.1) }
+    ensures within { IfOk result (λ read. All (LiesIn line.now) read.2.now) }
+    ensures refused { IfErr result (λ refused. (stage : Stage) → stage ≢ Outside
+        → IsRefused stage methods.now (plain (codes "commute") ∷ words_of line.now tokens.now) refused) }
+{
+    let Some((second, behind)) = tokens.split_first() else {
+        return Err(FormRefused::Syntax(1));
+    };
+    let Some(one) = name_of(line, second) else {
+        return Err(FormRefused::Syntax(1));
+    };
+    let Some((third, rest)) = behind.split_first() else {
+        return Err(FormRefused::Syntax(2));
+    };
+    let Some(other) = name_of(line, third) else {
+        return Err(FormRefused::Syntax(2));
+    };
+    if is_out_of_order(methods, &one, &other) {
+        return Err(FormRefused::Syntax(2));
+    }
+    let Some((fourth, formula)) = rest.split_first() else {
+        return Err(FormRefused::Syntax(3));
+    };
+    if !is(line, fourth, "when") {
+        return Err(FormRefused::Syntax(3));
+    }
+    Ok((one, other, formula))
+}
+
+// The formula that the tokens say.
+fn read_formula(alloc: Global, line: &[u8], tokens: &[Token]) -> Result<Parsed, ParseRefused>
+    requires within { All (LiesIn line.now) tokens.now }
+    requires few { length tokens.now ≤ 512 }
+    ensures ok { IfOk result (λ parsed. SaysFormula (words_of line.now tokens.now) (tree_of parsed)) }
+    ensures refused { IfErr result (IsFormulaRefused (words_of line.now tokens.now)) }
+    ensures bound { IfErr result (λ refused. count_of refused ≤ 512) }
+{
+    let marks = marks(alloc, line, tokens)?;
+    parse_formula(alloc, marks.items())
+}
+
+// The refusal of what stands behind `when`, as one of the line.
+fn behind_when(refused: ParseRefused) -> FormRefused
+    requires { count_of refused ≤ 512 }
+    ensures { result ≡ behind_when refused }
+{
+    match refused {
+        ParseRefused::Syntax(count) => FormRefused::Syntax(4 + count),
+        ParseRefused::NoMemory => FormRefused::NoMemory,
+    }
+}
+
+// What a line with these tokens behind `commute` says, which stands in a kind with these methods.
+pub(crate) fn read_commute(
+    alloc: Global,
+    methods: &[Name],
+    line: &[u8],
+    tokens: &[Token],
+) -> Result<Form, FormRefused>
+    requires within { All (LiesIn line.now) tokens.now }
+    requires short { IsShort (plain (codes "commute") ∷ words_of line.now tokens.now) }
+    ensures ok { IfOk result (λ form. (stage : Stage) → stage ≢ Outside
+        → RightLine stage methods.now (plain (codes "commute") ∷ words_of line.now tokens.now) (said_of form)) }
+    ensures refused { IfErr result (λ refused. (stage : Stage) → stage ≢ Outside
+        → IsRefused stage methods.now (plain (codes "commute") ∷ words_of line.now tokens.now) refused) }
+{
+    let (first, second, behind) = read_pair(methods, line, tokens)?;
+    match read_formula(alloc, line, behind) {
+        Ok(formula) => Ok(Form::Commute {
+            first,
+            second,
+            formula,
+        }),
+        Err(refused) => Err(behind_when(refused)),
+    }
+}
