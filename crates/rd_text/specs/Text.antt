@@ -18,6 +18,10 @@ text_of [] = []
 text_of (w ∷ []) = w.bytes
 text_of (w ∷ v ∷ words) = w.bytes ++ gap w.sort v.sort ++ text_of (v ∷ words)
 
+-- the bytes are the first of the whole
+abbrev pub IsFrontOf : List ℕ → List ℕ → Type 0
+IsFrontOf front whole = (rest : List ℕ) × (whole ≡ front ++ rest)
+
 -- the bytes alone are a token of the sort, one that is right
 abbrev pub IsRightToken : Sort → List ℕ → Type 0
 IsRightToken Open bytes = bytes ≡ codes "("

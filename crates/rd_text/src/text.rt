@@ -1,6 +1,6 @@
 //! Writing words as a text.
-ghost use Rattle.std.specs.Prelude.{◌≡◌, [], ◌++◌, codes, if◌then◌else◌, OnOk};
-ghost use Rattle.rd_text.specs.Text.{gap, text_of};
+ghost use Rattle.std.specs.Prelude.{◌≡◌, [], ◌++◌, codes, if◌then◌else◌, OnErr, OnOk};
+ghost use Rattle.rd_text.specs.Text.{IsFrontOf, gap, text_of};
 
 use rd_base::{Bytes, NoMemory};
 use rd_canonical::Word;
@@ -15,7 +15,8 @@ fn has_space(first: Sort, second: Sort) -> bool
 
 // Puts last what stands between two words of these sorts.
 fn append_gap(text: &mut Bytes, first: Sort, second: Sort) -> Result<(), NoMemory>
-    ensures { OnOk result (text.new ≡ text.old ++ gap first second) }
+    ensures ok { OnOk result (text.new ≡ text.old ++ gap first second) }
+    ensures err { OnErr result (text.new ≡ text.old) }
 {
     if has_space(first, second) {
         text.push(b' ')
@@ -24,9 +25,10 @@ fn append_gap(text: &mut Bytes, first: Sort, second: Sort) -> Result<(), NoMemor
     }
 }
 
-/// Puts the text of words last.
+/// Puts the text of words last. After want of memory a front of what would stand there does.
 pub fn append_text(text: &mut Bytes, words: &[Word]) -> Result<(), NoMemory>
-    ensures { OnOk result (text.new ≡ text.old ++ text_of words.now) }
+    ensures ok { OnOk result (text.new ≡ text.old ++ text_of words.now) }
+    ensures err { OnErr result (IsFrontOf text.new (text.old ++ text_of words.now)) }
 {
     // no space stands before the first word, as behind `(`
     let mut before = Sort::Open;
