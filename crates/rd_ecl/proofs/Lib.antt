@@ -3,5 +3,7 @@ pub mod EqualLemmas
 pub mod FragmentLemmas
 pub mod MethodLemmas
 pub mod PairLemmas
+pub mod RoomLemmas
 pub mod TestLemmas
 pub mod VariableLemmas
+pub mod WalkLemmas

@@ -67,7 +67,7 @@ side_apart : (side : Side) (m i j : ℕ) → i ≢ m → j ≢ m → (of_side si
 side_apart First m i j h k = ne_eqb i m h
 side_apart Second m i j h k = ne_eqb j m k
 
-not_asked : (f : Tree) (m i j : ℕ) → i ≢ m → j ≢ m → predicates_of m i j f ≡ []
+pub not_asked : (f : Tree) (m i j : ℕ) → i ≢ m → j ≢ m → predicates_of m i j f ≡ []
 not_asked (truth value) m i j h k = refl
 not_asked (atom side rel left right) m i j h k = rw (side_apart side m i j h k) refl
 not_asked (cross first second) m i j h k = refl
@@ -95,10 +95,10 @@ pub at_other : (kind : SpecifiedKind) (first second i j : ℕ) (f : Tree) → 16
 at_other kind first second i j f h = rw (get_or-set_other kind.pairs (16 * second + first) (16 * j + i) (Some f) None h) refl
 
 -- what the other methods' predicates are stays as it was
-none_of : (kind : SpecifiedKind) (m i j : ℕ) → formula_at kind i j ≡ None → predicates_at kind m (i, j) ≡ []
+pub none_of : (kind : SpecifiedKind) (m i j : ℕ) → formula_at kind i j ≡ None → predicates_at kind m (i, j) ≡ []
 none_of kind m i j e = rw e refl
 
-some_of : (kind : SpecifiedKind) (m i j : ℕ) (f : Tree) → formula_at kind i j ≡ Some f → predicates_at kind m (i, j) ≡ predicates_of m i j f
+pub some_of : (kind : SpecifiedKind) (m i j : ℕ) (f : Tree) → formula_at kind i j ≡ Some f → predicates_at kind m (i, j) ≡ predicates_of m i j f
 some_of kind m i j f e = rw e refl
 
 guarded : (b : Bool) (xs : List (Option Tree)) (p : ℕ) → b ≡ false → (if b then get_or xs p None else None) ≡ None

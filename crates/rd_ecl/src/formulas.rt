@@ -327,7 +327,7 @@ impl Formula {
         walk(self, 0).first
     }
 
-    /// How many nodes it has. It takes no memory.
+    /// How many nodes it has: fewer than 4,294,967,296. It takes no memory.
     pub fn nodes(&self) -> u32
         requires { nodes (tree_of self.now) < 2 ^ 32 }
         ensures { result ≡ nodes (tree_of self.now) }
@@ -335,7 +335,7 @@ impl Formula {
         walk(self, 0).next as u32
     }
 
-    /// How many levels it has: one more than its parts. It has at most 4,294,967,296 nodes. It takes no memory.
+    /// How many levels it has: one more than its parts. It has fewer than 4,294,967,296 nodes. It takes no memory.
     #[tactic(auto, using(crate::proofs::FragmentLemmas::few_not, crate::proofs::FragmentLemmas::few_both, crate::proofs::FragmentLemmas::few_either))]
     pub fn levels(&self) -> u32
         requires { nodes (tree_of self.now) < 2 ^ 32 }

@@ -1,12 +1,14 @@
 //! A kind of objects and its methods.
-ghost use Rattle.std.specs.Prelude.{◌≡◌, ◌≢◌, ◌↔◌, ℕ, List, [], ◌∷◌, ◌++◌, IfOk, OnOk, OnErr, IsTrue, AllPairs, Contains, IsOk, Some, None, replicate, length, ◌+◌, ◌*◌, ◌<◌, ◌≤◌, ◌&&◌};
+ghost use Rattle.std.specs.Prelude.{◌≡◌, ◌≢◌, ◌↔◌, ℕ, List, [], ◌∷◌, ◌++◌, IfOk, OnOk, OnErr, IsTrue, AllPairs, Contains, IsOk, Some, None, replicate, length, ◌+◌, ◌*◌, ◌<◌, ◌≤◌, ◌&&◌, option_map};
 ghost use Rattle.rd_base.specs.declared.values.Value.{Value};
 ghost use Rattle.rd_ecl.specs.Variables.{IsVariable, is_variable, is_among, are_different};
 ghost use Rattle.rd_ecl.specs.Formulas.{Tree, tree_of};
-ghost use Rattle.rd_ecl.specs.Specified.{IsKind, IsPair, IsWhole, MayAdd, MayPair, SpecifiedKind, commutes, formula_at, may_pair, pair_holds, slots_at, with_method, with_pair};
+ghost use Rattle.rd_ecl.specs.Relations.{Gathers, IsCounted, kept, part_of};
+ghost use Rattle.rd_ecl.specs.Specified.{IsDraft, IsKind, IsPair, IsWhole, MayAdd, MayPair, SpecifiedKind, commutes, formula_at, may_pair, method_predicates, pair_holds, slots_at, with_method, with_pair};
 
 use crate::formulas::Formula;
 use crate::names::Names;
+use crate::relations::Relations;
 use rd_base::{Name, NoMemory, Value};
 use std::alloc::Global;
 use std::marker::Model;
@@ -155,6 +157,89 @@ impl KindDraft {
         add_pairs(&mut self.pairs)?;
         self.methods.push_reserved(Method { name, variables });
         Ok(())
+    }
+
+    /// Its name. It takes no memory.
+    pub fn name(&self) -> &Name
+        ensures { result.now ≡ self.now.name }
+    {
+        &self.name
+    }
+
+    /// Its methods so far. It takes no memory.
+    pub fn methods(&self) -> &[Method]
+        ensures value { result.now ≡ self.now.methods }
+        ensures valid { IsDraft self.now }
+    {
+        self.methods.as_slice()
+    }
+
+    /// The formula of two methods, or of one with itself, by their numbers, where it is set: `first` is at most `second`. It takes
+    /// no memory.
+    pub fn formula(&self, first: u8, second: u8) -> Option<&Formula>
+        requires { (first ≤ second) × (second < length self.now.methods) }
+        ensures { option_map (λ formula. tree_of formula.now) result ≡ formula_at self.now first second }
+    {
+        self.pairs[place(first, second)].as_ref()
+    }
+
+    // The formula of two methods in the draft where this formula of `first` and `second` is set too.
+    fn formula_with<'a>(
+        &'a self,
+        first: u8,
+        second: u8,
+        formula: &'a Formula,
+        low: u8,
+        high: u8,
+    ) -> Option<&'a Formula>
+        requires pair { (first ≤ second) × (second < length self.now.methods) }
+        requires asked { (low ≤ high) × (high < length self.now.methods) }
+        ensures { option_map (λ part. tree_of part.now) result ≡ formula_at (with_pair self.now first second (tree_of formula.now)) low high }
+    {
+        // its clause says what is known of a draft
+        let _methods = self.methods();
+        if low == first && high == second {
+            return Some(formula);
+        }
+        self.formula(low, high)
+    }
+
+    // With what the formula of a method and another says of it, in the draft where this formula is set too.
+    fn gather<'a>(
+        &'a self,
+        seen: Relations<'a>,
+        first: u8,
+        second: u8,
+        formula: &'a Formula,
+        method: u8,
+        other: u8,
+    ) -> Option<Relations<'a>>
+        requires counted { IsCounted seen }
+        requires known { (first ≤ second) × (second < length self.now.methods) × (method < length self.now.methods) × (other < length self.now.methods) }
+        ensures { Gathers (kept seen.entry) (part_of (with_pair self.now first second (tree_of formula.now)) method other) result }
+    {
+        let (low, high) = (method.min(other), method.max(other));
+        match self.formula_with(first, second, formula, low, high) {
+            Some(part) => seen.with_all(part, method, low, high),
+            None => Some(seen),
+        }
+    }
+
+    /// Has the method with this number at most 5 distinct relations on its side alone, with this formula for two methods in place
+    /// of one that is set? These go by their numbers: `first` is at most `second`. It takes no memory.
+    pub fn has_room<'a>(&'a self, first: u8, second: u8, formula: &'a Formula, method: u8) -> bool
+        requires { (first ≤ second) × (second < length self.now.methods) × (method < length self.now.methods) }
+        ensures { IsTrue result ↔ (length (method_predicates (with_pair self.now first second (tree_of formula.now)) method) ≤ 5) }
+    {
+        let mut seen = Relations::none();
+        let count = self.methods().len() as u8;
+        for other in 0..count {
+            match self.gather(seen, first, second, formula, method, other) {
+                Some(more) => seen = more,
+                None => return false,
+            }
+        }
+        true
     }
 
     /// Sets the formula of two methods, or of one with itself, by their numbers: `first` is at most `second`, and the pair isn't

@@ -4,6 +4,7 @@
 mod formulas;
 mod kinds;
 mod names;
+mod relations;
 mod specifications;
 #[cfg(test)]
 mod tests;

@@ -203,6 +203,122 @@ fn calls_of_different_methods(rt: HostRuntime) -> Result<(), Fail> {
     Ok(())
 }
 
+// The methods of a cell, and the formula of two calls of `put`.
+fn puts_of_a_cell(alloc: Global) -> Result<KindDraft, NoMemory>
+    ensures { IfOk result (λ draft. length draft.methods ≡ 2) }
+{
+    let mut kind = cell_methods(alloc)?;
+    let puts = both_keep(alloc)?;
+    kind.pair(0, 0, puts)?;
+    Ok(kind)
+}
+
+#[test]
+fn what_is_drafted(rt: HostRuntime) -> Result<(), Fail> {
+    let draft = puts_of_a_cell(rt.alloc())?;
+    assert_eq!(rt; draft.name().items(), b"cell".as_slice());
+    assert_eq!(rt; draft.methods().len(), 2);
+    assert_eq!(rt; draft.methods()[1].name.items(), b"get".as_slice());
+    assert!(rt; matches!(draft.formula(0, 0), Some(Formula::And(_, _))));
+    assert!(rt; draft.formula(0, 1).is_none());
+    assert!(rt; draft.formula(1, 1).is_none());
+    Ok(())
+}
+
+// The first slot of a side is this integer.
+fn is_integer(side: Side, value: i64) -> Formula {
+    Formula::Atom {
+        side,
+        rel: Rel::Eq,
+        left: Term::Slot(0),
+        right: Term::Const(Value::Int(value)),
+    }
+}
+
+// The same with the integer on the left.
+fn integer_is(side: Side, value: i64) -> Formula {
+    Formula::Atom {
+        side,
+        rel: Rel::Eq,
+        left: Term::Const(Value::Int(value)),
+        right: Term::Slot(0),
+    }
+}
+
+// The formula, and on a side the relation of the first slot to each integer from the one to below the other.
+fn and_integers(
+    alloc: Global,
+    formula: Formula,
+    (side, from, to): (Side, i64, i64),
+) -> Result<Formula, NoMemory> {
+    let mut all = formula;
+    for value in from..to {
+        let left = Box::new(alloc, all)?;
+        all = Formula::And(left, Box::new(alloc, is_integer(side, value))?);
+    }
+    Ok(all)
+}
+
+// Has the method of the draft room? `None` where the draft has no such pair or method.
+fn room(draft: &KindDraft, pair: (u8, u8), formula: &Formula, method: u8) -> Option<bool> {
+    let count = draft.methods().len();
+    let (first, second) = pair;
+    if first > second || usize::from(second) >= count || usize::from(method) >= count {
+        return None;
+    }
+    Some(draft.has_room(first, second, formula, method))
+}
+
+// `put` has one relation already, that its two slots are equal.
+#[test]
+fn rooms_of_methods(rt: HostRuntime) -> Result<(), Fail> {
+    let draft = puts_of_a_cell(rt.alloc())?;
+    let (one, two) = (Side::First, Side::Second);
+    // the pair, what its formula relates on a side and again, and the rooms of `put` and of `get`
+    let rows = [
+        ((0, 1), (one, 0, 4), (one, 0, 0), true, true),
+        ((0, 1), (one, 0, 5), (one, 0, 0), false, true),
+        // equal relations count once
+        ((0, 1), (one, 0, 4), (one, 0, 4), true, true),
+        ((0, 1), (one, 0, 4), (one, 3, 5), false, true),
+        // each side is that of one method
+        ((0, 1), (two, 0, 5), (one, 0, 4), true, true),
+        ((0, 1), (two, 0, 6), (one, 0, 4), true, false),
+        // both sides are those of one method
+        ((1, 1), (one, 0, 3), (two, 3, 5), true, true),
+        ((1, 1), (one, 0, 3), (two, 3, 6), true, false),
+        ((1, 1), (one, 0, 5), (two, 0, 5), true, true),
+    ];
+    for (pair, some, more, put, get) in rows {
+        let formula = and_integers(rt.alloc(), Formula::True, some)?;
+        let formula = and_integers(rt.alloc(), formula, more)?;
+        assert_eq!(rt; room(&draft, pair, &formula, 0), Some(put));
+        assert_eq!(rt; room(&draft, pair, &formula, 1), Some(get));
+    }
+    Ok(())
+}
+
+// A relation that is turned round is another one. One that the pair of `put` and `put` has counts once with that.
+#[test]
+fn rooms_for_one_relation_more(rt: HostRuntime) -> Result<(), Fail> {
+    let draft = puts_of_a_cell(rt.alloc())?;
+    let rows = vec![in rt.alloc();
+        (integer_is(Side::First, 0), 3, true),
+        (integer_is(Side::First, 0), 4, false),
+        (is_integer(Side::First, 0), 4, true),
+        (keeps(Side::First), 4, true),
+        (keeps(Side::First), 5, false),
+    ]?;
+    for (relation, count, expected) in rows {
+        let not = Formula::Not(Box::new(rt.alloc(), relation)?);
+        let integers = and_integers(rt.alloc(), Formula::False, (Side::First, 0, count))?;
+        let not = Box::new(rt.alloc(), not)?;
+        let formula = Formula::Or(Box::new(rt.alloc(), integers)?, not);
+        assert_eq!(rt; room(&draft, (0, 1), &formula, 0), Some(expected));
+    }
+    Ok(())
+}
+
 #[test]
 fn sixteen_methods(rt: HostRuntime) -> Result<(), Fail> {
     assert!(rt; whole(rt.alloc()).is_ok());

@@ -1,0 +1,33 @@
+-- The distinct relations that a count of them has found.
+use Rattle.std.specs.Prelude.{ℕ, ◌≡◌, ◌+◌, ◌<◌, ◌≤◌, List, [], ◌∷◌, ◌++◌, length, take, flat_map, min, max, Option, Some, None}
+use Rattle.rd_ecl.specs.declared.formulas.Predicate.{Predicate}
+use Rattle.rd_ecl.specs.declared.relations.Relation.{Relation}
+use Rattle.rd_ecl.specs.declared.relations.Relations.{Relations}
+use Rattle.rd_ecl.specs.Formulas.{distinct_from}
+use Rattle.rd_ecl.specs.Specified.{SpecifiedKind, predicates_at}
+
+abbrev pub predicate_of : Relation → Predicate
+predicate_of relation = record { rel = relation.rel; left = relation.left.now; right = relation.right.now }
+
+-- what stands in a place
+abbrev pub in_place : Option Relation → List Predicate
+in_place (Some relation) = predicate_of relation ∷ []
+in_place None = []
+
+-- the relations that are kept
+abbrev pub kept : Relations → List Predicate
+kept seen = flat_map in_place (take seen.taken seen.places)
+
+-- each place that is taken has a relation
+pub record IsCounted (seen : Relations) : Type 0 where
+  pub few : seen.taken ≤ 5
+  pub count : length (kept seen) ≡ seen.taken
+
+-- those of the list that aren't among the old ones come behind these; there is nothing where that makes more than 5
+abbrev pub Gathers : List Predicate → List Predicate → Option Relations → Type 0
+Gathers old more (Some seen) = IsCounted seen × (kept seen ≡ old ++ distinct_from old more)
+Gathers old more None = 5 < length old + length (distinct_from old more)
+
+-- what the formula of a method and another says of it alone
+abbrev pub part_of : SpecifiedKind → ℕ → ℕ → List Predicate
+part_of kind method other = predicates_at kind method (min method other, max method other)
