@@ -1,5 +1,6 @@
 //! Reading a line.
 ghost use Rattle.std.specs.Prelude.{◌≡◌, ◌<◌, ◌-◌, ◌^◌, length, All, IfOk, IfErr, IfSome, IfNone};
+ghost use Rattle.rd_ecl.specs.Specified.{names_of};
 ghost use Rattle.rd_tokens.specs.Tokens.{LiesIn};
 ghost use Rattle.rd_lines.specs.declared.forms.FormRefused.TheVariants.{NoMemory as MemoryRefused};
 ghost use Rattle.rd_lines.specs.Lines.{BeginsKind, IsRefused, IsShort, RightLine, said_of, word_at, words_of};
@@ -10,7 +11,7 @@ use crate::kinds::read_kind;
 use crate::methods::read_method;
 use crate::pairs::read_commute;
 use crate::words::is;
-use rd_base::Name;
+use rd_ecl::Method;
 use rd_tokens::Token;
 use std::alloc::Global;
 
@@ -51,15 +52,15 @@ fn beginning(stage: Stage, line: &[u8], token: &Token) -> Option<Head>
 pub fn read_form(
     alloc: Global,
     stage: Stage,
-    methods: &[Name],
+    methods: &[Method],
     line: &[u8],
     tokens: &[Token],
 ) -> Result<Form, FormRefused>
     requires within { All (LiesIn line.now) tokens.now }
     requires few { length tokens.now < 2 ^ 32 - 1 }
     requires short { IsShort (words_of line.now tokens.now) }
-    ensures ok { IfOk result (λ form. RightLine stage methods.now (words_of line.now tokens.now) (said_of form)) }
-    ensures refused { IfErr result (IsRefused stage methods.now (words_of line.now tokens.now)) }
+    ensures ok { IfOk result (λ form. RightLine stage (names_of methods.now) (words_of line.now tokens.now) (said_of form)) }
+    ensures refused { IfErr result (IsRefused stage (names_of methods.now) (words_of line.now tokens.now)) }
     ensures memory { IfErr result (λ refused. refused ≡ MemoryRefused → ¬ (BeginsKind (words_of line.now tokens.now))) }
 {
     let Some((first, rest)) = tokens.split_first() else {

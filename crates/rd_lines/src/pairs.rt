@@ -1,5 +1,6 @@
 //! The line of two methods that commute.
 ghost use Rattle.std.specs.Prelude.{◌≡◌, ◌≢◌, ◌≤◌, ◌∷◌, ℕ, List, All, IfOk, IfErr, codes, length};
+ghost use Rattle.rd_ecl.specs.Specified.{names_of};
 ghost use Rattle.rd_tokens.specs.Tokens.{LiesIn};
 ghost use Rattle.rd_grammar.specs.Grammar.{tree_of};
 ghost use Rattle.rd_lines.specs.declared.forms.Stage.{Stage};
@@ -11,6 +12,7 @@ use crate::forms::{Form, FormRefused};
 use crate::order::is_out_of_order;
 use crate::words::{is, name_of};
 use rd_base::Name;
+use rd_ecl::Method;
 use rd_grammar::{ParseRefused, Parsed, parse_formula};
 use rd_tokens::Token;
 use rd_words::marks;
@@ -18,15 +20,15 @@ use std::alloc::Global;
 
 // The names of the two methods in front, and the tokens behind `when`.
 fn read_pair<'a>(
-    methods: &[Name],
+    methods: &[Method],
     line: &[u8],
     tokens: &'a [Token],
 ) -> Result<(Name, Name, &'a [Token]), FormRefused>
     requires { All (LiesIn line.now) tokens.now }
-    ensures ok { IfOk result (λ read. IsPairInFront methods.now line.now tokens.now read.2.now read.0 read.1) }
+    ensures ok { IfOk result (λ read. IsPairInFront (names_of methods.now) line.now tokens.now read.2.now read.0 read.1) }
     ensures within { IfOk result (λ read. All (LiesIn line.now) read.2.now) }
     ensures refused { IfErr result (λ refused. (stage : Stage) → stage ≢ Outside
-        → IsRefused stage methods.now (plain (codes "commute") ∷ words_of line.now tokens.now) refused) }
+        → IsRefused stage (names_of methods.now) (plain (codes "commute") ∷ words_of line.now tokens.now) refused) }
 {
     let Some((second, behind)) = tokens.split_first() else {
         return Err(FormRefused::Syntax(1));
@@ -78,16 +80,16 @@ fn behind_when(refused: ParseRefused) -> FormRefused
 // What a line with these tokens behind `commute` says, which stands in a kind with these methods.
 pub(crate) fn read_commute(
     alloc: Global,
-    methods: &[Name],
+    methods: &[Method],
     line: &[u8],
     tokens: &[Token],
 ) -> Result<Form, FormRefused>
     requires within { All (LiesIn line.now) tokens.now }
     requires short { IsShort (plain (codes "commute") ∷ words_of line.now tokens.now) }
     ensures ok { IfOk result (λ form. (stage : Stage) → stage ≢ Outside
-        → RightLine stage methods.now (plain (codes "commute") ∷ words_of line.now tokens.now) (said_of form)) }
+        → RightLine stage (names_of methods.now) (plain (codes "commute") ∷ words_of line.now tokens.now) (said_of form)) }
     ensures refused { IfErr result (λ refused. (stage : Stage) → stage ≢ Outside
-        → IsRefused stage methods.now (plain (codes "commute") ∷ words_of line.now tokens.now) refused) }
+        → IsRefused stage (names_of methods.now) (plain (codes "commute") ∷ words_of line.now tokens.now) refused) }
 {
     let (first, second, behind) = read_pair(methods, line, tokens)?;
     match read_formula(alloc, line, behind) {

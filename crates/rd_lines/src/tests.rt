@@ -2,19 +2,22 @@ ghost use Rattle.std.specs.Prelude.{◌<◌, ◌-◌, ◌^◌, length};
 
 use super::{Form, FormRefused, Stage, read_form};
 use rd_base::{Name, NoMemory};
-use rd_ecl::Names;
+use rd_ecl::{Method, Names};
 use rd_grammar::Parsed;
 use rd_tokens::tokens;
 use std::alloc::{AllocError, Global};
 use std::test::Fail;
 
 // The methods `put`, `get` and `size`.
-fn declared(alloc: Global) -> Result<Names, NoMemory> {
-    let mut names = Names::new(alloc);
-    names.push(Name::from_bytes(b"put").unwrap())?;
-    names.push(Name::from_bytes(b"get").unwrap())?;
-    names.push(Name::from_bytes(b"size").unwrap())?;
-    Ok(names)
+fn declared(alloc: Global) -> Result<Vec<Method>, NoMemory> {
+    let mut methods = Vec::new(alloc);
+    for name in [b"put".as_slice(), b"get", b"size"] {
+        methods.push(Method {
+            name: Name::from_bytes(name).unwrap(),
+            variables: Names::new(alloc),
+        })?;
+    }
+    Ok(methods)
 }
 
 // What a line of at most 516 tokens says behind these methods.
@@ -27,7 +30,7 @@ fn read(alloc: Global, stage: Stage, line: &[u8]) -> Result<Form, FormRefused>
     if found.items().len() > 516 {
         return Err(FormRefused::NoMemory);
     }
-    read_form(alloc, stage, methods.items(), line, found.items())
+    read_form(alloc, stage, methods.as_slice(), line, found.items())
 }
 
 fn text(name: &Name) -> &str {

@@ -1,14 +1,13 @@
 //! The words of a line.
 ghost use Rattle.std.specs.Prelude.{◌≡◌, ◌≢◌, ◌↔◌, ℕ, List, IsTrue, IfSome, IfNone};
-ghost use Rattle.std.specs.List.{list_all};
-ghost use Rattle.std.specs.Str.{bytes_eq};
 ghost use Rattle.rd_base.specs.Names.{IsName};
-ghost use Rattle.rd_ecl.specs.Variables.{IsVariable, is_letter, is_variable_byte, is_variable, is_among, kept_words};
+ghost use Rattle.rd_ecl.specs.Variables.{IsVariable};
 ghost use Rattle.rd_tokens.specs.Tokens.{LiesIn};
 ghost use Rattle.rd_lines.specs.Lines.{plain, word_at};
 
 use rd_base::Name;
 use rd_tokens::{Sort, Token};
+use rd_words::is_variable;
 
 // The bytes of a token that is a run of visible bytes.
 fn plain_bytes<'a>(line: &'a [u8], token: &Token) -> Option<&'a [u8]>
@@ -44,54 +43,6 @@ pub(crate) fn name_of(line: &[u8], token: &Token) -> Option<Name>
         return None;
     };
     Name::from_bytes(bytes).ok()
-}
-
-fn is_letter(byte: u8) -> bool
-    ensures { result ≡ is_letter byte }
-{
-    byte.is_ascii_alphabetic()
-}
-
-fn is_variable_byte(byte: u8) -> bool
-    ensures { result ≡ is_variable_byte byte }
-{
-    byte.is_ascii_alphanumeric() || byte == b'_'
-}
-
-// Has a variable each of these bytes?
-fn are_variable_bytes(bytes: &[u8]) -> bool
-    ensures { result ≡ list_all is_variable_byte bytes.now }
-{
-    bytes.iter().all(|byte| is_variable_byte(*byte))
-}
-
-fn is_text(bytes: &[u8], word: &str) -> bool
-    ensures { result ≡ bytes_eq bytes.now word.now }
-{
-    bytes == word.as_bytes()
-}
-
-// Are the bytes a word of formulas, which names no variable?
-fn is_kept(bytes: &[u8]) -> bool
-    ensures { result ≡ is_among bytes.now kept_words }
-{
-    is_text(bytes, "true")
-        || is_text(bytes, "false")
-        || is_text(bytes, "nil")
-        || is_text(bytes, "not")
-        || is_text(bytes, "and")
-        || is_text(bytes, "or")
-        || is_text(bytes, "when")
-}
-
-// Are the bytes those of a variable?
-fn is_variable(bytes: &[u8]) -> bool
-    ensures { result ≡ is_variable bytes.now }
-{
-    if bytes.is_empty() || bytes.len() > 64 {
-        return false;
-    }
-    is_letter(bytes[0]) && are_variable_bytes(bytes) && !is_kept(bytes)
 }
 
 // The variable with these bytes.

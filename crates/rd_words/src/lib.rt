@@ -21,5 +21,5 @@ mod words;
 pub use items::Marks;
 pub use laws::law_of_words;
 pub use lines::marks;
-pub use terms::{Said, read_term, read_variable};
+pub use terms::{Said, is_variable, read_term, read_variable};
 pub use words::symbol;

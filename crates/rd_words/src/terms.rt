@@ -61,8 +61,9 @@ fn is_kept(bytes: &[u8]) -> bool
         || is(bytes, "when")
 }
 
-// Are the bytes those of a variable?
-fn is_variable(bytes: &[u8]) -> bool
+/// Are the bytes those of a variable: 1 to 64 letters, digits and `_`, a letter first, and none of the words of formulas? It
+/// takes no memory.
+pub fn is_variable(bytes: &[u8]) -> bool
     ensures { result ≡ is_variable bytes.now }
 {
     if bytes.is_empty() || bytes.len() > 64 {

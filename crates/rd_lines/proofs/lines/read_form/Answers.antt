@@ -1,4 +1,5 @@
 use Rattle.std.proofs.Common.{subst}
+use Rattle.rd_ecl.specs.Specified.{names_of}
 use Rattle.rd_tokens.specs.Tokens.{LiesIn}
 use Rattle.rd_lines.specs.Lines.{word_at, words_of}
 use Rattle.rd_lines.specs.Reading.{BeginsLine}
@@ -11,12 +12,12 @@ use Rattle.rd_lines.proofs.lines.read_form.Goals as goal
 
 pub returns-in_default-clause-refused : goal.returns-in_default-clause-refused
 returns-in_default-clause-refused c =
-    refused_empty _ (no_words c.args.line.now c.args.tokens.now c.in_default.ensures.cases) c.args.stage c.args.methods.now
+    refused_empty _ (no_words c.args.line.now c.args.tokens.now c.in_default.ensures.cases) c.args.stage (names_of c.args.methods.now)
 
 pub returns-in_default-beginning-clause-refused : goal.returns-in_default-beginning-clause-refused
 returns-in_default-beginning-clause-refused c =
     refused_first _ _ _ c.args.stage (first_word c.args.line.now c.args.tokens.now c.in-Some.rest.now c.in-Some.first.now c.in-Some.ensures.cases.0)
-    c.in_default-beginning.ensures.none c.args.methods.now
+    c.in_default-beginning.ensures.none (names_of c.args.methods.now)
 
 pub read_kind-requires : goal.read_kind-requires
 read_kind-requires c = rest_too (LiesIn c.args.line.now) _ _ _ c.requires.within c.in-Some.ensures.cases.0
@@ -29,21 +30,21 @@ read_commute-requires-clause-within c = rest_too (LiesIn c.args.line.now) _ _ _ 
 
 pub returns-in-Kind-clause-ok : goal.returns-in-Kind-clause-ok
 returns-in-Kind-clause-ok c =
-    kind_right c.args.stage c.args.methods.now (words_of c.args.line.now c.args.tokens.now) (words_of c.args.line.now c.in-Some.rest.now)
+    kind_right c.args.stage (names_of c.args.methods.now) (words_of c.args.line.now c.args.tokens.now) (words_of c.args.line.now c.in-Some.rest.now)
     (word_at c.args.line.now c.in-Some.first.now) c.read_kind.result
     (first_word c.args.line.now c.args.tokens.now c.in-Some.rest.now c.in-Some.first.now c.in-Some.ensures.cases.0)
     (subst (BeginsLine c.args.stage (word_at c.args.line.now c.in-Some.first.now)) c.in-Kind.is c.in-Some-beginning.ensures.some) c.read_kind.ensures.ok
 
 pub returns-in-Method-clause-ok : goal.returns-in-Method-clause-ok
 returns-in-Method-clause-ok c =
-    method_right c.args.stage c.args.methods.now (words_of c.args.line.now c.args.tokens.now) (words_of c.args.line.now c.in-Some.rest.now)
+    method_right c.args.stage (names_of c.args.methods.now) (words_of c.args.line.now c.args.tokens.now) (words_of c.args.line.now c.in-Some.rest.now)
     (word_at c.args.line.now c.in-Some.first.now) c.read_method.result
     (first_word c.args.line.now c.args.tokens.now c.in-Some.rest.now c.in-Some.first.now c.in-Some.ensures.cases.0)
     (subst (BeginsLine c.args.stage (word_at c.args.line.now c.in-Some.first.now)) c.in-Method.is c.in-Some-beginning.ensures.some) c.read_method.ensures.ok
 
 pub returns-in-Commute-clause-ok : goal.returns-in-Commute-clause-ok
 returns-in-Commute-clause-ok c =
-    commute_right c.args.stage c.args.methods.now (words_of c.args.line.now c.args.tokens.now) (words_of c.args.line.now c.in-Some.rest.now)
+    commute_right c.args.stage (names_of c.args.methods.now) (words_of c.args.line.now c.args.tokens.now) (words_of c.args.line.now c.in-Some.rest.now)
     (word_at c.args.line.now c.in-Some.first.now) c.read_commute.result
     (first_word c.args.line.now c.args.tokens.now c.in-Some.rest.now c.in-Some.first.now c.in-Some.ensures.cases.0)
     (subst (BeginsLine c.args.stage (word_at c.args.line.now c.in-Some.first.now)) c.in-Commute.is c.in-Some-beginning.ensures.some) c.read_commute.ensures.ok

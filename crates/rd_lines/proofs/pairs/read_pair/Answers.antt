@@ -1,3 +1,4 @@
+use Rattle.rd_ecl.specs.Specified.{names_of}
 use Rattle.rd_tokens.specs.Tokens.{LiesIn}
 use Rattle.rd_lines.proofs.CommuteLemmas.{commute_alone, first_unnamed, first_alone, second_unnamed, second_out_of_order, second_last, no_when}
 use Rattle.rd_lines.proofs.WordLemmas.{no_words, first_word, second_too, rest_too}
@@ -5,17 +6,17 @@ use Rattle.rd_lines.proofs.pairs.read_pair.Goals as goal
 
 pub returns-in_default-clause-refused : goal.returns-in_default-clause-refused
 returns-in_default-clause-refused c = λ stage in_kind.
-    commute_alone stage in_kind c.args.methods.now _ (no_words c.args.line.now c.args.tokens.now c.in_default.ensures.cases)
+    commute_alone stage in_kind (names_of c.args.methods.now) _ (no_words c.args.line.now c.args.tokens.now c.in_default.ensures.cases)
 
 pub returns-in_default-name_of-clause-refused : goal.returns-in_default-name_of-clause-refused
 returns-in_default-name_of-clause-refused c = λ stage in_kind.
-    first_unnamed stage in_kind c.args.methods.now _ _ _
+    first_unnamed stage in_kind (names_of c.args.methods.now) _ _ _
     (first_word c.args.line.now c.args.tokens.now c.in-Some.behind.now c.in-Some.second.now c.in-Some.ensures.cases.0) c.in_default-name_of.ensures.none
 
 pub returns-in_default-split_first-clause-refused :
     goal.returns-in_default-split_first-clause-refused
 returns-in_default-split_first-clause-refused c = λ stage in_kind.
-    first_alone stage in_kind c.args.methods.now _ _ _ c.in-Some-name_of.one
+    first_alone stage in_kind (names_of c.args.methods.now) _ _ _ c.in-Some-name_of.one
     (first_word c.args.line.now c.args.tokens.now c.in-Some.behind.now c.in-Some.second.now c.in-Some.ensures.cases.0)
     c.in-Some-name_of.ensures.some c.in-Some-name_of.ensures.named (no_words c.args.line.now c.in-Some.behind.now c.in_default-split_first.ensures.cases)
 
@@ -24,7 +25,7 @@ name_of-requires-2 c = second_too (LiesIn c.args.line.now) _ _ _ _ _ c.requires 
 
 pub returns-in_default-name_of-2-clause-refused : goal.returns-in_default-name_of-2-clause-refused
 returns-in_default-name_of-2-clause-refused c = λ stage in_kind.
-    second_unnamed stage in_kind c.args.methods.now _ _ _ _ _ c.in-Some-name_of.one
+    second_unnamed stage in_kind (names_of c.args.methods.now) _ _ _ _ _ c.in-Some-name_of.one
     (first_word c.args.line.now c.args.tokens.now c.in-Some.behind.now c.in-Some.second.now c.in-Some.ensures.cases.0)
     c.in-Some-name_of.ensures.some c.in-Some-name_of.ensures.named
     (first_word c.args.line.now c.in-Some.behind.now c.in-Some-split_first.rest.now c.in-Some-split_first.third.now c.in-Some-split_first.ensures.cases.0)
@@ -32,7 +33,7 @@ returns-in_default-name_of-2-clause-refused c = λ stage in_kind.
 
 pub returns-then-is_out_of_order-clause-refused : goal.returns-then-is_out_of_order-clause-refused
 returns-then-is_out_of_order-clause-refused c = λ stage in_kind.
-    second_out_of_order stage in_kind c.args.methods.now _ _ _ _ _ c.in-Some-name_of.one c.in-Some-name_of-2.other
+    second_out_of_order stage in_kind (names_of c.args.methods.now) _ _ _ _ _ c.in-Some-name_of.one c.in-Some-name_of-2.other
     (first_word c.args.line.now c.args.tokens.now c.in-Some.behind.now c.in-Some.second.now c.in-Some.ensures.cases.0)
     c.in-Some-name_of.ensures.some c.in-Some-name_of.ensures.named
     (first_word c.args.line.now c.in-Some.behind.now c.in-Some-split_first.rest.now c.in-Some-split_first.third.now c.in-Some-split_first.ensures.cases.0)
@@ -41,7 +42,7 @@ returns-then-is_out_of_order-clause-refused c = λ stage in_kind.
 pub returns-in_default-split_first-2-clause-refused :
     goal.returns-in_default-split_first-2-clause-refused
 returns-in_default-split_first-2-clause-refused c = λ stage in_kind.
-    second_last stage in_kind c.args.methods.now _ _ _ _ _ c.in-Some-name_of.one c.in-Some-name_of-2.other
+    second_last stage in_kind (names_of c.args.methods.now) _ _ _ _ _ c.in-Some-name_of.one c.in-Some-name_of-2.other
     (first_word c.args.line.now c.args.tokens.now c.in-Some.behind.now c.in-Some.second.now c.in-Some.ensures.cases.0)
     c.in-Some-name_of.ensures.some c.in-Some-name_of.ensures.named
     (first_word c.args.line.now c.in-Some.behind.now c.in-Some-split_first.rest.now c.in-Some-split_first.third.now c.in-Some-split_first.ensures.cases.0)
@@ -55,7 +56,7 @@ is-requires c =
 
 pub returns-then-not-is-clause-refused : goal.returns-then-not-is-clause-refused
 returns-then-not-is-clause-refused c = λ stage in_kind.
-    no_when stage in_kind c.args.methods.now _ _ _ _ _ _ _ c.in-Some-name_of.one c.in-Some-name_of-2.other
+    no_when stage in_kind (names_of c.args.methods.now) _ _ _ _ _ _ _ c.in-Some-name_of.one c.in-Some-name_of-2.other
     (first_word c.args.line.now c.args.tokens.now c.in-Some.behind.now c.in-Some.second.now c.in-Some.ensures.cases.0)
     c.in-Some-name_of.ensures.some c.in-Some-name_of.ensures.named
     (first_word c.args.line.now c.in-Some.behind.now c.in-Some-split_first.rest.now c.in-Some-split_first.third.now c.in-Some-split_first.ensures.cases.0)
