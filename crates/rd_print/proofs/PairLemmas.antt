@@ -1,0 +1,112 @@
+-- The text of a pair, part by part.
+use Rattle.std.proofs.Common.{◌≡◌, ℕ, Bool, true, false, List, [], ◌∷◌, ◌++◌, codes, refl, sym, ◌∙◌, ap, append_assoc, Option, Some, subst}
+use Rattle.std.specs.Prelude.{option_map, slice_get, unwrap_or}
+use Rattle.rd_base.specs.declared.values.Value.{Value}
+use Rattle.rd_base.specs.declared.values.Value.TheVariants.{Nil, Bool as Truth, Int, Text}
+use Rattle.rd_canonical.specs.declared.items.Word.{Word}
+use Rattle.rd_canonical.specs.Canonical.{AreValues, is_or, not_words, part_words, plain, sided_words, sign_of, sort_of_value, term_word, words_of}
+use Rattle.rd_ecl.specs.declared.formulas.Rel.TheVariants.{Eq, Lt, Le}
+use Rattle.rd_ecl.specs.declared.formulas.Side.{Side}
+use Rattle.rd_ecl.specs.declared.formulas.Side.TheVariants.{First, Second}
+use Rattle.rd_ecl.specs.declared.formulas.Term.{Term}
+use Rattle.rd_ecl.specs.declared.formulas.Term.TheVariants.{Slot, Const}
+use Rattle.rd_ecl.specs.declared.kinds.Method.{Method}
+use Rattle.rd_ecl.specs.Formulas.{Tree, truth, atom, cross, mixed, negation, both, either}
+use Rattle.rd_ecl.specs.Specified.{SpecifiedKind, formula_at}
+use Rattle.rd_grammar.specs.declared.marks.Sign.{Sign}
+use Rattle.rd_grammar.specs.declared.marks.Sign.TheVariants.{Different}
+use Rattle.rd_tokens.specs.declared.items.Sort.TheVariants.{Word as Plain}
+use Rattle.rd_text.specs.Text.{gap, text_of}
+use Rattle.rd_print.specs.Printed.{PairHasValues, name_at, pair_text, variables_at}
+
+-- a space stands before the words, behind a word
+abbrev IsBegun : List Word → Type 0
+IsBegun [] = ⊥
+IsBegun (w ∷ words) = gap Plain w.sort ≡ codes " "
+
+both_begun : (words more : List Word) → IsBegun words → IsBegun (words ++ more)
+both_begun [] more is = absurd is
+both_begun (w ∷ words) more is = is
+
+part_begun : (needs : Bool) (words : List Word) → IsBegun words → IsBegun (part_words needs words)
+part_begun false words is = is
+part_begun true words is = refl
+
+value_begun : (value : Value) → gap Plain (sort_of_value value) ≡ codes " "
+value_begun Nil = refl
+value_begun (Truth value) = refl
+value_begun (Int z) = refl
+value_begun (Text text) = refl
+
+module _ (first second : List (List ℕ)) where
+  term_begun : (side : Side) (names : List (List ℕ)) (term : Term) → gap Plain (term_word side names term).sort ≡ codes " "
+  term_begun side names (Slot slot) = refl
+  term_begun side names (Const value) = value_begun value
+
+  sided_begun : (side : Side) (sign : Sign) (left right : Term) → IsBegun (sided_words first second side sign left right)
+  sided_begun First sign left right = term_begun First first left
+  sided_begun Second sign left right = term_begun Second second left
+
+  not_begun : (f : Tree) (words : List Word) → IsBegun (not_words first second f words)
+  not_begun (atom side Eq left right) words = sided_begun side Different left right
+  not_begun (atom side Lt left right) words = refl
+  not_begun (atom side Le left right) words = refl
+  not_begun (truth value) words = refl
+  not_begun (cross i j) words = refl
+  not_begun (mixed rel flipped i j) words = refl
+  not_begun (negation f) words = refl
+  not_begun (both f g) words = refl
+  not_begun (either f g) words = refl
+
+  words_begun : (f : Tree) → IsBegun (words_of first second f)
+  words_begun (truth value) = refl
+  words_begun (atom side rel left right) = sided_begun side (sign_of rel) left right
+  words_begun (cross i j) = refl
+  words_begun (mixed rel false i j) = refl
+  words_begun (mixed rel true i j) = refl
+  words_begun (negation f) = not_begun f (words_of first second f)
+  words_begun (both f g) = both_begun (part_words (is_or f) (words_of first second f)) _ (part_begun (is_or f) _ (words_begun f))
+  words_begun (either f g) = both_begun (words_of first second f) _ (words_begun f)
+
+when_text : (words : List Word) → IsBegun words → text_of (plain (codes "when") ∷ words) ≡ codes "when " ++ text_of words
+when_text [] is = absurd is
+when_text (w ∷ words) is = ap (λ (xs : List ℕ). (codes "when" ++ xs) ++ text_of (w ∷ words)) is
+
+-- the text of names, and of a formula behind `when`
+abbrev pub parts_text : List ℕ → List ℕ → List ℕ → List ℕ
+parts_text left right formula = left ++ codes " " ++ right ++ codes " when " ++ formula
+
+parts : (left right formula : List ℕ) → (left ++ codes " ") ++ ((right ++ codes " ") ++ (codes "when " ++ formula)) ≡ parts_text left right formula
+parts left right formula = simp append_assoc
+
+pub formula_behind : (kind : SpecifiedKind) (first second : ℕ) (f : Tree) → formula_at kind first second ≡ Some f
+    → pair_text kind first second ≡ parts_text (name_at kind.methods first) (name_at kind.methods second)
+    (text_of (words_of (variables_at kind.methods first) (variables_at kind.methods second) f))
+formula_behind kind first second f is =
+    let left = name_at kind.methods first in
+    let right = name_at kind.methods second in
+    let words = words_of (variables_at kind.methods first) (variables_at kind.methods second) in
+    ap (λ (o : Option Tree). (left ++ codes " ") ++ ((right ++ codes " ") ++ text_of (plain (codes "when") ∷ unwrap_or (option_map words o) []))) is
+    ∙ ap (λ (xs : List ℕ). (left ++ codes " ") ++ ((right ++ codes " ") ++ xs)) (when_text (words f) (words_begun _ _ f))
+    ∙ parts left right (text_of (words f))
+
+-- the same, by the methods
+regroup : (text left right formula : List ℕ) → (((text ++ left) ++ codes " ") ++ right) ++ codes " when " ++ formula ≡ text ++ parts_text left right formula
+regroup text left right formula = simp append_assoc
+
+pub pair_by : (kind : SpecifiedKind) (first second : ℕ) (left right : Method) (f : Tree) (text : List ℕ) → slice_get kind.methods first ≡ Some left
+    → slice_get kind.methods second ≡ Some right → formula_at kind first second ≡ Some f
+    → (((text ++ left.name) ++ codes " ") ++ right.name) ++ codes " when " ++ text_of (words_of left.variables right.variables f) ≡ text ++ pair_text kind first second
+pair_by kind first second left right f text here there is =
+    let behind = λ (o p : Option Method).
+    text_of (words_of (unwrap_or (option_map (λ m. m.variables) o) []) (unwrap_or (option_map (λ m. m.variables) p) []) f) in
+    let named = λ (o p : Option Method).
+    parts_text (unwrap_or (option_map (λ m. m.name) o) []) (unwrap_or (option_map (λ m. m.name) p) []) (behind o p) in
+    let known = formula_behind kind first second f is ∙ ap (λ (o : Option Method). named o (slice_get kind.methods second)) here ∙ ap (λ (p : Option Method). named (Some left) p) there in
+    regroup text left.name right.name (text_of (words_of left.variables right.variables f)) ∙ ap (λ (xs : List ℕ). text ++ xs) (sym known)
+
+same_some : {X : Type 0} (o : Option X) (x y : X) → o ≡ Some x → o ≡ Some y → x ≡ y
+same_some o x y here there = cc
+
+pub values_of : (kind : SpecifiedKind) (first second : ℕ) (f : Tree) → formula_at kind first second ≡ Some f → AreValues f → PairHasValues kind first second
+values_of kind first second f is values g other = subst AreValues (same_some (formula_at kind first second) f g is other) values

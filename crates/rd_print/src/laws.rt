@@ -1,0 +1,19 @@
+//! The law of printed texts.
+ghost use Rattle.std.specs.Prelude.{◌≡◌, ℕ, List, ◌++◌, All, Some, codes, flat_map};
+ghost use Rattle.rd_canonical.specs.Canonical.{words_of};
+ghost use Rattle.rd_ecl.specs.Formulas.{Tree};
+ghost use Rattle.rd_ecl.specs.Specified.{IsKind, SpecifiedKind, formula_at};
+ghost use Rattle.rd_print.specs.Printed.{AreNames, HaveValues, block_text, commute_words, name_at, pair_text, spec_lines, spec_text, variables_at};
+ghost use Rattle.rd_text.specs.Text.{IsSound, text_of};
+
+/// The law of printed texts: a specification's text is the header, then the text of each kind. The line of a pair is `commute`
+/// and the text of the pair, which is the names of its methods and behind `when` the text of its formula. The words of each
+/// line are sound, where the kinds are kinds with names, and the constants of their formulas are values.
+pub fn law_of_printed_texts()
+    ensures kinds { (kinds : List SpecifiedKind) → spec_text kinds ≡ codes "rdspec 1\n" ++ flat_map block_text kinds }
+    ensures pair { (kind : SpecifiedKind) (first second : ℕ) → text_of (commute_words kind (first, second)) ≡ codes "commute " ++ pair_text kind first second }
+    ensures formula { (kind : SpecifiedKind) (first second : ℕ) (f : Tree) → formula_at kind first second ≡ Some f
+        → pair_text kind first second ≡ name_at kind.methods first ++ codes " " ++ name_at kind.methods second ++ codes " when "
+        ++ text_of (words_of (variables_at kind.methods first) (variables_at kind.methods second) f) }
+    ensures sound { (kinds : List SpecifiedKind) → All IsKind kinds → HaveValues kinds → AreNames kinds → All (All IsSound) (spec_lines kinds) }
+{}

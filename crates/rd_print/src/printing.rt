@@ -1,0 +1,36 @@
+//! The text of a specification.
+ghost use Rattle.std.specs.Prelude.{◌≡◌, ◌++◌, IfOk, OnOk};
+ghost use Rattle.rd_print.specs.Printed.{AreNames, HasNames, HasValues, HaveValues, block_text, spec_text};
+
+use crate::lines::{append_head, append_methods};
+use crate::pairs::append_pairs;
+use rd_base::{Bytes, NoMemory};
+use rd_ecl::{KindSpec, Spec};
+use std::alloc::Global;
+
+// Puts the lines of a kind last.
+fn append_kind(alloc: Global, text: &mut Bytes, kind: &KindSpec) -> Result<(), NoMemory>
+    ensures text { OnOk result (text.new ≡ text.old ++ block_text kind.now) }
+    ensures values { OnOk result (HasValues kind.now) }
+    ensures names { OnOk result (HasNames kind.now) }
+{
+    append_head(text, kind)?;
+    append_methods(text, kind.methods())?;
+    append_pairs(alloc, text, kind)
+}
+
+/// The canonical text of a specification: the header, then for each kind its line, those of its methods and those of their
+/// pairs. Each constant of the formulas is a value, and what the kinds and the methods are called are names.
+pub fn print(alloc: Global, spec: &Spec) -> Result<Bytes, NoMemory>
+    ensures text { IfOk result (λ text. text ≡ spec_text spec.now) }
+    ensures values { IfOk result (λ _. HaveValues spec.now) }
+    ensures names { IfOk result (λ _. AreNames spec.now) }
+{
+    let mut text = Bytes::new(alloc);
+    text.append(b"rdspec 1\n")?;
+    let kinds = spec.kinds();
+    for kind in kinds {
+        append_kind(alloc, &mut text, kind)?;
+    }
+    Ok(text)
+}
