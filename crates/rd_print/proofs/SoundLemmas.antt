@@ -44,7 +44,7 @@ slots_sound (argument ∷ next ∷ more) each = (variable_sound argument each.0,
 line_sound : (words : List Word) → AreSound words → All IsSound words
 line_sound words each = each_from_recursion IsSound words each
 
-method_sound : (method : Method) → IsName method.name → IsMethod method → All IsSound (method_words method)
+pub method_sound : (method : Method) → IsName method.name → IsMethod method → All IsSound (method_words method)
 method_sound method name is =
     line_sound (method_words method)
     (written_sound (codes "method") (omega arith) refl, (name_sound method.name name, slots_sound method.variables (each_by_recursion IsVariable method.variables is.each)))
@@ -78,7 +78,7 @@ each_pair P count each =
 no_method : Method
 no_method = record { name = []; variables = [] }
 
-name_at_is : (methods : List Method) (n : ℕ) → n < length methods → All (λ method. IsName method.name) methods → IsName (name_at methods n)
+pub name_at_is : (methods : List Method) (n : ℕ) → n < length methods → All (λ method. IsName method.name) methods → IsName (name_at methods n)
 name_at_is methods n within names =
     subst (λ (o : Option Method). IsName (unwrap_or (option_map (λ method. method.name) o) [])) (sym (slice_get-get_or methods n no_method within))
     (names n no_method within)
@@ -110,7 +110,7 @@ formula_words_sound kind first second here there is values =
     (subst (λ (n : ℕ). Fits f (slots_at kind.methods first) n) (sym (count_at (slice_get kind.methods second))) ((is.draft.pairs.each first second f set).fits)))
     values
 
-commute_sound : (kind : SpecifiedKind) → IsKind kind → HasValues kind → HasNames kind → (first second : ℕ) → first ≤ second → second < length kind.methods
+pub commute_sound : (kind : SpecifiedKind) → IsKind kind → HasValues kind → HasNames kind → (first second : ℕ) → first ≤ second → second < length kind.methods
     → All IsSound (commute_words kind (first, second))
 commute_sound kind is values names first second ordered within =
     let here : first < length kind.methods = omega arith in
@@ -126,7 +126,7 @@ commute_sound kind is values names first second ordered within =
     )
 
 -- a kind
-kind_sound : (kind : SpecifiedKind) → IsKind kind → HasValues kind → HasNames kind → AllByRecursion (All IsSound) (block_lines kind)
+pub kind_sound : (kind : SpecifiedKind) → IsKind kind → HasValues kind → HasNames kind → AllByRecursion (All IsSound) (block_lines kind)
 kind_sound kind is values names = (
   line_sound (kind_words kind) (written_sound (codes "kind") (omega arith) refl, (name_sound kind.name names.0, tt)),
   each_two (All IsSound) (map method_words kind.methods) (map (commute_words kind) (pairs_of (length kind.methods)))

@@ -1,0 +1,3 @@
+pub mod Judging
+pub mod Pairs
+pub use Rattle.rd_causes.specs.Causes
