@@ -1,0 +1,16 @@
+//! Reading one line of a specification's text behind those before it: what it adds, or the first cause to refuse it.
+#![tactic(auto)]
+
+mod adding;
+mod kinds;
+mod lines;
+mod methods;
+mod missing;
+mod places;
+mod refused;
+mod repeated;
+#[cfg(test)]
+mod tests;
+
+pub use lines::{finish, read_line};
+pub use refused::LineRefused;

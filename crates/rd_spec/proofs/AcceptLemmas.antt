@@ -1,0 +1,210 @@
+-- What makes a right line accepted.
+use Rattle.std.proofs.Common.{◌≡◌, ◌≢◌, ℕ, zero, suc, ◌+◌, ◌-◌, ◌<◌, ◌≤◌, Bool, true, false, List, [], ◌∷◌, ◌++◌, length, map, take, drop, codes, Option, Some, None, refl, sym, ap, subst, arith, inl, inr, ◌∙◌}
+use Rattle.std.specs.Prelude.{All, AllPairs, Contains, slice_get, slice_index, ◌⊎◌, is_some}
+use Rattle.std.specs.List.{AllByRecursion}
+use Rattle.std.proofs.lemmas.List.{take-append-drop}
+use Rattle.rd_base.specs.Names.{IsName}
+use Rattle.rd_base.specs.declared.limits.LimitName.{LimitName}
+use Rattle.rd_base.specs.declared.limits.LimitName.TheVariants.{Bytes, Line, Events, Threads, Locks, Objects, Depth, SpecText, Tokens, Kinds, Methods as MethodLimit, Arguments, Nodes, FormulaDepth, Predicates}
+use Rattle.rd_causes.specs.Adding.{Accepts, Adds, FormAdds, adds_form, adds_header, with_header, with_kind, with_open}
+use Rattle.rd_causes.specs.Causes.{FormHas, Has, HasManyTokens, HasNone, IsFirstMissing, IsFirstRepeated, KindHas, LacksPair, LineHas, MethodHas, form_has, header_words, line_has}
+use Rattle.rd_causes.specs.Known.{kind_in, kind_names, kinds_so_far, methods_of, nothing, stage_of}
+use Rattle.rd_causes.specs.declared.causes.SpecCause.{SpecCause}
+use Rattle.rd_causes.specs.declared.causes.SpecCause.TheVariants.{Header, Syntax, UnknownMethod, UnknownVariable, NoVariable, OutsideFragment, Duplicate, MissingPair, KindTaken, Limit}
+use Rattle.rd_causes.specs.declared.known.Known.{Known}
+use Rattle.rd_ecl.specs.Specified.{IsWhole, SpecifiedKind, formula_at, names_of, with_method}
+use Rattle.rd_lines.specs.Lines.{RightLine, SaidForm, Word, plain, words_of, kind as kind_said, method as method_said, commute as commute_said}
+use Rattle.rd_lines.proofs.LawLemmas.{one_form, right_line, same_bytes}
+use Rattle.rd_lines.specs.declared.forms.Stage.{Stage}
+use Rattle.rd_tokens.specs.declared.items.Token.{Token}
+use Rattle.rd_tokens.specs.Tokens.{AreTokens}
+
+module _ (taken : List (List ℕ)) (known : Known) (line : List ℕ) (tokens : List Token) where
+  -- a line that is right and not too long has nothing that any line may have
+  module _ (form : SaidForm) (begun : known.begun ≡ true) (short : ¬ (HasManyTokens (words_of line tokens)))
+      (right : RightLine (stage_of known) (methods_of known) (words_of line tokens) form) where
+    no_limit : (name : LimitName) (number place : ℕ) → ¬ (LineHas known line tokens (Limit name number) place)
+    no_limit Bytes number place has = has
+    no_limit Line number place has = has
+    no_limit Events number place has = has
+    no_limit Threads number place has = has
+    no_limit Locks number place has = has
+    no_limit Objects number place has = has
+    no_limit Depth number place has = has
+    no_limit SpecText number place has = has
+    no_limit Tokens number place has = short has.0
+    no_limit Kinds number place has = has
+    no_limit MethodLimit number place has = has
+    no_limit Arguments number place has = has
+    no_limit Nodes number place has = has
+    no_limit FormulaDepth number place has = has
+    no_limit Predicates number place has = has
+
+    line_clean : (cause : SpecCause) (place : ℕ) → ¬ (LineHas known line tokens cause place)
+    line_clean Header place (late, words, at) = absurd (cc)
+    line_clean Syntax place (count, early, (within, wrong), at) =
+        let words : List Word = words_of line tokens in
+        right_line (stage_of known) (methods_of known) (take count words) (drop count words) form
+        (subst (λ (ws : List Word). RightLine (stage_of known) (methods_of known) ws form) (sym (take-append-drop count words)) right) wrong
+    line_clean UnknownMethod place has = has
+    line_clean UnknownVariable place has = has
+    line_clean NoVariable place has = has
+    line_clean (OutsideFragment reason) place has = has
+    line_clean Duplicate place has = has
+    line_clean (MissingPair first second) place has = has
+    line_clean KindTaken place has = has
+    line_clean (Limit name number) place has = no_limit name number place has
+
+    pub clean_line : HasNone (FormHas taken known line tokens form) → HasNone (Has taken known line tokens)
+    clean_line clean cause place (line_has has) = line_clean cause place has
+    clean_line clean cause place (form_has other fit has) =
+        let same : other ≡ form = one_form (stage_of known) (methods_of known) (words_of line tokens) other form fit right in
+        clean cause place (subst (λ (f : SaidForm). FormHas taken known line tokens f cause place) same has)
+
+    pub accepted : (next : Known) → AreTokens line tokens → HasNone (FormHas taken known line tokens form) → FormAdds known line tokens form next
+        → Accepts taken known line next
+    accepted next cut clean adds = record { tokens = tokens; cut = cut; clean = clean_line clean; adds = adds_form begun form right adds }
+
+-- ---- the header
+
+-- lines that begin alike begin with one word
+pub same_first : (a b : List ℕ) (rest more : List Word) → plain a ∷ rest ≡ plain b ∷ more → a ≡ b
+same_first a b rest more e = let words : plain a ≡ plain b = cc in same_bytes a b words
+
+no_kind : codes "rdspec" ≢ codes "kind"
+no_kind e = cc
+
+no_method : codes "rdspec" ≢ codes "method"
+no_method e = let first : slice_index (codes "rdspec") 0 ≡ slice_index (codes "method") 0 = ap (λ (l : List ℕ). slice_index l 0) e in omega (arith, first)
+
+no_commute : codes "rdspec" ≢ codes "commute"
+no_commute e = cc
+
+no_form : (stage : Stage) (methods : List (List ℕ)) (form : SaidForm) → ¬ (RightLine stage methods header_words form)
+no_form stage methods (kind_said name) right = no_kind (same_first (codes "rdspec") (codes "kind") _ _ right.written)
+no_form stage methods (method_said name arguments result) right = no_method (same_first (codes "rdspec") (codes "method") _ _ right.written)
+no_form stage methods (commute_said first second read) right = no_commute (same_first (codes "rdspec") (codes "commute") _ _ right.written)
+
+-- a line that begins otherwise isn't one of a pair
+pub other_first : (bytes : List ℕ) (rest : List Word) → bytes ≢ codes "commute" → ¬ (HasManyTokens (plain bytes ∷ rest))
+other_first bytes rest other many = other (same_first bytes (codes "commute") rest _ many.written)
+
+module _ (taken : List (List ℕ)) (line : List ℕ) (tokens : List Token) (words : words_of line tokens ≡ header_words) where
+  header_short : ¬ (HasManyTokens (words_of line tokens))
+  header_short many = other_first (codes "rdspec") (plain (codes "1") ∷ []) no_commute (subst HasManyTokens words many)
+
+  no_header_limit : (name : LimitName) (number place : ℕ) → ¬ (LineHas nothing line tokens (Limit name number) place)
+  no_header_limit Bytes number place has = has
+  no_header_limit Line number place has = has
+  no_header_limit Events number place has = has
+  no_header_limit Threads number place has = has
+  no_header_limit Locks number place has = has
+  no_header_limit Objects number place has = has
+  no_header_limit Depth number place has = has
+  no_header_limit SpecText number place has = has
+  no_header_limit Tokens number place has = header_short has.0
+  no_header_limit Kinds number place has = has
+  no_header_limit MethodLimit number place has = has
+  no_header_limit Arguments number place has = has
+  no_header_limit Nodes number place has = has
+  no_header_limit FormulaDepth number place has = has
+  no_header_limit Predicates number place has = has
+
+  header_line : (cause : SpecCause) (place : ℕ) → ¬ (LineHas nothing line tokens cause place)
+  header_line Header place (late, other, at) = other words
+  header_line Syntax place (count, early, (within, wrong), at) = absurd (cc)
+  header_line UnknownMethod place has = has
+  header_line UnknownVariable place has = has
+  header_line NoVariable place has = has
+  header_line (OutsideFragment reason) place has = has
+  header_line Duplicate place has = has
+  header_line (MissingPair first second) place has = has
+  header_line KindTaken place has = has
+  header_line (Limit name number) place has = no_header_limit name number place has
+
+  header_clean : HasNone (Has taken nothing line tokens)
+  header_clean cause place (line_has has) = header_line cause place has
+  header_clean cause place (form_has form fit has) =
+      no_form (stage_of nothing) (methods_of nothing) form (subst (λ (ws : List Word). RightLine (stage_of nothing) (methods_of nothing) ws form) words fit)
+
+  pub header_accepted : AreTokens line tokens → Accepts taken nothing line (with_header nothing)
+  header_accepted cut = record { tokens = tokens; cut = cut; clean = header_clean; adds = adds_header refl words refl }
+
+-- ---- the line of a kind
+
+no_kind_limit : (taken : List (List ℕ)) (known : Known) (line : List ℕ) (tokens : List Token) (name : List ℕ) → length (kinds_so_far known) < 32
+    → (limit : LimitName) (number place : ℕ) → ¬ (KindHas taken known line tokens name (Limit limit number) place)
+no_kind_limit taken known line tokens name few Bytes number place has = has
+no_kind_limit taken known line tokens name few Line number place has = has
+no_kind_limit taken known line tokens name few Events number place has = has
+no_kind_limit taken known line tokens name few Threads number place has = has
+no_kind_limit taken known line tokens name few Locks number place has = has
+no_kind_limit taken known line tokens name few Objects number place has = has
+no_kind_limit taken known line tokens name few Depth number place has = has
+no_kind_limit taken known line tokens name few SpecText number place has = has
+no_kind_limit taken known line tokens name few Tokens number place has = has
+no_kind_limit taken known line tokens name few Kinds number place (many, is, at) = omega (arith, many, few)
+no_kind_limit taken known line tokens name few MethodLimit number place has = has
+no_kind_limit taken known line tokens name few Arguments number place has = has
+no_kind_limit taken known line tokens name few Nodes number place has = has
+no_kind_limit taken known line tokens name few FormulaDepth number place has = has
+no_kind_limit taken known line tokens name few Predicates number place has = has
+
+-- a kind with each of its pairs lacks none
+pub lacks_none : (kind : SpecifiedKind) (first second : List ℕ) → IsWhole kind → ¬ (LacksPair kind first second)
+lacks_none kind first second whole lacks =
+    let missing = lacks.missing in
+    let there = whole lacks.first_number lacks.second_number missing.ordered missing.known in
+    let none = missing.missing in
+    let wrong : is_some (formula_at kind lacks.first_number lacks.second_number) ≡ true = there in
+    let never : is_some (formula_at kind lacks.first_number lacks.second_number) ≡ false = ap is_some none in absurd (cc)
+
+pub kind_clean : (taken : List (List ℕ)) (known : Known) (line : List ℕ) (tokens : List Token) (name : List ℕ)
+    → ¬ (Contains (kind_names (kinds_so_far known)) name) → IsWhole (kind_in known.block) → ¬ (Contains taken name) → length (kinds_so_far known) < 32
+    → HasNone (KindHas taken known line tokens name)
+kind_clean taken known line tokens name new whole free few Header place has = has
+kind_clean taken known line tokens name new whole free few Syntax place has = has
+kind_clean taken known line tokens name new whole free few UnknownMethod place has = has
+kind_clean taken known line tokens name new whole free few UnknownVariable place has = has
+kind_clean taken known line tokens name new whole free few NoVariable place has = has
+kind_clean taken known line tokens name new whole free few (OutsideFragment reason) place has = has
+kind_clean taken known line tokens name new whole free few Duplicate place has = new has.0
+kind_clean taken known line tokens name new whole free few (MissingPair first second) place has = lacks_none (kind_in known.block) first second whole has.0
+kind_clean taken known line tokens name new whole free few KindTaken place has = free has.0
+kind_clean taken known line tokens name new whole free few (Limit limit number) place has = no_kind_limit taken known line tokens name few limit number place has
+
+-- ---- the line of a method
+
+no_method_limit : (kind : SpecifiedKind) (line : List ℕ) (tokens : List Token) (name : List ℕ) (arguments : List (List ℕ)) (result : List ℕ)
+    → length kind.methods < 16 → length arguments ≤ 6 → (limit : LimitName) (number place : ℕ) → ¬ (MethodHas kind line tokens name arguments result (Limit limit number) place)
+no_method_limit kind line tokens name arguments result room few Bytes number place has = has
+no_method_limit kind line tokens name arguments result room few Line number place has = has
+no_method_limit kind line tokens name arguments result room few Events number place has = has
+no_method_limit kind line tokens name arguments result room few Threads number place has = has
+no_method_limit kind line tokens name arguments result room few Locks number place has = has
+no_method_limit kind line tokens name arguments result room few Objects number place has = has
+no_method_limit kind line tokens name arguments result room few Depth number place has = has
+no_method_limit kind line tokens name arguments result room few SpecText number place has = has
+no_method_limit kind line tokens name arguments result room few Tokens number place has = has
+no_method_limit kind line tokens name arguments result room few Kinds number place has = has
+no_method_limit kind line tokens name arguments result room few MethodLimit number place (many, is, at) = omega (arith, many, room)
+no_method_limit kind line tokens name arguments result room few Arguments number place (many, is, at) = omega (arith, many, few)
+no_method_limit kind line tokens name arguments result room few Nodes number place has = has
+no_method_limit kind line tokens name arguments result room few FormulaDepth number place has = has
+no_method_limit kind line tokens name arguments result room few Predicates number place has = has
+
+pub method_clean : (kind : SpecifiedKind) (line : List ℕ) (tokens : List Token) (name : List ℕ) (arguments : List (List ℕ)) (result : List ℕ)
+    → ¬ (Contains (names_of kind.methods) name) → ((n : ℕ) → ¬ (IsFirstRepeated (arguments ++ result ∷ []) n)) → length kind.methods < 16 → length arguments ≤ 6
+    → HasNone (MethodHas kind line tokens name arguments result)
+method_clean kind line tokens name arguments result new once room few Header place has = has
+method_clean kind line tokens name arguments result new once room few Syntax place has = has
+method_clean kind line tokens name arguments result new once room few UnknownMethod place has = has
+method_clean kind line tokens name arguments result new once room few UnknownVariable place has = has
+method_clean kind line tokens name arguments result new once room few NoVariable place has = has
+method_clean kind line tokens name arguments result new once room few (OutsideFragment reason) place has = has
+method_clean kind line tokens name arguments result new once room few Duplicate place (inl (among, at)) = new among
+method_clean kind line tokens name arguments result new once room few Duplicate place (inr (n, fresh, repeats, at)) = once n repeats
+method_clean kind line tokens name arguments result new once room few (MissingPair first second) place has = has
+method_clean kind line tokens name arguments result new once room few KindTaken place has = has
+method_clean kind line tokens name arguments result new once room few (Limit limit number) place has =
+    no_method_limit kind line tokens name arguments result room few limit number place has

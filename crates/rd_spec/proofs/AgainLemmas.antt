@@ -1,0 +1,263 @@
+-- The canonical text of a specification is read again as it.
+use Rattle.std.proofs.Common.{◌≡◌, ◌≢◌, ℕ, zero, suc, ◌+◌, ◌-◌, ◌*◌, ◌<◌, ◌≤◌, Bool, true, false, List, [], ◌∷◌, ◌++◌, length, map, codes, get_or, Option, Some, None, refl, sym, ap, subst, arith, inl, inr, ◌∙◌, length-append}
+use Rattle.std.specs.Prelude.{All, AllPairs, Contains, flat_map, slice_get, slice_index_or, nat_le, is_some, IsSome, ◌⊎◌}
+use Rattle.std.specs.List.{AllByRecursion}
+use Rattle.std.proofs.lemmas.List.{append_assoc, append-nil, map-append, get_or_past, length-map}
+use Rattle.std.proofs.lemmas.Option.{slice_get-get_or}
+use Rattle.rd_base.specs.Names.{IsName}
+use Rattle.rd_base.proofs.FoundLemmas.{each_by_recursion, each_from_recursion}
+use Rattle.std.proofs.lemmas.List.Elements.{Contains-append_right}
+use Rattle.rd_canonical.specs.declared.items.Word.{Word as PrintedWord}
+use Rattle.rd_canonical.specs.Canonical.{plain as printed}
+use Rattle.rd_causes.specs.Adding.{Accepts, with_header, with_kind}
+use Rattle.rd_causes.specs.Causes.{EndHas, HasNone, LacksPair}
+use Rattle.rd_causes.specs.Known.{kind_in, kind_names, kind_without, kinds_so_far, nothing, opened, variables_at}
+use Rattle.rd_causes.specs.declared.causes.SpecCause.{SpecCause}
+use Rattle.rd_causes.specs.declared.causes.SpecCause.TheVariants.{Header, Syntax, UnknownMethod, UnknownVariable, NoVariable, OutsideFragment, Duplicate, MissingPair, KindTaken, Limit}
+use Rattle.rd_causes.specs.declared.known.Known.{Known}
+use Rattle.rd_ecl.specs.declared.kinds.Method.{Method}
+use Rattle.rd_ecl.specs.Formulas.{Tree}
+use Rattle.rd_ecl.specs.Specified.{IsKind, IsWhole, SpecifiedKind, formula_at, names_of}
+use Rattle.rd_ecl.specs.Variables.{AreVariables, IsVariable}
+use Rattle.rd_pairs.proofs.NumberLemmas.{AreDifferent}
+use Rattle.rd_print.specs.Printed.{AreNames, HasNames, HasValues, HaveValues, block_lines, commute_words, header_words, kind_words, line_text, method_words, name_at, pairs_of, spec_lines, spec_text}
+use Rattle.rd_print.proofs.SoundLemmas.{commute_sound, kind_sound, lines_sound, method_sound, name_at_is}
+use Rattle.rd_text.specs.Text.{IsSound, text_of}
+use Rattle.rd_spec.specs.Again.{AreSame, IsSame, MayBeRead}
+use Rattle.rd_spec.specs.Texts.{AreLines, Reads, SpecSays, no_more}
+use Rattle.rd_spec.proofs.AcceptLemmas.{header_accepted, lacks_none}
+use Rattle.rd_spec.proofs.LineLemmas.{reads_on}
+use Rattle.rd_spec.proofs.MethodLines.{IsUnset, IsWritten, at, kind_read, fresh_behind, line_read, methods_more, methods_read, methods_unset, name_kept, with_methods}
+use Rattle.rd_spec.proofs.PairLines.{IsPrinted}
+use Rattle.rd_spec.proofs.RowLines.{IsBefore, IsPart, IsSource, RowRead, pairs_read, unset_at}
+use Rattle.rd_spec.proofs.TextLemmas.{kept_line, lift, lines_cut}
+
+-- ---- one kind
+
+some_there : (o : Option Tree) → is_some o ≡ true → (f : Tree) × (o ≡ Some f)
+some_there (Some f) there = (f, refl)
+some_there None there = absurd (cc)
+
+none_apart : AreDifferent []
+none_apart i j d less within = absurd (omega (arith, within))
+
+module _ (kind : SpecifiedKind) (is : IsKind kind) (values : HasValues kind) (names : HasNames kind) where
+  printed_pair : (m n : ℕ) → m ≤ n → n < length kind.methods → (f : Tree) × IsPrinted kind m n f
+  printed_pair m n ordered known =
+      let (f, there) = some_there (formula_at kind m n) (is.whole m n ordered known) in
+      (f, record {
+        ordered = ordered;
+        known = known;
+        there = there;
+        pair = is.draft.pairs.each m n f there;
+        values = values m n ordered known f there;
+        methods = is.draft.methods;
+        first_name = name_at_is kind.methods m (omega (arith, ordered, known)) names.1;
+        second_name = name_at_is kind.methods n known names.1;
+        sound = commute_sound kind is values names m n ordered known;
+      })
+
+  variables_apart : (methods : List Method) (n : ℕ) → AllByRecursion (λ (method : Method). AreVariables method.variables) methods
+      → AreDifferent (variables_at (record kind { methods = methods }) n)
+  variables_apart [] zero each = none_apart
+  variables_apart [] (suc n) each = none_apart
+  variables_apart (method ∷ methods) zero (here, rest) = here.different
+  variables_apart (method ∷ methods) (suc n) (here, rest) = variables_apart methods n rest
+
+  source : IsSource kind
+  source = record {
+    few = is.draft.methods.few;
+    names = is.draft.methods.different;
+    variables = λ n. variables_apart kind.methods n (each_by_recursion (λ (method : Method). AreVariables method.variables) kind.methods is.draft.methods.each);
+    predicates = is.draft.pairs.few;
+    pairs = printed_pair;
+  }
+
+  written : AllByRecursion IsWritten kind.methods
+  written = by kind.methods (each_by_recursion (λ (method : Method). AreVariables method.variables) kind.methods is.draft.methods.each)
+      (each_by_recursion (λ (method : Method). IsName method.name) kind.methods names.1) where
+    by : (methods : List Method) → AllByRecursion (λ (method : Method). AreVariables method.variables) methods → AllByRecursion (λ (method : Method). IsName method.name) methods
+        → AllByRecursion IsWritten methods
+    by [] variables named = tt
+    by (method ∷ methods) (here, rest) (name, more) =
+        (record { variables = here; each = each_by_recursion IsVariable method.variables here.each; named = name; sound = method_sound method name here }, by methods rest more)
+
+  -- before its first pair
+  empty : SpecifiedKind
+  empty = with_methods (kind_without kind.name) kind.methods
+
+  begins : IsPart kind empty 0 0
+  unfolding IsBefore empty
+  begins =
+      let unset : IsUnset empty = methods_unset (kind_without kind.name) kind.methods (record { rows = refl; none = λ k. get_or_past [] k None (omega arith) }) in
+      let methods : empty.methods ≡ kind.methods = methods_more (kind_without kind.name) kind.methods in
+      record {
+        name = name_kept (kind_without kind.name) kind.methods;
+        methods = methods;
+        rows = unset.rows ∙ ap (λ (ms : List Method). 16 * length ms) methods;
+        done = λ m n up low before. elim before [
+          | inl less ↦ absurd (omega (arith, less))
+          | inr same ↦ absurd (let less = same.1 in omega (arith, less))
+        ];
+        left = λ m n up low behind. unset_at (nat_le m n) empty.pairs (16 * n + m) (unset.none (16 * n + m));
+      }
+
+  -- its methods and pairs are read
+  pub body_read : (taken : List (List ℕ)) (closed : List SpecifiedKind)
+      → RowRead taken closed kind (kind_without kind.name) false (map text_of (map method_words kind.methods ++ map (commute_words kind) (pairs_of (length kind.methods))))
+      (length kind.methods) (length kind.methods)
+  unfolding empty
+  body_read taken closed =
+      let bare : SpecifiedKind = kind_without kind.name in
+      let pairs = pairs_read taken closed kind source empty false begins in
+      let lines : map text_of (map method_words kind.methods ++ map (commute_words kind) (pairs_of (length kind.methods)))
+          ≡ map text_of (map method_words kind.methods) ++ map text_of (map (commute_words kind) (pairs_of (length kind.methods))) =
+          map-append text_of (map method_words kind.methods) (map (commute_words kind) (pairs_of (length kind.methods))) in
+      record {
+        next = pairs.next;
+        then_paired = pairs.then_paired;
+        is = pairs.is;
+        reads = subst (λ (l : List (List ℕ)). Reads taken (at closed bare false) l (at closed pairs.next pairs.then_paired)) (sym lines)
+            (reads_on taken (methods_read taken closed bare kind.methods is.draft.methods.different is.draft.methods.few written) pairs.reads);
+      }
+
+  -- what was read is the kind
+  pub same_kind : (next : SpecifiedKind) → IsPart kind next (length kind.methods) (length kind.methods) → IsSame kind next
+  unfolding IsBefore
+  same_kind next part = record {
+    name = sym part.name;
+    methods = sym part.methods;
+    formulas = λ m n up low. sym (part.done m n up low (inl (omega (arith, up, low))));
+  }
+
+  pub whole_kind : (next : SpecifiedKind) → IsPart kind next (length kind.methods) (length kind.methods) → IsWhole next
+  unfolding IsBefore
+  whole_kind next part m n up low =
+      let known : n < length kind.methods = subst (λ (ms : List Method). n < length ms) part.methods low in
+      subst IsSome (sym (part.done m n up known (inl (omega (arith, up, known))))) (is.whole m n up known)
+
+-- ---- kinds, one after another
+
+same_names : (kinds others : List SpecifiedKind) → AreSame kinds others → kind_names kinds ≡ kind_names others
+same_names [] [] same = refl
+same_names [] (other ∷ others) same = absurd same
+same_names (kind ∷ kinds) [] same = absurd same
+same_names (kind ∷ kinds) (other ∷ others) (here, rest) =
+    ap (λ (name : List ℕ). name ∷ kind_names kinds) here.name ∙ ap (λ (names : List (List ℕ)). other.name ∷ names) (same_names kinds others rest)
+
+same_more : (kinds others : List SpecifiedKind) (kind other : SpecifiedKind) → AreSame kinds others → IsSame kind other → AreSame (kinds ++ kind ∷ []) (others ++ other ∷ [])
+same_more [] [] kind other same one = (one, tt)
+same_more [] (o ∷ others) kind other same one = absurd same
+same_more (k ∷ kinds) [] kind other same one = absurd same
+same_more (k ∷ kinds) (o ∷ others) kind other (here, rest) one = (here, same_more kinds others kind other rest one)
+
+-- a kind that may be written
+pub record IsPrintable (kind : SpecifiedKind) : Type 0 where
+  pub is : IsKind kind
+  pub values : HasValues kind
+  pub names : HasNames kind
+
+pub record BlocksRead (taken : List (List ℕ)) (known : Known) (lines : List (List ℕ)) (kinds : List SpecifiedKind) : Type 0 where
+  pub last : Known
+  pub begun : last.begun ≡ true
+  pub same : AreSame kinds (kinds_so_far last)
+  pub whole : IsWhole (kind_in last.block)
+  pub reads : Reads taken known lines last
+
+opened_at : (known : Known) (name : List ℕ) → known.begun ≡ true → with_kind known name ≡ at (kinds_so_far known) (kind_without name) false
+opened_at known name begun = ap (λ (b : Bool). record { begun = b; closed = kinds_so_far known; block = Some (record { draft = kind_without name; paired = false }) }) begun
+
+kinds_more : (xs : List SpecifiedKind) (one : SpecifiedKind) (ys : List SpecifiedKind) → kind_names (xs ++ one ∷ ys) ≡ kind_names xs ++ one.name ∷ kind_names ys
+kinds_more [] one ys = refl
+kinds_more (x ∷ xs) one ys = ap (λ (l : List (List ℕ)). x.name ∷ l) (kinds_more xs one ys)
+
+count_names : (kinds : List SpecifiedKind) → length (kind_names kinds) ≡ length kinds
+count_names kinds = length-map kinds (λ (kind : SpecifiedKind). kind.name)
+
+-- the lines of a kind
+block_read : (taken : List (List ℕ)) (done : List SpecifiedKind) (kind : SpecifiedKind) (kinds : List SpecifiedKind) (known : Known) → known.begun ≡ true
+    → AreSame done (kinds_so_far known) → IsWhole (kind_in known.block) → IsPrintable kind → length (done ++ kind ∷ kinds) ≤ 32
+    → AllPairs (λ x y. x ≢ y) (kind_names (done ++ kind ∷ kinds)) → ((name : List ℕ) → Contains taken name → ¬ (Contains (kind_names (done ++ kind ∷ kinds)) name))
+    → BlocksRead taken known (map text_of (block_lines kind)) (done ++ kind ∷ [])
+block_read taken done kind kinds known begun same whole may few different free =
+    let named : kind_names (done ++ kind ∷ kinds) ≡ kind_names done ++ kind.name ∷ kind_names kinds = kinds_more done kind kinds in
+    let names : kind_names done ≡ kind_names (kinds_so_far known) = same_names done (kinds_so_far known) same in
+    let fresh : ¬ (Contains (kind_names done) kind.name) =
+        fresh_behind (kind_names done) kind.name (kind_names kinds) (subst (λ (l : List (List ℕ)). AllPairs (λ x y. x ≢ y) l) named different) in
+    let here : Contains (kind_names done ++ kind.name ∷ kind_names kinds) kind.name =
+        Contains-append_right (kind_names done) (kind.name ∷ kind_names kinds) kind.name (0, omega arith, refl) in
+    let counts : length (kinds_so_far known) ≡ length done = sym (count_names (kinds_so_far known)) ∙ sym (ap length names) ∙ count_names done in
+    let sum = length-append done (kind ∷ kinds) in
+    let sound = (kind_sound kind may.is may.values may.names).0 in
+    let head = kind_read taken known kind begun (λ among. fresh (subst (λ (l : List (List ℕ)). Contains l kind.name) (sym names) among)) whole
+        (λ reserved. free kind.name reserved (subst (λ (l : List (List ℕ)). Contains l kind.name) (sym named) here)) (omega (arith, counts, sum, few)) may.names.0 sound in
+    let body = body_read kind may.is may.values may.names taken (kinds_so_far known) in
+    record {
+      last = at (kinds_so_far known) body.next body.then_paired;
+      begun = refl;
+      same = same_more done (kinds_so_far known) kind body.next same (same_kind kind may.is may.values may.names body.next body.is);
+      whole = whole_kind kind may.is may.values may.names body.next body.is;
+      reads = reads_on taken (subst (λ (k : Known). Reads taken known (text_of (kind_words kind) ∷ []) k) (opened_at known kind.name begun) head) body.reads;
+    }
+
+blocks_read : (taken : List (List ℕ)) (kinds done : List SpecifiedKind) (known : Known) → known.begun ≡ true → AreSame done (kinds_so_far known)
+    → IsWhole (kind_in known.block) → AllByRecursion IsPrintable kinds → length (done ++ kinds) ≤ 32 → AllPairs (λ x y. x ≢ y) (kind_names (done ++ kinds))
+    → ((name : List ℕ) → Contains taken name → ¬ (Contains (kind_names (done ++ kinds)) name))
+    → BlocksRead taken known (map text_of (flat_map block_lines kinds)) (done ++ kinds)
+blocks_read taken [] done known begun same whole each few different free = record {
+  last = known;
+  begun = begun;
+  same = subst (λ (l : List SpecifiedKind). AreSame l (kinds_so_far known)) (sym (append-nil done)) same;
+  whole = whole;
+  reads = no_more;
+}
+blocks_read taken (kind ∷ kinds) done known begun same whole (may, rest) few different free =
+    let one = block_read taken done kind kinds known begun same whole may few different free in
+    let more : (done ++ kind ∷ []) ++ kinds ≡ done ++ kind ∷ kinds = append_assoc done (kind ∷ []) kinds in
+    let others = blocks_read taken kinds (done ++ kind ∷ []) one.last one.begun one.same one.whole rest
+        (subst (λ (l : List SpecifiedKind). length l ≤ 32) (sym more) few) (subst (λ (l : List SpecifiedKind). AllPairs (λ x y. x ≢ y) (kind_names l)) (sym more) different)
+        (subst (λ (l : List SpecifiedKind). (name : List ℕ) → Contains taken name → ¬ (Contains (kind_names l) name)) (sym more) free) in
+    record {
+      last = others.last;
+      begun = others.begun;
+      same = subst (λ (l : List SpecifiedKind). AreSame l (kinds_so_far others.last)) more others.same;
+      whole = others.whole;
+      reads = subst (λ (l : List (List ℕ)). Reads taken known l others.last) (sym (map-append text_of (block_lines kind) (flat_map block_lines kinds)))
+          (reads_on taken one.reads others.reads);
+    }
+
+-- ---- the whole text
+
+end_clean : (known : Known) → known.begun ≡ true → IsWhole (kind_in known.block) → HasNone (EndHas known)
+end_clean known begun whole Header place (late, at) = absurd (cc)
+end_clean known begun whole Syntax place has = has
+end_clean known begun whole UnknownMethod place has = has
+end_clean known begun whole UnknownVariable place has = has
+end_clean known begun whole NoVariable place has = has
+end_clean known begun whole (OutsideFragment reason) place has = has
+end_clean known begun whole Duplicate place has = has
+end_clean known begun whole (MissingPair first second) place (lacks, at) = lacks_none (kind_in known.block) first second whole lacks
+end_clean known begun whole KindTaken place has = has
+end_clean known begun whole (Limit name number) place has = has
+
+printable : (kinds : List SpecifiedKind) → AllByRecursion IsKind kinds → AllByRecursion HasValues kinds → AllByRecursion HasNames kinds → AllByRecursion IsPrintable kinds
+printable [] are values names = tt
+printable (kind ∷ kinds) (is, are) (value, values) (name, names) = (record { is = is; values = value; names = name }, printable kinds are values names)
+
+pub read_again : (kinds : List SpecifiedKind) (taken : List (List ℕ)) → MayBeRead kinds taken → (read : List SpecifiedKind) × SpecSays (spec_text kinds) taken read × AreSame kinds read
+read_again kinds taken may =
+    let sound : AllByRecursion (All IsSound) (spec_lines kinds) = each_by_recursion (All IsSound) (spec_lines kinds) (lines_sound kinds may.each may.values may.names) in
+    let head = line_read taken nothing (with_header nothing) header_words sound.0 (kept_line 114 (codes "dspec") (printed (codes "1") ∷ []) (λ e. omega (arith, e)) (λ e. omega (arith, e)))
+        (λ tokens are words. header_accepted taken (text_of header_words) tokens words are) in
+    let blocks = blocks_read taken kinds [] (with_header nothing) refl tt (λ first second up low. absurd (omega (arith, low)))
+        (printable kinds (each_by_recursion IsKind kinds may.each) (each_by_recursion HasValues kinds may.values) (each_by_recursion HasNames kinds may.names))
+        may.few may.different may.free in
+    (kinds_so_far blocks.last, record {
+      short = may.short;
+      lines = map text_of (spec_lines kinds);
+      cut = lines_cut (spec_lines kinds) sound;
+      known = blocks.last;
+      reads = reads_on taken head blocks.reads;
+      whole = end_clean blocks.last blocks.begun blocks.whole;
+      said = refl;
+    }, blocks.same)

@@ -1,0 +1,200 @@
+-- The lines of a kind and of its methods are read again.
+use Rattle.std.proofs.Common.{◌≡◌, ◌≢◌, ℕ, zero, suc, ◌+◌, ◌-◌, ◌<◌, ◌≤◌, Bool, true, false, List, [], ◌∷◌, ◌++◌, length, map, take, codes, Some, refl, sym, ap, subst, arith, inl, inr, ◌∙◌, length-append}
+use Rattle.std.specs.Prelude.{All, AllPairs, Contains, slice_get, slice_index_or, replicate, Option, None, ◌*◌}
+use Rattle.std.specs.List.{AllByRecursion}
+use Rattle.std.proofs.Math.ListN.{get_or-append}
+use Rattle.std.proofs.Math.Seq.{get_or-append_seam}
+use Rattle.std.proofs.lemmas.List.{append_assoc, append-nil, get_or-take, length-take}
+use Rattle.std.proofs.lemmas.Option.{slice_get_within, get_or_from_slice_get}
+use Rattle.rd_base.specs.Names.{IsName}
+use Rattle.rd_canonical.specs.declared.items.Word.{Word as PrintedWord}
+use Rattle.rd_canonical.specs.Canonical.{plain as printed}
+use Rattle.rd_causes.specs.Adding.{Accepts, with_kind}
+use Rattle.rd_causes.specs.Causes.{HasManyTokens, IsFirstRepeated}
+use Rattle.rd_causes.specs.Known.{kind_in, kind_names, kinds_so_far}
+use Rattle.rd_causes.specs.declared.known.Known.{Known}
+use Rattle.rd_ecl.specs.declared.kinds.Method.{Method}
+use Rattle.rd_ecl.specs.Specified.{IsWhole, SpecifiedKind, names_of, with_method}
+use Rattle.rd_ecl.specs.Formulas.{Tree}
+use Rattle.rd_ecl.specs.Variables.{AreVariables, IsVariable}
+use Rattle.rd_lines.specs.Lines.{Word, plain, words_of, kind as kind_said, method as method_said}
+use Rattle.rd_print.specs.Printed.{kind_words, method_words, slot_words}
+use Rattle.rd_text.specs.Text.{IsSound, text_of}
+use Rattle.rd_tokens.specs.declared.items.Token.{Token}
+use Rattle.rd_tokens.specs.Tokens.{AreTokens}
+use Rattle.rd_tokens.proofs.CutLemmas.{some_tokens}
+use Rattle.rd_spec.specs.Texts.{IsSkipped, Reads, no_more, takes}
+use Rattle.rd_spec.proofs.AcceptLemmas.{accepted, kind_clean, method_clean, other_first}
+use Rattle.rd_spec.proofs.LineLemmas.{reads_on}
+use Rattle.rd_spec.proofs.TextLemmas.{kept_line, lift, words_read}
+
+-- behind the header, where these kinds are closed and this one is open
+abbrev pub at : List SpecifiedKind → SpecifiedKind → Bool → Known
+at closed kind paired = record { begun = true; closed = closed; block = Some (record { draft = kind; paired = paired }) }
+
+-- a line whose words are accepted is read
+pub line_read : (taken : List (List ℕ)) (known next : Known) (words : List PrintedWord) → All IsSound words → ¬ (IsSkipped (text_of words))
+    → ((tokens : List Token) → AreTokens (text_of words) tokens → words_of (text_of words) tokens ≡ map lift words → Accepts taken known (text_of words) next)
+    → Reads taken known (text_of words ∷ []) next
+line_read taken known next words sound kept accepts =
+    let found = some_tokens (text_of words) in
+    takes kept (accepts found.0 found.1 (words_read words found.0 sound found.1)) no_more
+
+kind_no_commute : codes "kind" ≢ codes "commute"
+kind_no_commute e = cc
+
+method_no_commute : codes "method" ≢ codes "commute"
+method_no_commute e = cc
+
+-- the line of a kind
+pub kind_read : (taken : List (List ℕ)) (known : Known) (kind : SpecifiedKind) → known.begun ≡ true → ¬ (Contains (kind_names (kinds_so_far known)) kind.name)
+    → IsWhole (kind_in known.block) → ¬ (Contains taken kind.name) → length (kinds_so_far known) < 32 → IsName kind.name → All IsSound (kind_words kind)
+    → Reads taken known (text_of (kind_words kind) ∷ []) (with_kind known kind.name)
+kind_read taken known kind begun new whole free few named sound =
+    let line = text_of (kind_words kind) in
+    line_read taken known (with_kind known kind.name) (kind_words kind) sound (kept_line 107 (codes "ind") (printed kind.name ∷ []) (λ e. omega (arith, e)) (λ e. omega (arith, e)))
+    (λ tokens are words. accepted taken known line tokens (kind_said kind.name) begun
+    (λ many. other_first (codes "kind") (plain kind.name ∷ []) kind_no_commute (subst HasManyTokens words many))
+    (record { named = named; written = words }) (with_kind known kind.name) are (kind_clean taken known line tokens kind.name new whole free few) refl)
+
+-- the last variable names the result
+record Split (variables : List (List ℕ)) : Type 0 where
+  arguments : List (List ℕ)
+  result : List ℕ
+  is : variables ≡ arguments ++ result ∷ []
+  words : map lift (slot_words variables) ≡ map plain arguments ++ plain (codes "->") ∷ plain result ∷ []
+
+split_more : (argument next : List ℕ) (more : List (List ℕ)) → Split (next ∷ more) → Split (argument ∷ next ∷ more)
+split_more argument next more rest = record {
+  arguments = argument ∷ rest.arguments;
+  result = rest.result;
+  is = ap (λ (l : List (List ℕ)). argument ∷ l) rest.is;
+  words = ap (λ (l : List Word). plain argument ∷ l) rest.words;
+}
+
+split : (variables : List (List ℕ)) → 1 ≤ length variables → Split variables
+split [] some = absurd (omega (arith, some))
+split (result ∷ []) some = record { arguments = []; result = result; is = refl; words = refl }
+split (argument ∷ next ∷ more) some = split_more argument next more (split (next ∷ more) (omega arith))
+
+-- none of different names repeats one before it
+once : (names : List (List ℕ)) → AllPairs (λ x y. x ≢ y) names → (n : ℕ) → ¬ (IsFirstRepeated names n)
+once names different n repeated =
+    let (k, within, here) = repeated.repeats in
+    let low : k < n = omega (arith, simp length-take at within) in
+    let last : n < length names = slice_get_within names n repeated.name repeated.stands in
+    let there = get_or_from_slice_get names n repeated.name repeated.name repeated.stands in
+    different k n repeated.name low last (sym (get_or-take n names k repeated.name low) ∙ here ∙ sym there)
+
+-- a name is none of those before it
+pub fresh_behind : (before : List (List ℕ)) (name : List ℕ) (rest : List (List ℕ)) → AllPairs (λ x y. x ≢ y) (before ++ name ∷ rest) → ¬ (Contains before name)
+fresh_behind before name rest different (k, within, here) =
+    let longer = length-append before (name ∷ rest) in
+    different k (length before) name within (omega (arith, longer))
+    (get_or-append before (name ∷ rest) name k within ∙ here ∙ sym (get_or-append_seam before name rest name))
+
+front_each : (P : List ℕ → Type 0) (before : List (List ℕ)) (last : List ℕ) → AllByRecursion P (before ++ last ∷ []) → AllByRecursion P before × P last
+front_each P [] last (here, rest) = (tt, here)
+front_each P (b ∷ before) last (here, rest) = let (all, one) = front_each P before last rest in ((here, all), one)
+
+-- the line of a method
+pub method_read : (taken : List (List ℕ)) (closed : List SpecifiedKind) (kind : SpecifiedKind) (method : Method) → ¬ (Contains (names_of kind.methods) method.name)
+    → length kind.methods < 16 → AreVariables method.variables → AllByRecursion IsVariable method.variables → IsName method.name → All IsSound (method_words method)
+    → Reads taken (at closed kind false) (text_of (method_words method) ∷ []) (at closed (with_method kind method) false)
+method_read taken closed kind method new room variables each named sound =
+    let line = text_of (method_words method) in
+    let parts : Split method.variables = split method.variables variables.some in
+    let arguments : List (List ℕ) = parts.arguments in
+    let sides = front_each IsVariable arguments parts.result (subst (AllByRecursion IsVariable) parts.is each) in
+    let count : length arguments + 1 ≤ 7 = (let few = variables.few in let same = ap length parts.is in let sum = length-append arguments (parts.result ∷ []) in omega (arith, few, same, sum)) in
+    let whole : record { name = method.name; variables = arguments ++ parts.result ∷ [] } ≡ method = ap (λ (vs : List (List ℕ)). record { name = method.name; variables = vs }) (sym parts.is) in
+    line_read taken (at closed kind false) (at closed (with_method kind method) false) (method_words method) sound
+    (kept_line 109 (codes "ethod") (printed method.name ∷ slot_words method.variables) (λ e. omega (arith, e)) (λ e. omega (arith, e)))
+    (λ tokens are words. accepted taken (at closed kind false) line tokens (method_said method.name arguments parts.result) refl
+    (λ many. other_first (codes "method") _ method_no_commute (subst HasManyTokens words many))
+    (record {
+      stands = refl;
+      named = named;
+      each_argument = sides.0;
+      gives = sides.1;
+      written = words ∙ ap (λ (l : List Word). plain (codes "method") ∷ plain method.name ∷ l) parts.words;
+    }) (at closed (with_method kind method) false) are
+    (method_clean kind line tokens method.name arguments parts.result new
+    (once (arguments ++ parts.result ∷ []) (subst (λ (l : List (List ℕ)). AllPairs (λ x y. x ≢ y) l) parts.is variables.different)) room (omega (arith, count)))
+    (ap (λ (m : Method). at closed (with_method kind m) false) (sym whole)))
+
+-- the kind with these methods more
+unfoldable pub with_methods : SpecifiedKind → List Method → SpecifiedKind
+with_methods kind [] = kind
+with_methods kind (method ∷ methods) = with_methods (with_method kind method) methods
+
+names_split : (xs : List Method) (one : Method) (ys : List Method) → names_of (xs ++ one ∷ ys) ≡ names_of xs ++ one.name ∷ names_of ys
+names_split [] one ys = refl
+names_split (x ∷ xs) one ys = ap (λ (l : List (List ℕ)). x.name ∷ l) (names_split xs one ys)
+
+-- a method that may be written
+pub record IsWritten (method : Method) : Type 0 where
+  pub variables : AreVariables method.variables
+  pub each : AllByRecursion IsVariable method.variables
+  pub named : IsName method.name
+  pub sound : All IsSound (method_words method)
+
+-- the lines of methods
+pub methods_read : (taken : List (List ℕ)) (closed : List SpecifiedKind) (kind : SpecifiedKind) (methods : List Method)
+    → AllPairs (λ x y. x ≢ y) (names_of (kind.methods ++ methods)) → length (kind.methods ++ methods) ≤ 16 → AllByRecursion IsWritten methods
+    → Reads taken (at closed kind false) (map text_of (map method_words methods)) (at closed (with_methods kind methods) false)
+unfolding with_methods
+methods_read taken closed kind [] different few each = no_more
+methods_read taken closed kind (one ∷ methods) different few (here, rest) =
+    let more : (kind.methods ++ one ∷ []) ++ methods ≡ kind.methods ++ one ∷ methods = append_assoc kind.methods (one ∷ []) methods in
+    let room = length-append kind.methods (one ∷ methods) in
+    reads_on taken
+    (method_read taken closed kind one
+    (fresh_behind (names_of kind.methods) one.name (names_of methods) (subst (λ (l : List (List ℕ)). AllPairs (λ x y. x ≢ y) l) (names_split kind.methods one methods) different))
+    (omega (arith, few, room)) here.variables here.each here.named here.sound)
+    (methods_read taken closed (with_method kind one) methods (subst (λ (ms : List Method). AllPairs (λ x y. x ≢ y) (names_of ms)) (sym more) different)
+    (subst (λ (ms : List Method). length ms ≤ 16) (sym more) few) rest)
+
+pub methods_more : (kind : SpecifiedKind) (methods : List Method) → (with_methods kind methods).methods ≡ kind.methods ++ methods
+unfolding with_methods
+methods_more kind [] = sym (append-nil kind.methods)
+methods_more kind (one ∷ methods) = methods_more (with_method kind one) methods ∙ append_assoc kind.methods (one ∷ []) methods
+
+pub name_kept : (kind : SpecifiedKind) (methods : List Method) → (with_methods kind methods).name ≡ kind.name
+unfolding with_methods
+name_kept kind [] = refl
+name_kept kind (one ∷ methods) = name_kept (with_method kind one) methods
+
+-- no pair of them is set
+pub record IsUnset (kind : SpecifiedKind) : Type 0 where
+  pub rows : length kind.pairs ≡ 16 * length kind.methods
+  pub none : (k : ℕ) → slice_index_or kind.pairs k None ≡ None
+
+abbrev nones : ℕ → List (Option Tree)
+nones n = replicate n None
+
+none_there : (n k : ℕ) → slice_index_or (nones n) k None ≡ None
+none_there zero k = refl
+none_there (suc n) zero = refl
+none_there (suc n) (suc k) = none_there n k
+
+none_behind : (pairs : List (Option Tree)) (k : ℕ) → ((j : ℕ) → slice_index_or pairs j None ≡ None) → slice_index_or (pairs ++ replicate 16 None) k None ≡ None
+none_behind [] k none = none_there 16 k
+none_behind (p ∷ pairs) zero none = none 0
+none_behind (p ∷ pairs) (suc k) none = none_behind pairs k (λ j. none (suc j))
+
+unset_more : (kind : SpecifiedKind) (one : Method) → IsUnset kind → IsUnset (with_method kind one)
+unset_more kind one is = record {
+  rows =
+    let rows = is.rows in
+    let no_pairs : List (Option Tree) = nones 16 in
+    let pairs = length-append kind.pairs no_pairs in
+    let methods = length-append kind.methods (one ∷ []) in
+    omega (arith, rows, pairs, methods);
+  none = λ k. none_behind kind.pairs k is.none;
+}
+
+pub methods_unset : (kind : SpecifiedKind) (methods : List Method) → IsUnset kind → IsUnset (with_methods kind methods)
+unfolding with_methods
+methods_unset kind [] is = is
+methods_unset kind (one ∷ methods) is = methods_unset (with_method kind one) methods (unset_more kind one is)

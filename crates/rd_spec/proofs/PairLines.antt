@@ -1,0 +1,282 @@
+-- The lines of a kind's pairs are read again.
+use Rattle.std.proofs.Common.{◌≡◌, ◌≢◌, ℕ, zero, suc, ◌+◌, ◌-◌, ◌*◌, ◌<◌, ◌≤◌, Bool, true, false, List, [], ◌∷◌, ◌++◌, length, map, take, drop, codes, Option, Some, None, refl, sym, ap, subst, arith, inl, inr, ◌∙◌, length-append}
+use Rattle.std.specs.Prelude.{All, AllPairs, Contains, slice_get, slice_index_or, option_map, unwrap_or, is_some, ◌⊎◌}
+use Rattle.std.specs.List.{AllByRecursion}
+use Rattle.std.proofs.lemmas.List.{append_assoc, length-map, drop-map}
+use Rattle.std.proofs.lemmas.Option.{slice_get_within, get_or_from_slice_get, slice_get-get_or, same_Some}
+use Rattle.rd_base.specs.Names.{IsName}
+use Rattle.rd_base.specs.declared.limits.LimitName.{LimitName}
+use Rattle.rd_base.specs.declared.limits.LimitName.TheVariants.{Bytes, Line, Events, Threads, Locks, Objects, Depth, SpecText, Tokens, Kinds, Methods as MethodLimit, Arguments, Nodes, FormulaDepth, Predicates}
+use Rattle.rd_base.proofs.FoundLemmas.{each_by_recursion, each_from_recursion}
+use Rattle.rd_canonical.specs.declared.items.Word.{Word as PrintedWord}
+use Rattle.rd_canonical.specs.Canonical.{AreValues, plain as printed, words_of as formula_of}
+use Rattle.rd_canonical.proofs.FewLemmas.{few_words}
+use Rattle.rd_causes.specs.Adding.{Accepts}
+use Rattle.rd_causes.specs.Causes.{AreNumbers, HasManyPredicates, HasManyTokens, HasNone, PairHas, SaysPair, scope_of}
+use Rattle.rd_causes.specs.Known.{stage_of, variables_at}
+use Rattle.rd_causes.specs.declared.causes.SpecCause.{SpecCause}
+use Rattle.rd_causes.specs.declared.causes.SpecCause.TheVariants.{Header, Syntax, UnknownMethod, UnknownVariable, NoVariable, OutsideFragment, Duplicate, MissingPair, KindTaken, Limit}
+use Rattle.rd_ecl.specs.declared.kinds.Method.{Method}
+use Rattle.rd_ecl.specs.Formulas.{Tree, Fits, InFragment, first_offence, has_slots, levels, nodes, post_order}
+use Rattle.rd_ecl.specs.Specified.{AreMethods, IsPair, SpecifiedKind, formula_at, method_predicates, names_of, slots_at, with_pair}
+use Rattle.rd_ecl.specs.Variables.{AreVariables, IsVariable}
+use Rattle.rd_ecl.proofs.FragmentLemmas.{fragment_is}
+use Rattle.rd_formulas.specs.declared.scope.Scope.{Scope}
+use Rattle.rd_formulas.specs.Meaning.{Gives, relations_in, terms_in}
+use Rattle.rd_formulas.specs.Reading.{IsTroubled, SaysFormula}
+use Rattle.rd_formulas.specs.declared.reading.FormulaRefused.TheVariants as formula
+use Rattle.rd_ecl.specs.declared.formulas.Reason.{Reason}
+use Rattle.rd_formulas.specs.Scope.{IsBare, IsUnknown, MeansAt}
+use Rattle.rd_grammar.specs.Grammar.{Tree as Read, Says, disj}
+use Rattle.rd_grammar.specs.declared.marks.Mark.{Mark}
+use Rattle.rd_lines.specs.Lines.{AreMarksFrom, IsCommuteLine, IsOutOfOrder, Word, plain, word_at, words_of, commute as commute_said}
+use Rattle.rd_lines.proofs.FormulaLemmas.{words_marked}
+use Rattle.rd_lines.specs.declared.forms.Stage.{Stage}
+use Rattle.rd_lines.specs.declared.forms.Stage.TheVariants.{Outside, Methods, Pairs}
+use Rattle.rd_pairs.proofs.ScopeLemmas.{slots_are}
+use Rattle.rd_pairs.proofs.NumberLemmas.{AreDifferent, contained, one_pair, one_place}
+use Rattle.rd_pairs.proofs.MeaningLemmas.{known_relations, known_terms, no_first, no_first_sign, one_formula}
+use Rattle.rd_print.specs.Printed.{commute_words, formula_words, name_at}
+use Rattle.rd_text.specs.Text.{IsSound, text_of}
+use Rattle.rd_text.proofs.FormulaLemmas.{says_formula}
+use Rattle.rd_tokens.specs.declared.items.Token.{Token}
+use Rattle.rd_tokens.specs.Tokens.{AreTokens}
+use Rattle.rd_spec.specs.Texts.{IsSkipped, Reads, no_more}
+use Rattle.rd_spec.proofs.AcceptLemmas.{accepted}
+use Rattle.rd_spec.proofs.LineLemmas.{reads_on}
+use Rattle.rd_spec.proofs.MethodLines.{at, line_read}
+use Rattle.rd_spec.proofs.TextLemmas.{kept_line, lift}
+
+-- ---- what a pair's line may have, and this one hasn't
+
+-- the kind, two of its methods, and a formula that may be set
+pub record IsReady (kind : SpecifiedKind) (m n : ℕ) (f : Tree) : Type 0 where
+  pub names : AreDifferent (names_of kind.methods)
+  pub variables : (i : ℕ) → AreDifferent (variables_at kind i)
+  pub inside : InFragment f
+  pub few : nodes f ≤ 64
+  pub shallow : levels f ≤ 32
+  pub unset : formula_at kind m n ≡ None
+  pub room : ¬ (HasManyPredicates kind m n f)
+
+module _ (kind : SpecifiedKind) (line : List ℕ) (tokens : List Token) (first second : List ℕ) (read : Read) (m n : ℕ) (f : Tree)
+    (ready : IsReady kind m n f) (are : AreNumbers kind first second m n) (gives : Gives (MeansAt (scope_of kind line tokens m n)) read f) where
+  moved : (P : ℕ → ℕ → Type 0) (i j : ℕ) → AreNumbers kind first second i j → P i j → P m n
+  moved P i j others here =
+      let (firsts, seconds) = one_pair kind first second m n i j ready.names are others in
+      subst (λ (x : ℕ). P x n) firsts (subst (λ (y : ℕ). P i y) seconds here)
+
+  one : (g : Tree) → Gives (MeansAt (scope_of kind line tokens m n)) read g → g ≡ f
+  one g also = one_formula (scope_of kind line tokens m n) (ready.variables m) (ready.variables n) read g f also gives
+
+  not_large : (Large : ℕ → ℕ → Tree → Type 0) → ¬ (Large m n f) → (i j : ℕ) (g : Tree) → SaysPair kind line tokens first second read i j g → ¬ (Large i j g)
+  not_large Large small i j g says large =
+      let here = moved (λ x y. Gives (MeansAt (scope_of kind line tokens x y)) read g × Large x y g) i j says.numbers (says.gives, large) in
+      small (subst (λ (h : Tree). Large m n h) (one g here.0) here.1)
+
+  pair_limit : (limit : LimitName) (number place : ℕ) → ¬ (PairHas kind line tokens first second read (Limit limit number) place)
+  pair_limit Bytes number place has = has
+  pair_limit Line number place has = has
+  pair_limit Events number place has = has
+  pair_limit Threads number place has = has
+  pair_limit Locks number place has = has
+  pair_limit Objects number place has = has
+  pair_limit Depth number place has = has
+  pair_limit SpecText number place has = has
+  pair_limit Tokens number place has = has
+  pair_limit Kinds number place has = has
+  pair_limit MethodLimit number place has = has
+  pair_limit Arguments number place has = has
+  pair_limit Nodes number place ((i, j, g, says, large, at), is) = not_large (λ x y h. 64 < nodes h) (λ many. let few = ready.few in omega (arith, many, few)) i j g says large
+  pair_limit FormulaDepth number place ((i, j, g, says, large, at), is) =
+      not_large (λ x y h. 32 < levels h) (λ many. let few = ready.shallow in omega (arith, many, few)) i j g says large
+  pair_limit Predicates number place ((i, j, g, says, large, at), is) = not_large (HasManyPredicates kind) ready.room i j g says large
+
+  offends : (g : Tree) (node : ℕ) {reason : Reason} → g ≡ f → ¬ (first_offence 0 (post_order g) ≡ Some (record { node = node; reason = reason }))
+  offends g node same there =
+      let none : is_some (first_offence 0 (post_order f)) ≡ false = (fragment_is f).1 ready.inside in
+      let some : is_some (first_offence 0 (post_order f)) ≡ true = subst (λ (h : Tree). is_some (first_offence 0 (post_order h)) ≡ true) same (ap is_some there) in
+      absurd (cc)
+
+  pub pair_clean : HasNone (PairHas kind line tokens first second read)
+  pair_clean Header place has = has
+  pair_clean Syntax place has = has
+  pair_clean UnknownMethod place (inl (unknown, at)) = unknown (contained (names_of kind.methods) first m are.first_name)
+  pair_clean UnknownMethod place (inr (known, unknown, at)) = unknown (contained (names_of kind.methods) second n are.second_name)
+  pair_clean UnknownVariable place (i, j, others, troubled) =
+      let here = moved (λ x y. IsTroubled (scope_of kind line tokens x y) read (formula.UnknownVariable place)) i j others troubled in
+      no_first (IsUnknown (scope_of kind line tokens m n)) (terms_in read) here.0 (known_terms (scope_of kind line tokens m n) read f gives) here.1
+  pair_clean NoVariable place (i, j, others, troubled) =
+      let here = moved (λ x y. IsTroubled (scope_of kind line tokens x y) read (formula.NoVariable place)) i j others troubled in
+      no_first_sign (IsBare (scope_of kind line tokens m n)) (relations_in read) here.0 (known_relations (scope_of kind line tokens m n) read f gives) here.2
+  pair_clean (OutsideFragment reason) place (i, j, others, troubled) =
+      let here = moved (λ x y. IsTroubled (scope_of kind line tokens x y) read (formula.OutsideFragment place reason)) i j others troubled in
+      offends here.0 here.1 (one here.0 here.3) here.4
+  pair_clean Duplicate place (i, j, others, set, at) =
+      let there : is_some (formula_at kind m n) ≡ true = moved (λ x y. is_some (formula_at kind x y) ≡ true) i j others set in
+      let never : is_some (formula_at kind m n) ≡ false = ap is_some ready.unset in absurd (cc)
+  pair_clean (MissingPair one other) place has = has
+  pair_clean KindTaken place has = has
+  pair_clean (Limit limit number) place has = pair_limit limit number place has
+
+-- ---- the methods of a pair
+
+at_behind : (before : List (List ℕ)) (x : List ℕ) (behind : List (List ℕ)) (k i : ℕ) → i ≡ length before + k + 1
+    → slice_get (before ++ x ∷ behind) i ≡ slice_get behind k
+at_behind [] x behind k zero e = absurd (omega (arith, e))
+at_behind [] x behind k (suc i) e = let same : i ≡ k = omega (arith, e) in ap (slice_get behind) same
+at_behind (b ∷ before) x behind k zero e = absurd (omega (arith, e))
+at_behind (b ∷ before) x behind k (suc i) e = at_behind before x behind k i (omega (arith, e))
+
+at_middle : (before : List (List ℕ)) (x : List ℕ) (behind : List (List ℕ)) → slice_get (before ++ x ∷ behind) (length before) ≡ Some x
+at_middle [] x behind = refl
+at_middle (b ∷ before) x behind = at_middle before x behind
+
+-- a method that isn't declared behind another is in order with it
+in_their_order : (names : List (List ℕ)) (i j : ℕ) (first second : List ℕ) → AreDifferent names → slice_get names i ≡ Some first → slice_get names j ≡ Some second → i ≤ j
+    → ¬ (IsOutOfOrder names first second)
+in_their_order names i j first second different here there ordered (before, behind, same, (k, within, at), other) =
+    let seconds : slice_get names (length before) ≡ Some second = subst (λ (l : List (List ℕ)). slice_get l (length before) ≡ Some second) (sym same) (at_middle before second behind) in
+    let spot : slice_get behind k ≡ Some first = slice_get-get_or behind k first within ∙ ap Some at in
+    let firsts : slice_get names (length before + k + 1) ≡ Some first =
+        subst (λ (l : List (List ℕ)). slice_get l (length before + k + 1) ≡ Some first) (sym same) (at_behind before second behind k (length before + k + 1) refl ∙ spot) in
+    let one : j ≡ length before = one_place names second j (length before) different there seconds in
+    let two : i ≡ length before + k + 1 = one_place names first i (length before + k + 1) different here firsts in
+    omega (arith, ordered, one, two)
+
+name_there : (methods : List Method) (i : ℕ) → i < length methods → slice_get (names_of methods) i ≡ Some (name_at methods i)
+name_there [] i within = absurd (omega (arith, within))
+name_there (method ∷ methods) zero within = refl
+name_there (method ∷ methods) (suc i) within = name_there methods i (omega (arith, within))
+
+variables_there : (methods : List Method) (i : ℕ) → i < length methods → All (λ (method : Method). AreVariables method.variables) methods
+    → AreVariables (unwrap_or (option_map (λ (method : Method). method.variables) (slice_get methods i)) [])
+variables_there methods i within each = by methods i within (each_by_recursion (λ (method : Method). AreVariables method.variables) methods each) where
+  by : (methods : List Method) (i : ℕ) → i < length methods → AllByRecursion (λ (method : Method). AreVariables method.variables) methods
+      → AreVariables (unwrap_or (option_map (λ (method : Method). method.variables) (slice_get methods i)) [])
+  by [] i within each = absurd (omega (arith, within))
+  by (method ∷ methods) zero within (here, rest) = here
+  by (method ∷ methods) (suc i) within (here, rest) = by methods i (omega (arith, within)) rest
+
+-- ---- the line of a pair
+
+-- what the printed kind knows of the pair
+pub record IsPrinted (kind : SpecifiedKind) (i j : ℕ) (f : Tree) : Type 0 where
+  pub ordered : i ≤ j
+  pub known : j < length kind.methods
+  pub there : formula_at kind i j ≡ Some f
+  pub pair : IsPair f (slots_at kind.methods i) (slots_at kind.methods j)
+  pub values : AreValues f
+  pub methods : AreMethods kind.methods
+  pub first_name : IsName (name_at kind.methods i)
+  pub second_name : IsName (name_at kind.methods j)
+  pub sound : All IsSound (commute_words kind (i, j))
+
+commute_first : codes "commute" ≡ 99 ∷ codes "ommute"
+commute_first = refl
+
+stands_in : (closed : List SpecifiedKind) (part : SpecifiedKind) (paired : Bool) → stage_of (at closed part paired) ≢ Outside
+stands_in closed part true same = absurd (cc)
+stands_in closed part false same = absurd (cc)
+
+module _ (taken : List (List ℕ)) (closed : List SpecifiedKind) (kind part : SpecifiedKind) (paired : Bool) (i j : ℕ) (f : Tree) (printed_there : IsPrinted kind i j f)
+    (methods : part.methods ≡ kind.methods) (ready : IsReady part i j f) where
+  abbrev pub first : List ℕ
+  first = name_at kind.methods i
+
+  abbrev pub second : List ℕ
+  second = name_at kind.methods j
+
+  abbrev pub words : List PrintedWord
+  words = formula_of (variables_at kind i) (variables_at kind j) f
+
+  abbrev pub front : List PrintedWord
+  front = printed (codes "commute") ∷ printed first ∷ printed second ∷ printed (codes "when") ∷ []
+
+  all_words : commute_words kind (i, j) ≡ front ++ words
+  all_words = rw printed_there.there refl
+
+  sound_front : All IsSound front
+  sound_front =
+      let each = each_by_recursion IsSound (commute_words kind (i, j)) printed_there.sound in
+      each_from_recursion IsSound front (each.0, (each.1.0, (each.1.1.0, (each.1.1.1.0, tt))))
+
+  abbrev pub line : List ℕ
+  line = text_of (commute_words kind (i, j))
+
+  within_first : i < length kind.methods
+  within_first = let ordered = printed_there.ordered in let known = printed_there.known in omega (arith, ordered, known)
+
+  numbers : AreNumbers part first second i j
+  numbers = record {
+    first_name = subst (λ (ms : List Method). slice_get (names_of ms) i ≡ Some (name_at kind.methods i)) (sym methods) (name_there kind.methods i within_first);
+    second_name = subst (λ (ms : List Method). slice_get (names_of ms) j ≡ Some (name_at kind.methods j)) (sym methods) (name_there kind.methods j printed_there.known);
+  }
+
+  variables_first : AreVariables (variables_at kind i)
+  variables_first = variables_there kind.methods i within_first printed_there.methods.each
+
+  variables_second : AreVariables (variables_at kind j)
+  variables_second = variables_there kind.methods j printed_there.known printed_there.methods.each
+
+  -- the tokens behind `when` say the formula
+  says : (tokens : List Token) → AreTokens line tokens → SaysFormula (scope_of kind line tokens i j) f
+  says tokens are =
+      let pair = printed_there.pair in
+      let scope = scope_of kind line tokens i j in
+      says_formula front tokens scope f sound_front variables_first.each variables_second.each
+      (subst (λ (x : ℕ). Fits f x (length (variables_at kind j))) (sym (slots_are kind i)) (subst (λ (y : ℕ). Fits f (slots_at kind.methods i) y) (sym (slots_are kind j)) pair.fits))
+      pair.slots printed_there.values (ap text_of all_words) are refl
+
+  -- the words behind `when`
+  behind : (tokens : List Token) → words_of line tokens ≡ map lift (commute_words kind (i, j)) → words_of line (drop 4 tokens) ≡ map lift words
+  behind tokens read =
+      sym (drop-map (word_at line) 4 tokens) ∙ ap (λ (l : List Word). drop 4 l) (read ∙ ap (map lift) all_words)
+
+  few_behind : length words ≤ 192
+  few_behind = let few = ready.few in let count = few_words (variables_at kind i) (variables_at kind j) f in omega (arith, few, count)
+
+  short_line : (tokens : List Token) → words_of line tokens ≡ map lift (commute_words kind (i, j)) → ¬ (HasManyTokens (words_of line tokens))
+  short_line tokens read many =
+      let same : plain (codes "commute") ∷ many.first ∷ many.second ∷ plain (codes "when") ∷ many.behind ≡ map lift (front ++ words) =
+          sym many.written ∙ read ∙ ap (map lift) all_words in
+      let rest : many.behind ≡ map lift words = ap (λ (l : List Word). drop 4 l) same in
+      let count : length many.behind ≡ length words = ap length rest ∙ length-map words lift in
+      let long = many.many in
+      let few = few_behind in
+      omega (arith, count, long, few)
+
+  same_variables : (n : ℕ) → variables_at part n ≡ variables_at kind n
+  same_variables n = ap (λ (ms : List Method). unwrap_or (option_map (λ (m : Method). m.variables) (slice_get ms n)) []) methods
+
+  same_scope : (tokens : List Token) (read : Read) → Gives (MeansAt (scope_of kind line tokens i j)) read f → Gives (MeansAt (scope_of part line tokens i j)) read f
+  same_scope tokens read gives =
+      subst (λ (ms : List Method). Gives (MeansAt (scope_of (record part { methods = ms }) line tokens i j)) read f) (sym methods) gives
+
+  pub pair_read : Reads taken (at closed part paired) (line ∷ []) (at closed (with_pair part i j f) true)
+  pair_read =
+      line_read taken (at closed part paired) (at closed (with_pair part i j f) true) (commute_words kind (i, j)) printed_there.sound
+      (kept_line 99 (codes "ommute") (printed first ∷ printed second ∷ printed (codes "when") ∷ formula_words kind i j) (λ e. omega (arith, e)) (λ e. omega (arith, e)))
+      (λ tokens are read. accept tokens are read (says tokens are)) where
+    accept : (tokens : List Token) → AreTokens (text_of (commute_words kind (i, j))) tokens → words_of (text_of (commute_words kind (i, j))) tokens ≡ map lift (commute_words kind (i, j))
+        → SaysFormula (scope_of kind (text_of (commute_words kind (i, j))) tokens i j) f
+        → Accepts taken (at closed part paired) (text_of (commute_words kind (i, j))) (at closed (with_pair part i j f) true)
+    accept tokens are read (tree, (marks, marked, said), gives) =
+        let fits = same_scope tokens tree gives in
+        accepted taken (at closed part paired) line tokens (commute_said first second tree) refl (short_line tokens read)
+        (record {
+          stands = stands_in closed part paired;
+          named_first = printed_there.first_name;
+          named_second = printed_there.second_name;
+          order = subst (λ (ms : List Method). ¬ (IsOutOfOrder (names_of ms) first second)) (sym methods)
+              (in_their_order (names_of kind.methods) i j first second (subst (λ (ms : List Method). AreDifferent (names_of ms)) methods ready.names)
+              (name_there kind.methods i within_first) (name_there kind.methods j printed_there.known) printed_there.ordered);
+          behind = map lift words;
+          marks = marks;
+          written = read ∙ ap (map lift) all_words;
+          marked = subst (λ (ws : List Word). AreMarksFrom 0 ws marks) (behind tokens read) (words_marked line (drop 4 tokens) marks marked);
+          says = said;
+        }) (at closed (with_pair part i j f) true) are
+        (pair_clean part line tokens first second tree i j f ready numbers fits)
+        (i, j, f, record { numbers = numbers; gives = fits }, refl)
+

@@ -1,0 +1,56 @@
+-- The lines of a canonical text, and their tokens.
+use Rattle.std.proofs.Common.{◌≡◌, ◌≢◌, ℕ, zero, suc, ◌+◌, ◌<◌, ◌≤◌, Bool, true, false, List, [], ◌∷◌, ◌++◌, length, map, codes, refl, sym, ap, subst, arith, inl, inr, ◌∙◌}
+use Rattle.std.specs.Prelude.{All, flat_map, slice_index, ◌==◌}
+use Rattle.std.proofs.lemmas.Bool.Decides.{Decides-eqb}
+use Rattle.std.specs.List.{AllPass, AllByRecursion}
+use Rattle.std.proofs.lemmas.List.{append_assoc, append-nil}
+use Rattle.std.proofs.lemmas.Simd.{map-map}
+use Rattle.rd_base.specs.Spelling.{is_plain}
+use Rattle.rd_canonical.specs.declared.items.Word.{Word as PrintedWord}
+use Rattle.rd_canonical.specs.Canonical.{AreWords, plain as printed}
+use Rattle.rd_lines.specs.Lines.{Word, word_at, words_of}
+use Rattle.rd_print.specs.Printed.{line_text}
+use Rattle.rd_text.proofs.AgainLemmas.{words_again}
+use Rattle.rd_text.proofs.PlainLemmas.{words_plain}
+use Rattle.rd_text.specs.Text.{IsSound, gap, text_of}
+use Rattle.rd_tokens.specs.declared.items.Token.{Token}
+use Rattle.rd_tokens.specs.Tokens.{AreTokens, bytes_of}
+use Rattle.rd_spec.specs.Texts.{AreLines, IsLine, IsSkipped, is_space, line_first, no_line}
+
+-- a word that is written, as one that is read
+abbrev pub lift : PrintedWord → Word
+lift word = record { sort = word.sort; bytes = word.bytes }
+
+no_feed_plain : (bytes : List ℕ) → AllPass is_plain bytes → IsLine bytes
+no_feed_plain bytes plain k within feed =
+    let here : is_plain (slice_index bytes k) ≡ true = plain k 0 within in
+    let wrong : is_plain 10 ≡ true = subst (λ (b : ℕ). is_plain b ≡ true) feed here in absurd (cc)
+
+-- the lines of the text
+pub lines_cut : (lines : List (List PrintedWord)) → AllByRecursion (All IsSound) lines → AreLines (flat_map line_text lines) (map text_of lines)
+lines_cut [] sound = no_line
+lines_cut (line ∷ lines) (here, rest) =
+    subst (λ (t : List ℕ). AreLines t (map text_of (line ∷ lines))) (sym (append_assoc (text_of line) (codes "\n") (flat_map line_text lines)))
+    (line_first (no_feed_plain (text_of line) (words_plain line here)) (lines_cut lines rest))
+
+-- the words of its tokens
+pub words_read : (words : List PrintedWord) (tokens : List Token) → All IsSound words → AreTokens (text_of words) tokens
+    → words_of (text_of words) tokens ≡ map lift words
+words_read words tokens sound are =
+    sym (map-map lift (λ (t : Token). record { sort = t.sort; bytes = bytes_of (text_of words) t }) tokens)
+    ∙ ap (map lift) (words_again words tokens sound are)
+
+-- the line begins with its first word
+begins : (word : PrintedWord) (words : List PrintedWord) → (rest : List ℕ) × (text_of (word ∷ words) ≡ word.bytes ++ rest)
+begins word [] = ([], sym (append-nil word.bytes))
+begins word (next ∷ words) = (gap word.sort next.sort ++ text_of (next ∷ words), append_assoc word.bytes (gap word.sort next.sort) (text_of (next ∷ words)))
+
+-- a line whose first byte is no # and no space says something
+pub kept_line : (b : ℕ) (bytes : List ℕ) (words : List PrintedWord) → b ≢ 35 → b ≢ 32 → ¬ (IsSkipped (text_of (printed (b ∷ bytes) ∷ words)))
+kept_line b bytes words comment space = λ skipped. by (begins (printed (b ∷ bytes)) words) skipped where
+  by : (rest : List ℕ) × (text_of (printed (b ∷ bytes) ∷ words) ≡ (b ∷ bytes) ++ rest) → IsSkipped (text_of (printed (b ∷ bytes) ∷ words)) → ⊥
+  by (rest, same) (inl (more, e)) = let here : b ∷ (bytes ++ rest) ≡ 35 ∷ more = sym same ∙ e in let heads : b ≡ 35 = cc in comment heads
+  by (rest, same) (inr passes) =
+      let spaces : AllPass is_space (b ∷ (bytes ++ rest)) = subst (λ (t : List ℕ). AllPass is_space t) same passes in
+      let first : (b == 32) ≡ true = spaces 0 0 (omega arith) in
+      space ((Decides-eqb b 32).0 first)

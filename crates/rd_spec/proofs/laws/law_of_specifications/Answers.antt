@@ -1,0 +1,12 @@
+use Rattle.rd_spec.proofs.AgainLemmas.{read_again}
+use Rattle.rd_spec.proofs.OneLemmas.{one_said, never_refused}
+use Rattle.rd_spec.proofs.laws.law_of_specifications.Goals as goal
+
+pub returns-clause-one : goal.returns-clause-one
+returns-clause-one c = one_said
+
+pub returns-clause-right : goal.returns-clause-right
+returns-clause-right c = never_refused
+
+pub returns-clause-again : goal.returns-clause-again
+returns-clause-again c = read_again
