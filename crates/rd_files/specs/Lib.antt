@@ -1,0 +1,2 @@
+pub mod Fronts
+pub use Rattle.rd_io.specs.Inputs
