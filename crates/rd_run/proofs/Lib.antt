@@ -7,4 +7,5 @@ pub mod OutputLemmas
 pub mod ProgressLemmas
 pub mod ReportLemmas
 pub mod RunLemmas
+pub mod SpecLemmas
 pub mod WalkLemmas

@@ -1,9 +1,9 @@
 -- What is written, and the status.
-use Rattle.std.proofs.Common.{◌≡◌, ◌≢◌, ℕ, Bool, true, false, cond, List, [], ◌++◌, Option, Result, Err, refl, sym, ap, subst, ◌∙◌, eqb}
+use Rattle.std.proofs.Common.{◌≡◌, ◌≢◌, ℕ, Bool, true, false, cond, List, [], ◌++◌, Option, Result, Err, refl, sym, ap, subst, ◌∙◌, eqb, inr}
 use Rattle.std.proofs.lemmas.List.{append_assoc, append-nil}
 use Rattle.rd_run.specs.Commands.{halted_with}
 use Rattle.rd_run.specs.Analysis.{TellsFault}
-use Rattle.rd_run.specs.Output.{Outcome, IsOutput, StatusTellsFault, check_status, is_limit}
+use Rattle.rd_run.specs.Output.{HasOutcome, Outcome, IsOutput, StatusTellsFault, check_status, is_limit}
 use Rattle.rd_run.specs.declared.analysis.Halt.{Halt}
 use Rattle.rd_run.specs.declared.analysis.Halt.TheVariants as halt
 use Rattle.rd_run.specs.declared.endings.Ending.{Ending}
@@ -29,6 +29,20 @@ pub front_only : (halt : Halt) (part rest : List ℕ) (outcome : Outcome) → ou
 front_only halt.OutputFault part rest outcome is = (rest, is)
 front_only halt.NoMemory part rest outcome is = (rest, is)
 
+-- what is written of an outcome is written of one of these
+pub has_outcome : (Is : Outcome → Type 0) (status : Status) (part : List ℕ) (outcome : Outcome) → Is outcome → IsOutput status part outcome
+    → HasOutcome Is status part
+has_outcome Is Clean part outcome is output = (outcome, is, output)
+has_outcome Is Raced part outcome is output = (outcome, is, output)
+has_outcome Is Usage part outcome is output = (outcome, is, output)
+has_outcome Is SpecRefused part outcome is output = (outcome, is, output)
+has_outcome Is TraceRefused part outcome is output = (outcome, is, output)
+has_outcome Is ReplayDiffers part outcome is output = (outcome, is, output)
+has_outcome Is InputFault part outcome is output = (outcome, is, output)
+has_outcome Is OutputFault part outcome is output = (outcome, is, output)
+has_outcome Is NoMemory part outcome is output = inr (outcome, is, output)
+has_outcome Is LimitReached part outcome is output = (outcome, is, output)
+
 -- a text was written before
 pub behind : (status : Status) (front part text : List ℕ) (given : Status) → IsOutput status part (record { text = text; status = given })
     → IsOutput status (front ++ part) (record { text = front ++ text; status = given })
@@ -47,14 +61,15 @@ record IsPlain (status : Status) : Type 0 where
   output : status ≢ OutputFault
   input : status ≢ InputFault
   usage : status ≢ Usage
+  spec : status ≢ SpecRefused
 
 end_status : (b : Bool) → IsPlain (cond b Clean Raced)
-end_status true = record { output = λ e. cc; input = λ e. cc; usage = λ e. cc }
-end_status false = record { output = λ e. cc; input = λ e. cc; usage = λ e. cc }
+end_status true = record { output = λ e. cc; input = λ e. cc; usage = λ e. cc; spec = λ e. cc }
+end_status false = record { output = λ e. cc; input = λ e. cc; usage = λ e. cc; spec = λ e. cc }
 
 refused_status : (b : Bool) → IsPlain (cond b LimitReached TraceRefused)
-refused_status true = record { output = λ e. cc; input = λ e. cc; usage = λ e. cc }
-refused_status false = record { output = λ e. cc; input = λ e. cc; usage = λ e. cc }
+refused_status true = record { output = λ e. cc; input = λ e. cc; usage = λ e. cc; spec = λ e. cc }
+refused_status false = record { output = λ e. cc; input = λ e. cc; usage = λ e. cc; spec = λ e. cc }
 
 pub no_output_fault : (races : ℕ) (ending : Ending) → check_status races ending ≢ OutputFault
 unfolding check_status
@@ -77,6 +92,12 @@ unfolding check_status
 no_usage races End = (end_status (eqb races 0)).usage
 no_usage races (Refused number cause) = (refused_status (is_limit cause)).usage
 no_usage races Fault = λ e. cc
+
+pub no_spec : (races : ℕ) (ending : Ending) → check_status races ending ≢ SpecRefused
+unfolding check_status
+no_spec races End = (end_status (eqb races 0)).spec
+no_spec races (Refused number cause) = (refused_status (is_limit cause)).spec
+no_spec races Fault = λ e. cc
 
 pub halted_no_usage : (halt : Halt) → halted_with halt ≢ Usage
 halted_no_usage halt.OutputFault = λ e. cc

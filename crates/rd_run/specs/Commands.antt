@@ -3,8 +3,9 @@ use Rattle.std.specs.Prelude.{◌≡◌, ◌⊎◌, ℕ, List, ◌++◌, Option,
 use Rattle.rd_base.specs.declared.limits.Limits.{Limits}
 use Rattle.rd_detect.specs.RegisterTests.{commutes}
 use Rattle.rd_ecl.specs.Kinds.{Kind}
-use Rattle.rd_run.specs.Output.{Command, IsOutput, check_outcome, race_texts}
-use Rattle.rd_run.specs.Output.Command.{check}
+use Rattle.rd_run.specs.Output.{IsOutput, check_outcome, race_texts}
+use Rattle.rd_run.specs.Runs.{Command}
+use Rattle.rd_run.specs.Runs.Command.{check, spec}
 use Rattle.rd_run.specs.Walk.{Entry, after, ends}
 use Rattle.rd_run.specs.Progress.{WalksTo, WalksOn}
 use Rattle.rd_run.specs.declared.endings.Ending.{Ending}
@@ -14,11 +15,12 @@ use Rattle.rd_run.specs.declared.analysis.Halt.TheVariants as halt
 use Rattle.rd_run.specs.declared.status.Status.{Status}
 use Rattle.rd_run.specs.declared.status.Status.TheVariants.{InputFault, OutputFault, NoMemory}
 use Rattle.rd_run.specs.declared.top.Command.{Command as Asked}
-use Rattle.rd_run.specs.declared.top.Command.TheVariants.{Check}
+use Rattle.rd_run.specs.declared.top.Command.TheVariants.{Check, Spec}
 
 abbrev pub asked : Option Asked → Option Command
 asked None = None
 asked (Some (Check trace)) = Some (check trace.now)
+asked (Some (Spec file)) = Some (spec file.now)
 
 -- the status of a run that was cut short
 abbrev pub halted_with : Halt → Status

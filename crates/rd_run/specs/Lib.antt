@@ -6,4 +6,6 @@ pub mod Output
 pub mod Progress
 pub mod Register
 pub mod Reports
+pub mod Runs
+pub mod Specifications
 pub mod Walk

@@ -1,21 +1,15 @@
 -- What a command writes, and its status. This project's profile.
-use Rattle.std.specs.Prelude.{◌≡◌, ℕ, zero, suc, ◌+◌, ◌==◌, ◌≤◌, Bool, true, false, List, [], ◌∷◌, ◌++◌, length, count_by, filter_map, slice_get, codes, decimal, Option, Some, None, option_map, is_none, is_some, unwrap_or, if◌then◌else◌}
-use Rattle.rd_io.specs.Inputs.{Source, file_of, next_count}
-use Rattle.rd_io.specs.Lines.{Stop}
-use Rattle.rd_io.specs.Lines.Stop.{end, fault}
-use Rattle.rd_base.specs.declared.limits.Limits.{Limits}
+use Rattle.std.specs.Prelude.{◌≡◌, ◌⊎◌, ℕ, zero, suc, ◌+◌, ◌==◌, Bool, true, false, List, [], ◌++◌, length, filter_map, slice_get, codes, decimal, Option, Some, None, is_some, unwrap_or, if◌then◌else◌}
+use Rattle.rd_io.specs.Inputs.{next_count}
 use Rattle.rd_base.specs.declared.limits.LimitName.{LimitName}
 use Rattle.rd_event.specs.declared.events.Call.{Call}
 use Rattle.rd_event.specs.declared.events.Event.{Event}
 use Rattle.rd_base.specs.declared.limits.LimitName.TheVariants.{Bytes, Line, Events, Threads, Locks, Objects, Depth, SpecText, Tokens, Kinds, Methods, Arguments, Nodes, FormulaDepth, Predicates}
 use Rattle.rd_wf.specs.Events.{events_of}
-use Rattle.rd_wf.specs.MayFollow.{is_event, same_name, threads_of}
+use Rattle.rd_wf.specs.MayFollow.{is_event, threads_of}
 use Rattle.rd_detect.specs.RaceTests.{latest_of}
-use Rattle.rd_detect.specs.RegisterTests.{commutes}
-use Rattle.rd_run.specs.Progress.{IsRead}
 use Rattle.rd_ecl.specs.Kinds.{Kind}
-use Rattle.rd_run.specs.Register.{register_alone}
-use Rattle.rd_run.specs.Walk.{Walked, ends, Entry, entries_of, ending_of, items, trace_of, step_bound}
+use Rattle.rd_run.specs.Walk.{Walked, Entry, entries_of, ending_of, items}
 use Rattle.rd_wf.specs.declared.causes.WfCause.{WfCause}
 use Rattle.rd_wf.specs.declared.causes.WfCause.TheVariants as wf
 use Rattle.rd_run.specs.declared.endings.TraceCause.{TraceCause}
@@ -187,45 +181,7 @@ check_outcome commuting kinds walked =
       status = check_status races (ending_of walked);
     }
 
--- ---- commands
-
--- what the words ask for
-pub data Command : Type 0 where
-  check : List ℕ → Command
-
--- the words are exactly those of a command
-abbrev pub command_of : List (List ℕ) → Option Command
-command_of (word ∷ name ∷ []) = if same_name word (codes "check") then Some (check name) else None
-command_of _ = None
-
--- where the words match no command
-abbrev pub usage_outcome : Outcome
-usage_outcome = record { text = codes "refused usage\n"; status = Usage }
-
--- the files that a command names
-abbrev pub files_of : Option Command → List (List ℕ)
-files_of None = []
-files_of (Some (check name)) = name ∷ []
-
--- What a command works on, over inputs that told `old` before it and `new` after it: nothing, where not all files that it names were
--- opened. Else where the count of the inputs' faults rose (`rose`) it is what was taken before a read failed, and else the whole file.
-abbrev pub input_of : Command → Bool → Source → Source → Option (Stop × List ℕ)
-input_of (check name) rose old new =
-    if new.opens == old.opens + 1 then (if rose then Some (fault, new.taken) else option_map (λ bytes. (end, bytes)) (file_of old.files name)) else None
-
--- the walk over what a command works on. Over nothing it ends at once, by the fault of the open that failed
-abbrev pub walk_on : List Kind → Limits → Option (Stop × List ℕ) → Walked
-walk_on kinds limits None = ends Fault
-walk_on kinds limits (Some input) = trace_of kinds limits input.0 input.1
-
-abbrev pub walk_of : Option Command → Limits → Bool → Source → Source → Walked
-walk_of None limits rose old new = ends Fault
-walk_of (Some command) limits rose old new = walk_on register_alone limits (input_of command rose old new)
-
--- the outcome of a command over such inputs
-abbrev pub outcome_of : Option Command → Limits → Bool → Source → Source → Outcome
-outcome_of None limits rose old new = usage_outcome
-outcome_of (Some command) limits rose old new = check_outcome commutes register_alone (walk_of (Some command) limits rose old new)
+-- ---- how far an outcome is written
 
 -- the bytes are a front of the whole
 abbrev pub IsFront : List ℕ → List ℕ → Type 0
@@ -237,37 +193,11 @@ IsOutput OutputFault bytes outcome = IsFront bytes outcome.text
 IsOutput NoMemory bytes outcome = IsFront bytes outcome.text
 IsOutput status bytes outcome = (bytes ≡ outcome.text) × (status ≡ outcome.status)
 
--- of the files, only those that the command names were opened, each at most once, and only a missing one of them was missed
-pub record OpensOnly (command : Option Command) (old new : Source) : Type 0 where
-  pub files : new.files ≡ old.files
-  pub opens : new.opens ≤ old.opens + length (files_of command)
-  pub misses : new.misses ≤ old.misses + count_by (λ name. is_none (file_of old.files name)) (files_of command)
-
--- the status tells how a trace was judged
-abbrev pub tells_trace : Status → Bool
-tells_trace Clean = true
-tells_trace Raced = true
-tells_trace TraceRefused = true
-tells_trace LimitReached = true
-tells_trace _ = false
-
--- What was taken of the file of a command that opened it, of which so many lines are accepted: what was taken and what is left are the
--- file's bytes, and no more was taken than may be.
-abbrev pub TakesOnly : Option Command → Limits → ℕ → Source → Source → Type 0
-TakesOnly None limits accepted old new = new ≡ old
-TakesOnly (Some (check name)) limits accepted old new =
-    new.opens ≡ old.opens + 1 → (file_of old.files name ≡ Some (new.taken ++ new.held)) × IsRead limits new.taken accepted
-
--- what a run leaves of inputs that told `old` before it and of the output, to which `part` was added
-pub record Runs (command : Option Command) (limits : Limits) (rose : Bool) (old new : Source) (part : List ℕ) (status : Status) (before after : ℕ) : Type 0 where
-  -- what was written, and the status
-  pub output : IsOutput status part (outcome_of command limits rose old new)
-  -- the files that were opened, and what was taken of them
-  pub opened : OpensOnly command old new
-  pub all_opened : tells_trace status ≡ true → new.opens ≡ old.opens + length (files_of command)
-  pub taken : TakesOnly command limits (length (entries_of (walk_of command limits rose old new))) old new
-  -- the steps that were taken
-  pub cost : after ≤ before + step_bound (entries_of (walk_of command limits rose old new))
+-- A run that ends with this status and wrote these bytes has such an outcome, or was cut short in it by a write fault or want of memory.
+-- Memory may run out before it is known which outcome it has; nothing is written then.
+abbrev pub HasOutcome : (Outcome → Type 0) → Status → List ℕ → Type 0
+HasOutcome Is NoMemory bytes = (bytes ≡ []) ⊎ ((outcome : Outcome) × Is outcome × IsOutput NoMemory bytes outcome)
+HasOutcome Is status bytes = (outcome : Outcome) × Is outcome × IsOutput status bytes outcome
 
 -- A failed write is told as one: the sink's count of faults rose by one exactly where the status says so, and nothing was written behind the
 -- point where the write failed.

@@ -1,4 +1,4 @@
-//! A run of the program over a trace.
+//! A run of the program: `check` over a trace, `spec` over a specification.
 #![tactic(auto)]
 
 mod analysis;
@@ -7,6 +7,9 @@ mod endings;
 mod judging;
 mod laws;
 mod register;
+mod reserved;
+mod spec_texts;
+mod specifications;
 mod status;
 mod texts;
 mod top;

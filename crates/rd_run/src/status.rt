@@ -3,13 +3,13 @@
 /// How a run ended. The numbers are those that the program ends with.
 #[derive(Clone, Copy, Debug, PartialEq, Eq)]
 pub enum Status {
-    /// 0: the trace was read to its end, and no call is reported
+    /// 0: the trace was read to its end, and no call is reported; or the specification was accepted
     Clean,
     /// 1: the trace was read to its end, and some call is reported
     Raced,
     /// 2: the words match no command
     Usage,
-    /// 3: the specification was refused
+    /// 3: the specification was refused, for a cause other than a limit
     SpecRefused,
     /// 4: the trace was refused at a line, for a cause other than a limit
     TraceRefused,

@@ -32,13 +32,15 @@ fn limit_text(name: LimitName) -> &'static [u8]
     }
 }
 
-fn append_number(text: &mut Bytes, number: u64) -> Result<(), NoMemory>
+/// Puts a number behind the text.
+pub fn append_number(text: &mut Bytes, number: u64) -> Result<(), NoMemory>
     ensures { OnOk result (text.new ≡ text.old ++ decimal number) }
 {
     text.append(Buffer::new().format(number).as_bytes())
 }
 
-fn append_limit(text: &mut Bytes, name: LimitName, number: u64) -> Result<(), NoMemory>
+/// Puts a limit that was passed behind the text.
+pub fn append_limit(text: &mut Bytes, name: LimitName, number: u64) -> Result<(), NoMemory>
     ensures { OnOk result (text.new ≡ text.old ++ limit_cause_text name number) }
 {
     text.append(b"limit ")?;

@@ -6,10 +6,11 @@ ghost use Rattle.rd_io.specs.LineReader.{fresh};
 ghost use Rattle.rd_io.specs.Sinks.{Appends};
 ghost use Rattle.rd_run.specs.Analysis.{TellsFault, WritesFront};
 ghost use Rattle.rd_run.specs.Checking.{IsNew};
-ghost use Rattle.rd_run.specs.Commands.{asked, halted_with, Checked};
-ghost use Rattle.rd_run.specs.Output.{Runs, IsOutput, StatusTellsFault, usage_outcome, command_of, races_line, refused_line, ending_text, check_status, is_limit};
-ghost use Rattle.rd_run.specs.Output.Command.{check};
+ghost use Rattle.rd_run.specs.Commands.{asked, Checked};
+ghost use Rattle.rd_run.specs.Output.{IsOutput, StatusTellsFault, races_line, refused_line, ending_text, check_status, is_limit};
 ghost use Rattle.rd_run.specs.Progress.{IsRead};
+ghost use Rattle.rd_run.specs.Runs.{Runs, command_of, usage_outcome};
+ghost use Rattle.rd_run.specs.Runs.Command.{check, spec};
 ghost use Rattle.rd_run.specs.Walk.{Entry, step_bound};
 ghost use Rattle.rd_run.specs.Register.{register_alone};
 ghost use Rattle.rd_wf.specs.Roster.{StandsFor, kinds_in, names_in};
@@ -18,10 +19,11 @@ use crate::analysis::Halt;
 use crate::checking::Check;
 use crate::endings::{Ending, TraceCause};
 use crate::register::register;
+use crate::specifications::spec;
 use crate::status::Status;
 use crate::texts::{races_line, refused_line};
 use crate::walk::{Walker, walk_lines};
-use crate::writing::write_line;
+use crate::writing::{status_of, write_line};
 use rd_base::{Limits, Steps, Word};
 use rd_event::Line;
 use rd_io::{Inputs, LineReader, Sink};
@@ -33,27 +35,22 @@ use std::sync::ledger::Ledger;
 pub enum Command<'a> {
     /// `check TRACE`
     Check(&'a Word),
+    /// `spec SPEC`
+    Spec(&'a Word),
 }
 
 fn command_of(words: &[Word]) -> Option<Command<'_>>
     ensures { asked result ≡ command_of words.now }
 {
-    let [word, trace] = words else {
+    let [word, file] = words else {
         return None;
     };
     if word.items() == b"check".as_slice() {
-        Some(Command::Check(trace))
+        Some(Command::Check(file))
+    } else if word.items() == b"spec".as_slice() {
+        Some(Command::Spec(file))
     } else {
         None
-    }
-}
-
-fn status_of(halt: Halt) -> Status
-    ensures { result ≡ halted_with halt }
-{
-    match halt {
-        Halt::OutputFault => Status::OutputFault,
-        Halt::NoMemory => Status::NoMemory,
     }
 }
 
@@ -150,6 +147,7 @@ fn report<S: Sink>(alloc: Global, names: &Roster, races: u64, ending: Ending, ou
     ensures input { result ≡ Status.InputFault ↔ (ending ≡ Ending.Fault) }
     ensures fault { StatusTellsFault (S.faults out.old) (S.faults out.new) (S.at_fault out.new) (S.written out.new) result }
     ensures no_usage { result ≢ Status.Usage }
+    ensures no_spec { result ≢ Status.SpecRefused }
 {
     match write_ending(alloc, names, races, ending, out) {
         Ok(()) => check_status(races, ending),
@@ -179,6 +177,7 @@ fn check_opened<I: Inputs, S: Sink, L: Ledger>(
     ensures calm { result ≢ Status.InputFault → I.faults inputs.new ≡ I.faults inputs.old }
     ensures fault { StatusTellsFault (S.faults out.old) (S.faults out.new) (S.at_fault out.new) (S.written out.new) result }
     ensures no_usage { result ≢ Status.Usage }
+    ensures no_spec { result ≢ Status.SpecRefused }
 {
     match walk_lines(&mut walker, &mut reader, inputs, out, steps) {
         Ok(ending) => report(
@@ -209,6 +208,7 @@ fn check<I: Inputs, S: Sink, L: Ledger>(
     ensures calm { result ≢ Status.InputFault → I.faults inputs.new ≡ I.faults inputs.old }
     ensures fault { StatusTellsFault (S.faults out.old) (S.faults out.new) (S.at_fault out.new) (S.written out.new) result }
     ensures no_usage { result ≢ Status.Usage }
+    ensures no_spec { result ≢ Status.SpecRefused }
 {
     let Ok(spec) = register(alloc) else {
         return Status::NoMemory;
@@ -247,14 +247,17 @@ fn refuse_usage<S: Sink>(out: &mut S) -> Status
     }
 }
 
-/// Runs the command that the words of the command line ask for, without the program's own name. The only command so far is
-/// `check TRACE`; any other words write `refused usage`. Each line is handed to the output by itself, with its line feed.
+/// Runs the command that the words of the command line ask for, without the program's own name: `check TRACE`, which reports the races
+/// of a trace, or `spec SPEC`, which writes the canonical text of a specification, or where and why it is refused. Any other words
+/// write `refused usage`. Each line is handed to the output by itself, with its line feed.
 ///
 /// Whatever the inputs and the output tell: `Usage` comes exactly where the words match no command, unless writing failed;
 /// `InputFault` exactly where the inputs' count of faults rose in this call, unless writing failed or memory ran out; `OutputFault`
-/// exactly where the output's count rose, and then nothing was written behind the point where the write failed. Where the inputs tell
-/// their bytes, what is written and the status are those of the file, or of the bytes that were taken before a read failed;
-/// `OutputFault` and `NoMemory` leave a front of it. No more is taken of the file than the limits and the reader's buffer allow.
+/// exactly where the output's count rose, and then nothing was written behind the point where the write failed; `SpecRefused` only by
+/// `spec`. Where the inputs tell their bytes, what is written and the status are those of the file, or where a read failed those of the
+/// bytes that were taken (`check`) or of a fault (`spec`); `OutputFault` and `NoMemory` leave a front of it. No more is taken of a trace
+/// than the limits and the reader's buffer allow, and no more of a specification than one byte past what its text may have; `spec`
+/// counts no step.
 pub fn run<I: Inputs, S: Sink, L: Ledger>(
     alloc: Global,
     words: &[Word],
@@ -265,8 +268,8 @@ pub fn run<I: Inputs, S: Sink, L: Ledger>(
 ) -> Status
     requires { AreUsable limits.now }
 
-    // what is written and the status are the defined ones, only the files of the words are opened, no more of them is taken than may
-    // be, and the steps are bounded
+    // what is written and the status are the defined ones, only the file of the words is opened, no more of it is taken than may be, and
+    // the steps are bounded
     ensures runs { (old : Source) → I.told inputs.old ≡ Some old → I.faults inputs.old < 2 ^ 63 → old.opens < 2 ^ 63 →
         (new : Source) × (part : List ℕ) × (I.told inputs.new ≡ Some new) × Appends (S.written out.old) (S.written out.new) part
         × Runs (command_of words.now) limits.now (nat_lt (I.faults inputs.old) (I.faults inputs.new)) old new part result steps.old steps.new }
@@ -275,6 +278,7 @@ pub fn run<I: Inputs, S: Sink, L: Ledger>(
     ensures usage { result ≡ Status.Usage → command_of words.now ≡ None }
     ensures no_command { command_of words.now ≡ None → (result ≡ Status.Usage) ⊎ (result ≡ Status.OutputFault) }
     ensures untouched { command_of words.now ≡ None → (inputs.new ≡ inputs.old) × (steps.new ≡ steps.old) }
+    ensures spec_refused { result ≡ Status.SpecRefused → (name : List ℕ) × (command_of words.now ≡ Some (spec name)) }
     ensures input_fault { result ≡ Status.InputFault → Rose (I.faults inputs.old) (I.faults inputs.new) }
     ensures calm { result ≢ Status.InputFault → result ≢ Status.OutputFault → result ≢ Status.NoMemory →
         I.faults inputs.new ≡ I.faults inputs.old }
@@ -285,5 +289,6 @@ pub fn run<I: Inputs, S: Sink, L: Ledger>(
     match command_of(words) {
         None => refuse_usage(out),
         Some(Command::Check(trace)) => check(alloc, trace, inputs, out, limits, steps),
+        Some(Command::Spec(file)) => spec(alloc, file, inputs, out),
     }
 }

@@ -7,3 +7,7 @@ mod random;
 mod refusals;
 #[cfg(test)]
 mod runs;
+#[cfg(test)]
+mod specifications;
+#[cfg(test)]
+mod specs;

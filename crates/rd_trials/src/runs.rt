@@ -42,10 +42,11 @@ fn run_counted<L: Ledger>(
     run(alloc, words, inputs, out, limits, &mut steps)
 }
 
-/// What a run over one file, `t.trace`, answers and writes.
+/// What a run over one file answers and writes.
 #[derive(Clone, Copy)]
 pub struct Row<'a> {
     pub words: &'a [u8],
+    pub name: &'a [u8],
     pub trace: &'a [u8],
     pub piece: u32,
     pub failing_reads: &'a [u32],
@@ -60,6 +61,7 @@ impl<'a> Row<'a> {
     {
         Row {
             words: b"check t.trace",
+            name: b"t.trace",
             trace,
             piece: 4096,
             failing_reads: &[],
@@ -68,12 +70,23 @@ impl<'a> Row<'a> {
         }
     }
 
+    pub fn spec(text: &'a [u8]) -> Row<'a>
+        ensures limits { AreUsable result.limits }
+        ensures piece { 1 ≤ result.piece }
+    {
+        Row {
+            words: b"spec s",
+            name: b"s",
+            ..Row::check(text)
+        }
+    }
+
     pub fn run(&self, alloc: Global) -> Result<(Status, MemorySink), NoMemory>
         requires limits { AreUsable self.now.limits }
         requires piece { 1 ≤ self.now.piece }
     {
         let mut inputs = MemoryInputs::new(alloc, self.failing_reads)?;
-        let name = Word::from_bytes(alloc, b"t.trace")?;
+        let name = Word::from_bytes(alloc, self.name)?;
         inputs.add(&name, self.trace, self.piece)?;
         let mut out = MemorySink::new(alloc, 4096, self.failing_writes)?;
         let words = words(alloc, self.words)?;

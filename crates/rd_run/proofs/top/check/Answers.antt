@@ -24,6 +24,26 @@ returns-in_default-new-clause-runs g c = λ old told few few_opens.
       runs_before c.args.trace.now c.args.limits.now (g.I.Inputs.faults c.args.inputs.now) old c.args.steps.now,
     )
 
+pub returns-in_default-new-2-clause-runs : goal.returns-in_default-new-2-clause-runs
+returns-in_default-new-2-clause-runs g c = λ old told few few_opens.
+    let wrote = g.S.Sink.written c.args.out.now in (
+      old,
+      [],
+      told,
+      appends_none wrote wrote refl,
+      runs_before c.args.trace.now c.args.limits.now (g.I.Inputs.faults c.args.inputs.now) old c.args.steps.now,
+    )
+
+pub returns-in_default-new-3-clause-runs : goal.returns-in_default-new-3-clause-runs
+returns-in_default-new-3-clause-runs g c = λ old told few few_opens.
+    let wrote = g.S.Sink.written c.args.out.now in (
+      old,
+      [],
+      told,
+      appends_none wrote wrote refl,
+      runs_before c.args.trace.now c.args.limits.now (g.I.Inputs.faults c.args.inputs.now) old c.args.steps.now,
+    )
+
 pub returns-in_default-open-clause-runs : goal.returns-in_default-open-clause-runs
 returns-in_default-open-clause-runs g c = λ old told few few_opens.
     let wrote = g.S.Sink.written c.args.out.now in

@@ -1,7 +1,7 @@
 use Rattle.std.proofs.Common.{◌∙◌, sym, subst}
 use Rattle.rd_run.specs.Output.{ending_text, check_status, IsOutput, Outcome, StatusTellsFault}
 use Rattle.rd_wf.specs.Roster.{names_in}
-use Rattle.rd_run.proofs.OutputLemmas.{whole, only_fault, fault_status, no_usage, quiet_status}
+use Rattle.rd_run.proofs.OutputLemmas.{whole, only_fault, fault_status, no_spec, no_usage, quiet_status}
 use Rattle.rd_run.proofs.top.report.Goals as goal
 
 pub returns-in-Ok-clause-output : goal.returns-in-Ok-clause-output
@@ -26,3 +26,6 @@ returns-in-Ok-clause-input g c = (
 
 pub returns-in-Ok-clause-no_usage : goal.returns-in-Ok-clause-no_usage
 returns-in-Ok-clause-no_usage g c = λ e. no_usage c.args.races c.args.ending (sym c.check_status.ensures ∙ e)
+
+pub returns-in-Ok-clause-no_spec : goal.returns-in-Ok-clause-no_spec
+returns-in-Ok-clause-no_spec g c = λ e. no_spec c.args.races c.args.ending (sym c.check_status.ensures ∙ e)

@@ -1,0 +1,82 @@
+-- What `spec` writes for the bytes of a specification, and its status. This project's profile.
+use Rattle.std.specs.Prelude.{◌≡◌, ◌⊎◌, ℕ, List, [], ◌∷◌, ◌++◌, codes, decimal, take, Option, Some, None}
+use Rattle.rd_causes.specs.declared.causes.SpecCause.{SpecCause}
+use Rattle.rd_causes.specs.declared.causes.SpecCause.TheVariants.{Header, Syntax, UnknownMethod, UnknownVariable, NoVariable, OutsideFragment, Duplicate, MissingPair, KindTaken, Limit}
+use Rattle.rd_ecl.specs.Specified.{SpecifiedKind}
+use Rattle.rd_ecl.specs.declared.formulas.Reason.{Reason}
+use Rattle.rd_ecl.specs.declared.formulas.Reason.TheVariants.{CrossRelation, NotOverCross, OrOfCross}
+use Rattle.rd_io.specs.Lines.{Stop}
+use Rattle.rd_io.specs.Lines.Stop.{end, fault}
+use Rattle.rd_print.specs.Printed.{spec_text}
+use Rattle.rd_spec.specs.Texts.{IsSpecRefused, SpecSays}
+use Rattle.rd_spec.specs.declared.parsing.SpecRefused.{SpecRefused as Refusal}
+use Rattle.rd_run.specs.Output.{Outcome, limit_cause_text}
+use Rattle.rd_run.specs.declared.status.Status.{Status}
+use Rattle.rd_run.specs.declared.status.Status.TheVariants.{Clean, SpecRefused, InputFault, LimitReached}
+
+-- ---- texts
+
+-- why a formula isn't in the fragment
+unfoldable pub reason_text : Reason → List ℕ
+reason_text CrossRelation = codes "cross-relation"
+reason_text NotOverCross = codes "not-over-cross"
+reason_text OrOfCross = codes "or-of-cross"
+
+-- the text of a cause
+unfoldable pub spec_cause_text : SpecCause → List ℕ
+spec_cause_text Header = codes "header"
+spec_cause_text Syntax = codes "syntax"
+spec_cause_text UnknownMethod = codes "unknown-method"
+spec_cause_text UnknownVariable = codes "unknown-variable"
+spec_cause_text NoVariable = codes "no-variable"
+spec_cause_text (OutsideFragment reason) = codes "outside-fragment " ++ reason_text reason
+spec_cause_text Duplicate = codes "duplicate"
+spec_cause_text (MissingPair first second) = codes "missing-pair " ++ first ++ codes " " ++ second
+spec_cause_text KindTaken = codes "kind-taken"
+spec_cause_text (Limit name number) = limit_cause_text name number
+
+-- the line of a refusal
+abbrev pub spec_refused_line : Refusal → List ℕ
+spec_refused_line refused =
+    codes "refused spec line " ++ decimal refused.line ++ codes " place " ++ decimal refused.place ++ codes " "
+    ++ spec_cause_text refused.cause ++ codes "\n"
+
+-- ---- the outcome
+
+-- the names of kinds that are taken, whichever of them are built
+abbrev pub reserved_names : List (List ℕ)
+reserved_names =
+    codes "register" ∷ codes "counter" ∷ codes "set" ∷ codes "dictionary" ∷ codes "bag" ∷ codes "peak" ∷ codes "queue" ∷ codes "tally" ∷ []
+
+-- the status of a refusal, by its cause
+abbrev pub spec_status : SpecCause → Status
+spec_status (Limit name number) = LimitReached
+spec_status _ = SpecRefused
+
+-- where these kinds are said
+abbrev pub accepted_outcome : List SpecifiedKind → Outcome
+accepted_outcome kinds = record { text = spec_text kinds; status = Clean }
+
+-- where a line is refused
+abbrev pub refused_outcome : Refusal → Outcome
+refused_outcome refused = record { text = spec_refused_line refused; status = spec_status refused.cause }
+
+-- where the file could not be opened, or not be read
+abbrev pub fault_outcome : Outcome
+fault_outcome = record { text = codes "fault input\n"; status = InputFault }
+
+-- the outcome for these bytes: they say kinds, or they are refused
+abbrev pub IsSpecOutcome : List ℕ → Outcome → Type 0
+IsSpecOutcome bytes outcome =
+    ((kinds : List SpecifiedKind) × SpecSays bytes reserved_names kinds × (outcome ≡ accepted_outcome kinds))
+    ⊎ ((refused : Refusal) × IsSpecRefused bytes reserved_names refused × (outcome ≡ refused_outcome refused))
+
+-- how many bytes of a file are read at most: one more than a text may have
+abbrev pub most_bytes : ℕ
+most_bytes = 1048577
+
+-- the outcome on a file: none was opened, or a read failed, or all of it can be read
+abbrev pub IsOutcomeOn : Option (Stop × List ℕ) → Outcome → Type 0
+IsOutcomeOn None outcome = outcome ≡ fault_outcome
+IsOutcomeOn (Some (fault, bytes)) outcome = outcome ≡ fault_outcome
+IsOutcomeOn (Some (end, bytes)) outcome = IsSpecOutcome (take most_bytes bytes) outcome
