@@ -1,5 +1,5 @@
-//! Runs `check` over each trace of the examples, and says how it ended and whether it wrote what stands in the file beside
-//! the trace.
+//! Runs `check` over each trace of the examples, and `spec` over each specification, and says how it ended and whether it wrote
+//! what stands in the file beside it.
 #![tactic(auto)]
 
 ghost use Rattle.std.specs.Prelude.{◌≡◌, ◌<◌};
@@ -15,7 +15,7 @@ use std::rt::Files;
 use std::sync::ledger::{Blank, Ledger};
 
 /// The traces, each with what `check` writes for it.
-const EXAMPLES: [(&str, &str); 31] = [
+const TRACES: [(&str, &str); 31] = [
     ("a_race_is_no_order.trace", "a_race_is_no_order.out"),
     ("acquired_again.trace", "acquired_again.out"),
     ("another_lock.trace", "another_lock.out"),
@@ -49,8 +49,28 @@ const EXAMPLES: [(&str, &str); 31] = [
     ("updates_in_turn.trace", "updates_in_turn.out"),
 ];
 
-/// `check` over inputs in memory.
-fn check<L: Ledger>(
+/// The specifications, each with what `spec` writes for it.
+const SPECIFICATIONS: [(&str, &str); 16] = [
+    ("account.spec", "account.spec.out"),
+    ("bounded_queue.spec", "bounded_queue.spec.out"),
+    ("refused_arguments.spec", "refused_arguments.spec.out"),
+    ("refused_cross_relation.spec", "refused_cross_relation.spec.out"),
+    ("refused_duplicate.spec", "refused_duplicate.spec.out"),
+    ("refused_header.spec", "refused_header.spec.out"),
+    ("refused_kind_taken.spec", "refused_kind_taken.spec.out"),
+    ("refused_missing_pair.spec", "refused_missing_pair.spec.out"),
+    ("refused_no_variable.spec", "refused_no_variable.spec.out"),
+    ("refused_not_over_cross.spec", "refused_not_over_cross.spec.out"),
+    ("refused_or_of_cross.spec", "refused_or_of_cross.spec.out"),
+    ("refused_syntax.spec", "refused_syntax.spec.out"),
+    ("refused_unknown_method_in_pair.spec", "refused_unknown_method_in_pair.spec.out"),
+    ("refused_unknown_variable.spec", "refused_unknown_variable.spec.out"),
+    ("refused_wrong_order.spec", "refused_wrong_order.spec.out"),
+    ("sessions.spec", "sessions.spec.out"),
+];
+
+/// A command over inputs in memory.
+fn run_command<L: Ledger>(
     alloc: Global,
     words: &[Word],
     inputs: &mut MemoryInputs,
@@ -65,31 +85,41 @@ fn check<L: Ledger>(
     run(alloc, words, inputs, out, &Limits::standard(), &mut steps)
 }
 
-/// Runs one example. None where a file can't be read, memory runs out or writing fails.
-fn example<R: Files + Alloc<A = Global> + Print>(rt: &R, trace: &str, wanted: &str) -> Option<()> {
+/// Runs a command over one example. None where a file can't be read, memory runs out or writing fails.
+fn example<R: Files + Alloc<A = Global> + Print>(
+    rt: &R,
+    command: &str,
+    file: &str,
+    wanted: &str,
+) -> Option<()> {
     let alloc = rt.alloc();
-    let bytes = fs::read(rt, trace).ok()?;
+    let bytes = fs::read(rt, file).ok()?;
     let wanted = fs::read(rt, wanted).ok()?;
     let mut inputs = MemoryInputs::new(alloc, &[]).ok()?;
-    let name = Word::from_bytes(alloc, trace.as_bytes()).ok()?;
+    let name = Word::from_bytes(alloc, file.as_bytes()).ok()?;
     inputs.add(&name, &bytes, 4096).ok()?;
     let mut out = MemorySink::new(alloc, 4096, &[]).ok()?;
     let mut words = Vec::new(alloc);
-    words.push(Word::from_bytes(alloc, b"check").ok()?).ok()?;
+    words.push(Word::from_bytes(alloc, command.as_bytes()).ok()?).ok()?;
     words.push(name).ok()?;
-    let status = check::<Brand>(alloc, &words, &mut inputs, &mut out, Blank::new(1));
+    let status = run_command::<Brand>(alloc, &words, &mut inputs, &mut out, Blank::new(1));
     let verdict = if out.written() == wanted.as_slice() {
         "as wanted"
     } else {
         "otherwise"
     };
-    rt.println(format_args!("{trace}: status {}, {verdict}", status.code()))
+    rt.println(format_args!("{file}: status {}, {verdict}", status.code()))
         .ok()
 }
 
 fn main(rt: HostRuntime) -> ExitCode {
-    for (trace, wanted) in EXAMPLES {
-        if example(&rt, trace, wanted).is_none() {
+    for (trace, wanted) in TRACES {
+        if example(&rt, "check", trace, wanted).is_none() {
+            return ExitCode::FAILURE;
+        }
+    }
+    for (specification, wanted) in SPECIFICATIONS {
+        if example(&rt, "spec", specification, wanted).is_none() {
             return ExitCode::FAILURE;
         }
     }
