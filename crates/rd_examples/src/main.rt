@@ -54,17 +54,29 @@ const SPECIFICATIONS: [(&str, &str); 16] = [
     ("account.spec", "account.spec.out"),
     ("bounded_queue.spec", "bounded_queue.spec.out"),
     ("refused_arguments.spec", "refused_arguments.spec.out"),
-    ("refused_cross_relation.spec", "refused_cross_relation.spec.out"),
+    (
+        "refused_cross_relation.spec",
+        "refused_cross_relation.spec.out",
+    ),
     ("refused_duplicate.spec", "refused_duplicate.spec.out"),
     ("refused_header.spec", "refused_header.spec.out"),
     ("refused_kind_taken.spec", "refused_kind_taken.spec.out"),
     ("refused_missing_pair.spec", "refused_missing_pair.spec.out"),
     ("refused_no_variable.spec", "refused_no_variable.spec.out"),
-    ("refused_not_over_cross.spec", "refused_not_over_cross.spec.out"),
+    (
+        "refused_not_over_cross.spec",
+        "refused_not_over_cross.spec.out",
+    ),
     ("refused_or_of_cross.spec", "refused_or_of_cross.spec.out"),
     ("refused_syntax.spec", "refused_syntax.spec.out"),
-    ("refused_unknown_method_in_pair.spec", "refused_unknown_method_in_pair.spec.out"),
-    ("refused_unknown_variable.spec", "refused_unknown_variable.spec.out"),
+    (
+        "refused_unknown_method_in_pair.spec",
+        "refused_unknown_method_in_pair.spec.out",
+    ),
+    (
+        "refused_unknown_variable.spec",
+        "refused_unknown_variable.spec.out",
+    ),
     ("refused_wrong_order.spec", "refused_wrong_order.spec.out"),
     ("sessions.spec", "sessions.spec.out"),
 ];
@@ -100,7 +112,9 @@ fn example<R: Files + Alloc<A = Global> + Print>(
     inputs.add(&name, &bytes, 4096).ok()?;
     let mut out = MemorySink::new(alloc, 4096, &[]).ok()?;
     let mut words = Vec::new(alloc);
-    words.push(Word::from_bytes(alloc, command.as_bytes()).ok()?).ok()?;
+    words
+        .push(Word::from_bytes(alloc, command.as_bytes()).ok()?)
+        .ok()?;
     words.push(name).ok()?;
     let status = run_command::<Brand>(alloc, &words, &mut inputs, &mut out, Blank::new(1));
     let verdict = if out.written() == wanted.as_slice() {

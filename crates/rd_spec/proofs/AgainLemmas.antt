@@ -1,36 +1,33 @@
 -- The canonical text of a specification is read again as it.
-use Rattle.std.proofs.Common.{◌≡◌, ◌≢◌, ℕ, zero, suc, ◌+◌, ◌-◌, ◌*◌, ◌<◌, ◌≤◌, Bool, true, false, List, [], ◌∷◌, ◌++◌, length, map, codes, get_or, Option, Some, None, refl, sym, ap, subst, arith, inl, inr, ◌∙◌, length-append}
-use Rattle.std.specs.Prelude.{All, AllPairs, Contains, flat_map, slice_get, slice_index_or, nat_le, is_some, IsSome, ◌⊎◌}
+use Rattle.std.proofs.Common.{◌≡◌, ◌≢◌, ℕ, zero, suc, ◌+◌, ◌*◌, ◌<◌, ◌≤◌, Bool, true, false, List, [], ◌∷◌, ◌++◌, length, map, codes, Option, Some, None, refl, sym, ap, subst, arith, inl, inr, ◌∙◌, length-append}
+use Rattle.std.specs.Prelude.{All, AllPairs, Contains, flat_map, nat_le, is_some, IsSome}
 use Rattle.std.specs.List.{AllByRecursion}
 use Rattle.std.proofs.lemmas.List.{append_assoc, append-nil, map-append, get_or_past, length-map}
-use Rattle.std.proofs.lemmas.Option.{slice_get-get_or}
 use Rattle.rd_base.specs.Names.{IsName}
-use Rattle.rd_base.proofs.FoundLemmas.{each_by_recursion, each_from_recursion}
+use Rattle.rd_base.proofs.FoundLemmas.{each_by_recursion}
 use Rattle.std.proofs.lemmas.List.Elements.{Contains-append_right}
-use Rattle.rd_canonical.specs.declared.items.Word.{Word as PrintedWord}
 use Rattle.rd_canonical.specs.Canonical.{plain as printed}
-use Rattle.rd_causes.specs.Adding.{Accepts, with_header, with_kind}
-use Rattle.rd_causes.specs.Causes.{EndHas, HasNone, LacksPair}
-use Rattle.rd_causes.specs.Known.{kind_in, kind_names, kind_without, kinds_so_far, nothing, opened, variables_at}
-use Rattle.rd_causes.specs.declared.causes.SpecCause.{SpecCause}
+use Rattle.rd_causes.specs.Adding.{with_header, with_kind}
+use Rattle.rd_causes.specs.Causes.{EndHas, HasNone}
+use Rattle.rd_causes.specs.Known.{kind_in, kind_names, kind_without, kinds_so_far, nothing, variables_at}
 use Rattle.rd_causes.specs.declared.causes.SpecCause.TheVariants.{Header, Syntax, UnknownMethod, UnknownVariable, NoVariable, OutsideFragment, Duplicate, MissingPair, KindTaken, Limit}
 use Rattle.rd_causes.specs.declared.known.Known.{Known}
 use Rattle.rd_ecl.specs.declared.kinds.Method.{Method}
 use Rattle.rd_ecl.specs.Formulas.{Tree}
-use Rattle.rd_ecl.specs.Specified.{IsKind, IsWhole, SpecifiedKind, formula_at, names_of}
+use Rattle.rd_ecl.specs.Specified.{IsKind, IsWhole, SpecifiedKind, formula_at}
 use Rattle.rd_ecl.specs.Variables.{AreVariables, IsVariable}
 use Rattle.rd_pairs.proofs.NumberLemmas.{AreDifferent}
-use Rattle.rd_print.specs.Printed.{AreNames, HasNames, HasValues, HaveValues, block_lines, commute_words, header_words, kind_words, line_text, method_words, name_at, pairs_of, spec_lines, spec_text}
+use Rattle.rd_print.specs.Printed.{HasNames, HasValues, block_lines, commute_words, header_words, kind_words, method_words, pairs_of, spec_lines, spec_text}
 use Rattle.rd_print.proofs.SoundLemmas.{commute_sound, kind_sound, lines_sound, method_sound, name_at_is}
 use Rattle.rd_text.specs.Text.{IsSound, text_of}
 use Rattle.rd_spec.specs.Again.{AreSame, IsSame, MayBeRead}
-use Rattle.rd_spec.specs.Texts.{AreLines, Reads, SpecSays, no_more}
+use Rattle.rd_spec.specs.Texts.{Reads, SpecSays, no_more}
 use Rattle.rd_spec.proofs.AcceptLemmas.{header_accepted, lacks_none}
 use Rattle.rd_spec.proofs.LineLemmas.{reads_on}
 use Rattle.rd_spec.proofs.MethodLines.{IsUnset, IsWritten, at, kind_read, fresh_behind, line_read, methods_more, methods_read, methods_unset, name_kept, with_methods}
 use Rattle.rd_spec.proofs.PairLines.{IsPrinted}
 use Rattle.rd_spec.proofs.RowLines.{IsBefore, IsPart, IsSource, RowRead, pairs_read, unset_at}
-use Rattle.rd_spec.proofs.TextLemmas.{kept_line, lift, lines_cut}
+use Rattle.rd_spec.proofs.TextLemmas.{kept_line, lines_cut}
 
 -- ---- one kind
 
@@ -44,18 +41,20 @@ none_apart i j d less within = absurd (omega (arith, within))
 module _ (kind : SpecifiedKind) (is : IsKind kind) (values : HasValues kind) (names : HasNames kind) where
   printed_pair : (m n : ℕ) → m ≤ n → n < length kind.methods → (f : Tree) × IsPrinted kind m n f
   printed_pair m n ordered known =
-      let (f, there) = some_there (formula_at kind m n) (is.whole m n ordered known) in
-      (f, record {
-        ordered = ordered;
-        known = known;
-        there = there;
-        pair = is.draft.pairs.each m n f there;
-        values = values m n ordered known f there;
-        methods = is.draft.methods;
-        first_name = name_at_is kind.methods m (omega (arith, ordered, known)) names.1;
-        second_name = name_at_is kind.methods n known names.1;
-        sound = commute_sound kind is values names m n ordered known;
-      })
+      let (f, there) = some_there (formula_at kind m n) (is.whole m n ordered known) in (
+        f,
+        record {
+          ordered = ordered;
+          known = known;
+          there = there;
+          pair = is.draft.pairs.each m n f there;
+          values = values m n ordered known f there;
+          methods = is.draft.methods;
+          first_name = name_at_is kind.methods m (omega (arith, ordered, known)) names.1;
+          second_name = name_at_is kind.methods n known names.1;
+          sound = commute_sound kind is values names m n ordered known;
+        },
+      )
 
   variables_apart : (methods : List Method) (n : ℕ) → AllByRecursion (λ (method : Method). AreVariables method.variables) methods
       → AreDifferent (variables_at (record kind { methods = methods }) n)
@@ -76,11 +75,11 @@ module _ (kind : SpecifiedKind) (is : IsKind kind) (values : HasValues kind) (na
   written : AllByRecursion IsWritten kind.methods
   written = by kind.methods (each_by_recursion (λ (method : Method). AreVariables method.variables) kind.methods is.draft.methods.each)
       (each_by_recursion (λ (method : Method). IsName method.name) kind.methods names.1) where
-    by : (methods : List Method) → AllByRecursion (λ (method : Method). AreVariables method.variables) methods → AllByRecursion (λ (method : Method). IsName method.name) methods
-        → AllByRecursion IsWritten methods
-    by [] variables named = tt
-    by (method ∷ methods) (here, rest) (name, more) =
-        (record { variables = here; each = each_by_recursion IsVariable method.variables here.each; named = name; sound = method_sound method name here }, by methods rest more)
+        by : (methods : List Method) → AllByRecursion (λ (method : Method). AreVariables method.variables) methods → AllByRecursion (λ (method : Method). IsName method.name) methods
+            → AllByRecursion IsWritten methods
+        by [] variables named = tt
+        by (method ∷ methods) (here, rest) (name, more) =
+            (record { variables = here; each = each_by_recursion IsVariable method.variables here.each; named = name; sound = method_sound method name here }, by methods rest more)
 
   -- before its first pair
   empty : SpecifiedKind
@@ -111,8 +110,8 @@ module _ (kind : SpecifiedKind) (is : IsKind kind) (values : HasValues kind) (na
       let bare : SpecifiedKind = kind_without kind.name in
       let pairs = pairs_read taken closed kind source empty false begins in
       let lines : map text_of (map method_words kind.methods ++ map (commute_words kind) (pairs_of (length kind.methods)))
-          ≡ map text_of (map method_words kind.methods) ++ map text_of (map (commute_words kind) (pairs_of (length kind.methods))) =
-          map-append text_of (map method_words kind.methods) (map (commute_words kind) (pairs_of (length kind.methods))) in
+      ≡ map text_of (map method_words kind.methods) ++ map text_of (map (commute_words kind) (pairs_of (length kind.methods))) =
+      map-append text_of (map method_words kind.methods) (map (commute_words kind) (pairs_of (length kind.methods))) in
       record {
         next = pairs.next;
         then_paired = pairs.then_paired;
@@ -183,14 +182,14 @@ block_read taken done kind kinds known begun same whole may few different free =
     let named : kind_names (done ++ kind ∷ kinds) ≡ kind_names done ++ kind.name ∷ kind_names kinds = kinds_more done kind kinds in
     let names : kind_names done ≡ kind_names (kinds_so_far known) = same_names done (kinds_so_far known) same in
     let fresh : ¬ (Contains (kind_names done) kind.name) =
-        fresh_behind (kind_names done) kind.name (kind_names kinds) (subst (λ (l : List (List ℕ)). AllPairs (λ x y. x ≢ y) l) named different) in
+    fresh_behind (kind_names done) kind.name (kind_names kinds) (subst (λ (l : List (List ℕ)). AllPairs (λ x y. x ≢ y) l) named different) in
     let here : Contains (kind_names done ++ kind.name ∷ kind_names kinds) kind.name =
-        Contains-append_right (kind_names done) (kind.name ∷ kind_names kinds) kind.name (0, omega arith, refl) in
+    Contains-append_right (kind_names done) (kind.name ∷ kind_names kinds) kind.name (0, omega arith, refl) in
     let counts : length (kinds_so_far known) ≡ length done = sym (count_names (kinds_so_far known)) ∙ sym (ap length names) ∙ count_names done in
     let sum = length-append done (kind ∷ kinds) in
     let sound = (kind_sound kind may.is may.values may.names).0 in
     let head = kind_read taken known kind begun (λ among. fresh (subst (λ (l : List (List ℕ)). Contains l kind.name) (sym names) among)) whole
-        (λ reserved. free kind.name reserved (subst (λ (l : List (List ℕ)). Contains l kind.name) (sym named) here)) (omega (arith, counts, sum, few)) may.names.0 sound in
+    (λ reserved. free kind.name reserved (subst (λ (l : List (List ℕ)). Contains l kind.name) (sym named) here)) (omega (arith, counts, sum, few)) may.names.0 sound in
     let body = body_read kind may.is may.values may.names taken (kinds_so_far known) in
     record {
       last = at (kinds_so_far known) body.next body.then_paired;
@@ -215,8 +214,8 @@ blocks_read taken (kind ∷ kinds) done known begun same whole (may, rest) few d
     let one = block_read taken done kind kinds known begun same whole may few different free in
     let more : (done ++ kind ∷ []) ++ kinds ≡ done ++ kind ∷ kinds = append_assoc done (kind ∷ []) kinds in
     let others = blocks_read taken kinds (done ++ kind ∷ []) one.last one.begun one.same one.whole rest
-        (subst (λ (l : List SpecifiedKind). length l ≤ 32) (sym more) few) (subst (λ (l : List SpecifiedKind). AllPairs (λ x y. x ≢ y) (kind_names l)) (sym more) different)
-        (subst (λ (l : List SpecifiedKind). (name : List ℕ) → Contains taken name → ¬ (Contains (kind_names l) name)) (sym more) free) in
+    (subst (λ (l : List SpecifiedKind). length l ≤ 32) (sym more) few) (subst (λ (l : List SpecifiedKind). AllPairs (λ x y. x ≢ y) (kind_names l)) (sym more) different)
+    (subst (λ (l : List SpecifiedKind). (name : List ℕ) → Contains taken name → ¬ (Contains (kind_names l) name)) (sym more) free) in
     record {
       last = others.last;
       begun = others.begun;
@@ -248,16 +247,19 @@ pub read_again : (kinds : List SpecifiedKind) (taken : List (List ℕ)) → MayB
 read_again kinds taken may =
     let sound : AllByRecursion (All IsSound) (spec_lines kinds) = each_by_recursion (All IsSound) (spec_lines kinds) (lines_sound kinds may.each may.values may.names) in
     let head = line_read taken nothing (with_header nothing) header_words sound.0 (kept_line 114 (codes "dspec") (printed (codes "1") ∷ []) (λ e. omega (arith, e)) (λ e. omega (arith, e)))
-        (λ tokens are words. header_accepted taken (text_of header_words) tokens words are) in
+    (λ tokens are words. header_accepted taken (text_of header_words) tokens words are) in
     let blocks = blocks_read taken kinds [] (with_header nothing) refl tt (λ first second up low. absurd (omega (arith, low)))
-        (printable kinds (each_by_recursion IsKind kinds may.each) (each_by_recursion HasValues kinds may.values) (each_by_recursion HasNames kinds may.names))
-        may.few may.different may.free in
-    (kinds_so_far blocks.last, record {
-      short = may.short;
-      lines = map text_of (spec_lines kinds);
-      cut = lines_cut (spec_lines kinds) sound;
-      known = blocks.last;
-      reads = reads_on taken head blocks.reads;
-      whole = end_clean blocks.last blocks.begun blocks.whole;
-      said = refl;
-    }, blocks.same)
+    (printable kinds (each_by_recursion IsKind kinds may.each) (each_by_recursion HasValues kinds may.values) (each_by_recursion HasNames kinds may.names))
+    may.few may.different may.free in (
+      kinds_so_far blocks.last,
+      record {
+        short = may.short;
+        lines = map text_of (spec_lines kinds);
+        cut = lines_cut (spec_lines kinds) sound;
+        known = blocks.last;
+        reads = reads_on taken head blocks.reads;
+        whole = end_clean blocks.last blocks.begun blocks.whole;
+        said = refl;
+      },
+      blocks.same,
+    )

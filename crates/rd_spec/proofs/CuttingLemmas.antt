@@ -1,5 +1,5 @@
 -- Cutting a text into lines.
-use Rattle.std.proofs.Common.{◌≡◌, ◌≢◌, ℕ, zero, suc, ◌+◌, ◌<◌, ◌≤◌, Bool, true, false, List, [], ◌∷◌, ◌++◌, length, take, drop, Option, Some, None, refl, sym, ap, subst, arith, inl, inr, ◌∙◌}
+use Rattle.std.proofs.Common.{◌≡◌, ◌≢◌, ℕ, zero, suc, ◌+◌, ◌<◌, Bool, true, false, List, [], ◌∷◌, ◌++◌, length, take, drop, Some, None, refl, sym, ap, subst, arith, inl, inr, ◌∙◌}
 use Rattle.std.specs.Prelude.{slice_index, IsTrue, ◌↔◌, ◌==◌, ◌&&◌, nat_eq}
 use Rattle.std.specs.List.{starts_with}
 use Rattle.std.proofs.lemmas.List.{length-take, get_or-take}
@@ -20,8 +20,8 @@ line_cut text at lines found more =
     let feed : slice_index text at ≡ 10 = (Decides-eqb _ 10).0 found.1 in
     let next : at + 1 ≡ suc at = omega arith in
     let clean : IsLine (take at text) = λ k l e.
-        let low : k < at = omega (arith, simp length-take at l) in
-        found.0.before k (omega arith) low ((Decides-eqb _ 10).1 (sym (get_or-take at text k 0 low) ∙ e)) in
+    let low : k < at = omega (arith, simp length-take at l) in
+    found.0.before k (omega arith) low ((Decides-eqb _ 10).1 (sym (get_or-take at text k 0 low) ∙ e)) in
     subst (λ (t : List ℕ). AreLines t (take at text ∷ lines)) (parts text at within feed)
     (line_first clean (subst (λ (n : ℕ). AreLines (drop n text) lines) next more))
 

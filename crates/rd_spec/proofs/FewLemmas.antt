@@ -1,10 +1,10 @@
 -- A kind with some of the pairs of another says no more of a method.
-use Rattle.std.proofs.Common.{◌≡◌, ℕ, suc, ◌+◌, ◌<◌, ◌≤◌, Bool, true, false, ◌||◌, List, [], ◌∷◌, ◌++◌, length, Option, Some, None, refl, sym, ap, subst, arith, inl, inr, ◌∙◌, length-append}
+use Rattle.std.proofs.Common.{◌≡◌, ℕ, suc, ◌+◌, ◌≤◌, Bool, true, false, ◌||◌, List, [], ◌∷◌, ◌++◌, length, None, refl, ap, subst, arith, inl, inr, ◌∙◌, length-append}
 use Rattle.std.specs.Prelude.{flat_map, ◌⊎◌, if◌then◌else◌}
 use Rattle.std.specs.List.{list_any}
 use Rattle.std.proofs.lemmas.List.{append-nil}
 use Rattle.rd_ecl.specs.declared.formulas.Predicate.{Predicate}
-use Rattle.rd_ecl.specs.Formulas.{distinct, distinct_from, same_predicate}
+use Rattle.rd_ecl.specs.Formulas.{distinct_from, same_predicate}
 use Rattle.rd_ecl.specs.Specified.{SpecifiedKind, all_pairs, formula_at, method_predicates, predicates_at}
 use Rattle.rd_ecl.proofs.EqualLemmas.{predicate_decides}
 use Rattle.rd_ecl.proofs.RoomLemmas.{distinct_both}
@@ -38,7 +38,7 @@ one_step y z s zs false true e f old new =
     rw (e, f) (subst (λ (x : Predicate). suc (length (distinct_from (z ∷ s) zs)) ≤ suc (length (distinct_from (x ∷ s) zs))) here (omega arith))
 one_step y z s zs false false e f old new =
     let swapped : distinct_from (z ∷ y ∷ s) zs ≡ distinct_from (y ∷ z ∷ s) zs =
-        same_seen (z ∷ y ∷ s) (y ∷ z ∷ s) zs (λ q. turned (same_predicate q z) (same_predicate q y) (among q s)) in
+    same_seen (z ∷ y ∷ s) (y ∷ z ∷ s) zs (λ q. turned (same_predicate q z) (same_predicate q y) (among q s)) in
     let counts = ap length swapped in
     rw (e, f) (omega (arith, new, counts))
 

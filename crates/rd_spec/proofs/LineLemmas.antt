@@ -1,7 +1,6 @@
 -- Reading a text line by line.
-use Rattle.std.proofs.Common.{◌≡◌, ◌≢◌, ℕ, zero, suc, ◌+◌, ◌<◌, ◌≤◌, Bool, true, false, List, [], ◌∷◌, ◌++◌, length, take, drop, Option, Some, None, refl, sym, ap, subst, arith, inl, inr, length-append}
+use Rattle.std.proofs.Common.{◌≡◌, ℕ, ◌+◌, ◌<◌, ◌≤◌, List, [], ◌∷◌, ◌++◌, length, refl, sym, ap, subst, arith, inl, inr, length-append}
 use Rattle.std.proofs.lemmas.List.{append_assoc, append-nil}
-use Rattle.std.specs.Prelude.{slice_index}
 use Rattle.rd_causes.specs.declared.known.Known.{Known}
 use Rattle.rd_base.specs.declared.limits.LimitName.TheVariants.{SpecText}
 use Rattle.rd_causes.specs.Causes.{EndHas, HasNone}
@@ -14,7 +13,7 @@ use Rattle.rd_spec.specs.declared.parsing.ParseRefused.TheVariants.{Spec}
 use Rattle.rd_judging.specs.declared.refused.LineRefused.{LineRefused}
 use Rattle.rd_judging.specs.declared.refused.LineRefused.TheVariants.{Fault, NoMemory}
 use Rattle.rd_spec.specs.Reading.{Takes, Stops, IsHalfRead, IsRead, at_line}
-use Rattle.rd_spec.specs.Texts.{AreLines, Reads, Refuses, SpecSays, IsLine, no_line, last_line, line_first, no_more, skips, takes}
+use Rattle.rd_spec.specs.Texts.{AreLines, Reads, Refuses, SpecSays, no_line, no_more, skips, takes}
 
 module _ (taken : List (List ℕ)) where
   one_more : {line : List ℕ} {mid next : Known} → Takes taken mid line next → Reads taken mid (line ∷ []) next

@@ -1,6 +1,6 @@
 -- The lines of a kind and of its methods are read again.
-use Rattle.std.proofs.Common.{◌≡◌, ◌≢◌, ℕ, zero, suc, ◌+◌, ◌-◌, ◌<◌, ◌≤◌, Bool, true, false, List, [], ◌∷◌, ◌++◌, length, map, take, codes, Some, refl, sym, ap, subst, arith, inl, inr, ◌∙◌, length-append}
-use Rattle.std.specs.Prelude.{All, AllPairs, Contains, slice_get, slice_index_or, replicate, Option, None, ◌*◌}
+use Rattle.std.proofs.Common.{◌≡◌, ◌≢◌, ℕ, zero, suc, ◌+◌, ◌<◌, ◌≤◌, Bool, true, false, List, [], ◌∷◌, ◌++◌, length, map, codes, Some, refl, sym, ap, subst, arith, ◌∙◌, length-append}
+use Rattle.std.specs.Prelude.{All, AllPairs, Contains, slice_index_or, replicate, Option, None, ◌*◌}
 use Rattle.std.specs.List.{AllByRecursion}
 use Rattle.std.proofs.Math.ListN.{get_or-append}
 use Rattle.std.proofs.Math.Seq.{get_or-append_seam}
@@ -186,11 +186,11 @@ none_behind (p ∷ pairs) (suc k) none = none_behind pairs k (λ j. none (suc j)
 unset_more : (kind : SpecifiedKind) (one : Method) → IsUnset kind → IsUnset (with_method kind one)
 unset_more kind one is = record {
   rows =
-    let rows = is.rows in
-    let no_pairs : List (Option Tree) = nones 16 in
-    let pairs = length-append kind.pairs no_pairs in
-    let methods = length-append kind.methods (one ∷ []) in
-    omega (arith, rows, pairs, methods);
+      let rows = is.rows in
+      let no_pairs : List (Option Tree) = nones 16 in
+      let pairs = length-append kind.pairs no_pairs in
+      let methods = length-append kind.methods (one ∷ []) in
+      omega (arith, rows, pairs, methods);
   none = λ k. none_behind kind.pairs k is.none;
 }
 

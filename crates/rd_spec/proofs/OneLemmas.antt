@@ -1,14 +1,13 @@
 -- A text says one specification at most, and is refused nowhere if it says one.
-use Rattle.std.proofs.Common.{◌≡◌, ◌≢◌, ℕ, zero, suc, ◌+◌, ◌<◌, ◌≤◌, Bool, true, false, List, [], ◌∷◌, ◌++◌, length, take, drop, Option, Some, None, refl, sym, ap, subst, arith, inl, inr, ◌∙◌}
-use Rattle.std.specs.Prelude.{slice_index, slice_get, option_map, unwrap_or, Contains, ◌⊎◌}
+use Rattle.std.proofs.Common.{◌≡◌, ℕ, zero, suc, Bool, true, false, List, [], ◌∷◌, ◌++◌, length, take, Some, refl, sym, ap, subst, arith, inl, inr, ◌∙◌}
+use Rattle.std.specs.Prelude.{slice_get, option_map, unwrap_or, Contains, ◌⊎◌}
 use Rattle.std.specs.Cmp.Lexicographic.{bytes_decides, nat_list_eq_equiv}
 use Rattle.std.proofs.lemmas.List.{append_assoc, append-nil}
 use Rattle.std.proofs.lemmas.Map.Keys.{IsDistinct-push}
 use Rattle.std.proofs.lemmas.Map.Made.{AllPairs-from_IsDistinct, IsDistinct-from_AllPairs}
-use Rattle.rd_causes.specs.Adding.{Accepts, Adds, FormAdds, adds_form, adds_header, with_header, with_kind, with_open}
-use Rattle.rd_causes.specs.Causes.{AreNumbers, EndHas, FormHas, Has, HasNone, IsFirstOf, IsFirstRepeated, SaysPair, form_has, header_words, line_has, scope_of}
+use Rattle.rd_causes.specs.Adding.{Accepts, Adds, FormAdds, adds_form, adds_header, with_open}
+use Rattle.rd_causes.specs.Causes.{EndHas, FormHas, Has, HasNone, IsFirstRepeated, form_has, scope_of}
 use Rattle.rd_causes.specs.Known.{kind_in, kind_without, kinds_so_far, methods_of, nothing, stage_of, variables_at}
-use Rattle.rd_causes.specs.declared.causes.SpecCause.{SpecCause}
 use Rattle.rd_causes.specs.declared.causes.SpecCause.TheVariants.{Duplicate}
 use Rattle.rd_causes.specs.declared.known.Known.{Known}
 use Rattle.rd_ecl.specs.declared.kinds.Method.{Method}
@@ -22,13 +21,12 @@ use Rattle.rd_grammar.specs.Grammar.{Tree as Read}
 use Rattle.rd_lines.proofs.LawLemmas.{one_form}
 use Rattle.rd_tokens.proofs.CutLemmas.{one_list}
 use Rattle.rd_spec.specs.declared.parsing.SpecRefused.{SpecRefused}
-use Rattle.rd_lines.specs.Lines.{RightLine, SaidForm, words_of}
+use Rattle.rd_lines.specs.Lines.{SaidForm, words_of}
 use Rattle.rd_lines.specs.Lines.{kind as kind_said, method as method_said, commute as commute_said}
 use Rattle.rd_pairs.proofs.NumberLemmas.{AreDifferent, one_pair}
 use Rattle.rd_pairs.proofs.MeaningLemmas.{one_formula}
 use Rattle.rd_tokens.specs.declared.items.Token.{Token}
-use Rattle.rd_tokens.specs.Tokens.{AreTokens}
-use Rattle.rd_spec.specs.Texts.{AreLines, Reads, IsLine, IsSkipped, SpecSays, IsRefusedAt, IsRefusedLine, IsRefusedEnd, IsSpecRefused, no_line, last_line, line_first, no_more, skips, takes}
+use Rattle.rd_spec.specs.Texts.{AreLines, Reads, IsLine, IsSkipped, SpecSays, IsRefusedLine, IsRefusedEnd, IsSpecRefused, no_line, last_line, line_first, no_more, skips, takes}
 
 -- ---- lines
 
@@ -85,9 +83,9 @@ name_more : (names : List (List ℕ)) (name : List ℕ) → AreDifferent names �
 name_more names name different fresh =
     AllPairs-from_IsDistinct bytes_decides (names ++ name ∷ [])
     (IsDistinct-push nat_list_eq_equiv names name (IsDistinct-from_AllPairs bytes_decides names different) (not_among (is_among name names) refl)) where
-  not_among : (test : Bool) → is_among name names ≡ test → is_among name names ≡ false
-  not_among true is = absurd (fresh ((among_decides name names).0 is))
-  not_among false is = is
+      not_among : (test : Bool) → is_among name names ≡ test → is_among name names ≡ false
+      not_among true is = absurd (fresh ((among_decides name names).0 is))
+      not_among false is = is
 
 take_front : (before : List (List ℕ)) (rest : List (List ℕ)) → take (length before) (before ++ rest) ≡ before
 take_front [] rest = refl
@@ -108,8 +106,8 @@ never_repeated names before (name ∷ rest) same never different =
       repeats = subst (λ (l : List (List ℕ)). Contains l name) (sym (front_of)) among;
       others = subst AreDifferent (sym front_of) different;
     }))) where
-  front_of : take (length before) names ≡ before
-  front_of = ap (λ (l : List (List ℕ)). take (length before) l) same ∙ take_front before (name ∷ rest)
+      front_of : take (length before) names ≡ before
+      front_of = ap (λ (l : List (List ℕ)). take (length before) l) same ∙ take_front before (name ∷ rest)
 
 -- the variables of the method with this number
 abbrev variables_in : List Method → ℕ → List (List ℕ)
@@ -145,8 +143,8 @@ form_apart taken known next line tokens (method_said name arguments result) apar
     subst IsApart (sym adds)
     (apart_more (kind_in known.block) (record { name = name; variables = arguments ++ result ∷ [] }) apart fresh
     (never_repeated (arguments ++ result ∷ []) [] (arguments ++ result ∷ []) refl (λ n repeats. clean Duplicate _ (inr (n, fresh, repeats, refl))) none_apart)) where
-  fresh : ¬ (Contains (names_of (kind_in known.block).methods) name)
-  fresh among = clean Duplicate _ (inl (among, refl))
+      fresh : ¬ (Contains (names_of (kind_in known.block).methods) name)
+      fresh among = clean Duplicate _ (inl (among, refl))
 form_apart taken known next line tokens (commute_said first second read) apart clean (m, n, f, says, same) =
     subst IsApart (sym same) (record { names = apart.names; variables = apart.variables })
 
@@ -172,11 +170,11 @@ one_added known a b line tokens (commute_said first second read) apart (m, n, f,
     let kind_here : SpecifiedKind = kind_in known.block in
     let (firsts, seconds) = one_pair kind_here first second m n i j apart.names says.numbers also.numbers in
     let formulas : f ≡ g = one_formula (scope_of kind_here line tokens m n) (apart.variables m) (apart.variables n) read f g says.gives
-        (same_numbers kind_here line tokens m n i j read g firsts seconds also.gives) in
+    (same_numbers kind_here line tokens m n i j read g firsts seconds also.gives) in
     let pairs : with_open known (with_pair kind_here m n f) true ≡ with_open known (with_pair kind_here i j g) true =
-        ap (λ (x : ℕ). with_open known (with_pair kind_here x n f) true) (sym firsts)
-        ∙ ap (λ (y : ℕ). with_open known (with_pair kind_here i y f) true) (sym seconds)
-        ∙ ap (λ (h : Tree). with_open known (with_pair kind_here i j h) true) formulas in
+    ap (λ (x : ℕ). with_open known (with_pair kind_here x n f) true) (sym firsts)
+    ∙ ap (λ (y : ℕ). with_open known (with_pair kind_here i y f) true) (sym seconds)
+    ∙ ap (λ (h : Tree). with_open known (with_pair kind_here i j h) true) formulas in
     same ∙ pairs ∙ sym equal
 
 one_next : (known a b : Known) (line : List ℕ) (tokens : List Token) → IsApart known → Adds known line tokens a → Adds known line tokens b → a ≡ b
@@ -205,7 +203,7 @@ pub one_said : (text : List ℕ) (taken : List (List ℕ)) (x y : List Specified
 one_said text taken x y one other =
     let lines : other.lines ≡ one.lines = lines_one text text other.lines one.lines refl other.cut one.cut in
     let known : one.known ≡ other.known = one_read taken nothing one.known other.known one.lines (apart_without []) one.reads
-        (subst (λ (l : List (List ℕ)). Reads taken nothing l other.known) lines other.reads) in
+    (subst (λ (l : List (List ℕ)). Reads taken nothing l other.known) lines other.reads) in
     one.said ∙ ap kinds_so_far known ∙ sym other.said
 
 -- ---- a text that says kinds is refused nowhere
@@ -227,7 +225,7 @@ front_read taken known last mid (l ∷ before) line behind apart (takes {mid = n
 line_fine : (taken : List (List ℕ)) (lines : List (List ℕ)) (last : Known) (refused : SpecRefused) → Reads taken nothing lines last → ¬ (IsRefusedLine taken lines refused)
 line_fine taken lines last refused reads wrong =
     let (next, accepts) = front_read taken nothing last wrong.known wrong.before wrong.line wrong.behind (apart_without [])
-        (subst (λ (l : List (List ℕ)). Reads taken nothing l last) wrong.parts reads) wrong.reads wrong.kept in
+    (subst (λ (l : List (List ℕ)). Reads taken nothing l last) wrong.parts reads) wrong.reads wrong.kept in
     let tokens : wrong.tokens ≡ accepts.tokens = one_list wrong.line wrong.tokens accepts.tokens wrong.cut accepts.cut in
     accepts.clean refused.cause refused.place (subst (λ (ts : List Token). Has taken wrong.known wrong.line ts refused.cause refused.place) tokens wrong.first.has)
 
@@ -241,6 +239,7 @@ never_refused text taken x refused says (inl long) = let short = says.short in l
 never_refused text taken x refused says (inr wrong) = by wrong.first where
   same : wrong.lines ≡ says.lines
   same = lines_one text text wrong.lines says.lines refl wrong.cut says.cut
+
   by : IsRefusedLine taken wrong.lines refused ⊎ IsRefusedEnd taken wrong.lines refused → ⊥
   by (inl line) = line_fine taken says.lines says.known refused says.reads (subst (λ (l : List (List ℕ)). IsRefusedLine taken l refused) same line)
   by (inr end) = end_fine taken says.lines says.known refused says.reads says.whole (subst (λ (l : List (List ℕ)). IsRefusedEnd taken l refused) same end)

@@ -1,9 +1,9 @@
 -- The lines of a kind's pairs are read again.
-use Rattle.std.proofs.Common.{◌≡◌, ◌≢◌, ℕ, zero, suc, ◌+◌, ◌-◌, ◌*◌, ◌<◌, ◌≤◌, Bool, true, false, List, [], ◌∷◌, ◌++◌, length, map, take, drop, codes, Option, Some, None, refl, sym, ap, subst, arith, inl, inr, ◌∙◌, length-append}
-use Rattle.std.specs.Prelude.{All, AllPairs, Contains, slice_get, slice_index_or, option_map, unwrap_or, is_some, ◌⊎◌}
+use Rattle.std.proofs.Common.{◌≡◌, ◌≢◌, ℕ, zero, suc, ◌+◌, ◌<◌, ◌≤◌, Bool, true, false, List, [], ◌∷◌, ◌++◌, length, map, drop, codes, Some, None, refl, sym, ap, subst, arith, inl, inr, ◌∙◌}
+use Rattle.std.specs.Prelude.{All, slice_get, option_map, unwrap_or, is_some}
 use Rattle.std.specs.List.{AllByRecursion}
-use Rattle.std.proofs.lemmas.List.{append_assoc, length-map, drop-map}
-use Rattle.std.proofs.lemmas.Option.{slice_get_within, get_or_from_slice_get, slice_get-get_or, same_Some}
+use Rattle.std.proofs.lemmas.List.{length-map, drop-map}
+use Rattle.std.proofs.lemmas.Option.{slice_get-get_or}
 use Rattle.rd_base.specs.Names.{IsName}
 use Rattle.rd_base.specs.declared.limits.LimitName.{LimitName}
 use Rattle.rd_base.specs.declared.limits.LimitName.TheVariants.{Bytes, Line, Events, Threads, Locks, Objects, Depth, SpecText, Tokens, Kinds, Methods as MethodLimit, Arguments, Nodes, FormulaDepth, Predicates}
@@ -14,25 +14,21 @@ use Rattle.rd_canonical.proofs.FewLemmas.{few_words}
 use Rattle.rd_causes.specs.Adding.{Accepts}
 use Rattle.rd_causes.specs.Causes.{AreNumbers, HasManyPredicates, HasManyTokens, HasNone, PairHas, SaysPair, scope_of}
 use Rattle.rd_causes.specs.Known.{stage_of, variables_at}
-use Rattle.rd_causes.specs.declared.causes.SpecCause.{SpecCause}
 use Rattle.rd_causes.specs.declared.causes.SpecCause.TheVariants.{Header, Syntax, UnknownMethod, UnknownVariable, NoVariable, OutsideFragment, Duplicate, MissingPair, KindTaken, Limit}
 use Rattle.rd_ecl.specs.declared.kinds.Method.{Method}
-use Rattle.rd_ecl.specs.Formulas.{Tree, Fits, InFragment, first_offence, has_slots, levels, nodes, post_order}
-use Rattle.rd_ecl.specs.Specified.{AreMethods, IsPair, SpecifiedKind, formula_at, method_predicates, names_of, slots_at, with_pair}
-use Rattle.rd_ecl.specs.Variables.{AreVariables, IsVariable}
+use Rattle.rd_ecl.specs.Formulas.{Tree, Fits, InFragment, first_offence, levels, nodes, post_order}
+use Rattle.rd_ecl.specs.Specified.{AreMethods, IsPair, SpecifiedKind, formula_at, names_of, slots_at, with_pair}
+use Rattle.rd_ecl.specs.Variables.{AreVariables}
 use Rattle.rd_ecl.proofs.FragmentLemmas.{fragment_is}
-use Rattle.rd_formulas.specs.declared.scope.Scope.{Scope}
 use Rattle.rd_formulas.specs.Meaning.{Gives, relations_in, terms_in}
 use Rattle.rd_formulas.specs.Reading.{IsTroubled, SaysFormula}
 use Rattle.rd_formulas.specs.declared.reading.FormulaRefused.TheVariants as formula
 use Rattle.rd_ecl.specs.declared.formulas.Reason.{Reason}
 use Rattle.rd_formulas.specs.Scope.{IsBare, IsUnknown, MeansAt}
-use Rattle.rd_grammar.specs.Grammar.{Tree as Read, Says, disj}
-use Rattle.rd_grammar.specs.declared.marks.Mark.{Mark}
-use Rattle.rd_lines.specs.Lines.{AreMarksFrom, IsCommuteLine, IsOutOfOrder, Word, plain, word_at, words_of, commute as commute_said}
+use Rattle.rd_grammar.specs.Grammar.{Tree as Read}
+use Rattle.rd_lines.specs.Lines.{AreMarksFrom, IsOutOfOrder, Word, plain, word_at, words_of, commute as commute_said}
 use Rattle.rd_lines.proofs.FormulaLemmas.{words_marked}
-use Rattle.rd_lines.specs.declared.forms.Stage.{Stage}
-use Rattle.rd_lines.specs.declared.forms.Stage.TheVariants.{Outside, Methods, Pairs}
+use Rattle.rd_lines.specs.declared.forms.Stage.TheVariants.{Outside}
 use Rattle.rd_pairs.proofs.ScopeLemmas.{slots_are}
 use Rattle.rd_pairs.proofs.NumberLemmas.{AreDifferent, contained, one_pair, one_place}
 use Rattle.rd_pairs.proofs.MeaningLemmas.{known_relations, known_terms, no_first, no_first_sign, one_formula}
@@ -41,9 +37,8 @@ use Rattle.rd_text.specs.Text.{IsSound, text_of}
 use Rattle.rd_text.proofs.FormulaLemmas.{says_formula}
 use Rattle.rd_tokens.specs.declared.items.Token.{Token}
 use Rattle.rd_tokens.specs.Tokens.{AreTokens}
-use Rattle.rd_spec.specs.Texts.{IsSkipped, Reads, no_more}
+use Rattle.rd_spec.specs.Texts.{Reads}
 use Rattle.rd_spec.proofs.AcceptLemmas.{accepted}
-use Rattle.rd_spec.proofs.LineLemmas.{reads_on}
 use Rattle.rd_spec.proofs.MethodLines.{at, line_read}
 use Rattle.rd_spec.proofs.TextLemmas.{kept_line, lift}
 
@@ -139,7 +134,7 @@ in_their_order names i j first second different here there ordered (before, behi
     let seconds : slice_get names (length before) ≡ Some second = subst (λ (l : List (List ℕ)). slice_get l (length before) ≡ Some second) (sym same) (at_middle before second behind) in
     let spot : slice_get behind k ≡ Some first = slice_get-get_or behind k first within ∙ ap Some at in
     let firsts : slice_get names (length before + k + 1) ≡ Some first =
-        subst (λ (l : List (List ℕ)). slice_get l (length before + k + 1) ≡ Some first) (sym same) (at_behind before second behind k (length before + k + 1) refl ∙ spot) in
+    subst (λ (l : List (List ℕ)). slice_get l (length before + k + 1) ≡ Some first) (sym same) (at_behind before second behind k (length before + k + 1) refl ∙ spot) in
     let one : j ≡ length before = one_place names second j (length before) different there seconds in
     let two : i ≡ length before + k + 1 = one_place names first i (length before + k + 1) different here firsts in
     omega (arith, ordered, one, two)
@@ -239,7 +234,7 @@ module _ (taken : List (List ℕ)) (closed : List SpecifiedKind) (kind part : Sp
   short_line : (tokens : List Token) → words_of line tokens ≡ map lift (commute_words kind (i, j)) → ¬ (HasManyTokens (words_of line tokens))
   short_line tokens read many =
       let same : plain (codes "commute") ∷ many.first ∷ many.second ∷ plain (codes "when") ∷ many.behind ≡ map lift (front ++ words) =
-          sym many.written ∙ read ∙ ap (map lift) all_words in
+      sym many.written ∙ read ∙ ap (map lift) all_words in
       let rest : many.behind ≡ map lift words = ap (λ (l : List Word). drop 4 l) same in
       let count : length many.behind ≡ length words = ap length rest ∙ length-map words lift in
       let long = many.many in
@@ -258,25 +253,24 @@ module _ (taken : List (List ℕ)) (closed : List SpecifiedKind) (kind part : Sp
       line_read taken (at closed part paired) (at closed (with_pair part i j f) true) (commute_words kind (i, j)) printed_there.sound
       (kept_line 99 (codes "ommute") (printed first ∷ printed second ∷ printed (codes "when") ∷ formula_words kind i j) (λ e. omega (arith, e)) (λ e. omega (arith, e)))
       (λ tokens are read. accept tokens are read (says tokens are)) where
-    accept : (tokens : List Token) → AreTokens (text_of (commute_words kind (i, j))) tokens → words_of (text_of (commute_words kind (i, j))) tokens ≡ map lift (commute_words kind (i, j))
-        → SaysFormula (scope_of kind (text_of (commute_words kind (i, j))) tokens i j) f
-        → Accepts taken (at closed part paired) (text_of (commute_words kind (i, j))) (at closed (with_pair part i j f) true)
-    accept tokens are read (tree, (marks, marked, said), gives) =
-        let fits = same_scope tokens tree gives in
-        accepted taken (at closed part paired) line tokens (commute_said first second tree) refl (short_line tokens read)
-        (record {
-          stands = stands_in closed part paired;
-          named_first = printed_there.first_name;
-          named_second = printed_there.second_name;
-          order = subst (λ (ms : List Method). ¬ (IsOutOfOrder (names_of ms) first second)) (sym methods)
-              (in_their_order (names_of kind.methods) i j first second (subst (λ (ms : List Method). AreDifferent (names_of ms)) methods ready.names)
-              (name_there kind.methods i within_first) (name_there kind.methods j printed_there.known) printed_there.ordered);
-          behind = map lift words;
-          marks = marks;
-          written = read ∙ ap (map lift) all_words;
-          marked = subst (λ (ws : List Word). AreMarksFrom 0 ws marks) (behind tokens read) (words_marked line (drop 4 tokens) marks marked);
-          says = said;
-        }) (at closed (with_pair part i j f) true) are
-        (pair_clean part line tokens first second tree i j f ready numbers fits)
-        (i, j, f, record { numbers = numbers; gives = fits }, refl)
-
+        accept : (tokens : List Token) → AreTokens (text_of (commute_words kind (i, j))) tokens → words_of (text_of (commute_words kind (i, j))) tokens ≡ map lift (commute_words kind (i, j))
+            → SaysFormula (scope_of kind (text_of (commute_words kind (i, j))) tokens i j) f
+            → Accepts taken (at closed part paired) (text_of (commute_words kind (i, j))) (at closed (with_pair part i j f) true)
+        accept tokens are read (tree, (marks, marked, said), gives) =
+            let fits = same_scope tokens tree gives in
+            accepted taken (at closed part paired) line tokens (commute_said first second tree) refl (short_line tokens read)
+            (record {
+              stands = stands_in closed part paired;
+              named_first = printed_there.first_name;
+              named_second = printed_there.second_name;
+              order = subst (λ (ms : List Method). ¬ (IsOutOfOrder (names_of ms) first second)) (sym methods)
+                  (in_their_order (names_of kind.methods) i j first second (subst (λ (ms : List Method). AreDifferent (names_of ms)) methods ready.names)
+                  (name_there kind.methods i within_first) (name_there kind.methods j printed_there.known) printed_there.ordered);
+              behind = map lift words;
+              marks = marks;
+              written = read ∙ ap (map lift) all_words;
+              marked = subst (λ (ws : List Word). AreMarksFrom 0 ws marks) (behind tokens read) (words_marked line (drop 4 tokens) marks marked);
+              says = said;
+            }) (at closed (with_pair part i j f) true) are
+            (pair_clean part line tokens first second tree i j f ready numbers fits)
+            (i, j, f, record { numbers = numbers; gives = fits }, refl)

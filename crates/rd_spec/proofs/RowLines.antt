@@ -1,16 +1,15 @@
 -- All lines of a kind's pairs are read again.
-use Rattle.std.proofs.Common.{◌≡◌, ◌≢◌, ℕ, zero, suc, ◌+◌, ◌-◌, ◌*◌, ◌<◌, ◌≤◌, Bool, true, false, List, [], ◌∷◌, ◌++◌, length, map, Option, Some, None, refl, sym, ap, subst, arith, inl, inr, ◌∙◌, length-append}
-use Rattle.std.specs.Prelude.{All, flat_map, nat_le, slice_index_or, if◌then◌else◌, set, ◌⊎◌}
+use Rattle.std.proofs.Common.{◌≡◌, ◌≢◌, ℕ, zero, suc, ◌+◌, ◌-◌, ◌*◌, ◌<◌, ◌≤◌, Bool, true, false, List, ◌++◌, length, map, Option, Some, None, refl, sym, ap, subst, arith, inl, inr, ◌∙◌}
+use Rattle.std.specs.Prelude.{flat_map, nat_le, slice_index_or, if◌then◌else◌, ◌⊎◌}
 use Rattle.std.specs.List.{range_with_len}
 use Rattle.std.proofs.lemmas.Bool.{cases_lt, lt-leb}
 use Rattle.std.proofs.lemmas.List.{length-set, map-append, get_or_past}
 use Rattle.rd_ecl.specs.declared.kinds.Method.{Method}
 use Rattle.rd_ecl.specs.Formulas.{Tree}
-use Rattle.rd_ecl.specs.Specified.{ArePairs, IsDraft, IsPair, SpecifiedKind, formula_at, method_predicates, names_of, slots_at, with_pair}
+use Rattle.rd_ecl.specs.Specified.{IsPair, SpecifiedKind, formula_at, method_predicates, names_of, slots_at, with_pair}
 use Rattle.rd_ecl.proofs.PairLemmas.{at_other, at_set}
 use Rattle.rd_causes.specs.Causes.{HasManyPredicates}
 use Rattle.rd_causes.specs.Known.{variables_at}
-use Rattle.rd_causes.specs.declared.known.Known.{Known}
 use Rattle.rd_pairs.proofs.NumberLemmas.{AreDifferent}
 use Rattle.rd_print.specs.Printed.{commute_words, pairs_of}
 use Rattle.rd_text.specs.Text.{text_of}
@@ -216,7 +215,7 @@ rows_read taken closed kind source (suc count) i part paired end is =
     let row : List (ℕ × ℕ) = map (λ (second : ℕ). (i, second)) (range_with_len i (length kind.methods - i)) in
     let more : List (ℕ × ℕ) = flat_map (λ (first : ℕ). map (λ (second : ℕ). (first, second)) (range_with_len first (length kind.methods - first))) (range_with_len (i + 1) count) in
     let lines : map text_of (map (commute_words kind) (row ++ more)) ≡ map text_of (map (commute_words kind) row) ++ map text_of (map (commute_words kind) more) =
-        ap (map text_of) (map-append (commute_words kind) row more) ∙ map-append text_of (map (commute_words kind) row) (map (commute_words kind) more) in
+    ap (map text_of) (map-append (commute_words kind) row more) ∙ map-append text_of (map (commute_words kind) row) (map (commute_words kind) more) in
     record {
       next = rest.next;
       then_paired = rest.then_paired;

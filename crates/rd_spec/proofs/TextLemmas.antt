@@ -1,5 +1,5 @@
 -- The lines of a canonical text, and their tokens.
-use Rattle.std.proofs.Common.{◌≡◌, ◌≢◌, ℕ, zero, suc, ◌+◌, ◌<◌, ◌≤◌, Bool, true, false, List, [], ◌∷◌, ◌++◌, length, map, codes, refl, sym, ap, subst, arith, inl, inr, ◌∙◌}
+use Rattle.std.proofs.Common.{◌≡◌, ◌≢◌, ℕ, true, List, [], ◌∷◌, ◌++◌, map, codes, sym, ap, subst, arith, inl, inr, ◌∙◌}
 use Rattle.std.specs.Prelude.{All, flat_map, slice_index, ◌==◌}
 use Rattle.std.proofs.lemmas.Bool.Decides.{Decides-eqb}
 use Rattle.std.specs.List.{AllPass, AllByRecursion}
@@ -7,8 +7,8 @@ use Rattle.std.proofs.lemmas.List.{append_assoc, append-nil}
 use Rattle.std.proofs.lemmas.Simd.{map-map}
 use Rattle.rd_base.specs.Spelling.{is_plain}
 use Rattle.rd_canonical.specs.declared.items.Word.{Word as PrintedWord}
-use Rattle.rd_canonical.specs.Canonical.{AreWords, plain as printed}
-use Rattle.rd_lines.specs.Lines.{Word, word_at, words_of}
+use Rattle.rd_canonical.specs.Canonical.{plain as printed}
+use Rattle.rd_lines.specs.Lines.{Word, words_of}
 use Rattle.rd_print.specs.Printed.{line_text}
 use Rattle.rd_text.proofs.AgainLemmas.{words_again}
 use Rattle.rd_text.proofs.PlainLemmas.{words_plain}

@@ -1,5 +1,5 @@
 -- How far a text is read. Nobody has to believe this: the reader's contract speaks of the whole text alone.
-use Rattle.std.specs.Prelude.{◌≡◌, ◌≤◌, ◌+◌, ◌⊎◌, ℕ, List, ◌∷◌, ◌++◌, length}
+use Rattle.std.specs.Prelude.{◌≡◌, ◌≤◌, ◌+◌, ◌⊎◌, ℕ, List, ◌++◌, length}
 use Rattle.rd_causes.specs.Adding.{Accepts}
 use Rattle.rd_causes.specs.Known.{nothing}
 use Rattle.rd_causes.specs.declared.known.Known.{Known}

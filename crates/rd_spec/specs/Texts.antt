@@ -5,7 +5,6 @@ use Rattle.rd_base.specs.declared.limits.LimitName.TheVariants.{SpecText}
 use Rattle.rd_causes.specs.Adding.{Accepts}
 use Rattle.rd_causes.specs.Causes.{EndHas, Has, HasNone, IsFirstOf}
 use Rattle.rd_causes.specs.Known.{kinds_so_far, nothing}
-use Rattle.rd_causes.specs.declared.causes.SpecCause.{SpecCause}
 use Rattle.rd_causes.specs.declared.causes.SpecCause.TheVariants.{Limit}
 use Rattle.rd_causes.specs.declared.known.Known.{Known}
 use Rattle.rd_ecl.specs.Specified.{SpecifiedKind}

@@ -11,7 +11,8 @@ use std::test::Fail;
 const A_METHOD: &[u8] = b"rdspec 1\nkind k\nmethod m a -> r\n";
 
 // A kind with two methods, whose pairs are missing.
-const TWO_METHODS: &[u8] = b"rdspec 1\nkind d\nmethod put key value -> prev\nmethod get key -> value\n";
+const TWO_METHODS: &[u8] =
+    b"rdspec 1\nkind d\nmethod put key value -> prev\nmethod get key -> value\n";
 
 // The names that no kind of a text may have.
 fn reserved(alloc: Global) -> Result<Vec<Name>, AllocError> {
@@ -135,31 +136,85 @@ fn whole_texts(rt: HostRuntime) -> Result<(), Fail> {
         (b"rdspec 1\nkind k\n\n# end\n   \n", "ok 1"),
         (b"rdspec 1\nkind a\nkind b\nkind c\n", "ok 3"),
         (b"rdspec 1\nkind k\nmethod m -> r\n", "4 0 missing-pair m m"),
-        (b"rdspec 1\nkind k\nmethod m -> r\n\n# more", "6 0 missing-pair m m"),
-        (b"rdspec 1\nkind k\nmethod m -> r\nmethod n -> r\ncommute m m when true\ncommute n n when true", "7 0 missing-pair m n"),
-        (b"rdspec 1\nkind k\nmethod m -> r\nmethod n -> r\ncommute m n when true\ncommute n n when true\n", "7 0 missing-pair m m"),
-        (b"rdspec 1\nkind k\nmethod m -> r\nmethod n -> r\ncommute m m when true\ncommute m n when true\n", "7 0 missing-pair n n"),
-        (b"rdspec 1\nkind k\nmethod m -> r\nmethod n -> r\nmethod o -> r\ncommute m m when true\ncommute m n when true\ncommute n n when true\n", "9 0 missing-pair m o"),
-        (b"rdspec 1\nkind k\nmethod m -> r\nkind l\n", "4 0 missing-pair m m"),
-        (b"rdspec 1\nkind k\nmethod m -> r\nkind k\n", "4 6 duplicate"),
-        (b"rdspec 1\nkind k\nmethod m -> r\nkind queue\n", "4 0 missing-pair m m"),
-        (b"rdspec 1\nkind k\nmethod m -> r\ncommute m m when true\nkind k\n", "5 6 duplicate"),
+        (
+            b"rdspec 1\nkind k\nmethod m -> r\n\n# more",
+            "6 0 missing-pair m m",
+        ),
+        (
+            b"rdspec 1\nkind k\nmethod m -> r\nmethod n -> r\ncommute m m when true\ncommute n n when true",
+            "7 0 missing-pair m n",
+        ),
+        (
+            b"rdspec 1\nkind k\nmethod m -> r\nmethod n -> r\ncommute m n when true\ncommute n n when true\n",
+            "7 0 missing-pair m m",
+        ),
+        (
+            b"rdspec 1\nkind k\nmethod m -> r\nmethod n -> r\ncommute m m when true\ncommute m n when true\n",
+            "7 0 missing-pair n n",
+        ),
+        (
+            b"rdspec 1\nkind k\nmethod m -> r\nmethod n -> r\nmethod o -> r\ncommute m m when true\ncommute m n when true\ncommute n n when true\n",
+            "9 0 missing-pair m o",
+        ),
+        (
+            b"rdspec 1\nkind k\nmethod m -> r\nkind l\n",
+            "4 0 missing-pair m m",
+        ),
+        (
+            b"rdspec 1\nkind k\nmethod m -> r\nkind k\n",
+            "4 6 duplicate",
+        ),
+        (
+            b"rdspec 1\nkind k\nmethod m -> r\nkind queue\n",
+            "4 0 missing-pair m m",
+        ),
+        (
+            b"rdspec 1\nkind k\nmethod m -> r\ncommute m m when true\nkind k\n",
+            "5 6 duplicate",
+        ),
         (b"rdspec 1\nkind a\nkind b\nkind a\n", "4 6 duplicate"),
-        (b"rdspec 1\nkind k\nmethod m -> r\ncommute m m when true\nkind l\nmethod m a -> r\ncommute m m when a@1 = a@1\n", "ok 2"),
-        (b"rdspec 1\nkind k\nmethod n -> r\nmethod m -> r\ncommute m m when true\ncommute n m when true\ncommute n n when true\n", "ok 1"),
-        (b"rdspec 1\nkind when\nmethod true -> r\nmethod 1 -> r\ncommute true 1 when true\ncommute 1 1 when true\ncommute true true when r@1 = r@1\n", "ok 1"),
-        (b"rdspec 1\nkind k\n\nmethod m -> r\n   \n# pairs\ncommute m m when true", "ok 1"),
-        (b"rdspec 1\nkind k\nmethod m -> r\ncommute m m when true\nmethod n -> r\n", "5 1 syntax"),
-        (b"rdspec 1\nkind k\nmethod m -> r\ncommute m m when true\nkind l\nmethod m -> r\n", "7 0 missing-pair m m"),
+        (
+            b"rdspec 1\nkind k\nmethod m -> r\ncommute m m when true\nkind l\nmethod m a -> r\ncommute m m when a@1 = a@1\n",
+            "ok 2",
+        ),
+        (
+            b"rdspec 1\nkind k\nmethod n -> r\nmethod m -> r\ncommute m m when true\ncommute n m when true\ncommute n n when true\n",
+            "ok 1",
+        ),
+        (
+            b"rdspec 1\nkind when\nmethod true -> r\nmethod 1 -> r\ncommute true 1 when true\ncommute 1 1 when true\ncommute true true when r@1 = r@1\n",
+            "ok 1",
+        ),
+        (
+            b"rdspec 1\nkind k\n\nmethod m -> r\n   \n# pairs\ncommute m m when true",
+            "ok 1",
+        ),
+        (
+            b"rdspec 1\nkind k\nmethod m -> r\ncommute m m when true\nmethod n -> r\n",
+            "5 1 syntax",
+        ),
+        (
+            b"rdspec 1\nkind k\nmethod m -> r\ncommute m m when true\nkind l\nmethod m -> r\n",
+            "7 0 missing-pair m m",
+        ),
         (b"rdspec 1\nmethod m -> r\n", "2 1 syntax"),
         (b"rdspec 1\ncommute m m when true\n", "2 1 syntax"),
         (b"rdspec 1\nrdspec 1\n", "2 1 syntax"),
         (b"rdspec 1\nkind k\nrdspec 1\n", "3 1 syntax"),
-        (b"rdspec 1\nkind k\nkind register\nkind k\n", "3 6 kind-taken"),
-        (b"rdspec 1\nkind k\ncommute m m when true\n", "3 9 unknown-method"),
+        (
+            b"rdspec 1\nkind k\nkind register\nkind k\n",
+            "3 6 kind-taken",
+        ),
+        (
+            b"rdspec 1\nkind k\ncommute m m when true\n",
+            "3 9 unknown-method",
+        ),
         (b"rdspec 1\nkind k\ndefault true\n", "3 1 syntax"),
         (b"rdspec 1\nkind k\ndefine m n when a = 1\n", "3 1 syntax"),
-        (b"rdspec 1\nkind k\nmethod m a b -> r\nmethod n -> r\ncommute m n when b@1 = r@2\n", "5 22 outside-fragment cross-relation"),
+        (
+            b"rdspec 1\nkind k\nmethod m a b -> r\nmethod n -> r\ncommute m n when b@1 = r@2\n",
+            "5 22 outside-fragment cross-relation",
+        ),
     ];
     check_rows(&rt, rt.alloc(), b"", &table)
 }
@@ -179,8 +234,14 @@ fn lines_of_kinds(rt: HostRuntime) -> Result<(), Fail> {
         (b"kind\tk", "2 5 syntax"),
         (b"  kind k", "ok 1"),
         (b"kind a_.:$#@-z", "ok 1"),
-        (b"kind nnnnnnnnnnnnnnnnnnnnnnnnnnnnnnnnnnnnnnnnnnnnnnnnnnnnnnnnnnnnnnnn", "ok 1"),
-        (b"kind nnnnnnnnnnnnnnnnnnnnnnnnnnnnnnnnnnnnnnnnnnnnnnnnnnnnnnnnnnnnnnnnn", "2 6 syntax"),
+        (
+            b"kind nnnnnnnnnnnnnnnnnnnnnnnnnnnnnnnnnnnnnnnnnnnnnnnnnnnnnnnnnnnnnnnn",
+            "ok 1",
+        ),
+        (
+            b"kind nnnnnnnnnnnnnnnnnnnnnnnnnnnnnnnnnnnnnnnnnnnnnnnnnnnnnnnnnnnnnnnnn",
+            "2 6 syntax",
+        ),
         (b"kind register", "2 6 kind-taken"),
         (b"kind counter", "2 6 kind-taken"),
         (b"kind set", "2 6 kind-taken"),
@@ -302,7 +363,10 @@ fn pairs_with_a_wrong_token(rt: HostRuntime) -> Result<(), Fail> {
         (b"commute m m when a@1 = -0", "4 24 syntax"),
         (b"commute m m when a@1 = +7", "4 24 syntax"),
         (b"commute m m when a@1 = 9223372036854775808", "4 24 syntax"),
-        (b"commute m m when a@1 = -9223372036854775809", "4 24 syntax"),
+        (
+            b"commute m m when a@1 = -9223372036854775809",
+            "4 24 syntax",
+        ),
         (b"commute m m when a@1 = \"\\x41\"", "4 24 syntax"),
         (b"commute m m when a@1 = \"\\n\"", "4 24 syntax"),
         (b"commute m m when a@1 = \"\\xFF\"", "4 24 syntax"),
@@ -330,11 +394,20 @@ fn pairs_that_say_something_wrong(rt: HostRuntime) -> Result<(), Fail> {
         (b"commute n m when 1 = 2", "4 9 unknown-method"),
         (b"commute m m when b@1 = 1", "4 18 unknown-variable"),
         (b"commute m m when 1 = b@2", "4 22 unknown-variable"),
-        (b"commute m m when a@1 = 1 and b@2 = 1", "4 30 unknown-variable"),
-        (b"commute m m when 1 = 2 and b@2 = 1", "4 28 unknown-variable"),
+        (
+            b"commute m m when a@1 = 1 and b@2 = 1",
+            "4 30 unknown-variable",
+        ),
+        (
+            b"commute m m when 1 = 2 and b@2 = 1",
+            "4 28 unknown-variable",
+        ),
         (b"commute m m when b@1 = c@2", "4 18 unknown-variable"),
         (b"commute m m when a@1 = c@2", "4 24 unknown-variable"),
-        (b"commute m m when not (b@1 != a@2)", "4 23 unknown-variable"),
+        (
+            b"commute m m when not (b@1 != a@2)",
+            "4 23 unknown-variable",
+        ),
         (b"commute m m when A@1 = 1", "4 18 unknown-variable"),
         (b"commute m m when 1 = 2", "4 20 no-variable"),
         (b"commute m m when \"a b\" != nil", "4 24 no-variable"),
@@ -342,21 +415,66 @@ fn pairs_that_say_something_wrong(rt: HostRuntime) -> Result<(), Fail> {
         (b"commute m m when a@1 = 1 or 1 < 2", "4 31 no-variable"),
         (b"commute m m when a@1 = a@2 or 1 < 2", "4 33 no-variable"),
         (b"commute m m when 1 = 1 and 2 = 2", "4 20 no-variable"),
-        (b"commute m m when a@1 = a@2", "4 22 outside-fragment cross-relation"),
-        (b"commute m m when a@2 = a@1", "4 22 outside-fragment cross-relation"),
-        (b"commute m m when a@1 < a@2", "4 22 outside-fragment cross-relation"),
-        (b"commute m m when a@2 <= r@1", "4 22 outside-fragment cross-relation"),
-        (b"commute m m when not a@1 != a@2", "4 18 outside-fragment not-over-cross"),
-        (b"commute m m when not (true and a@1 != a@2)", "4 18 outside-fragment not-over-cross"),
-        (b"commute m m when not a@1 = a@2", "4 26 outside-fragment cross-relation"),
-        (b"commute m m when a@1 != a@2 or r@1 != r@2", "4 29 outside-fragment or-of-cross"),
-        (b"commute m m when a@1 != a@2 or r@1 = r@2", "4 36 outside-fragment cross-relation"),
-        (b"commute m m when (a@1 != a@2 or r@1 = 1) or r@1 != r@2", "4 42 outside-fragment or-of-cross"),
-        (b"commute m m when a@1 != a@2 or not r@1 != r@2", "4 32 outside-fragment not-over-cross"),
-        (b"commute m m when a@1 = 1 or a@1 = 2 or a@1 = 3 or a@1 = 4 or a@1 = 5 or a@1 = 6", "4 13 limit predicates 5"),
-        (b"commute m m when a@1 = 1 or a@1 = 2 or a@1 = 3 or a@2 = 4 or a@2 = 5 or a@2 = 6", "4 13 limit predicates 5"),
-        (b"commute m m when a@1 = 1 or a@1 = 2 or a@1 = 3 or a@1 = 4 or a@1 = r@1 or r@1 = a@1", "4 13 limit predicates 5"),
-        (b"commute  m m when a@1 < 1 or a@1 <= 1 or a@1 = 1 or 1 < a@1 or 1 <= a@1 or 1 = a@1", "4 14 limit predicates 5"),
+        (
+            b"commute m m when a@1 = a@2",
+            "4 22 outside-fragment cross-relation",
+        ),
+        (
+            b"commute m m when a@2 = a@1",
+            "4 22 outside-fragment cross-relation",
+        ),
+        (
+            b"commute m m when a@1 < a@2",
+            "4 22 outside-fragment cross-relation",
+        ),
+        (
+            b"commute m m when a@2 <= r@1",
+            "4 22 outside-fragment cross-relation",
+        ),
+        (
+            b"commute m m when not a@1 != a@2",
+            "4 18 outside-fragment not-over-cross",
+        ),
+        (
+            b"commute m m when not (true and a@1 != a@2)",
+            "4 18 outside-fragment not-over-cross",
+        ),
+        (
+            b"commute m m when not a@1 = a@2",
+            "4 26 outside-fragment cross-relation",
+        ),
+        (
+            b"commute m m when a@1 != a@2 or r@1 != r@2",
+            "4 29 outside-fragment or-of-cross",
+        ),
+        (
+            b"commute m m when a@1 != a@2 or r@1 = r@2",
+            "4 36 outside-fragment cross-relation",
+        ),
+        (
+            b"commute m m when (a@1 != a@2 or r@1 = 1) or r@1 != r@2",
+            "4 42 outside-fragment or-of-cross",
+        ),
+        (
+            b"commute m m when a@1 != a@2 or not r@1 != r@2",
+            "4 32 outside-fragment not-over-cross",
+        ),
+        (
+            b"commute m m when a@1 = 1 or a@1 = 2 or a@1 = 3 or a@1 = 4 or a@1 = 5 or a@1 = 6",
+            "4 13 limit predicates 5",
+        ),
+        (
+            b"commute m m when a@1 = 1 or a@1 = 2 or a@1 = 3 or a@2 = 4 or a@2 = 5 or a@2 = 6",
+            "4 13 limit predicates 5",
+        ),
+        (
+            b"commute m m when a@1 = 1 or a@1 = 2 or a@1 = 3 or a@1 = 4 or a@1 = r@1 or r@1 = a@1",
+            "4 13 limit predicates 5",
+        ),
+        (
+            b"commute  m m when a@1 < 1 or a@1 <= 1 or a@1 = 1 or 1 < a@1 or 1 <= a@1 or 1 = a@1",
+            "4 14 limit predicates 5",
+        ),
     ];
     check_rows(&rt, rt.alloc(), A_METHOD, &table)
 }
@@ -385,14 +503,29 @@ fn pairs_that_are_right(rt: HostRuntime) -> Result<(), Fail> {
         (b"commute m m when a@1 != a@2 and r@1 != r@2", "ok 1"),
         (b"commute m m when a@1 != a@2 or r@1 = 1", "ok 1"),
         (b"commute m m when r@1 = 1 or a@1 != a@2", "ok 1"),
-        (b"commute m m when (a@1 != a@2 or r@1 = 1) and (r@1 != r@2 or a@2 = 1)", "ok 1"),
+        (
+            b"commute m m when (a@1 != a@2 or r@1 = 1) and (r@1 != r@2 or a@2 = 1)",
+            "ok 1",
+        ),
         (b"commute m m when a@1 != r@1", "ok 1"),
         (b"commute m m when not a@1 != r@1", "ok 1"),
         (b"commute m m when a@1 != 1 or a@2 != 1", "ok 1"),
-        (b"commute m m when a@1 = 1 or a@1 = 2 or a@1 = 3 or a@1 = 4 or a@1 = 5", "ok 1"),
-        (b"commute m m when a@1 = 1 or a@1 = 2 or a@1 = 3 or a@2 = 4 or a@2 = 5", "ok 1"),
-        (b"commute m m when a@1 = 1 or a@1 = 2 or a@1 = 3 or a@1 = 4 or a@1 = 5 or a@2 = 5", "ok 1"),
-        (b"commute m m when a@1 = 1 or a@1 = 2 or a@1 = 3 or a@1 = 4 or a@1 = 5 or a@1 != 5", "ok 1"),
+        (
+            b"commute m m when a@1 = 1 or a@1 = 2 or a@1 = 3 or a@1 = 4 or a@1 = 5",
+            "ok 1",
+        ),
+        (
+            b"commute m m when a@1 = 1 or a@1 = 2 or a@1 = 3 or a@2 = 4 or a@2 = 5",
+            "ok 1",
+        ),
+        (
+            b"commute m m when a@1 = 1 or a@1 = 2 or a@1 = 3 or a@1 = 4 or a@1 = 5 or a@2 = 5",
+            "ok 1",
+        ),
+        (
+            b"commute m m when a@1 = 1 or a@1 = 2 or a@1 = 3 or a@1 = 4 or a@1 = 5 or a@1 != 5",
+            "ok 1",
+        ),
     ];
     check_rows(&rt, rt.alloc(), A_METHOD, &table)
 }
@@ -409,11 +542,23 @@ fn pairs_of_two_methods(rt: HostRuntime) -> Result<(), Fail> {
         (b"commute size put when true", "5 9 unknown-method"),
         (b"commute put size when value@1 = 1", "5 13 unknown-method"),
         (b"commute put get when prev@2 = 1", "5 22 unknown-variable"),
-        (b"commute put get when value@2 = prev@1", "5 30 outside-fragment cross-relation"),
+        (
+            b"commute put get when value@2 = prev@1",
+            "5 30 outside-fragment cross-relation",
+        ),
         (b"commute get get when prev@1 = 1", "5 22 unknown-variable"),
-        (b"commute put get when key@1 != key@2 or value@1 = prev@1", "6 0 missing-pair put put"),
-        (b"commute put get when key@1 != key@2 or value@1 != value@2", "5 37 outside-fragment or-of-cross"),
-        (b"commute put get when key@1 = 1 or key@1 = 2 or key@2 = 1 or key@2 = 2 or key@1 = 3 or key@2 = 3", "6 0 missing-pair put put"),
+        (
+            b"commute put get when key@1 != key@2 or value@1 = prev@1",
+            "6 0 missing-pair put put",
+        ),
+        (
+            b"commute put get when key@1 != key@2 or value@1 != value@2",
+            "5 37 outside-fragment or-of-cross",
+        ),
+        (
+            b"commute put get when key@1 = 1 or key@1 = 2 or key@2 = 1 or key@2 = 2 or key@1 = 3 or key@2 = 3",
+            "6 0 missing-pair put put",
+        ),
     ];
     check_rows(&rt, rt.alloc(), TWO_METHODS, &table)
 }
@@ -424,23 +569,84 @@ type Times = (&'static [u8], usize);
 #[test]
 fn long_lines(rt: HostRuntime) -> Result<(), Fail> {
     let table: [(&[Times], &str); 18] = [
-        (&[(b"commute m m when a@1 = \"", 1), (b"t", 255), (b"\"", 1)], "ok 1"),
-        (&[(b"commute m m when a@1 = \"", 1), (b"t", 256), (b"\"", 1)], "4 24 syntax"),
-        (&[(b"commute m m when ", 1), (b"not ", 31), (b"true", 1)], "ok 1"),
-        (&[(b"commute m m when ", 1), (b"not ", 32), (b"true", 1)], "4 13 limit depth 32"),
-        (&[(b"commute m m when ", 1), (b"not ", 30), (b"a@1 != 1", 1)], "ok 1"),
-        (&[(b"commute m m when ", 1), (b"not ", 31), (b"a@1 != 1", 1)], "4 13 limit depth 32"),
-        (&[(b"commute m m when (true and true)", 1), (b" and (true and true)", 15)], "ok 1"),
+        (
+            &[(b"commute m m when a@1 = \"", 1), (b"t", 255), (b"\"", 1)],
+            "ok 1",
+        ),
+        (
+            &[(b"commute m m when a@1 = \"", 1), (b"t", 256), (b"\"", 1)],
+            "4 24 syntax",
+        ),
+        (
+            &[(b"commute m m when ", 1), (b"not ", 31), (b"true", 1)],
+            "ok 1",
+        ),
+        (
+            &[(b"commute m m when ", 1), (b"not ", 32), (b"true", 1)],
+            "4 13 limit depth 32",
+        ),
+        (
+            &[(b"commute m m when ", 1), (b"not ", 30), (b"a@1 != 1", 1)],
+            "ok 1",
+        ),
+        (
+            &[(b"commute m m when ", 1), (b"not ", 31), (b"a@1 != 1", 1)],
+            "4 13 limit depth 32",
+        ),
+        (
+            &[
+                (b"commute m m when (true and true)", 1),
+                (b" and (true and true)", 15),
+            ],
+            "ok 1",
+        ),
         (&[(b"commute m m when true", 1), (b" and true", 31)], "ok 1"),
-        (&[(b"commute m m when true", 1), (b" and true", 32)], "4 13 limit nodes 64"),
-        (&[(b"commute m m when (true and true)", 1), (b" and (true and true)", 16)], "4 13 limit nodes 64"),
-        (&[(b"commute m m when a@1 = a@2", 1), (b" and true", 33)], "4 22 outside-fragment cross-relation"),
-        (&[(b"commute m m when ", 1), (b"(", 255), (b"true", 1), (b")", 255)], "ok 1"),
-        (&[(b"commute m m when ", 1), (b"(", 256), (b"true", 1), (b")", 256)], "4 13 limit tokens 512"),
-        (&[(b"commute m m when ", 1), (b"x ", 513)], "4 13 limit tokens 512"),
+        (
+            &[(b"commute m m when true", 1), (b" and true", 32)],
+            "4 13 limit nodes 64",
+        ),
+        (
+            &[
+                (b"commute m m when (true and true)", 1),
+                (b" and (true and true)", 16),
+            ],
+            "4 13 limit nodes 64",
+        ),
+        (
+            &[(b"commute m m when a@1 = a@2", 1), (b" and true", 33)],
+            "4 22 outside-fragment cross-relation",
+        ),
+        (
+            &[
+                (b"commute m m when ", 1),
+                (b"(", 255),
+                (b"true", 1),
+                (b")", 255),
+            ],
+            "ok 1",
+        ),
+        (
+            &[
+                (b"commute m m when ", 1),
+                (b"(", 256),
+                (b"true", 1),
+                (b")", 256),
+            ],
+            "4 13 limit tokens 512",
+        ),
+        (
+            &[(b"commute m m when ", 1), (b"x ", 513)],
+            "4 13 limit tokens 512",
+        ),
         (&[(b"commute m m when ", 1), (b"x ", 512)], "4 18 syntax"),
-        (&[(b"commute m n when ", 1), (b"\x01", 513)], "4 13 limit tokens 512"),
-        (&[(b"commute ( ) when ", 1), (b"\"\" ", 513)], "4 13 limit tokens 512"),
+        (
+            &[(b"commute m n when ", 1), (b"\x01", 513)],
+            "4 13 limit tokens 512",
+        ),
+        (
+            &[(b"commute ( ) when ", 1), (b"\"\" ", 513)],
+            "4 13 limit tokens 512",
+        ),
         (&[(b"commute m m when \"", 1), (b"x ", 600)], "4 18 syntax"),
     ];
     for (parts, expected) in table {
@@ -451,7 +657,11 @@ fn long_lines(rt: HostRuntime) -> Result<(), Fail> {
                 text.append(part)?;
             }
         }
-        assert_eq!(rt; answer(rt.alloc(), text.items())?.as_str(), expected, "{expected}");
+        assert_eq!(rt;
+            answer(rt.alloc(), text.items())?.as_str(),
+            expected,
+            "{expected}"
+        );
     }
     Ok(())
 }
@@ -482,10 +692,22 @@ fn methods(alloc: Global, count: u32) -> Result<String, AllocError> {
 #[test]
 fn limits_on_counts(rt: HostRuntime) -> Result<(), Fail> {
     let alloc = rt.alloc();
-    assert_eq!(rt; answer(alloc, kinds(alloc, 32)?.as_bytes())?.as_str(), "ok 32");
-    assert_eq!(rt; answer(alloc, kinds(alloc, 33)?.as_bytes())?.as_str(), "34 6 limit kinds 32");
-    assert_eq!(rt; answer(alloc, methods(alloc, 16)?.as_bytes())?.as_str(), "ok 1");
-    assert_eq!(rt; answer(alloc, methods(alloc, 17)?.as_bytes())?.as_str(), "19 8 limit methods 16");
+    assert_eq!(rt;
+        answer(alloc, kinds(alloc, 32)?.as_bytes())?.as_str(),
+        "ok 32"
+    );
+    assert_eq!(rt;
+        answer(alloc, kinds(alloc, 33)?.as_bytes())?.as_str(),
+        "34 6 limit kinds 32"
+    );
+    assert_eq!(rt;
+        answer(alloc, methods(alloc, 16)?.as_bytes())?.as_str(),
+        "ok 1"
+    );
+    assert_eq!(rt;
+        answer(alloc, methods(alloc, 17)?.as_bytes())?.as_str(),
+        "19 8 limit methods 16"
+    );
     Ok(())
 }
 
@@ -498,7 +720,10 @@ fn a_text_has_at_most_1048576_bytes(rt: HostRuntime) -> Result<(), Fail> {
     }
     assert_eq!(rt; answer(rt.alloc(), text.items())?.as_str(), "ok 0");
     text.push(b'#')?;
-    assert_eq!(rt; answer(rt.alloc(), text.items())?.as_str(), "0 0 limit text 1048576");
+    assert_eq!(rt;
+        answer(rt.alloc(), text.items())?.as_str(),
+        "0 0 limit text 1048576"
+    );
     Ok(())
 }
 
@@ -506,7 +731,8 @@ fn a_text_has_at_most_1048576_bytes(rt: HostRuntime) -> Result<(), Fail> {
 fn a_text_is_written_canonically(rt: HostRuntime) -> Result<(), Fail> {
     let alloc = rt.alloc();
     let taken = reserved(alloc)?;
-    let canonical: &[u8] = b"rdspec 1\nkind cell\nmethod put value -> prev\nmethod get -> value\ncommute put put when value@1 = prev@1 and value@2 = prev@2\ncommute put get when not value@1 != prev@1\ncommute get get when true\n";
+    let canonical: &[u8] =
+        b"rdspec 1\nkind cell\nmethod put value -> prev\nmethod get -> value\ncommute put put when value@1 = prev@1 and value@2 = prev@2\ncommute put get when not value@1 != prev@1\ncommute get get when true\n";
     let table: [&[u8]; 2] = [
         b"rdspec 1\nkind cell\nmethod put value -> prev\nmethod get -> value\ncommute get get when (true)\ncommute put get when not (value@1 != prev@1)\ncommute put put when ( value@1 = prev@1 ) and value@2 = prev@2\n",
         canonical,

@@ -1,7 +1,5 @@
-use Rattle.std.proofs.Common.{ℕ, List, subst}
 use Rattle.std.proofs.Math.Seq.{drop-length}
 use Rattle.std.proofs.lemmas.List.{take_rest}
-use Rattle.rd_spec.specs.Texts.{AreLines}
 use Rattle.rd_spec.proofs.CuttingLemmas.{line_cut, line_left}
 use Rattle.rd_spec.proofs.cutting.cut_line.Goals as goal
 

@@ -1,8 +1,4 @@
 use Rattle.std.proofs.Common.{◌≡◌, length, arith}
-use Rattle.rd_causes.specs.Known.{nothing}
-use Rattle.rd_causes.specs.declared.known.Known.{Known}
-use Rattle.rd_spec.specs.Reading.{IsHalfRead}
-use Rattle.rd_spec.specs.Texts.{Refuses}
 use Rattle.rd_spec.proofs.LineLemmas.{unread, read_on, all_read, stopped}
 use Rattle.rd_spec.proofs.parsing.read_lines.Goals as goal
 
