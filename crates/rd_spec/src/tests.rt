@@ -17,18 +17,14 @@ const TWO_METHODS: &[u8] =
 // The names that no kind of a text may have.
 fn reserved(alloc: Global) -> Result<Vec<Name>, AllocError> {
     let mut names = Vec::new(alloc);
-    for name in [
-        b"register".as_slice(),
-        b"counter",
-        b"set",
-        b"dictionary",
-        b"bag",
-        b"peak",
-        b"queue",
-        b"tally",
-    ] {
-        names.push(Name::from_bytes(name).unwrap())?;
-    }
+    names.push(Name::from_bytes(b"register").unwrap())?;
+    names.push(Name::from_bytes(b"counter").unwrap())?;
+    names.push(Name::from_bytes(b"set").unwrap())?;
+    names.push(Name::from_bytes(b"dictionary").unwrap())?;
+    names.push(Name::from_bytes(b"bag").unwrap())?;
+    names.push(Name::from_bytes(b"peak").unwrap())?;
+    names.push(Name::from_bytes(b"queue").unwrap())?;
+    names.push(Name::from_bytes(b"tally").unwrap())?;
     Ok(names)
 }
 
@@ -566,6 +562,24 @@ fn pairs_of_two_methods(rt: HostRuntime) -> Result<(), Fail> {
 // A part of a text, so often.
 type Times = (&'static [u8], usize);
 
+// Puts a part last, so often.
+fn append_times(text: &mut Bytes, part: &[u8], times: usize) -> Result<(), NoMemory> {
+    for _ in 0..times {
+        text.append(part)?;
+    }
+    Ok(())
+}
+
+// The parts behind the method.
+fn repeated(alloc: Global, parts: &[Times]) -> Result<Bytes, NoMemory> {
+    let mut text = Bytes::new(alloc);
+    text.append(A_METHOD)?;
+    for (part, times) in parts {
+        append_times(&mut text, part, *times)?;
+    }
+    Ok(text)
+}
+
 #[test]
 fn long_lines(rt: HostRuntime) -> Result<(), Fail> {
     let table: [(&[Times], &str); 18] = [
@@ -650,13 +664,7 @@ fn long_lines(rt: HostRuntime) -> Result<(), Fail> {
         (&[(b"commute m m when \"", 1), (b"x ", 600)], "4 18 syntax"),
     ];
     for (parts, expected) in table {
-        let mut text = Bytes::new(rt.alloc());
-        text.append(A_METHOD)?;
-        for (part, times) in parts {
-            for _ in 0..*times {
-                text.append(part)?;
-            }
-        }
+        let text = repeated(rt.alloc(), parts)?;
         assert_eq!(rt;
             answer(rt.alloc(), text.items())?.as_str(),
             expected,
