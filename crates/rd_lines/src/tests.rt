@@ -8,15 +8,20 @@ use rd_tokens::tokens;
 use std::alloc::{AllocError, Global};
 use std::test::Fail;
 
+// A method of this name.
+fn method(alloc: Global, name: Name) -> Method {
+    Method {
+        name,
+        variables: Names::new(alloc),
+    }
+}
+
 // The methods `put`, `get` and `size`.
 fn declared(alloc: Global) -> Result<Vec<Method>, NoMemory> {
     let mut methods = Vec::new(alloc);
-    for name in [b"put".as_slice(), b"get", b"size"] {
-        methods.push(Method {
-            name: Name::from_bytes(name).unwrap(),
-            variables: Names::new(alloc),
-        })?;
-    }
+    methods.push(method(alloc, Name::from_bytes(b"put").unwrap()))?;
+    methods.push(method(alloc, Name::from_bytes(b"get").unwrap()))?;
+    methods.push(method(alloc, Name::from_bytes(b"size").unwrap()))?;
     Ok(methods)
 }
 
