@@ -14,6 +14,14 @@ pub record SpecifiedKind : Type 0 where
   pub methods : List Method
   pub pairs : List (Option Tree)
 
+-- a kind of no name and without a method
+abbrev pub no_kind : SpecifiedKind
+no_kind = record { name = []; methods = []; pairs = [] }
+
+-- the kind with this number; that of no name where none has it
+abbrev pub kind_at : List SpecifiedKind → ℕ → SpecifiedKind
+kind_at kinds number = slice_index_or kinds number no_kind
+
 abbrev pub IsMethod : Method → Type 0
 IsMethod method = AreVariables method.variables
 

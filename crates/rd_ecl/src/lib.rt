@@ -12,4 +12,4 @@ mod tests;
 pub use formulas::{Formula, Outside, Predicate, Reason, Rel, Side, Term, law_of_formulas};
 pub use kinds::{KindDraft, KindSpec, Method, law_of_commuting, law_of_pairs, law_of_variables};
 pub use names::Names;
-pub use specifications::Spec;
+pub use specifications::{AppendRefused, Spec};

@@ -1,5 +1,5 @@
 //! The kinds of objects that a run knows.
-ghost use Rattle.std.specs.Prelude.{◌≡◌, [], ◌∷◌, ◌++◌, All, OnOk, OnErr, IfErr};
+ghost use Rattle.std.specs.Prelude.{◌≡◌, [], ◌∷◌, ◌++◌, All, OnOk, OnErr, IfOk, IfErr};
 ghost use Rattle.rd_ecl.specs.Specified.{IsKind};
 
 use crate::kinds::KindSpec;
@@ -26,6 +26,13 @@ impl Model for Spec {
     ghost view = { λ s. s.kinds.items };
 
     ghost invariant = { λ s. All IsKind s.kinds.items };
+}
+
+/// Why two specifications weren't put together: memory ran out. It hands both back.
+#[derive(Debug, Drop)]
+pub struct AppendRefused {
+    pub left: Spec,
+    pub right: Spec,
 }
 
 impl Spec {
@@ -59,5 +66,20 @@ impl Spec {
         }
         self.kinds.push_reserved(kind);
         Ok(())
+    }
+
+    /// The kinds of this one, then those of the other. After want of memory both come back.
+    pub fn append(self, other: Spec) -> Result<Spec, AppendRefused>
+        ensures ok { IfOk result (λ spec. spec ≡ self ++ other) }
+        ensures back { IfErr result (λ refused. (refused.left ≡ self) × (refused.right ≡ other)) }
+    {
+        let mut left = self;
+        let mut right = other;
+        // what the specifications promise of each kind
+        let (_these, _those) = (left.kinds(), right.kinds());
+        match left.kinds.append(&mut right.kinds) {
+            Ok(()) => Ok(left),
+            Err(_) => Err(AppendRefused { left, right }),
+        }
     }
 }
