@@ -55,13 +55,16 @@ slots_spelling [] = []
 slots_spelling (result ∷ []) = words_apart (codes "->") (value_spelling result)
 slots_spelling (argument ∷ slot ∷ slots) = words_apart (value_spelling argument) (slots_spelling (slot ∷ slots))
 
+-- a call, as its line has it behind `call`
+abbrev pub call_text : List ℕ → List ℕ → List ℕ → List Value → List ℕ
+call_text thread object method slots = words_apart thread (words_apart object (words_apart method (slots_spelling slots)))
+
 abbrev pub event_spelling : LineEvent → List ℕ
 event_spelling (Fork thread child) = codes "fork " ++ words_apart thread child
 event_spelling (Join thread child) = codes "join " ++ words_apart thread child
 event_spelling (Acquire thread lock) = codes "acquire " ++ words_apart thread lock
 event_spelling (Release thread lock) = codes "release " ++ words_apart thread lock
-event_spelling (Call thread object method slots) =
-    codes "call " ++ words_apart thread (words_apart object (words_apart method (slots_spelling slots)))
+event_spelling (Call thread object method slots) = codes "call " ++ call_text thread object method slots
 
 -- the one spelling of each item that isn't skipped
 abbrev pub spelling : Line → List ℕ

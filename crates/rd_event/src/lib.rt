@@ -12,4 +12,4 @@ mod tests;
 pub use events::{Call, Event};
 pub use items::{Line, LineEvent};
 pub use reading::{LineRefused, law_of_spelling, read_into, read_line};
-pub use spelling::spell;
+pub use spelling::{append_call, spell};

@@ -2,7 +2,7 @@
 ghost use Rattle.std.specs.Prelude.{◌≡◌, [], ◌∷◌, ◌++◌, All, Some, OnOk, IfOk};
 ghost use Rattle.rd_base.specs.Names.{IsName};
 ghost use Rattle.rd_base.specs.Spelling.{IsValue};
-ghost use Rattle.rd_event.specs.Items.{LineInRange, IsEvent, IsSpellable, HasFewSlots, Says, words_apart, slots_spelling, event_spelling, spelling};
+ghost use Rattle.rd_event.specs.Items.{LineInRange, IsEvent, IsSpellable, HasFewSlots, Says, call_text, words_apart, slots_spelling, event_spelling, spelling};
 ghost use Rattle.rd_event.specs.Reading.{item_of};
 
 use crate::items::{Line, LineEvent};
@@ -49,23 +49,22 @@ fn append_slots(text: &mut Bytes, slots: &[Value]) -> Result<(), NoMemory>
     append_value(text, last)
 }
 
-// Puts the spelling of a call behind the text.
-fn append_call(
+/// Puts a call behind the text, as its line has it behind `call`. After want of memory the text may have a front of it.
+pub fn append_call(
     text: &mut Bytes,
     thread: &Name,
     object: &Name,
     method: &Name,
-    slots: &Slots,
+    slots: &[Value],
 ) -> Result<(), NoMemory>
-    requires { HasFewSlots (LineEvent.Call thread.now object.now method.now slots.now) }
-    ensures ok { OnOk result (text.new ≡ text.old ++ event_spelling (LineEvent.Call thread.now object.now method.now slots.now)) }
-    ensures range { OnOk result (IsEvent (LineEvent.Call thread.now object.now method.now slots.now)) }
+    ensures ok { OnOk result (text.new ≡ text.old ++ call_text thread.now object.now method.now slots.now) }
+    ensures names { OnOk result (IsName thread.now × IsName object.now × IsName method.now) }
+    ensures values { OnOk result (All IsValue slots.now) }
 {
-    text.append(b"call ")?;
     append_word(text, thread)?;
     append_word(text, object)?;
     append_word(text, method)?;
-    append_slots(text, slots.items())
+    append_slots(text, slots)
 }
 
 // Puts the spelling of an event behind the text.
@@ -84,7 +83,10 @@ fn append_event(text: &mut Bytes, event: &LineEvent) -> Result<(), NoMemory>
             object,
             method,
             slots,
-        } => append_call(text, thread, object, method, slots),
+        } => {
+            text.append(b"call ")?;
+            append_call(text, thread, object, method, slots.items())
+        }
     }
 }
 
