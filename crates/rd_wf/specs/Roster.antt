@@ -44,6 +44,10 @@ object_entry kinds _ = None
 abbrev pub names_in : Roster → List (List ℕ)
 names_in roster = map (λ entry. entry.0) roster.threads.entries
 
+-- the names of the objects that it numbers, in their order
+abbrev pub object_names_in : Roster → List (List ℕ)
+object_names_in roster = map (λ entry. entry.0) roster.objects.entries
+
 -- a lock that no thread has
 abbrev pub free_lock : Lock
 free_lock = record { holder = 0; depth = 0 }

@@ -53,7 +53,7 @@ impl Roster {
     ghost use Rattle.rd_wf.specs.MayFollow.{IsBrokenFirst, MayFollow, first_broken, accepted_of, same_name, threads_of, locks_of, objects_of, headers, events, takes_memory};
     ghost use Rattle.std.specs.List.{AllPairs};
     ghost use Rattle.rd_ecl.specs.Kinds.{Kind, kind_names, kinds_of};
-    ghost use Rattle.rd_wf.specs.Roster.{StandsFor, Accepts, Refuses, names_in, thread_count, lock_count, object_count};
+    ghost use Rattle.rd_wf.specs.Roster.{StandsFor, Accepts, Refuses, names_in, object_names_in, thread_count, lock_count, object_count};
 
     /// The roster of no lines. It keeps the names of the kinds, which differ, and of their methods, and how many slots each
     /// method has. A kind's number is its place in the specification.
@@ -342,7 +342,8 @@ impl Roster {
     /// The name of the object with this number, which is below `objects()`. It takes no memory.
     pub fn object_name(&self, object: u32) -> &Name
         requires { object < object_count self.now }
-        ensures { (kinds : List Kind) (lines : List LineOf) → StandsFor kinds self.now lines → slice_get (objects_of lines) object ≡ Some result.now }
+        ensures name { slice_get (object_names_in self.now) object ≡ Some result.now }
+        ensures history { (kinds : List Kind) (lines : List LineOf) → StandsFor kinds self.now lines → slice_get (objects_of lines) object ≡ Some result.now }
     {
         self.objects.get_index(object as usize).unwrap().0
     }
