@@ -1,3 +1,3 @@
+pub mod AskLemmas
 pub mod DetectLemmas
 pub mod RaceLemmas
-pub mod RegisterLemmas

@@ -1,5 +1,4 @@
+pub mod Commuting
 pub mod Detect
 pub mod Races
 pub mod RaceTests
-pub mod Register
-pub mod RegisterTests

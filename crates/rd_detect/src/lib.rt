@@ -3,7 +3,6 @@
 
 mod detector;
 mod races;
-mod register;
 
 pub use detector::Detector;
-pub use races::{law_of_detectors, law_of_races, law_of_registers};
+pub use races::{law_of_commuting, law_of_detectors, law_of_races};

@@ -1,0 +1,116 @@
+-- Whose formulas tell whether two calls commute.
+use Rattle.std.proofs.Common.{◌≡◌, ◌↔◌, inl, inr, ℕ, ◌<◌, ◌≤◌, ◌==◌, ◌&&◌, Bool, true, false, not, IsTrue, List, [], ◌∷◌, ◌++◌, length, Option, Some, None, refl, sym, ap, subst, ◌∙◌, arith, true≢false}
+use Rattle.std.specs.Prelude.{All, IfSome, map, option_map, slice_get, unwrap_or}
+use Rattle.std.proofs.lemmas.Bool.{cases_Bool, cases_eq}
+use Rattle.std.proofs.lemmas.Bool.Decides.{Decides-and, Decides-eqb}
+use Rattle.std.proofs.lemmas.List.{length-map}
+use Rattle.std.proofs.lemmas.List.Elements.{All-get_or}
+use Rattle.std.proofs.lemmas.Option.{get_or_from_slice_get, slice_get-get_or, slice_get-map, slice_get_within}
+use Rattle.rd_clock.specs.Clock.{component}
+use Rattle.rd_ecl.specs.Kinds.{Kind, Method, kind_of, kinds_of, method_of, methods_at, slots_at as kept_slots_at}
+use Rattle.rd_ecl.specs.Specified.{SpecifiedKind, commutes, kind_at, no_kind, slots_at}
+use Rattle.rd_ecl.specs.declared.kinds.Method.{Method as SpecifiedMethod}
+use Rattle.rd_event.specs.declared.events.Call.{Call as CallOf}
+use Rattle.rd_event.specs.declared.events.Event.{Event}
+use Rattle.rd_event.specs.declared.events.Event.TheVariants.{Call}
+use Rattle.rd_order.specs.EventLists.{IsCallOf, WellFormed, calls, is_call_on}
+use Rattle.rd_order.specs.Order.{call_in}
+use Rattle.rd_order.proofs.EventListLemmas.{counted_once, formed_more}
+use Rattle.rd_store.specs.declared.Witness.{Witness}
+use Rattle.rd_ecl.proofs.CommuteLemmas.{symmetric}
+use Rattle.rd_detect.specs.Commuting.{Commute, commuting}
+use Rattle.rd_detect.specs.Detect.{IsAsked, IsOfKind, Meets}
+
+-- ---- the kind of a call
+
+-- each call of the list is of one of the kinds
+pub call_fits : (kinds : List Kind) (es : List Event) (i : ℕ) (call : CallOf) → All (λ e. IfSome (call_in e) (IsCallOf kinds)) es
+    → slice_get es i ≡ Some (Call call) → IsCallOf kinds call
+call_fits kinds es i call fit at =
+    subst (λ e. IfSome (call_in e) (IsCallOf kinds)) (get_or_from_slice_get es i (Call call) (Call call) at)
+    (All-get_or (λ e. IfSome (call_in e) (IsCallOf kinds)) es i (Call call) (slice_get_within es i (Call call) at) fit)
+
+methods_kept : (kinds : List SpecifiedKind) (number : ℕ) → number < length kinds → methods_at (kinds_of kinds) number ≡ map method_of (kind_at kinds number).methods
+methods_kept kinds number inside =
+    ap (λ o. unwrap_or (option_map (λ kind. kind.methods) o) [])
+    (slice_get-map kind_of kinds number ∙ ap (option_map kind_of) (slice_get-get_or kinds number no_kind inside))
+
+slots_in : (o : Option SpecifiedMethod) → unwrap_or (option_map (λ (method : Method). method.slots) (option_map method_of o)) 0
+    ≡ unwrap_or (option_map (λ (method : SpecifiedMethod). length method.variables) o) 0
+slots_in None = refl
+slots_in (Some method) = refl
+
+slots_kept : (methods : List SpecifiedMethod) (number : ℕ) → kept_slots_at (map method_of methods) number ≡ slots_at methods number
+slots_kept methods number =
+    ap (λ o. unwrap_or (option_map (λ (method : Method). method.slots) o) 0) (slice_get-map method_of methods number) ∙ slots_in (slice_get methods number)
+
+-- it is of a method of that kind, and has its slots
+pub of_kind : (kinds : List SpecifiedKind) (call : CallOf) → IsCallOf (kinds_of kinds) call → (call.kind < length kinds) × IsOfKind (kind_at kinds call.kind) call
+of_kind kinds call fits = (
+  inside,
+  record {
+    method = omega (arith, fits.method, ap length same, length-map (kind_at kinds call.kind).methods method_of);
+    slots = fits.slots ∙ ap (λ methods. kept_slots_at methods call.method) same ∙ slots_kept (kind_at kinds call.kind).methods call.method;
+  },
+)
+  where
+    inside : call.kind < length kinds
+    inside = omega (arith, fits.kind, length-map kinds kind_of)
+
+    same : methods_at (kinds_of kinds) call.kind ≡ map method_of (kind_at kinds call.kind).methods
+    same = methods_kept kinds call.kind inside
+
+-- ---- calls on one object
+
+-- an earlier call on its object is of the kind of a call that may follow
+pub one_kind : (roots : ℕ → Bool) (es : List Event) (call other : CallOf) (i : ℕ) → WellFormed roots (es ++ Call call ∷ [])
+    → slice_get es i ≡ Some (Call other) → other.object ≡ call.object → other.kind ≡ call.kind
+unfolding calls
+one_kind roots es call other i formed at same = elim (cases_eq other.kind call.kind) [
+  | inl alike ↦ alike
+  | inr differ ↦
+      let none : calls es call.object other.kind ≡ 0 = ((formed_more roots es (Call call)).0 formed).1.one_kind call refl other.kind differ in
+      let some = counted_once (λ e. is_call_on (call_in e) call.object other.kind) es i (Call other) at (counted same) in
+      absurd (omega (arith, none, some))
+]
+  where
+    counted : other.object ≡ call.object → ((other.object == call.object) && (other.kind == other.kind)) ≡ true
+    counted same = (Decides-and _ _ (Decides-eqb other.object call.object) (Decides-eqb other.kind other.kind)).1 (same, refl)
+
+-- ---- their formula
+
+asked_formula : (kinds : List SpecifiedKind) (kind : SpecifiedKind) (call other : CallOf) → IsAsked kinds kind call other → other.object ≡ call.object
+    → commuting kinds other call ≡ commutes kind other.method other.slots call.method call.slots
+unfolding commuting
+asked_formula kinds kind call other asked same =
+    ap (λ k. commutes k other.method other.slots call.method call.slots) (ap (kind_at kinds) (asked.one_kind same) ∙ asked.asked)
+
+-- an earlier call on the object that the clock doesn't cover meets the call exactly where their kind's formula fails
+pub meets_where : (kinds : List SpecifiedKind) (kind : SpecifiedKind) (call : CallOf) (clock : List ℕ) (seen : Witness) (covered holds : Bool)
+    → IsAsked kinds kind call seen.call → seen.call.object ≡ call.object → covered ≡ false → (IsTrue covered ↔ (seen.stamp.number ≤ component clock seen.call.thread))
+    → holds ≡ commutes kind seen.call.method seen.call.slots call.method call.slots
+    → (IsTrue (not holds) ↔ Meets (Commute kinds) call clock seen)
+meets_where kinds kind call clock seen covered holds asked same uncovered tells is = (
+  λ fails. record {
+    object = same;
+    uncovered = λ below. true≢false (sym (tells.1 below) ∙ uncovered);
+    apart = λ commute. true≢false (sym fails ∙ ap not (told ∙ commute));
+  },
+  λ meets. elim (cases_Bool holds) [
+    | inl true_is ↦ absurd (meets.apart (sym told ∙ true_is))
+    | inr false_is ↦ ap not false_is
+  ],
+)
+  where
+    told : holds ≡ commuting kinds seen.call call
+    told = is ∙ sym (asked_formula kinds kind call seen.call asked same)
+
+-- what a test finds not to be so isn't so
+pub meets_not : {P : Type 0} (b : Bool) → (IsTrue b ↔ P) → b ≡ false → ¬ P
+meets_not b tells fails holds = true≢false (sym (tells.1 holds) ∙ fails)
+
+-- calls of one kind commute both ways
+pub commute_back : (kinds : List SpecifiedKind) (a b : CallOf) → a.kind ≡ b.kind → Commute kinds a b → Commute kinds b a
+unfolding commuting
+commute_back kinds a b alike holds =
+    symmetric (kind_at kinds b.kind) b.method a.method b.slots a.slots ∙ ap (λ number. commutes (kind_at kinds number) a.method a.slots b.method b.slots) (sym alike) ∙ holds

@@ -1,0 +1,27 @@
+//! What is kept of calls, and the races between them.
+#![tactic(auto)]
+
+use rd_clock::Stamp;
+use rd_event::Call;
+use std::rc::Rc;
+
+/// A call that was seen: the number of its line, from 1, its place among the events, from 0, and where it stands by clocks.
+#[derive(Debug, Drop)]
+pub struct Witness {
+    pub line: u64,
+    pub place: u32,
+    pub call: Call,
+    pub stamp: Stamp,
+}
+
+/// Two calls on one object that no order ties and that don't commute (Dimitrov, Raychev, Vechev and Koskinen 2014), and the
+/// pair of methods whose formula fails: the number of their kind, and those of the methods in the order in which the kind has
+/// them.
+#[derive(Debug, Drop)]
+pub struct Race {
+    pub later: Rc<Witness>,
+    pub earlier: Rc<Witness>,
+    pub kind: u32,
+    pub first: u8,
+    pub second: u8,
+}
