@@ -4,6 +4,7 @@ pub mod CuttingLemmas
 pub mod FewLemmas
 pub mod LineLemmas
 pub mod MethodLines
+pub mod NameLemmas
 pub mod OneLemmas
 pub mod PairLines
 pub mod RowLines

@@ -79,7 +79,7 @@ apart_without : (name : List ℕ) → AreApart (kind_without name)
 apart_without name = record { names = none_apart; variables = λ n. none_apart }
 
 -- a name more
-name_more : (names : List (List ℕ)) (name : List ℕ) → AreDifferent names → ¬ (Contains names name) → AreDifferent (names ++ name ∷ [])
+pub name_more : (names : List (List ℕ)) (name : List ℕ) → AreDifferent names → ¬ (Contains names name) → AreDifferent (names ++ name ∷ [])
 name_more names name different fresh =
     AllPairs-from_IsDistinct bytes_decides (names ++ name ∷ [])
     (IsDistinct-push nat_list_eq_equiv names name (IsDistinct-from_AllPairs bytes_decides names different) (not_among (is_among name names) refl)) where

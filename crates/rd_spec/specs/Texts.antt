@@ -1,5 +1,5 @@
 -- What a text says as a specification, and why it is refused where it says none: this project's profile.
-use Rattle.std.specs.Prelude.{◌≡◌, ◌≢◌, ◌<◌, ◌≤◌, ◌+◌, ◌⊎◌, ◌==◌, ℕ, Bool, List, [], ◌∷◌, ◌++◌, length, EachIndex, slice_index}
+use Rattle.std.specs.Prelude.{◌≡◌, ◌≢◌, ◌<◌, ◌≤◌, ◌+◌, ◌⊎◌, ◌==◌, ℕ, Bool, List, [], ◌∷◌, ◌++◌, length, map, EachIndex, slice_index, All, AllPairs, Contains}
 use Rattle.std.specs.List.{AllPass}
 use Rattle.rd_base.specs.declared.limits.LimitName.TheVariants.{SpecText}
 use Rattle.rd_causes.specs.Adding.{Accepts}
@@ -55,6 +55,12 @@ pub record SpecSays (text : List ℕ) (taken : List (List ℕ)) (kinds : List Sp
   pub reads : Reads taken nothing lines known
   pub whole : HasNone (EndHas known)
   pub said : kinds ≡ kinds_so_far known
+
+-- at most 32 kinds, no two of one name, and none of a taken one
+pub record HasNewNames (taken : List (List ℕ)) (kinds : List SpecifiedKind) : Type 0 where
+  pub few : length kinds ≤ 32
+  pub different : AllPairs (λ x y. x ≢ y) (map (λ kind. kind.name) kinds)
+  pub free : All (λ kind. ¬ (Contains taken kind.name)) kinds
 
 -- ---- why a text is refused
 

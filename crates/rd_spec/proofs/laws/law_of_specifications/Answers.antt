@@ -1,4 +1,5 @@
 use Rattle.rd_spec.proofs.AgainLemmas.{read_again}
+use Rattle.rd_spec.proofs.NameLemmas.{read_names}
 use Rattle.rd_spec.proofs.OneLemmas.{one_said, never_refused}
 use Rattle.rd_spec.proofs.laws.law_of_specifications.Goals as goal
 
@@ -10,3 +11,6 @@ returns-clause-right c = never_refused
 
 pub returns-clause-again : goal.returns-clause-again
 returns-clause-again c = read_again
+
+pub returns-clause-names : goal.returns-clause-names
+returns-clause-names c = read_names
