@@ -1,0 +1,95 @@
+use Rattle.std.proofs.Common.{refl}
+use Rattle.rd_ecl.specs.Specified.{all_pairs}
+use Rattle.rd_ecl.proofs.TestLemmas.{may_by}
+use Rattle.rd_kinds.specs.Shipped.{set_kind}
+use Rattle.rd_kinds.proofs.KindLemmas.{whole_by}
+use Rattle.rd_kinds.proofs.set.set.Goals as goal
+
+pub pair-requires : goal.pair-requires
+unfolding all_pairs
+pair-requires c = simp (c.in_ok-kind.ensures, c.in_ok-remove.ensures) (may_by _ 1 1 _ refl)
+
+pub pair-requires-2 : goal.pair-requires-2
+unfolding all_pairs
+pair-requires-2 c = simp (c.pair.ensures.value, c.in_ok-kind.ensures, c.in_ok-remove.ensures, c.in_ok-contains.ensures) (may_by _ 1 2 _ refl)
+
+pub pair-requires-3 : goal.pair-requires-3
+unfolding all_pairs
+pair-requires-3 c =
+    simp (c.pair-2.ensures.value, c.pair.ensures.value, c.in_ok-kind.ensures, c.in_ok-remove.ensures, c.in_ok-contains.ensures, c.idle.ensures)
+    (may_by _ 1 3 _ refl)
+
+pub pair-requires-4 : goal.pair-requires-4
+unfolding all_pairs
+pair-requires-4 c =
+    simp (
+      c.pair-3.ensures.value,
+      c.pair-2.ensures.value,
+      c.pair.ensures.value,
+      c.in_ok-kind.ensures,
+      c.in_ok-remove.ensures,
+      c.in_ok-contains.ensures,
+      c.idle.ensures,
+    ) (may_by _ 2 2 _ refl)
+
+pub pair-requires-5 : goal.pair-requires-5
+unfolding all_pairs
+pair-requires-5 c =
+    simp (
+      c.pair-4.ensures.value,
+      c.pair-3.ensures.value,
+      c.pair-2.ensures.value,
+      c.pair.ensures.value,
+      c.in_ok-kind.ensures,
+      c.in_ok-remove.ensures,
+      c.in_ok-contains.ensures,
+      c.idle.ensures,
+    ) (may_by _ 2 3 _ refl)
+
+pub pair-requires-6 : goal.pair-requires-6
+unfolding all_pairs
+pair-requires-6 c =
+    simp (
+      c.pair-5.ensures.value,
+      c.pair-4.ensures.value,
+      c.pair-3.ensures.value,
+      c.pair-2.ensures.value,
+      c.pair.ensures.value,
+      c.in_ok-kind.ensures,
+      c.in_ok-remove.ensures,
+      c.in_ok-contains.ensures,
+      c.idle.ensures,
+    ) (may_by _ 3 3 _ refl)
+
+pub finish-requires : goal.finish-requires
+unfolding set_kind
+finish-requires c =
+    simp (
+      c.pair-6.ensures.value,
+      c.pair-5.ensures.value,
+      c.pair-4.ensures.value,
+      c.pair-3.ensures.value,
+      c.pair-2.ensures.value,
+      c.pair.ensures.value,
+      c.in_ok-kind.ensures,
+      c.in_ok-remove.ensures,
+      c.in_ok-contains.ensures,
+      c.idle.ensures,
+    ) (whole_by set_kind refl)
+
+pub returns : goal.returns
+unfolding set_kind
+returns c =
+    simp (
+      c.finish.ensures,
+      c.pair-6.ensures.value,
+      c.pair-5.ensures.value,
+      c.pair-4.ensures.value,
+      c.pair-3.ensures.value,
+      c.pair-2.ensures.value,
+      c.pair.ensures.value,
+      c.in_ok-kind.ensures,
+      c.in_ok-remove.ensures,
+      c.in_ok-contains.ensures,
+      c.idle.ensures,
+    ) refl

@@ -1,0 +1,38 @@
+//! The kind `counter`, which holds a number.
+ghost use Rattle.std.specs.Prelude.{◌≡◌, codes, IfOk};
+ghost use Rattle.rd_ecl.specs.Formulas.{tree_of};
+ghost use Rattle.rd_kinds.specs.Shipped.{adds_nothing, counter_kind, counter_methods, no_pairs};
+
+use crate::formulas::equals;
+use crate::making::{name, one, two};
+use rd_base::{NoMemory, Value};
+use rd_ecl::{Formula, KindDraft, KindSpec, Side, Term};
+use std::alloc::Global;
+
+// Its methods.
+#[tactic(auto, unfolding(rd_base::specs::Names::is_name))]
+fn methods(alloc: Global) -> Result<KindDraft, NoMemory>
+    ensures { IfOk result (λ draft. draft ≡ no_pairs (codes "counter") counter_methods) }
+{
+    let mut kind = KindDraft::new(alloc, name(b"counter"))?;
+    kind.method(name(b"add"), two(alloc, b"amount", b"done")?)?;
+    kind.method(name(b"get"), one(alloc, b"total")?)?;
+    Ok(kind)
+}
+
+// The `add` of side 1 adds nothing.
+fn adds_nothing() -> Formula
+    ensures { tree_of result ≡ adds_nothing }
+{
+    equals(Side::First, 0, Term::Const(Value::Int(0)))
+}
+
+pub(crate) fn counter(alloc: Global) -> Result<KindSpec, NoMemory>
+    ensures { IfOk result (λ kind. kind ≡ counter_kind) }
+{
+    let mut kind = methods(alloc)?;
+    kind.pair(0, 0, Formula::True)?;
+    kind.pair(0, 1, adds_nothing())?;
+    kind.pair(1, 1, Formula::True)?;
+    Ok(kind.finish())
+}

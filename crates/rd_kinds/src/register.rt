@@ -1,0 +1,43 @@
+//! The kind `register`, which holds a value.
+ghost use Rattle.std.specs.Prelude.{◌≡◌, codes, IfOk};
+ghost use Rattle.rd_ecl.specs.Formulas.{tree_of};
+ghost use Rattle.rd_kinds.specs.Shipped.{keeps, no_pairs, register_kind, register_methods};
+
+use crate::formulas::{and, equals};
+use crate::making::{name, one, two};
+use rd_base::NoMemory;
+use rd_ecl::{Formula, KindDraft, KindSpec, Side, Term};
+use std::alloc::Global;
+
+// Its methods.
+#[tactic(auto, unfolding(rd_base::specs::Names::is_name))]
+fn methods(alloc: Global) -> Result<KindDraft, NoMemory>
+    ensures { IfOk result (λ draft. draft ≡ no_pairs (codes "register") register_methods) }
+{
+    let mut kind = KindDraft::new(alloc, name(b"register"))?;
+    kind.method(name(b"read"), one(alloc, b"value")?)?;
+    kind.method(name(b"write"), two(alloc, b"value", b"done")?)?;
+    kind.method(name(b"swap"), two(alloc, b"value", b"prev")?)?;
+    Ok(kind)
+}
+
+// The `swap` of that side leaves the value as it is.
+fn keeps(side: Side) -> Formula
+    ensures { tree_of result ≡ keeps side }
+{
+    equals(side, 0, Term::Slot(1))
+}
+
+pub(crate) fn register(alloc: Global) -> Result<KindSpec, NoMemory>
+    ensures { IfOk result (λ kind. kind ≡ register_kind) }
+{
+    let swaps = and(alloc, keeps(Side::First), keeps(Side::Second))?;
+    let mut kind = methods(alloc)?;
+    kind.pair(0, 0, Formula::True)?;
+    kind.pair(0, 1, Formula::False)?;
+    kind.pair(0, 2, keeps(Side::Second))?;
+    kind.pair(1, 1, Formula::False)?;
+    kind.pair(1, 2, Formula::False)?;
+    kind.pair(2, 2, swaps)?;
+    Ok(kind.finish())
+}

@@ -1,0 +1,40 @@
+//! The specification of the kinds that are built in.
+ghost use Rattle.std.specs.Prelude.{◌≡◌, [], ◌∷◌, ◌++◌, length, IfOk, OnOk};
+ghost use Rattle.rd_kinds.specs.Shipped.{shipped_kinds};
+
+use crate::counter::counter;
+use crate::dictionary::dictionary;
+use crate::register::register;
+use crate::set::set;
+use rd_base::NoMemory;
+use rd_ecl::{KindSpec, Spec};
+use std::alloc::Global;
+
+// Puts a kind last.
+fn push(spec: &mut Spec, kind: KindSpec) -> Result<(), NoMemory>
+    ensures { OnOk result (spec.new ≡ spec.old ++ kind ∷ []) }
+{
+    match spec.push(kind) {
+        Ok(()) => Ok(()),
+        Err((_, NoMemory)) => Err(NoMemory),
+    }
+}
+
+/// The kinds that are built in, by their numbers: `register` is 0, `counter` 1, `set` 2 and `dictionary` 3.
+pub fn shipped(alloc: Global) -> Result<Spec, NoMemory>
+    ensures { IfOk result (λ spec. spec ≡ shipped_kinds) }
+{
+    let mut spec = Spec::empty(alloc);
+    push(&mut spec, register(alloc)?)?;
+    push(&mut spec, counter(alloc)?)?;
+    push(&mut spec, set(alloc)?)?;
+    push(&mut spec, dictionary(alloc)?)?;
+    Ok(spec)
+}
+
+/// How many kinds are built in. It takes no memory.
+pub fn shipped_count() -> u32
+    ensures { result ≡ length shipped_kinds }
+{
+    4
+}
