@@ -596,7 +596,7 @@ told_released kinds limits lines thread lock usable may told =
     tt
 
 -- each object has a kind, by its place
-kinds_placed : (kinds : List Kind) (lines : List Line) → length (object_kinds kinds lines) ≡ length (objects_of lines)
+pub kinds_placed : (kinds : List Kind) (lines : List Line) → length (object_kinds kinds lines) ≡ length (objects_of lines)
 kinds_placed kinds [] = refl
 kinds_placed kinds (Skip ∷ lines) = kinds_placed kinds lines
 kinds_placed kinds (Header version ∷ lines) = kinds_placed kinds lines
@@ -673,7 +673,7 @@ few_more kinds limits lines line range follows few = by (begun_name line) refl
           | inr may ↦ (let below : length (threads_of lines) < limits.threads = (met kinds limits lines line (λ skip. none-some name (sym (ap begun_name skip) ∙ begins)) (inr may)).few_threads (ap is_some begins) in omega arith)
         ]
 
-told_from : (kinds : List Kind) (before lines : List Line) → AreTold kinds before → AreAcceptedFrom kinds before lines → AreTold kinds (before ++ lines)
+pub told_from : (kinds : List Kind) (before lines : List Line) → AreTold kinds before → AreAcceptedFrom kinds before lines → AreTold kinds (before ++ lines)
 told_from kinds before [] told accepted = subst (AreTold kinds) (sym (append-nil before)) told
 told_from kinds before (line ∷ lines) told accepted =
     let next = accepted.0 in

@@ -202,7 +202,7 @@ module _ (kinds : List Kind) (roster : Roster) (lines : List Line) (stands : Sta
   pub thread_keys : keys_of roster.threads.entries ≡ threads_of lines
   thread_keys = ap keys_of stands.thread_entries ∙ keys-entries (thread_entry lines) (λ name. refl) (threads_of lines)
 
-  object_keys : keys_of roster.objects.entries ≡ objects_of lines
+  pub object_keys : keys_of roster.objects.entries ≡ objects_of lines
   object_keys = ap keys_of stands.object_entries ∙ keys-objects kinds lines
 
   -- whether a name is known

@@ -1,0 +1,4 @@
+pub mod Texts
+pub mod Races
+pub mod Writing
+pub mod TestRaces

@@ -1,0 +1,99 @@
+-- How a trace ends, in words, and the names by which a report tells of threads and objects: this project's profile.
+use Rattle.std.specs.Prelude.{ℕ, List, [], ◌++◌, codes, decimal, slice_index_or}
+use Rattle.rd_base.specs.declared.limits.LimitName.{LimitName}
+use Rattle.rd_base.specs.declared.limits.LimitName.TheVariants.{Bytes, Line, Events, Threads, Locks, Objects, Depth, SpecText, Tokens, Kinds, Methods, Arguments, Nodes, FormulaDepth, Predicates}
+use Rattle.rd_event.specs.declared.items.Line.{Line as Item}
+use Rattle.rd_wf.specs.MayFollow.{objects_of, threads_of}
+use Rattle.rd_wf.specs.Roster.{names_in, object_names_in}
+use Rattle.rd_wf.specs.declared.causes.WfCause.{WfCause}
+use Rattle.rd_wf.specs.declared.causes.WfCause.TheVariants as wf
+use Rattle.rd_wf.specs.declared.roster.Roster.{Roster}
+use Rattle.rd_report.specs.declared.endings.TraceCause.{TraceCause}
+use Rattle.rd_report.specs.declared.endings.TraceCause.TheVariants as cause
+use Rattle.rd_report.specs.declared.endings.Ending.{Ending}
+use Rattle.rd_report.specs.declared.endings.Ending.TheVariants.{End, Refused, Fault}
+
+-- ---- names
+
+-- the names of threads and of objects, each at its number
+pub record Naming : Type 0 where
+  pub threads : List (List ℕ)
+  pub objects : List (List ℕ)
+
+-- the name with this number; the empty one where none has it
+abbrev pub name_of : List (List ℕ) → ℕ → List ℕ
+name_of names number = slice_index_or names number []
+
+-- those that a roster has, and those of accepted lines
+abbrev pub naming_in : Roster → Naming
+naming_in roster = record { threads = names_in roster; objects = object_names_in roster }
+
+abbrev pub naming : List Item → Naming
+naming lines = record { threads = threads_of lines; objects = objects_of lines }
+
+-- ---- causes
+
+-- the name of a limit
+unfoldable pub limit_text : LimitName → List ℕ
+limit_text Bytes = codes "bytes"
+limit_text Line = codes "line"
+limit_text Events = codes "events"
+limit_text Threads = codes "threads"
+limit_text Locks = codes "locks"
+limit_text Objects = codes "objects"
+limit_text Depth = codes "depth"
+limit_text SpecText = codes "text"
+limit_text Tokens = codes "tokens"
+limit_text Kinds = codes "kinds"
+limit_text Methods = codes "methods"
+limit_text Arguments = codes "arguments"
+limit_text Nodes = codes "nodes"
+limit_text FormulaDepth = codes "depth"
+limit_text Predicates = codes "predicates"
+
+abbrev pub limit_cause_text : LimitName → ℕ → List ℕ
+limit_cause_text name number = codes "limit " ++ limit_text name ++ codes " " ++ decimal number
+
+-- the text of a cause by which a line may not follow, by the names of the threads
+unfoldable pub wf_text : List (List ℕ) → WfCause → List ℕ
+wf_text names wf.HeaderFirst = codes "header-first"
+wf_text names wf.LateRoot = codes "late-root"
+wf_text names wf.NameTaken = codes "name-taken"
+wf_text names wf.UnknownThread = codes "unknown-thread"
+wf_text names wf.ThreadEnded = codes "thread-ended"
+wf_text names wf.OwnThread = codes "own-thread"
+wf_text names wf.UnknownKind = codes "unknown-kind"
+wf_text names wf.UnknownObject = codes "unknown-object"
+wf_text names wf.UnknownMethod = codes "unknown-method"
+wf_text names wf.WrongCount = codes "wrong-count"
+wf_text names (wf.LockHeld holder) = codes "lock-held " ++ name_of names holder
+wf_text names wf.NotHeld = codes "not-held"
+wf_text names (wf.Limit name number) = limit_cause_text name number
+
+-- the text of a cause
+unfoldable pub cause_text : List (List ℕ) → TraceCause → List ℕ
+cause_text names cause.BadLine = codes "bad-line"
+cause_text names cause.NoFinalNewline = codes "no-final-newline"
+cause_text names (cause.Wf broken) = wf_text names broken
+cause_text names (cause.Limit name number) = limit_cause_text name number
+
+-- ---- endings
+
+-- the line that tells how many calls are reported
+abbrev pub races_line : ℕ → List ℕ
+races_line races = codes "races " ++ decimal races ++ codes "\n"
+
+-- the line of a refusal
+abbrev pub refused_line : List (List ℕ) → ℕ → TraceCause → List ℕ
+refused_line names number cause = codes "refused line " ++ decimal number ++ codes " " ++ cause_text names cause ++ codes "\n"
+
+-- the line of a fault
+abbrev pub fault_line : List ℕ
+fault_line = codes "fault input\n"
+
+-- the text behind the races: how many calls are reported, and where the trace was refused, by the names of the threads, or that it could
+-- not be read on
+abbrev pub ending_text : List (List ℕ) → ℕ → Ending → List ℕ
+ending_text names races End = races_line races
+ending_text names races (Refused number cause) = races_line races ++ refused_line names number cause
+ending_text names races Fault = races_line races ++ fault_line

@@ -1,0 +1,134 @@
+//! How a trace ends, in words.
+ghost use Rattle.std.specs.Prelude.{◌≡◌, ◌++◌, codes, decimal, IfOk, OnOk};
+ghost use Rattle.rd_report.specs.Texts.{limit_text, cause_text, limit_cause_text, wf_text, races_line, refused_line, ending_text, name_of};
+ghost use Rattle.rd_wf.specs.Roster.{names_in};
+
+use crate::endings::{Ending, TraceCause};
+use crate::numbers::append_number;
+use rd_base::{Bytes, LimitName, NoMemory};
+use rd_wf::{Roster, WfCause};
+use std::alloc::Global;
+
+#[tactic(auto, unfolding(crate::specs::Texts::limit_text))]
+fn limit_text(name: LimitName) -> &'static [u8]
+    ensures { result.now ≡ limit_text name }
+{
+    match name {
+        LimitName::Bytes => b"bytes",
+        LimitName::Line => b"line",
+        LimitName::Events => b"events",
+        LimitName::Threads => b"threads",
+        LimitName::Locks => b"locks",
+        LimitName::Objects => b"objects",
+        LimitName::Depth => b"depth",
+        LimitName::SpecText => b"text",
+        LimitName::Tokens => b"tokens",
+        LimitName::Kinds => b"kinds",
+        LimitName::Methods => b"methods",
+        LimitName::Arguments => b"arguments",
+        LimitName::Nodes => b"nodes",
+        LimitName::FormulaDepth => b"depth",
+        LimitName::Predicates => b"predicates",
+    }
+}
+
+/// Puts a limit that was passed behind the text.
+pub fn append_limit(text: &mut Bytes, name: LimitName, number: u64) -> Result<(), NoMemory>
+    ensures { OnOk result (text.new ≡ text.old ++ limit_cause_text name number) }
+{
+    text.append(b"limit ")?;
+    text.append(limit_text(name))?;
+    text.append(b" ")?;
+    append_number(text, number)
+}
+
+// Puts the name of a thread behind the text, and nothing where no thread has the number.
+fn append_thread(text: &mut Bytes, names: &Roster, thread: u32) -> Result<(), NoMemory>
+    ensures { OnOk result (text.new ≡ text.old ++ name_of (names_in names.now) thread) }
+{
+    if names.threads() <= thread {
+        return Ok(());
+    }
+    text.append(names.thread_name(thread).items())
+}
+
+#[tactic(auto, unfolding(crate::specs::Texts::wf_text))]
+fn append_wf(text: &mut Bytes, names: &Roster, cause: WfCause) -> Result<(), NoMemory>
+    ensures { OnOk result (text.new ≡ text.old ++ wf_text (names_in names.now) cause) }
+{
+    match cause {
+        WfCause::HeaderFirst => text.append(b"header-first"),
+        WfCause::LateRoot => text.append(b"late-root"),
+        WfCause::NameTaken => text.append(b"name-taken"),
+        WfCause::UnknownThread => text.append(b"unknown-thread"),
+        WfCause::ThreadEnded => text.append(b"thread-ended"),
+        WfCause::OwnThread => text.append(b"own-thread"),
+        WfCause::UnknownKind => text.append(b"unknown-kind"),
+        WfCause::UnknownObject => text.append(b"unknown-object"),
+        WfCause::UnknownMethod => text.append(b"unknown-method"),
+        WfCause::WrongCount => text.append(b"wrong-count"),
+        WfCause::LockHeld(holder) => {
+            text.append(b"lock-held ")?;
+            append_thread(text, names, holder)
+        }
+        WfCause::NotHeld => text.append(b"not-held"),
+        WfCause::Limit(name, number) => append_limit(text, name, u64::from(number)),
+    }
+}
+
+#[tactic(auto, unfolding(crate::specs::Texts::cause_text))]
+fn append_cause(text: &mut Bytes, names: &Roster, cause: TraceCause) -> Result<(), NoMemory>
+    ensures { OnOk result (text.new ≡ text.old ++ cause_text (names_in names.now) cause) }
+{
+    match cause {
+        TraceCause::BadLine => text.append(b"bad-line"),
+        TraceCause::NoFinalNewline => text.append(b"no-final-newline"),
+        TraceCause::Wf(broken) => append_wf(text, names, broken),
+        TraceCause::Limit(name, number) => append_limit(text, name, number),
+    }
+}
+
+// Puts the line behind the text that tells how many calls are reported.
+fn append_races(text: &mut Bytes, races: u64) -> Result<(), NoMemory>
+    ensures { OnOk result (text.new ≡ text.old ++ races_line races) }
+{
+    text.append(b"races ")?;
+    append_number(text, races)?;
+    text.append(b"\n")
+}
+
+// Puts the line behind the text that tells which line of a trace is refused, and why.
+fn append_refused(
+    text: &mut Bytes,
+    names: &Roster,
+    number: u64,
+    cause: TraceCause,
+) -> Result<(), NoMemory>
+    ensures { OnOk result (text.new ≡ text.old ++ refused_line (names_in names.now) number cause) }
+{
+    text.append(b"refused line ")?;
+    append_number(text, number)?;
+    text.append(b" ")?;
+    append_cause(text, names, cause)?;
+    text.append(b"\n")
+}
+
+/// The text behind the races: how many calls are reported, and where and why the trace was refused, or that it could not be read on. The
+/// roster has the names of the threads.
+pub fn ending_text(
+    alloc: Global,
+    races: u64,
+    ending: &Ending,
+    names: &Roster,
+) -> Result<Bytes, NoMemory>
+    ensures { IfOk result (λ text. text ≡ ending_text (names_in names.now) races ending.now) }
+{
+    let mut text = Bytes::new(alloc);
+    append_races(&mut text, races)?;
+    match *ending {
+        Ending::End => {}
+        Ending::Refused { line, cause } => append_refused(&mut text, names, line, cause)?,
+        Ending::Fault => text.append(b"fault input\n")?,
+    }
+    Ok(text)
+}

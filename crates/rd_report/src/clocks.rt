@@ -1,0 +1,59 @@
+//! The text of a clock.
+ghost use Rattle.std.specs.Prelude.{◌≡◌, ◌<◌, ◌++◌, ◌||◌, nat_lt, IfOk, OnOk};
+ghost use Rattle.rd_clock.specs.Clock.{component};
+ghost use Rattle.rd_report.specs.Races.{clock_text};
+ghost use Rattle.rd_report.specs.Texts.{name_of};
+ghost use Rattle.rd_report.specs.Writing.{comma, part_text};
+ghost use Rattle.rd_wf.specs.Roster.{names_in, thread_count};
+
+use crate::numbers::append_number;
+use rd_base::{Bytes, NoMemory, Steps};
+use rd_clock::Clock;
+use rd_wf::Roster;
+use std::sync::ledger::Ledger;
+
+// A comma, where a part stands in front.
+fn comma(some: bool) -> &'static [u8]
+    ensures { result.now ≡ comma some }
+{
+    if some { b"," } else { b"" }
+}
+
+// Puts the count of a thread behind the text, with a comma in front of it where a part stands there, and nothing where it counts none.
+// It says whether a part stands there now.
+fn append_part(
+    text: &mut Bytes,
+    names: &Roster,
+    thread: u32,
+    count: u32,
+    some: bool,
+) -> Result<bool, NoMemory>
+    requires { thread < thread_count names.now }
+    ensures text { OnOk result (text.new ≡ text.old ++ part_text some (name_of (names_in names.now) thread) count) }
+    ensures some { IfOk result (λ now. now ≡ (some || nat_lt 0 count)) }
+{
+    if count == 0 {
+        return Ok(some);
+    }
+    text.append(comma(some))?;
+    text.append(names.thread_name(thread).items())?;
+    text.push(b':')?;
+    append_number(text, u64::from(count))?;
+    Ok(true)
+}
+
+// Puts a clock behind the text.
+pub(crate) fn append_clock<L: Ledger>(
+    text: &mut Bytes,
+    clock: &Clock,
+    names: &Roster,
+    steps: &mut Steps<L>,
+) -> Result<(), NoMemory>
+    ensures { OnOk result (text.new ≡ text.old ++ clock_text (names_in names.now) (component clock.now)) }
+{
+    let mut some = false;
+    for thread in 0..names.threads() {
+        some = append_part(text, names, thread, clock.get(thread, steps), some)?;
+    }
+    Ok(())
+}

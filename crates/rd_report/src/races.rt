@@ -1,0 +1,144 @@
+//! The text of a race.
+ghost use Rattle.std.specs.Prelude.{◌≡◌, ◌≤◌, ◌<◌, ◌++◌, length, IfOk, OnOk};
+ghost use Rattle.rd_ecl.specs.Specified.{kind_at};
+ghost use Rattle.rd_event.specs.Items.{call_text};
+ghost use Rattle.rd_print.specs.Printed.{name_at};
+ghost use Rattle.rd_report.specs.Races.{IsKnownRace, IsNamed, formula_line, race_text, told_by, told_text};
+ghost use Rattle.rd_report.specs.Texts.{name_of, naming_in};
+ghost use Rattle.rd_wf.specs.Roster.{names_in, object_names_in};
+
+use crate::clocks::append_clock;
+use crate::numbers::append_number;
+use rd_base::{Bytes, Name, NoMemory, Steps};
+use rd_ecl::{KindSpec, Spec};
+use rd_event::{Call, append_call};
+use rd_print::formula_text;
+use rd_store::{Race, Witness};
+use rd_wf::Roster;
+use std::alloc::Global;
+use std::marker::Brand;
+use std::sync::ledger::{Blank, Ledger};
+
+/// `formula KIND FIRST SECOND when FORMULA`, with its line feed, for two methods of a kind or for one with itself, by their numbers:
+/// `first` is at most `second`.
+#[tactic(auto, unfolding(crate::specs::Races::formula_line))]
+pub fn formula_line(
+    alloc: Global,
+    kind: &KindSpec,
+    first: u8,
+    second: u8,
+) -> Result<Bytes, NoMemory>
+    requires { (first ≤ second) × (second < length kind.now.methods) }
+    ensures { IfOk result (λ text. text ≡ formula_line kind.now first second) }
+{
+    let pair = formula_text(alloc, kind, first, second)?;
+    let mut text = Bytes::new(alloc);
+    text.append(b"formula ")?;
+    text.append(kind.name().items())?;
+    text.push(b' ')?;
+    text.append(pair.items())?;
+    text.push(b'\n')?;
+    Ok(text)
+}
+
+// The name of a method.
+fn method_name(spec: &Spec, kind: u32, method: u8) -> &Name
+    requires kind { kind < length spec.now }
+    requires method { method < length (kind_at spec.now kind).methods }
+    ensures { result.now ≡ name_at (kind_at spec.now kind).methods method }
+{
+    &spec.kinds()[kind as usize].methods()[usize::from(method)].name
+}
+
+// Puts a call behind the text, as it stands in its line.
+fn append_named_call(
+    text: &mut Bytes,
+    call: &Call,
+    spec: &Spec,
+    names: &Roster,
+) -> Result<(), NoMemory>
+    requires { IsNamed spec.now (naming_in names.now) call.now }
+    ensures { OnOk result (text.new ≡ text.old ++ call_text (name_of (names_in names.now) call.now.thread)
+        (name_of (object_names_in names.now) call.now.object) (name_at (kind_at spec.now call.now.kind).methods call.now.method) call.now.slots) }
+{
+    let thread = names.thread_name(call.thread);
+    let object = names.object_name(call.object);
+    let method = method_name(spec, call.kind, call.method);
+    append_call(text, thread, object, method, call.slots.items())
+}
+
+// Puts behind the text what is told of a call: the number of its line, the call and its clock.
+#[tactic(auto, unfolding(crate::specs::Races::told_text))]
+fn append_told<L: Ledger>(
+    text: &mut Bytes,
+    told: &Witness,
+    spec: &Spec,
+    names: &Roster,
+    steps: &mut Steps<L>,
+) -> Result<(), NoMemory>
+    requires { IsNamed spec.now (naming_in names.now) told.now.call }
+    ensures { OnOk result (text.new ≡ text.old ++ told_text spec.now (naming_in names.now) (told_by told.now)) }
+{
+    append_number(text, told.line)?;
+    text.push(b' ')?;
+    append_named_call(text, &told.call, spec, names)?;
+    text.append(b" clock ")?;
+    append_clock(text, &told.stamp.clock, names, steps)?;
+    text.push(b'\n')
+}
+
+// Puts the text of a race behind the text, with a counter of its own for the reads of the clocks.
+#[tactic(auto, unfolding(crate::specs::Races::race_text))]
+fn append_race_with<L: Ledger>(
+    text: &mut Bytes,
+    race: &Race,
+    formula: &[u8],
+    spec: &Spec,
+    names: &Roster,
+    blank: Blank,
+) -> Result<(), NoMemory>
+    requires name { blank.name ≡ L.name }
+    requires parts { blank.parts ≡ L.parts }
+    requires some { 0 < blank.parts }
+    requires known { IsKnownRace spec.now (naming_in names.now) race.now }
+    requires formula { formula.now ≡ formula_line (kind_at spec.now race.now.kind) race.now.first race.now.second }
+    ensures { OnOk result (text.new ≡ text.old ++ race_text spec.now (naming_in names.now) (told_by race.now.later.value) (told_by race.now.earlier.value)) }
+{
+    let mut steps = Steps::<L>::new(blank);
+    text.append(b"race line ")?;
+    append_told(text, &race.later, spec, names, &mut steps)?;
+    text.append(b"with line ")?;
+    append_told(text, &race.earlier, spec, names, &mut steps)?;
+    text.append(formula)
+}
+
+/// Puts the text of a race behind the text: the later call, the earlier one, and the line of the formula that they fail, which is
+/// handed in. The numbers in the race are known to the specification and the roster. After want of memory the text may have a front of
+/// it.
+pub fn append_race(
+    text: &mut Bytes,
+    race: &Race,
+    formula: &[u8],
+    spec: &Spec,
+    names: &Roster,
+) -> Result<(), NoMemory>
+    requires known { IsKnownRace spec.now (naming_in names.now) race.now }
+    requires formula { formula.now ≡ formula_line (kind_at spec.now race.now.kind) race.now.first race.now.second }
+    ensures { OnOk result (text.new ≡ text.old ++ race_text spec.now (naming_in names.now) (told_by race.now.later.value) (told_by race.now.earlier.value)) }
+{
+    append_race_with::<Brand>(text, race, formula, spec, names, Blank::new(1))
+}
+
+/// The text of a race, three lines: `race line N CALL clock CLOCK`, `with line N CALL clock CLOCK` and `formula KIND FIRST SECOND when
+/// FORMULA`. Calls stand as in their lines, and a clock has `THREAD:N` for each thread of which it counts events, in the order of their
+/// numbers. The numbers in the race are known to the specification and the roster.
+pub fn race_text(alloc: Global, race: &Race, spec: &Spec, names: &Roster) -> Result<Bytes, NoMemory>
+    requires { IsKnownRace spec.now (naming_in names.now) race.now }
+    ensures { IfOk result (λ text. text ≡ race_text spec.now (naming_in names.now) (told_by race.now.later.value) (told_by race.now.earlier.value)) }
+{
+    let kind = &spec.kinds()[race.kind as usize];
+    let formula = formula_line(alloc, kind, race.first, race.second)?;
+    let mut text = Bytes::new(alloc);
+    append_race(&mut text, race, formula.items(), spec, names)?;
+    Ok(text)
+}
