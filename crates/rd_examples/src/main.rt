@@ -1,5 +1,5 @@
-//! Runs `check` over each trace of the examples, and `spec` over each specification, and says how it ended and whether it wrote
-//! what stands in the file beside it.
+//! Runs `check` over each trace of the examples, with a specification where its objects need one, and `spec` over each specification,
+//! and says how it ended and whether it wrote what stands in the file beside it.
 #![tactic(auto)]
 
 ghost use Rattle.std.specs.Prelude.{◌≡◌, ◌<◌};
@@ -15,16 +15,21 @@ use std::rt::Files;
 use std::sync::ledger::{Blank, Ledger};
 
 /// The traces, each with what `check` writes for it.
-const TRACES: [(&str, &str); 31] = [
+const TRACES: [(&str, &str); 35] = [
     ("a_race_is_no_order.trace", "a_race_is_no_order.out"),
     ("acquired_again.trace", "acquired_again.out"),
     ("another_lock.trace", "another_lock.out"),
+    ("check_then_act.trace", "check_then_act.out"),
     ("comments.trace", "comments.out"),
+    ("counter_without_a_lock.trace", "counter_without_a_lock.out"),
     ("cut_off.trace", "cut_off.out"),
+    ("dictionary_keys.trace", "dictionary_keys.out"),
+    ("dictionary_update.trace", "dictionary_update.out"),
     ("forgotten_joins.trace", "forgotten_joins.out"),
     ("fork_too_late.trace", "fork_too_late.out"),
     ("four_writes.trace", "four_writes.out"),
     ("guarded.trace", "guarded.out"),
+    ("guarded_counter.trace", "guarded_counter.out"),
     ("joins_itself.trace", "joins_itself.out"),
     ("lost_update.trace", "lost_update.out"),
     ("message.trace", "message.out"),
@@ -35,7 +40,6 @@ const TRACES: [(&str, &str); 31] = [
     ("refused_header_first.trace", "refused_header_first.out"),
     ("refused_late_root.trace", "refused_late_root.out"),
     ("refused_lock_held.trace", "refused_lock_held.out"),
-    ("refused_not_built.trace", "refused_not_built.out"),
     ("refused_not_held.trace", "refused_not_held.out"),
     ("refused_thread_ended.trace", "refused_thread_ended.out"),
     ("refused_unknown_kind.trace", "refused_unknown_kind.out"),
@@ -81,6 +85,23 @@ const SPECIFICATIONS: [(&str, &str); 16] = [
     ("sessions.spec", "sessions.spec.out"),
 ];
 
+/// Traces with a specification of their objects' kinds, each with what `check` writes for both.
+const SPECIFIED: [(&str, &str, &str); 5] = [
+    (
+        "account_in_turn.trace",
+        "account.spec",
+        "account_in_turn.out",
+    ),
+    ("account_race.trace", "account.spec", "account_race.out"),
+    (
+        "account_race.trace",
+        "refused_header.spec",
+        "refused_header.spec.out",
+    ),
+    ("four_writes.trace", "account.spec", "four_writes.out"),
+    ("queue_race.trace", "bounded_queue.spec", "queue_race.out"),
+];
+
 /// A command over inputs in memory.
 fn run_command<L: Ledger>(
     alloc: Global,
@@ -97,6 +118,26 @@ fn run_command<L: Ledger>(
     run(alloc, words, inputs, out, &Limits::standard(), &mut steps)
 }
 
+/// Runs a command and says how it ended, and whether it wrote what is wanted. None where memory runs out or writing fails.
+fn tell<R: Alloc<A = Global> + Print>(
+    rt: &R,
+    words: &[Word],
+    inputs: &mut MemoryInputs,
+    wanted: &[u8],
+    files: &str,
+) -> Option<()> {
+    let alloc = rt.alloc();
+    let mut out = MemorySink::new(alloc, 4096, &[]).ok()?;
+    let status = run_command::<Brand>(alloc, words, inputs, &mut out, Blank::new(1));
+    let verdict = if out.written() == wanted {
+        "as wanted"
+    } else {
+        "otherwise"
+    };
+    rt.println(format_args!("{files}: status {}, {verdict}", status.code()))
+        .ok()
+}
+
 /// Runs a command over one example. None where a file can't be read, memory runs out or writing fails.
 fn example<R: Files + Alloc<A = Global> + Print>(
     rt: &R,
@@ -110,20 +151,38 @@ fn example<R: Files + Alloc<A = Global> + Print>(
     let mut inputs = MemoryInputs::new(alloc, &[]).ok()?;
     let name = Word::from_bytes(alloc, file.as_bytes()).ok()?;
     inputs.add(&name, &bytes, 4096).ok()?;
-    let mut out = MemorySink::new(alloc, 4096, &[]).ok()?;
     let mut words = Vec::new(alloc);
     words
         .push(Word::from_bytes(alloc, command.as_bytes()).ok()?)
         .ok()?;
     words.push(name).ok()?;
-    let status = run_command::<Brand>(alloc, &words, &mut inputs, &mut out, Blank::new(1));
-    let verdict = if out.written() == wanted.as_slice() {
-        "as wanted"
-    } else {
-        "otherwise"
-    };
-    rt.println(format_args!("{file}: status {}, {verdict}", status.code()))
-        .ok()
+    tell(rt, &words, &mut inputs, &wanted, file)
+}
+
+/// Runs `check` over a trace with a specification. None where a file can't be read, memory runs out or writing fails.
+fn specified<R: Files + Alloc<A = Global> + Print>(
+    rt: &R,
+    trace: &str,
+    specification: &str,
+    wanted: &str,
+) -> Option<()> {
+    let alloc = rt.alloc();
+    let trace_bytes = fs::read(rt, trace).ok()?;
+    let specification_bytes = fs::read(rt, specification).ok()?;
+    let wanted = fs::read(rt, wanted).ok()?;
+    let mut inputs = MemoryInputs::new(alloc, &[]).ok()?;
+    let trace_name = Word::from_bytes(alloc, b"trace").ok()?;
+    let specification_name = Word::from_bytes(alloc, b"specification").ok()?;
+    inputs.add(&trace_name, &trace_bytes, 4096).ok()?;
+    inputs
+        .add(&specification_name, &specification_bytes, 4096)
+        .ok()?;
+    let mut words = Vec::new(alloc);
+    words.push(Word::from_bytes(alloc, b"check").ok()?).ok()?;
+    words.push(trace_name).ok()?;
+    words.push(specification_name).ok()?;
+    let files = format!(in alloc; "{trace} with {specification}").ok()?;
+    tell(rt, &words, &mut inputs, &wanted, &files)
 }
 
 fn main(rt: HostRuntime) -> ExitCode {
@@ -134,6 +193,11 @@ fn main(rt: HostRuntime) -> ExitCode {
     }
     for (specification, wanted) in SPECIFICATIONS {
         if example(&rt, "spec", specification, wanted).is_none() {
+            return ExitCode::FAILURE;
+        }
+    }
+    for (trace, specification, wanted) in SPECIFIED {
+        if specified(&rt, trace, specification, wanted).is_none() {
             return ExitCode::FAILURE;
         }
     }

@@ -11,7 +11,7 @@ use Rattle.rd_wf.specs.Events.{AreAccepted, AreAcceptedFrom}
 use Rattle.rd_ecl.specs.Kinds.{Kind}
 use Rattle.rd_wf.specs.MayFollow.{MayFollow, first_broken}
 use Rattle.rd_run.specs.Walk.{accepted_or, entries_of, goes_or_ends, items, judged, judged_item, trace_of, walk}
-use Rattle.rd_run.specs.declared.endings.TraceCause.{TraceCause}
+use Rattle.rd_report.specs.declared.endings.TraceCause.{TraceCause}
 use Rattle.rd_wf.specs.declared.causes.WfCause.{WfCause}
 
 module _ (kinds : List Kind) (limits : Limits) (before : List Line) (item : Line) where

@@ -1,20 +1,24 @@
 -- What is written before a read fails is a front of what is written for all bytes.
-use Rattle.std.proofs.Common.{◌≡◌, ◌⊎◌, inl, inr, ℕ, ◌+◌, Bool, List, [], ◌∷◌, ◌++◌, Result, Ok, Err, Decides, refl, sym, ap, subst, ◌∙◌}
+use Rattle.std.proofs.Common.{◌≡◌, ◌<◌, ◌^◌, ◌⊎◌, inl, inr, ℕ, ◌+◌, List, [], ◌∷◌, ◌++◌, Result, Ok, Err, refl, sym, ap, subst, ◌∙◌}
 use Rattle.std.proofs.lemmas.List.{append-nil}
+use Rattle.rd_base.specs.Limits.{AreUsable}
 use Rattle.rd_base.specs.declared.limits.Limits.{Limits}
-use Rattle.rd_event.specs.declared.events.Call.{Call}
+use Rattle.rd_report.specs.Texts.{ending_text}
+use Rattle.rd_wf.specs.Events.{AreAccepted}
 use Rattle.rd_event.specs.declared.items.Line.{Line}
 use Rattle.rd_io.proofs.FaultLemmas.{front_reading}
 use Rattle.rd_io.specs.Lines.{IsFrontOf, Stop, Reading, reading}
 use Rattle.rd_io.specs.Lines.Ending.{at_end, bytes_limit, faulted, line_too_long, no_final_newline}
 use Rattle.rd_io.specs.Lines.Reading.{stops, line}
 use Rattle.rd_io.specs.Lines.Stop.{fault}
-use Rattle.rd_ecl.specs.Kinds.{Kind}
-use Rattle.rd_run.proofs.RunLemmas.{front_outcome, outcome_at}
-use Rattle.rd_run.specs.Output.{IsFront, Outcome, check_outcome, race_texts}
-use Rattle.rd_run.specs.Walk.{Entry, Walked, after, ends, goes, goes_or_ends, judged, trace_of, walk}
-use Rattle.rd_run.specs.declared.endings.Ending.TheVariants.{Fault}
-use Rattle.rd_run.specs.declared.endings.TraceCause.{TraceCause}
+use Rattle.rd_ecl.specs.Kinds.{Kind, kinds_of}
+use Rattle.rd_ecl.specs.Specified.{SpecifiedKind}
+use Rattle.rd_run.proofs.AcceptedLemmas.{trace_accepted}
+use Rattle.rd_run.proofs.RunLemmas.{entries_at, front_outcome}
+use Rattle.rd_run.specs.Output.{IsFront, check_outcome, race_texts, races_of, thread_names}
+use Rattle.rd_run.specs.Walk.{Entry, Walked, after, ending_of, ends, entries_of, goes, goes_or_ends, items, judged, trace_of, walk}
+use Rattle.rd_report.specs.declared.endings.Ending.TheVariants.{Fault}
+use Rattle.rd_report.specs.declared.endings.TraceCause.{TraceCause}
 
 -- the walk is that of the whole, or was cut by a fault behind some of its entries
 IsCutOf : Walked → Walked → Type 0
@@ -53,17 +57,25 @@ module _ (kinds : List Kind) (limits : Limits) where
       cut_walk [] 1 (reading limits.line limits.bytes fault bytes) (reading limits.line limits.bytes stop (bytes ++ more))
       (front_reading limits.line limits.bytes stop bytes more)
 
-  module _ (Commuting : Call → Call → Type 0) (commuting : Call → Call → Bool) (tells : (a b : Call) → Decides (commuting a b) (Commuting a b)) where
-    cut_text : (walked whole : Walked) → IsCutOf walked whole → IsFront (check_outcome commuting kinds walked).text (check_outcome commuting kinds whole).text
-    unfolding IsCutOf
-    cut_text walked whole (inl same) = ([], ap (λ w. (check_outcome commuting kinds w).text) (sym same) ∙ sym (append-nil (check_outcome commuting kinds walked).text))
-    cut_text walked whole (inr (entries, later, cut, is)) =
-        let texts : (check_outcome commuting kinds walked).text ≡ race_texts commuting kinds entries ++ []
-        = ap (λ w. (check_outcome commuting kinds w).text) cut ∙ ap (λ (o : Outcome). o.text) (outcome_at Commuting commuting tells kinds entries Fault) in
-        let front = front_outcome Commuting commuting tells kinds entries later (race_texts commuting kinds entries) [] (sym (append-nil (race_texts commuting kinds entries))) in
-        subst (λ text. IsFront text (check_outcome commuting kinds whole).text) (sym (texts ∙ append-nil (race_texts commuting kinds entries)))
-        (subst (λ w. IsFront (race_texts commuting kinds entries) (check_outcome commuting kinds w).text) (sym is) front)
+-- the texts of races that are written before a read fails are a front of what is written for the whole
+pub fault_front : (kinds : List SpecifiedKind) (limits : Limits) → AreUsable limits → limits.threads < 2 ^ 32 → (stop : Stop) (bytes more : List ℕ)
+    → IsFront (race_texts kinds (entries_of (trace_of (kinds_of kinds) limits fault bytes))) (check_outcome kinds (trace_of (kinds_of kinds) limits stop (bytes ++ more))).text
+unfolding IsCutOf
+fault_front kinds limits usable range stop bytes more = by (cut_trace (kinds_of kinds) limits stop bytes more)
+  where
+    cut : Walked
+    cut = trace_of (kinds_of kinds) limits fault bytes
 
-    pub fault_front : (stop : Stop) (bytes more : List ℕ)
-        → IsFront (check_outcome commuting kinds (trace_of kinds limits fault bytes)).text (check_outcome commuting kinds (trace_of kinds limits stop (bytes ++ more))).text
-    fault_front stop bytes more = cut_text (trace_of kinds limits fault bytes) (trace_of kinds limits stop (bytes ++ more)) (cut_trace stop bytes more)
+    whole : Walked
+    whole = trace_of (kinds_of kinds) limits stop (bytes ++ more)
+
+    by : IsCutOf cut whole → IsFront (race_texts kinds (entries_of cut)) (check_outcome kinds whole).text
+    by (inl same) = (
+      ending_text (thread_names (entries_of whole)) (races_of kinds (entries_of whole)) (ending_of whole),
+      ap (λ w. race_texts kinds (entries_of w) ++ ending_text (thread_names (entries_of whole)) (races_of kinds (entries_of whole)) (ending_of whole)) (sym same),
+    )
+    by (inr (entries, later, is_cut, is)) =
+        let accepted = subst (λ w. AreAccepted (kinds_of kinds) (items (entries_of w))) is (trace_accepted (kinds_of kinds) limits usable range stop (bytes ++ more)) in
+        let front = front_outcome kinds entries later accepted (race_texts kinds entries) [] (sym (append-nil (race_texts kinds entries))) in
+        subst (λ text. IsFront text (check_outcome kinds whole).text) (ap (race_texts kinds) (sym (ap entries_of is_cut ∙ entries_at entries Fault)))
+        (subst (λ w. IsFront (race_texts kinds entries) (check_outcome kinds w).text) (sym is) front)

@@ -1,11 +1,15 @@
 pub mod AcceptedLemmas
 pub mod CheckLemmas
+pub mod CombinedLemmas
 pub mod ContinueLemmas
 pub mod FaultLemmas
 pub mod HeadlineLemmas
+pub mod KindLemmas
+pub mod NamingLemmas
 pub mod OutputLemmas
 pub mod ProgressLemmas
 pub mod ReportLemmas
 pub mod RunLemmas
 pub mod SpecLemmas
+pub mod TraceLemmas
 pub mod WalkLemmas

@@ -1,13 +1,13 @@
 -- What is written, and the status.
-use Rattle.std.proofs.Common.{◌≡◌, ◌≢◌, ℕ, Bool, true, false, cond, List, [], ◌++◌, Option, Result, Err, refl, sym, ap, subst, ◌∙◌, eqb, inr}
+use Rattle.std.proofs.Common.{◌≡◌, ◌≢◌, ℕ, Bool, true, false, cond, List, [], ◌++◌, Option, Result, Err, refl, sym, ap, subst, ◌∙◌, eqb, inl, inr}
 use Rattle.std.proofs.lemmas.List.{append_assoc, append-nil}
 use Rattle.rd_run.specs.Commands.{halted_with}
 use Rattle.rd_run.specs.Analysis.{TellsFault}
 use Rattle.rd_run.specs.Output.{HasOutcome, Outcome, IsOutput, StatusTellsFault, check_status, is_limit}
 use Rattle.rd_run.specs.declared.analysis.Halt.{Halt}
 use Rattle.rd_run.specs.declared.analysis.Halt.TheVariants as halt
-use Rattle.rd_run.specs.declared.endings.Ending.{Ending}
-use Rattle.rd_run.specs.declared.endings.Ending.TheVariants.{End, Refused, Fault}
+use Rattle.rd_report.specs.declared.endings.Ending.{Ending}
+use Rattle.rd_report.specs.declared.endings.Ending.TheVariants.{End, Refused, Fault}
 use Rattle.rd_run.specs.declared.status.Status.{Status}
 use Rattle.rd_run.specs.declared.status.Status.TheVariants.{Clean, Raced, Usage, SpecRefused, TraceRefused, ReplayDiffers, InputFault, OutputFault, NoMemory, LimitReached}
 
@@ -42,6 +42,21 @@ has_outcome Is InputFault part outcome is output = (outcome, is, output)
 has_outcome Is OutputFault part outcome is output = (outcome, is, output)
 has_outcome Is NoMemory part outcome is output = inr (outcome, is, output)
 has_outcome Is LimitReached part outcome is output = (outcome, is, output)
+
+-- what is written of one of these is written of one of those
+pub outcome_of : (Is Also : Outcome → Type 0) → ((outcome : Outcome) → Is outcome → Also outcome) → (status : Status) (part : List ℕ)
+    → HasOutcome Is status part → HasOutcome Also status part
+outcome_of Is Also all Clean part has = (has.0, all has.0 has.1, has.2)
+outcome_of Is Also all Raced part has = (has.0, all has.0 has.1, has.2)
+outcome_of Is Also all Usage part has = (has.0, all has.0 has.1, has.2)
+outcome_of Is Also all SpecRefused part has = (has.0, all has.0 has.1, has.2)
+outcome_of Is Also all TraceRefused part has = (has.0, all has.0 has.1, has.2)
+outcome_of Is Also all ReplayDiffers part has = (has.0, all has.0 has.1, has.2)
+outcome_of Is Also all InputFault part has = (has.0, all has.0 has.1, has.2)
+outcome_of Is Also all OutputFault part has = (has.0, all has.0 has.1, has.2)
+outcome_of Is Also all NoMemory part (inl none) = inl none
+outcome_of Is Also all NoMemory part (inr has) = inr (has.0, all has.0 has.1, has.2)
+outcome_of Is Also all LimitReached part has = (has.0, all has.0 has.1, has.2)
 
 -- a text was written before
 pub behind : (status : Status) (front part text : List ℕ) (given : Status) → IsOutput status part (record { text = text; status = given })

@@ -1,6 +1,5 @@
 -- What is written of one accepted line more.
 use Rattle.std.proofs.Common.{◌≡◌, ◌≢◌, ◌↔◌, ◌⊎◌, inl, inr, ℕ, zero, suc, ◌+◌, ◌<◌, ◌≤◌, ◌==◌, Bool, true, false, cond, List, [], ◌∷◌, ◌++◌, length, Option, Some, None, is_some, MatchOption, Decides, refl, sym, ap, subst, ◌∙◌, arith}
-use Rattle.std.specs.Prelude.{unwrap_or}
 use Rattle.std.specs.List.{cons_option}
 use Rattle.std.proofs.lemmas.Bool.{cases_eq, eq-eqb, ne_eqb}
 use Rattle.std.proofs.lemmas.List.{append_assoc, append-nil}
@@ -12,24 +11,29 @@ use Rattle.rd_event.specs.declared.events.Event.TheVariants.{Call}
 use Rattle.rd_event.specs.declared.items.Line.{Line}
 use Rattle.rd_event.specs.declared.items.Line.TheVariants.{Skip, Header, Thread, Object, Event}
 use Rattle.rd_event.specs.declared.items.LineEvent.{LineEvent}
-use Rattle.rd_order.proofs.OrderLemmas.{at_end, at_front, length_more}
-use Rattle.rd_clock.specs.declared.clock.Stamp.{Stamp}
-use Rattle.rd_wf.proofs.EventsLemmas.{events_more}
+use Rattle.rd_order.proofs.OrderLemmas.{length_more}
+use Rattle.std.specs.Prelude.{slice_get}
+use Rattle.rd_wf.proofs.EventsLemmas.{events_more, told_from}
 use Rattle.rd_detect.proofs.RaceLemmas.{latest_is, latest_longer, latest_none, latest_some}
 use Rattle.rd_run.proofs.WalkLemmas.{items_more}
 use Rattle.rd_run.specs.Checking.{next_races, next_text}
-use Rattle.rd_detect.specs.Detect.{IsAnswer, IsNextCall}
-use Rattle.rd_wf.specs.Events.{event_of, events_from, events_of}
-use Rattle.rd_ecl.specs.Kinds.{Kind}
+use Rattle.rd_detect.specs.Commuting.{Commute, commuting}
+use Rattle.rd_detect.specs.Detect.{IsAnswer}
+use Rattle.rd_wf.specs.Events.{AreAcceptedFrom, AreTold, IsAccepted, event_of, events_from, events_of}
+use Rattle.rd_ecl.specs.Kinds.{Kind, kinds_of}
+use Rattle.rd_ecl.specs.Specified.{SpecifiedKind}
 use Rattle.rd_wf.specs.MayFollow.{is_event, numbered_event}
-use Rattle.rd_run.specs.Output.{IsFront, check_status, entry_events, event_number, event_numbers, number_at, race_line, is_limit, race_texts, races_before, races_of, text_with, texts_before}
+use Rattle.rd_report.specs.Races.{race_text, told_by}
+use Rattle.rd_report.specs.Texts.{Naming, naming}
+use Rattle.rd_store.specs.declared.Race.{Race}
+use Rattle.rd_run.proofs.NamingLemmas.{race_longer, witness_told}
+use Rattle.rd_run.specs.Output.{IsFront, calls_text, check_status, entries_race, entry_events, event_number, event_numbers, is_limit, race_at, race_texts, races_before, races_of, text_with, texts_before, told_at}
 use Rattle.rd_detect.specs.RaceTests.{latest_of}
 use Rattle.rd_detect.specs.Races.{IsLatest, Reported}
 use Rattle.rd_run.specs.Reports.{IsReport}
 use Rattle.rd_run.specs.Walk.{Entry, items}
-use Rattle.rd_detect.specs.declared.detector.Seen.{Seen}
-use Rattle.rd_run.specs.declared.endings.Ending.{Ending}
-use Rattle.rd_run.specs.declared.endings.Ending.TheVariants.{End, Refused, Fault}
+use Rattle.rd_report.specs.declared.endings.Ending.{Ending}
+use Rattle.rd_report.specs.declared.endings.Ending.TheVariants.{End, Refused, Fault}
 use Rattle.rd_run.specs.declared.status.Status.TheVariants.{Clean, Raced, TraceRefused, LimitReached}
 
 -- ---- each event has the number of a line
@@ -47,34 +51,40 @@ numbers_from [] kinds before = refl
 numbers_from (x ∷ xs) kinds before =
     one_more x.item x.number (event_numbers xs) kinds before (events_from kinds (before ++ x.item ∷ []) (items xs)) (numbers_from xs kinds (before ++ x.item ∷ []))
 
-pub numbers_counted : (kinds : List Kind) (entries : List Entry) → length (event_numbers entries) ≡ length (entry_events kinds entries)
-numbers_counted kinds entries = numbers_from entries kinds []
+pub numbers_counted : (kinds : List SpecifiedKind) (entries : List Entry) → length (event_numbers entries) ≡ length (entry_events kinds entries)
+numbers_counted kinds entries = numbers_from entries (kinds_of kinds) []
 
-module _ (Commuting : CallOf → CallOf → Type 0) (commuting : CallOf → CallOf → Bool) (tells : (a b : CallOf) → Decides (commuting a b) (Commuting a b)) (kinds : List Kind) where
+-- one accepted line more
+told_next : (kinds : List Kind) (lines : List Line) (line : Line) → IsAccepted kinds lines line → AreTold kinds lines → AreTold kinds (lines ++ line ∷ [])
+told_next kinds lines line accepted told = told_from kinds lines (line ∷ []) told (accepted, tt)
+
+-- a test of commuting tells which calls commute
+pub passing : (kinds : List SpecifiedKind) (a b : CallOf) → Decides (commuting kinds a b) (Commute kinds a b)
+passing kinds a b = (λ h. h, λ h. h)
+
+module _ (kinds : List SpecifiedKind) where
   -- ---- what was written isn't changed by further events
 
-  module _ (numbers more : List ℕ) (es fs : List Numbered) (counted : length numbers ≡ length es) where
-    text_longer : (n : ℕ) → n < length es → text_with (numbers ++ more) n (latest_of commuting (es ++ fs) n) ≡ text_with numbers n (latest_of commuting es n)
-    text_longer n inside = ap (text_with (numbers ++ more) n) (latest_longer Commuting commuting tells es fs n inside) ∙ by (latest_of commuting es n) (latest_is Commuting commuting tells es n)
+  module _ (text more_text : ℕ → ℕ → List ℕ) (es fs : List Numbered)
+      (kept : (n i : ℕ) → n < length es → i < length es → more_text n i ≡ text n i) where
+    text_longer : (n : ℕ) → n < length es → text_with more_text n (latest_of (commuting kinds) (es ++ fs) n) ≡ text_with text n (latest_of (commuting kinds) es n)
+    text_longer n inside =
+        ap (text_with more_text n) (latest_longer (Commute kinds) (commuting kinds) (passing kinds) es fs n inside)
+        ∙ by (latest_of (commuting kinds) es n) (latest_is (Commute kinds) (commuting kinds) (passing kinds) es n)
       where
-        kept : (k : ℕ) → k < length es → number_at (numbers ++ more) k ≡ number_at numbers k
-        kept k below = ap (λ o. unwrap_or o 0) (at_front numbers more k (omega arith))
-
-        by : (o : Option ℕ) → MatchOption o (¬ (Reported Commuting es n)) (IsLatest Commuting es n) → text_with (numbers ++ more) n o ≡ text_with numbers n o
+        by : (o : Option ℕ) → MatchOption o (¬ (Reported (Commute kinds) es n)) (IsLatest (Commute kinds) es n) → text_with more_text n o ≡ text_with text n o
         by None none = refl
-        by (Some i) is =
-            let before : i < n = is.racing.unordered.0 in
-            λ j. race_line (kept n inside j) (kept i (omega arith) j)
+        by (Some i) is = (let before : i < n = is.racing.unordered.0 in kept n i inside (omega arith))
 
-    texts_longer : (n : ℕ) → n ≤ length es → texts_before commuting (numbers ++ more) (es ++ fs) n ≡ texts_before commuting numbers es n
+    texts_longer : (n : ℕ) → n ≤ length es → texts_before (commuting kinds) more_text (es ++ fs) n ≡ texts_before (commuting kinds) text es n
     unfolding texts_before
     texts_longer zero inside = refl
     texts_longer (suc n) inside = λ i. texts_longer n (omega arith) i ++ text_longer n (omega arith) i
 
-  races_longer : (es fs : List Numbered) (n : ℕ) → n ≤ length es → races_before commuting (es ++ fs) n ≡ races_before commuting es n
+  races_longer : (es fs : List Numbered) (n : ℕ) → n ≤ length es → races_before (commuting kinds) (es ++ fs) n ≡ races_before (commuting kinds) es n
   unfolding races_before
   races_longer es fs zero inside = refl
-  races_longer es fs (suc n) inside = λ i. races_longer es fs n (omega arith) i + cond (is_some (latest_longer Commuting commuting tells es fs n (omega arith) i)) 1 0
+  races_longer es fs (suc n) inside = λ i. races_longer es fs n (omega arith) i + cond (is_some (latest_longer (Commute kinds) (commuting kinds) (passing kinds) es fs n (omega arith) i)) 1 0
 
   -- ---- one line more
 
@@ -82,15 +92,15 @@ module _ (Commuting : CallOf → CallOf → Type 0) (commuting : CallOf → Call
     numbers_more : event_numbers (entries ++ entry ∷ []) ≡ event_numbers entries ++ cons_option (event_number entry) []
     numbers_more = filter_map-append event_number entries (entry ∷ [])
 
-    all_more : entry_events kinds (entries ++ entry ∷ []) ≡ entry_events kinds entries ++ cons_option (event_of kinds (items entries) entry.item) []
-    all_more = ap (events_of kinds) (items_more entries entry) ∙ events_more kinds (items entries) entry.item
+    all_more : entry_events kinds (entries ++ entry ∷ []) ≡ entry_events kinds entries ++ cons_option (event_of (kinds_of kinds) (items entries) entry.item) []
+    all_more = ap (events_of (kinds_of kinds)) (items_more entries entry) ∙ events_more (kinds_of kinds) (items entries) entry.item
 
     -- it is no event
     module _ (event : is_event entry.item ≡ false) where
       no_number : event_numbers (entries ++ entry ∷ []) ≡ event_numbers entries
       no_number = numbers_more ∙ ap (λ b. event_numbers entries ++ cons_option (cond b (Some entry.number) None) []) event ∙ append-nil (event_numbers entries)
 
-      none_of : (item : Line) → is_event item ≡ false → event_of kinds (items entries) item ≡ None
+      none_of : (item : Line) → is_event item ≡ false → event_of (kinds_of kinds) (items entries) item ≡ None
       none_of Skip e = refl
       none_of (Header version) e = refl
       none_of (Thread name) e = refl
@@ -106,102 +116,122 @@ module _ (Commuting : CallOf → CallOf → Type 0) (commuting : CallOf → Call
       pub quiet_events : entry_events kinds (entries ++ entry ∷ []) ≡ entry_events kinds entries
       quiet_events = no_event
 
-      pub quiet_texts : race_texts commuting kinds (entries ++ entry ∷ []) ≡ race_texts commuting kinds entries
+      pub quiet_texts : AreTold (kinds_of kinds) (items entries) → race_texts kinds (entries ++ entry ∷ []) ≡ race_texts kinds entries
       unfolding race_texts
-      quiet_texts = λ i. texts_before commuting (no_number i) (no_event i) (length (no_event i))
+      quiet_texts told =
+          let es : List Numbered = entry_events kinds entries in
+          let numbers : List ℕ = event_numbers entries in
+          let text = entries_race kinds (entries ++ entry ∷ []) in
+          let same_text : (n i : ℕ) → n < length es → i < length es → text n i ≡ entries_race kinds entries n i
+          = λ n i inside before.
+          (λ k. race_at kinds (naming (items_more entries entry k)) ((no_number ∙ sym (append-nil numbers)) k) ((no_event ∙ sym (append-nil es)) k) n i)
+          ∙ race_longer kinds (items entries) told entry.item numbers [] [] (numbers_counted kinds entries) n i inside before in
+          (λ k. texts_before (commuting kinds) text ((no_event ∙ sym (append-nil es)) k) (length (no_event k)))
+          ∙ texts_longer (entries_race kinds entries) text es [] same_text (length es) (omega arith)
 
-      pub quiet_races : races_of commuting kinds (entries ++ entry ∷ []) ≡ races_of commuting kinds entries
+      pub quiet_races : races_of kinds (entries ++ entry ∷ []) ≡ races_of kinds entries
       unfolding races_of
-      quiet_races = λ i. races_before commuting (no_event i) (length (no_event i))
+      quiet_races = λ i. races_before (commuting kinds) (no_event i) (length (no_event i))
 
     -- it is an event
     module _ (event : LineEvent) (is : entry.item ≡ Event event) where
       abbrev e : Numbered
-      e = numbered_event kinds (items entries) event
+      e = numbered_event (kinds_of kinds) (items entries) event
 
       pub event_numbers_more : event_numbers (entries ++ entry ∷ []) ≡ event_numbers entries ++ entry.number ∷ []
       event_numbers_more = numbers_more ∙ ap (λ item. event_numbers entries ++ cons_option (cond (is_event item) (Some entry.number) None) []) is
 
-      pub events_all : entry_events kinds (entries ++ entry ∷ []) ≡ entry_events kinds entries ++ numbered_event kinds (items entries) event ∷ []
-      events_all = all_more ∙ ap (λ item. entry_events kinds entries ++ cons_option (event_of kinds (items entries) item) []) is
+      pub events_all : entry_events kinds (entries ++ entry ∷ []) ≡ entry_events kinds entries ++ numbered_event (kinds_of kinds) (items entries) event ∷ []
+      events_all = all_more ∙ ap (λ item. entry_events kinds entries ++ cons_option (event_of (kinds_of kinds) (items entries) item) []) is
 
-      pub texts_more : race_texts commuting kinds (entries ++ entry ∷ []) ≡ race_texts commuting kinds entries ++ next_text commuting (event_numbers entries) entry.number (entry_events kinds entries) (numbered_event kinds (items entries) event)
+      pub texts_more : AreTold (kinds_of kinds) (items entries) → race_texts kinds (entries ++ entry ∷ [])
+          ≡ race_texts kinds entries ++ next_text kinds (naming (items entries ++ entry.item ∷ [])) (event_numbers entries) entry.number (entry_events kinds entries) e
       unfolding race_texts texts_before
-      texts_more =
+      texts_more told =
           let es : List Numbered = entry_events kinds entries in
           let numbers : List ℕ = event_numbers entries in
-          (λ i. texts_before commuting (event_numbers_more i) (events_all i) (length (events_all i)))
-          ∙ ap (texts_before commuting (numbers ++ entry.number ∷ []) (es ++ e ∷ [])) (length_more es e)
-          ∙ ap (λ t. t ++ next_text commuting numbers entry.number es e) (texts_longer numbers (entry.number ∷ []) es (e ∷ []) (numbers_counted kinds entries) (length es) (omega arith))
+          let text = race_at kinds (naming (items entries ++ entry.item ∷ [])) (numbers ++ entry.number ∷ []) (es ++ e ∷ []) in
+          let same_text : (n i : ℕ) → n < length es → i < length es → text n i ≡ entries_race kinds entries n i
+          = race_longer kinds (items entries) told entry.item numbers (entry.number ∷ []) (e ∷ []) (numbers_counted kinds entries) in
+          (λ k. texts_before (commuting kinds) (race_at kinds (naming (items_more entries entry k)) (event_numbers_more k) (events_all k)) (events_all k) (length (events_all k)))
+          ∙ ap (texts_before (commuting kinds) text (es ++ e ∷ [])) (length_more es e)
+          ∙ ap (λ t. t ++ next_text kinds (naming (items entries ++ entry.item ∷ [])) numbers entry.number es e)
+          (texts_longer (entries_race kinds entries) text es (e ∷ []) same_text (length es) (omega arith))
 
-      pub races_more : races_of commuting kinds (entries ++ entry ∷ []) ≡ races_of commuting kinds entries + next_races commuting (entry_events kinds entries) (numbered_event kinds (items entries) event)
+      pub races_more : races_of kinds (entries ++ entry ∷ []) ≡ races_of kinds entries + next_races kinds (entry_events kinds entries) (numbered_event (kinds_of kinds) (items entries) event)
       unfolding races_of races_before
       races_more =
           let es : List Numbered = entry_events kinds entries in
-          (λ i. races_before commuting (events_all i) (length (events_all i)))
-          ∙ ap (races_before commuting (es ++ e ∷ [])) (length_more es e)
-          ∙ ap (λ n. n + next_races commuting es e) (races_longer es (e ∷ []) (length es) (omega arith))
+          (λ i. races_before (commuting kinds) (events_all i) (length (events_all i)))
+          ∙ ap (races_before (commuting kinds) (es ++ e ∷ [])) (length_more es e)
+          ∙ ap (λ n. n + next_races kinds es e) (races_longer es (e ∷ []) (length es) (omega arith))
 
   -- the texts of further lines come behind those before
-  pub texts_grow : (before : List Entry) (entry : Entry) → IsFront (race_texts commuting kinds before) (race_texts commuting kinds (before ++ entry ∷ []))
-  texts_grow before entry = by entry.item refl
+  pub texts_grow : (before : List Entry) (entry : Entry) → AreTold (kinds_of kinds) (items before)
+      → IsFront (race_texts kinds before) (race_texts kinds (before ++ entry ∷ []))
+  texts_grow before entry told = by entry.item refl
     where
-      quiet : is_event entry.item ≡ false → IsFront (race_texts commuting kinds before) (race_texts commuting kinds (before ++ entry ∷ []))
-      quiet event = ([], quiet_texts before entry event ∙ sym (append-nil (race_texts commuting kinds before)))
+      quiet : is_event entry.item ≡ false → IsFront (race_texts kinds before) (race_texts kinds (before ++ entry ∷ []))
+      quiet event = ([], quiet_texts before entry event told ∙ sym (append-nil (race_texts kinds before)))
 
-      by : (item : Line) → entry.item ≡ item → IsFront (race_texts commuting kinds before) (race_texts commuting kinds (before ++ entry ∷ []))
+      by : (item : Line) → entry.item ≡ item → IsFront (race_texts kinds before) (race_texts kinds (before ++ entry ∷ []))
       by Skip is = quiet (ap is_event is)
       by (Header version) is = quiet (ap is_event is)
       by (Thread name) is = quiet (ap is_event is)
       by (Object name kind) is = quiet (ap is_event is)
-      by (Event event) is = (next_text commuting (event_numbers before) entry.number (entry_events kinds before) (numbered_event kinds (items before) event), texts_more before entry event is)
+      by (Event event) is = (_, texts_more before entry event is told)
 
-  pub texts_front : (entries more : List Entry) → IsFront (race_texts commuting kinds entries) (race_texts commuting kinds (entries ++ more))
-  texts_front entries [] = ([], ap (race_texts commuting kinds) (append-nil entries) ∙ sym (append-nil (race_texts commuting kinds entries)))
-  texts_front entries (x ∷ xs) =
-      let (first, is_first) = texts_grow entries x in
-      let (rest, is_rest) = texts_front (entries ++ x ∷ []) xs in (
+  pub texts_front : (entries more : List Entry) → AreAcceptedFrom (kinds_of kinds) (items entries) (items more) → AreTold (kinds_of kinds) (items entries)
+      → IsFront (race_texts kinds entries) (race_texts kinds (entries ++ more))
+  texts_front entries [] accepted told = ([], ap (race_texts kinds) (append-nil entries) ∙ sym (append-nil (race_texts kinds entries)))
+  texts_front entries (x ∷ xs) accepted told =
+      let now : AreTold (kinds_of kinds) (items (entries ++ x ∷ []))
+      = subst (AreTold (kinds_of kinds)) (sym (items_more entries x)) (told_next (kinds_of kinds) (items entries) x.item accepted.0 told) in
+      let later : AreAcceptedFrom (kinds_of kinds) (items (entries ++ x ∷ [])) (items xs)
+      = subst (λ lines. AreAcceptedFrom (kinds_of kinds) lines (items xs)) (sym (items_more entries x)) accepted.1 in
+      let (first, is_first) = texts_grow entries x told in
+      let (rest, is_rest) = texts_front (entries ++ x ∷ []) xs later now in (
         first ++ rest,
-        ap (race_texts commuting kinds) (sym (append_assoc entries (x ∷ []) xs)) ∙ is_rest ∙ ap (λ t. t ++ rest) is_first ∙ append_assoc (race_texts commuting kinds entries) first rest,
+        ap (race_texts kinds) (sym (append_assoc entries (x ∷ []) xs)) ∙ is_rest ∙ ap (λ t. t ++ rest) is_first ∙ append_assoc (race_texts kinds entries) first rest,
       )
 
   -- ---- how many are reported
 
-  races_few : (es : List Numbered) (n : ℕ) → races_before commuting es n ≤ n
+  races_few : (es : List Numbered) (n : ℕ) → races_before (commuting kinds) es n ≤ n
   unfolding races_before
   races_few es zero = omega arith
-  races_few es (suc n) = by (is_some (latest_of commuting es n)) (races_few es n)
+  races_few es (suc n) = by (is_some (latest_of (commuting kinds) es n)) (races_few es n)
     where
-      by : (b : Bool) → races_before commuting es n ≤ n → races_before commuting es n + cond b 1 0 ≤ suc n
+      by : (b : Bool) → races_before (commuting kinds) es n ≤ n → races_before (commuting kinds) es n + cond b 1 0 ≤ suc n
       by true few = omega arith
       by false few = omega arith
 
-  pub races_within : (entries : List Entry) → races_of commuting kinds entries ≤ length (entry_events kinds entries)
+  pub races_within : (entries : List Entry) → races_of kinds entries ≤ length (entry_events kinds entries)
   unfolding races_of
   races_within entries = races_few (entry_events kinds entries) (length (entry_events kinds entries))
 
-  none_before : (es : List Numbered) (n : ℕ) → races_before commuting es n ≡ 0 ↔ ((j : ℕ) → j < n → ¬ (Reported Commuting es j))
+  none_before : (es : List Numbered) (n : ℕ) → races_before (commuting kinds) es n ≡ 0 ↔ ((j : ℕ) → j < n → ¬ (Reported (Commute kinds) es j))
   unfolding races_before
   none_before es zero = (λ none j below. absurd (omega arith), λ none. refl)
   none_before es (suc n) = (
     λ none j below reported. elim (cases_eq j n) [
-      | inl same ↦ by (latest_of commuting es n) (latest_is Commuting commuting tells es n) (last_none none) (subst (Reported Commuting es) same reported)
+      | inl same ↦ by (latest_of (commuting kinds) es n) (latest_is (Commute kinds) (commuting kinds) (passing kinds) es n) (last_none none) (subst (Reported (Commute kinds) es) same reported)
       | inr other ↦ (none_before es n).0 (omega (arith, none)) j (omega arith) reported
     ],
     λ none.
-        let rest : races_before commuting es n ≡ 0 = (none_before es n).1 (λ j below. none j (omega arith)) in
-        let last : latest_of commuting es n ≡ None = latest_none Commuting commuting tells es n (none n (omega arith)) in
-        ap (λ o. races_before commuting es n + cond (is_some o) 1 0) last ∙ omega arith,
+        let rest : races_before (commuting kinds) es n ≡ 0 = (none_before es n).1 (λ j below. none j (omega arith)) in
+        let last : latest_of (commuting kinds) es n ≡ None = latest_none (Commute kinds) (commuting kinds) (passing kinds) es n (none n (omega arith)) in
+        ap (λ o. races_before (commuting kinds) es n + cond (is_some o) 1 0) last ∙ omega arith,
   )
     where
-      last_none : races_before commuting es n + cond (is_some (latest_of commuting es n)) 1 0 ≡ 0 → ◌≡◌ {A = ℕ} (cond (is_some (latest_of commuting es n)) 1 0) 0
+      last_none : races_before (commuting kinds) es n + cond (is_some (latest_of (commuting kinds) es n)) 1 0 ≡ 0 → ◌≡◌ {A = ℕ} (cond (is_some (latest_of (commuting kinds) es n)) 1 0) 0
       last_none none = omega arith
 
-      by : (o : Option ℕ) → MatchOption o (¬ (Reported Commuting es n)) (IsLatest Commuting es n) → ◌≡◌ {A = ℕ} (cond (is_some o) 1 0) 0 → ¬ (Reported Commuting es n)
+      by : (o : Option ℕ) → MatchOption o (¬ (Reported (Commute kinds) es n)) (IsLatest (Commute kinds) es n) → ◌≡◌ {A = ℕ} (cond (is_some o) 1 0) 0 → ¬ (Reported (Commute kinds) es n)
       by None fails none = fails
       by (Some i) is none = absurd (omega arith)
 
-  pub none_reported : (entries : List Entry) → races_of commuting kinds entries ≡ 0 ↔ ((j : ℕ) → ¬ (Reported Commuting (entry_events kinds entries) j))
+  pub none_reported : (entries : List Entry) → races_of kinds entries ≡ 0 ↔ ((j : ℕ) → ¬ (Reported (Commute kinds) (entry_events kinds entries) j))
   unfolding races_of
   none_reported entries =
       let es : List Numbered = entry_events kinds entries in
@@ -210,32 +240,32 @@ module _ (Commuting : CallOf → CallOf → Type 0) (commuting : CallOf → Call
         λ none. counted.1 (λ j below. none j),
       )
 
-  some_before : (es : List Numbered) (n : ℕ) → races_before commuting es n ≢ 0 → (j : ℕ) × Reported Commuting es j
+  some_before : (es : List Numbered) (n : ℕ) → races_before (commuting kinds) es n ≢ 0 → (j : ℕ) × Reported (Commute kinds) es j
   unfolding races_before
   some_before es zero some = absurd (some refl)
-  some_before es (suc n) some = by (latest_of commuting es n) refl (latest_is Commuting commuting tells es n) (some_before es n)
+  some_before es (suc n) some = by (latest_of (commuting kinds) es n) refl (latest_is (Commute kinds) (commuting kinds) (passing kinds) es n) (some_before es n)
     where
-      by : (o : Option ℕ) → latest_of commuting es n ≡ o → MatchOption o (¬ (Reported Commuting es n)) (IsLatest Commuting es n) → (races_before commuting es n ≢ 0 → (j : ℕ) × Reported Commuting es j) → (j : ℕ) × Reported Commuting es j
-      by None last none earlier = earlier (λ rest. some (ap (λ o. races_before commuting es n + cond (is_some o) 1 0) last ∙ omega arith))
+      by : (o : Option ℕ) → latest_of (commuting kinds) es n ≡ o → MatchOption o (¬ (Reported (Commute kinds) es n)) (IsLatest (Commute kinds) es n) → (races_before (commuting kinds) es n ≢ 0 → (j : ℕ) × Reported (Commute kinds) es j) → (j : ℕ) × Reported (Commute kinds) es j
+      by None last none earlier = earlier (λ rest. some (ap (λ o. races_before (commuting kinds) es n + cond (is_some o) 1 0) last ∙ omega arith))
       by (Some i) last is earlier = (n, (i, is.racing))
 
-  some_reported : (entries : List Entry) → races_of commuting kinds entries ≢ 0 → (j : ℕ) × Reported Commuting (entry_events kinds entries) j
+  some_reported : (entries : List Entry) → races_of kinds entries ≢ 0 → (j : ℕ) × Reported (Commute kinds) (entry_events kinds entries) j
   unfolding races_of
   some_reported entries some = some_before (entry_events kinds entries) (length (entry_events kinds entries)) some
 
   -- the status of a check tells whether a call is reported
-  raced_end : (entries : List Entry) → (check_status (races_of commuting kinds entries) End ≡ Raced) ↔ ((j : ℕ) × Reported Commuting (entry_events kinds entries) j)
+  raced_end : (entries : List Entry) → (check_status (races_of kinds entries) End ≡ Raced) ↔ ((j : ℕ) × Reported (Commute kinds) (entry_events kinds entries) j)
   unfolding check_status
   raced_end entries = (
-    λ raced. by (cases_eq (races_of commuting kinds entries) 0) raced,
-    λ reported. ap (λ b. cond b Clean Raced) (ne_eqb (races_of commuting kinds entries) 0 (λ none. (none_reported entries).0 none reported.0 reported.1)),
+    λ raced. by (cases_eq (races_of kinds entries) 0) raced,
+    λ reported. ap (λ b. cond b Clean Raced) (ne_eqb (races_of kinds entries) 0 (λ none. (none_reported entries).0 none reported.0 reported.1)),
   )
     where
-      by : (races_of commuting kinds entries ≡ 0) ⊎ (races_of commuting kinds entries ≢ 0) → cond (races_of commuting kinds entries == 0) Clean Raced ≡ Raced → (j : ℕ) × Reported Commuting (entry_events kinds entries) j
-      by (inl none) raced = (let clean : Clean ≡ Raced = ap (λ b. cond b Clean Raced) (sym (eq-eqb (races_of commuting kinds entries) 0 none)) ∙ raced in cc)
+      by : (races_of kinds entries ≡ 0) ⊎ (races_of kinds entries ≢ 0) → cond (races_of kinds entries == 0) Clean Raced ≡ Raced → (j : ℕ) × Reported (Commute kinds) (entry_events kinds entries) j
+      by (inl none) raced = (let clean : Clean ≡ Raced = ap (λ b. cond b Clean Raced) (sym (eq-eqb (races_of kinds entries) 0 none)) ∙ raced in cc)
       by (inr some) raced = some_reported entries some
 
-  pub raced_where : (entries : List Entry) (ending : Ending) → (check_status (races_of commuting kinds entries) ending ≡ Raced) ↔ ((ending ≡ End) × ((j : ℕ) × Reported Commuting (entry_events kinds entries) j))
+  pub raced_where : (entries : List Entry) (ending : Ending) → (check_status (races_of kinds entries) ending ≡ Raced) ↔ ((ending ≡ End) × ((j : ℕ) × Reported (Commute kinds) (entry_events kinds entries) j))
   unfolding check_status
   raced_where entries End = (λ raced. (refl, (raced_end entries).0 raced), λ h. (raced_end entries).1 h.1)
   raced_where entries (Refused number cause) = (λ raced. absurd (by (is_limit cause) raced), λ h. let is = h.0 in cc)
@@ -247,48 +277,56 @@ module _ (Commuting : CallOf → CallOf → Type 0) (commuting : CallOf → Call
 
   -- ---- the texts are a report
 
-  report_before : (numbers : List ℕ) (es : List Numbered) (n : ℕ) → IsReport Commuting numbers es n (texts_before commuting numbers es n)
+  report_before : (text : ℕ → ℕ → List ℕ) (es : List Numbered) (n : ℕ) → IsReport (Commute kinds) text es n (texts_before (commuting kinds) text es n)
   unfolding texts_before
-  report_before numbers es zero = refl
-  report_before numbers es (suc n) = (texts_before commuting numbers es n, report_before numbers es n, by (latest_of commuting es n) (latest_is Commuting commuting tells es n))
+  report_before text es zero = refl
+  report_before text es (suc n) =
+      (texts_before (commuting kinds) text es n, report_before text es n, by (latest_of (commuting kinds) es n) (latest_is (Commute kinds) (commuting kinds) (passing kinds) es n))
     where
-      by : (o : Option ℕ) → MatchOption o (¬ (Reported Commuting es n)) (IsLatest Commuting es n)
-          → (¬ (Reported Commuting es n) × (texts_before commuting numbers es n ++ text_with numbers n o ≡ texts_before commuting numbers es n))
-          ⊎ ((i : ℕ) × IsLatest Commuting es n i × (texts_before commuting numbers es n ++ text_with numbers n o ≡ texts_before commuting numbers es n ++ race_line (number_at numbers n) (number_at numbers i)))
-      by None none = inl (none, append-nil (texts_before commuting numbers es n))
+      by : (o : Option ℕ) → MatchOption o (¬ (Reported (Commute kinds) es n)) (IsLatest (Commute kinds) es n)
+          → (¬ (Reported (Commute kinds) es n) × (texts_before (commuting kinds) text es n ++ text_with text n o ≡ texts_before (commuting kinds) text es n))
+          ⊎ ((i : ℕ) × IsLatest (Commute kinds) es n i × (texts_before (commuting kinds) text es n ++ text_with text n o ≡ texts_before (commuting kinds) text es n ++ text n i))
+      by None none = inl (none, append-nil (texts_before (commuting kinds) text es n))
       by (Some i) is = inr (i, is, refl)
 
-  pub texts_report : (entries : List Entry) → IsReport Commuting (event_numbers entries) (entry_events kinds entries) (length (entry_events kinds entries)) (race_texts commuting kinds entries)
+  pub texts_report : (entries : List Entry) → IsReport (Commute kinds) (entries_race kinds entries) (entry_events kinds entries) (length (entry_events kinds entries)) (race_texts kinds entries)
   unfolding race_texts
-  texts_report entries = report_before (event_numbers entries) (entry_events kinds entries) (length (entry_events kinds entries))
+  texts_report entries = report_before (entries_race kinds entries) (entry_events kinds entries) (length (entry_events kinds entries))
 
   -- ---- what a detector answers is what is written
 
-  abbrev pub answer_text : ℕ → Option ℕ → List ℕ
-  answer_text number None = []
-  answer_text number (Some earlier) = race_line number earlier
+  abbrev pub answer_text : Naming → Option Race → List ℕ
+  answer_text names None = []
+  answer_text names (Some race) = race_text kinds names (told_by race.later.value) (told_by race.earlier.value)
 
-  module _ (numbers : List ℕ) (number : ℕ) (es : List Numbered) (call : CallOf) (counted : length numbers ≡ length es) where
-    pub text_answered : (answer : Option ℕ) → IsAnswer Commuting numbers (es ++ Call call ∷ []) (length es) answer → next_text commuting numbers number es (Call call) ≡ answer_text number answer
-    text_answered None none = ap (text_with (numbers ++ number ∷ []) (length es)) (latest_none Commuting commuting tells (es ++ Call call ∷ []) (length es) none)
-    text_answered (Some earlier) answer =
-        let is : IsLatest Commuting (es ++ Call call ∷ []) (length es) answer.0 = answer.1 in
-        let inside : answer.0 < length numbers = slice_get_within numbers answer.0 earlier answer.2 in
-        let last : number_at (numbers ++ number ∷ []) (length es) ≡ number = ap (number_at (numbers ++ number ∷ [])) (sym counted) ∙ ap (λ o. unwrap_or o 0) (at_end numbers number) in
-        let first : number_at (numbers ++ number ∷ []) answer.0 ≡ earlier = ap (λ o. unwrap_or o 0) (at_front numbers (number ∷ []) answer.0 inside ∙ answer.2) in
-        ap (text_with (numbers ++ number ∷ []) (length es)) (latest_some Commuting commuting tells (es ++ Call call ∷ []) (length es) answer.0 is) ∙ (λ i. race_line (last i) (first i))
+  module _ (names : Naming) (numbers : List ℕ) (number : ℕ) (es : List Numbered) (call : CallOf) where
+    abbrev now : List Numbered
+    now = es ++ Call call ∷ []
 
-    pub races_answered : (answer : Option ℕ) → IsAnswer Commuting numbers (es ++ Call call ∷ []) (length es) answer → next_races commuting es (Call call) ≡ cond (is_some answer) 1 0
-    races_answered None none = ap (λ o. cond (is_some o) 1 0) (latest_none Commuting commuting tells (es ++ Call call ∷ []) (length es) none)
-    races_answered (Some earlier) answer = ap (λ o. cond (is_some o) 1 0) (latest_some Commuting commuting tells (es ++ Call call ∷ []) (length es) answer.0 answer.1)
+    text_answered : (answer : Option Race) → IsAnswer kinds (numbers ++ number ∷ []) now (length es) answer → next_text kinds names numbers number es (Call call) ≡ answer_text names answer
+    unfolding race_at
+    text_answered None none = ap (text_with (race_at kinds names (numbers ++ number ∷ []) now) (length es)) (latest_none (Commute kinds) (commuting kinds) (passing kinds) now (length es) none)
+    text_answered (Some race) (i, latest, is) =
+        let all : List ℕ = numbers ++ number ∷ [] in
+        let later = witness_told all now is.later is.at_j in
+        let earlier = witness_told all now is.earlier is.at_i in
+        ap (text_with (race_at kinds names all now) (length es)) (latest_some (Commute kinds) (commuting kinds) (passing kinds) now (length es) i latest)
+        ∙ (λ k. calls_text (λ b a. race_text kinds names (told_at all now (sym is.later_place k) b) (told_at all now (sym is.earlier_place k) a))
+        (slice_get now (sym is.later_place k)) (slice_get now (sym is.earlier_place k)))
+        ∙ (λ k. calls_text (λ b a. race_text kinds names (told_at all now is.later.place b) (told_at all now is.earlier.place a)) (is.at_j.call k) (is.at_i.call k))
+        ∙ (λ k. race_text kinds names (sym later k) (sym earlier k))
+        ∙ (λ k. race_text kinds names (told_by (sym is.is.later_is k)) (told_by (sym is.is.earlier_is k)))
 
-  module _ (held : List Seen) (numbers : List ℕ) (number : ℕ) (es : List Numbered) (place : ℕ) (call : CallOf) (stamp : Stamp) (next : IsNextCall held numbers es place call stamp)
-      (answer : Option ℕ) (is : IsAnswer Commuting numbers (es ++ Call call ∷ []) place answer) where
-    at_last : IsAnswer Commuting numbers (es ++ Call call ∷ []) (length es) answer
-    at_last = subst (λ p. IsAnswer Commuting numbers (es ++ Call call ∷ []) p answer) next.at_end is
+    races_answered : (answer : Option Race) → IsAnswer kinds (numbers ++ number ∷ []) now (length es) answer → next_races kinds es (Call call) ≡ cond (is_some answer) 1 0
+    races_answered None none = ap (λ o. cond (is_some o) 1 0) (latest_none (Commute kinds) (commuting kinds) (passing kinds) now (length es) none)
+    races_answered (Some race) answer = ap (λ o. cond (is_some o) 1 0) (latest_some (Commute kinds) (commuting kinds) (passing kinds) now (length es) answer.0 answer.1)
 
-    pub next_text_is : next_text commuting numbers number es (Call call) ≡ answer_text number answer
-    next_text_is = text_answered numbers number es call next.stands.lengths answer at_last
+    module _ (place : ℕ) (last : place ≡ length es) (answer : Option Race) (is : IsAnswer kinds (numbers ++ number ∷ []) now place answer) where
+      at_last : IsAnswer kinds (numbers ++ number ∷ []) now (length es) answer
+      at_last = subst (λ p. IsAnswer kinds (numbers ++ number ∷ []) now p answer) last is
 
-    pub next_races_is : next_races commuting es (Call call) ≡ cond (is_some answer) 1 0
-    next_races_is = races_answered numbers number es call next.stands.lengths answer at_last
+      pub next_text_is : next_text kinds names numbers number es (Call call) ≡ answer_text names answer
+      next_text_is = text_answered answer at_last
+
+      pub next_races_is : next_races kinds es (Call call) ≡ cond (is_some answer) 1 0
+      next_races_is = races_answered answer at_last

@@ -8,13 +8,14 @@ use Rattle.rd_event.specs.Reading.{item_of}
 use Rattle.rd_event.specs.declared.items.Line.{Line}
 use Rattle.rd_ecl.specs.Kinds.{Kind}
 use Rattle.rd_wf.specs.MayFollow.{first_broken}
-use Rattle.rd_run.specs.Walk.{Entry, items, Walked, ends, goes, after, entries_of, ending_of, judged, judged_item, accepted_or, refusal, walk, goes_or_ends, ended, bound_from, line_bound}
+use Rattle.rd_run.specs.Walk.{Entry, items, Walked, ends, goes, after, entries_of, ending_of, judged, judged_item, accepted_or, walk, goes_or_ends, ended, bound_from, line_bound}
 use Rattle.rd_wf.specs.declared.causes.WfCause.{WfCause}
-use Rattle.rd_run.specs.declared.endings.TraceCause.{TraceCause}
-use Rattle.rd_run.specs.declared.endings.Ending.TheVariants.{Refused}
+use Rattle.rd_report.specs.declared.endings.TraceCause.{TraceCause}
+use Rattle.rd_report.specs.declared.endings.TraceCause.TheVariants.{Wf}
+use Rattle.rd_report.specs.declared.endings.Ending.TheVariants.{Refused}
 
 pub judged_broken : (kinds : List Kind) (limits : Limits) (before : List Line) (bytes : List ℕ) (item : Line) (cause : WfCause)
-    → item_of bytes ≡ Some item → first_broken kinds limits before item ≡ Some cause → judged kinds limits before bytes ≡ Err (refusal item cause)
+    → item_of bytes ≡ Some item → first_broken kinds limits before item ≡ Some cause → judged kinds limits before bytes ≡ Err (Wf cause)
 unfolding judged
 judged_broken kinds limits before bytes item cause says broken = ap (judged_item kinds limits before) says ∙ ap (accepted_or item) broken
 

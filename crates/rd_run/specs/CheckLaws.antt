@@ -5,11 +5,10 @@ use Rattle.std.proofs.lemmas.Option.{none-some}
 use Rattle.rd_order.specs.EventLists.{forks, joins}
 use Rattle.rd_hb.specs.Tracker.{StandsFor, Tracking}
 use Rattle.rd_detect.specs.Detect.{StandsFor as Detects}
-use Rattle.rd_detect.specs.RegisterTests.{commutes}
 use Rattle.rd_wf.specs.Events.{events_of, roots_of}
-use Rattle.rd_ecl.specs.Kinds.{Kind}
+use Rattle.rd_ecl.specs.Kinds.{Kind, kinds_of}
 use Rattle.rd_wf.specs.NoLines.{told_none}
-use Rattle.rd_run.specs.Checking.{Checks, IsNew}
+use Rattle.rd_run.specs.Checking.{Begins, Leads}
 use Rattle.rd_run.specs.Output.{races_before, race_texts, races_of, texts_before}
 use Rattle.rd_run.specs.declared.checking.Check.{Check}
 
@@ -30,25 +29,30 @@ stands_none kinds = record {
 detects_none : Detects [] [] []
 detects_none = record {
   lengths = refl;
-  sound = λ k seen at. absurd (none-some seen at);
+  sound = λ k witness at. absurd (none-some witness at);
   whole = λ i call at. absurd (none-some _ at);
-  rising = λ k l seen other before at_k at_l. absurd (none-some seen at_k);
+  rising = λ k l witness other before at_k at_l. absurd (none-some witness at_k);
 }
 
-pub checks_none : (kinds : List Kind) (start : Check) → IsNew start → Checks kinds start [] start
+pub leads_none : (kinds : List Kind) (start : Check) → Begins kinds start → Leads kinds start [] start
 unfolding races_of races_before
-checks_none kinds start new = record {
-  starts = new;
-  tracks = record {
-    told = told_none kinds;
-    stands = subst (λ tracker. StandsFor tracker (roots_of []) (events_of kinds [])) (sym new.no_event) (stands_none kinds);
-    count = ap (λ tracker. length tracker.threads) new.no_event;
+leads_none kinds start begins = record {
+  kinds_are = begins.kinds_are;
+  checks = record {
+    starts = begins.new;
+    spec = refl;
+    tracks = record {
+      told = told_none (kinds_of start.spec.now);
+      stands = subst (λ tracker. StandsFor tracker (roots_of []) (events_of (kinds_of start.spec.now) [])) (sym begins.new.no_event) (stands_none (kinds_of start.spec.now));
+      count = ap (λ tracker. length tracker.threads) begins.new.no_event;
+    };
+    asks = ap (λ d. d.kinds) begins.new.no_call;
+    detects = subst (λ calls. Detects calls [] []) (sym (ap (λ d. d.calls) begins.new.no_call)) detects_none;
+    held = ap (λ d. length d.calls) begins.new.no_call;
+    races = begins.new.no_race;
   };
-  detects = subst (λ held. Detects held [] []) (sym new.no_call) detects_none;
-  held = ap length new.no_call;
-  races = new.no_race;
 }
 
-pub no_text : (kinds : List Kind) → race_texts commutes kinds [] ≡ []
+pub no_text : (start : Check) → race_texts start.spec.now [] ≡ []
 unfolding race_texts texts_before
-no_text kinds = refl
+no_text start = refl

@@ -4,7 +4,6 @@ pub mod Checking
 pub mod Commands
 pub mod Output
 pub mod Progress
-pub mod Register
 pub mod Reports
 pub mod Runs
 pub mod Specifications

@@ -10,9 +10,9 @@ use Rattle.rd_base.specs.declared.limits.Limits.{Limits}
 use Rattle.rd_base.specs.declared.limits.LimitName.TheVariants.{Bytes, Line}
 use Rattle.rd_ecl.specs.Kinds.{Kind}
 use Rattle.rd_run.specs.Walk.{Entry, items, Walked, ends, after, trace_of, walk}
-use Rattle.rd_run.specs.declared.endings.TraceCause.TheVariants.{NoFinalNewline, Limit}
-use Rattle.rd_run.specs.declared.endings.Ending.{Ending}
-use Rattle.rd_run.specs.declared.endings.Ending.TheVariants.{End, Refused, Fault}
+use Rattle.rd_report.specs.declared.endings.TraceCause.TheVariants.{NoFinalNewline, Limit}
+use Rattle.rd_report.specs.declared.endings.Ending.{Ending}
+use Rattle.rd_report.specs.declared.endings.Ending.TheVariants.{End, Refused, Fault}
 
 -- how a trace ends where the reader refuses the line with this number
 abbrev pub ending_for : Limits → ℕ → ReadEnd → Ending

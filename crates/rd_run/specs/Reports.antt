@@ -1,6 +1,7 @@
 -- What a report says of the bytes of a trace, in the words of accepted lines and of races: this project's profile.
 use Rattle.std.specs.Prelude.{◌≡◌, ◌⊎◌, ℕ, zero, suc, ◌+◌, List, [], ◌∷◌, ◌++◌, length}
 use Rattle.rd_base.specs.declared.limits.Limits.{Limits}
+use Rattle.rd_detect.specs.Commuting.{Commute}
 use Rattle.rd_detect.specs.Races.{Reported, IsLatest}
 use Rattle.rd_event.specs.Items.{LineInRange, Says}
 use Rattle.rd_event.specs.declared.events.Call.{Call}
@@ -11,15 +12,17 @@ use Rattle.rd_order.specs.EventLists.{WellFormedWith}
 use Rattle.rd_io.specs.Lines.{Stop, Reading, reading}
 use Rattle.rd_io.specs.Lines.Reading.{stops, line}
 use Rattle.rd_wf.specs.Events.{roots_of}
-use Rattle.rd_ecl.specs.Kinds.{Kind}
+use Rattle.rd_ecl.specs.Kinds.{Kind, kinds_of}
+use Rattle.rd_ecl.specs.Specified.{SpecifiedKind}
+use Rattle.rd_report.specs.Texts.{ending_text}
 use Rattle.rd_wf.specs.MayFollow.{IsBrokenFirst, MayFollow}
 use Rattle.rd_wf.specs.declared.causes.WfCause.{WfCause}
-use Rattle.rd_run.specs.Output.{Outcome, check_status, ending_text, entry_events, event_numbers, number_at, race_line, thread_names}
-use Rattle.rd_run.specs.Walk.{Entry, ended, items, refusal}
-use Rattle.rd_run.specs.declared.endings.Ending.{Ending}
-use Rattle.rd_run.specs.declared.endings.Ending.TheVariants.{Refused}
-use Rattle.rd_run.specs.declared.endings.TraceCause.{TraceCause}
-use Rattle.rd_run.specs.declared.endings.TraceCause.TheVariants.{BadLine}
+use Rattle.rd_run.specs.Output.{Outcome, check_status, entries_race, entry_events, thread_names}
+use Rattle.rd_run.specs.Walk.{Entry, ended, items}
+use Rattle.rd_report.specs.declared.endings.Ending.{Ending}
+use Rattle.rd_report.specs.declared.endings.Ending.TheVariants.{Refused}
+use Rattle.rd_report.specs.declared.endings.TraceCause.{TraceCause}
+use Rattle.rd_report.specs.declared.endings.TraceCause.TheVariants.{BadLine, Wf}
 
 -- ---- the accepted lines
 
@@ -37,12 +40,12 @@ pub record IsAcceptedLine (kinds : List Kind) (limits : Limits) (before : List L
   pub said : SaysItem bytes item
   pub follows : MayFollow kinds limits before item
 
--- It is refused behind them for this cause: it says no item, or the item that it says breaks the rule of a cause and of none
--- before it, which is told, or which is that of an object whose kind isn't built yet.
+-- It is refused behind them for this cause: it says no item, or the item that it says breaks the rule of this cause and of none
+-- before it.
 abbrev pub IsRefusedLine : List Kind → Limits → List Line → List ℕ → TraceCause → Type 0
 IsRefusedLine kinds limits before bytes BadLine = SaysNone bytes
 IsRefusedLine kinds limits before bytes refused =
-    (item : Line) × (cause : WfCause) × SaysItem bytes item × IsBrokenFirst kinds limits before item cause × (refused ≡ refusal item cause)
+    (item : Line) × (cause : WfCause) × SaysItem bytes item × IsBrokenFirst kinds limits before item cause × (refused ≡ Wf cause)
 
 -- Of the lines that come behind the accepted ones, the first of them with this number, these are accepted, up to the first that is
 -- refused or to the end of the lines, and so they end.
@@ -56,31 +59,31 @@ IsWalk kinds limits before number (line bytes more) entries ending =
 -- ---- the races
 
 -- The text for the events in front of a place: that for those before the last of them, and then nothing where no earlier call
--- races with the last, else its line with the line of the latest that does. The numbers are those of the events' lines.
-abbrev pub IsReport : (Call → Call → Type 0) → List ℕ → List Event → ℕ → List ℕ → Type 0
-IsReport Commuting numbers es zero text = text ≡ []
-IsReport Commuting numbers es (suc place) text =
-    (before : List ℕ) × IsReport Commuting numbers es place before
+-- races with the last, else the text of the race with the latest that does.
+abbrev pub IsReport : (Call → Call → Type 0) → (ℕ → ℕ → List ℕ) → List Event → ℕ → List ℕ → Type 0
+IsReport Commuting race es zero text = text ≡ []
+IsReport Commuting race es (suc place) text =
+    (before : List ℕ) × IsReport Commuting race es place before
     × ((¬ (Reported Commuting es place) × (text ≡ before))
-    ⊎ ((i : ℕ) × IsLatest Commuting es place i × (text ≡ before ++ race_line (number_at numbers place) (number_at numbers i))))
+    ⊎ ((i : ℕ) × IsLatest Commuting es place i × (text ≡ before ++ race place i)))
 
 -- ---- the whole
 
 -- What `check` writes and answers for the bytes of a trace whose objects are of these kinds, and whose reading ends so: the
--- lines of the races among the events of the accepted lines, how many calls are reported, and how the lines end.
-pub record IsChecked (Commuting : Call → Call → Type 0) (kinds : List Kind) (limits : Limits) (stop : Stop) (bytes : List ℕ) (outcome : Outcome) : Type 0 where
+-- texts of the races among the events of the accepted lines, how many calls are reported, and how the lines end.
+pub record IsChecked (kinds : List SpecifiedKind) (limits : Limits) (stop : Stop) (bytes : List ℕ) (outcome : Outcome) : Type 0 where
   -- the accepted lines, and how they end
   pub entries : List Entry
   pub ending : Ending
-  pub walk : IsWalk kinds limits [] 1 (reading limits.line limits.bytes stop bytes) entries ending
+  pub walk : IsWalk (kinds_of kinds) limits [] 1 (reading limits.line limits.bytes stop bytes) entries ending
   -- their events are a well-formed list, with calls of these kinds
-  pub formed : WellFormedWith kinds (roots_of (items entries)) (entry_events kinds entries)
-  -- a line for each reported call, with the latest that races with it
+  pub formed : WellFormedWith (kinds_of kinds) (roots_of (items entries)) (entry_events kinds entries)
+  -- a text for each reported call, with the latest that races with it: both calls, their clocks, and the formula that they fail
   pub races : List ℕ
-  pub report : IsReport Commuting (event_numbers entries) (entry_events kinds entries) (length (entry_events kinds entries)) races
+  pub report : IsReport (Commute kinds) (entries_race kinds entries) (entry_events kinds entries) (length (entry_events kinds entries)) races
   -- how many calls are reported
   pub count : ℕ
-  pub counted : Counts (Reported Commuting (entry_events kinds entries)) (length (entry_events kinds entries)) count
+  pub counted : Counts (Reported (Commute kinds) (entry_events kinds entries)) (length (entry_events kinds entries)) count
   -- what is written, and the status
   pub text : outcome.text ≡ races ++ ending_text (thread_names entries) count ending
   pub status : outcome.status ≡ check_status count ending

@@ -1,43 +1,77 @@
 -- What a run of a command writes and answers, what it opens and takes, and how many steps it counts. This project's profile.
-use Rattle.std.specs.Prelude.{◌≡◌, ℕ, ◌+◌, ◌==◌, ◌≤◌, Bool, true, false, List, [], ◌∷◌, ◌++◌, length, count_by, codes, Option, Some, None, option_map, is_none, if◌then◌else◌}
+use Rattle.std.specs.Prelude.{◌≡◌, ◌⊎◌, ℕ, ◌+◌, ◌<◌, ◌≤◌, Bool, true, false, List, [], ◌∷◌, ◌++◌, length, count_by, codes, take, Option, Some, None, option_map, is_none, if◌then◌else◌}
 use Rattle.rd_io.specs.Inputs.{Source, file_of}
 use Rattle.rd_io.specs.Lines.{Stop}
 use Rattle.rd_io.specs.Lines.Stop.{end, fault}
 use Rattle.rd_base.specs.declared.limits.Limits.{Limits}
+use Rattle.rd_ecl.specs.Kinds.{kinds_of}
+use Rattle.rd_ecl.specs.Specified.{SpecifiedKind}
+use Rattle.rd_kinds.specs.Shipped.{reserved_names, shipped_kinds}
+use Rattle.rd_report.specs.declared.endings.Ending.TheVariants.{Fault}
+use Rattle.rd_spec.specs.Texts.{IsSpecRefused, SpecSays}
+use Rattle.rd_spec.specs.declared.parsing.SpecRefused.{SpecRefused as Refusal}
 use Rattle.rd_wf.specs.MayFollow.{same_name}
-use Rattle.rd_detect.specs.RegisterTests.{commutes}
-use Rattle.rd_ecl.specs.Kinds.{Kind}
 use Rattle.rd_run.specs.Output.{HasOutcome, Outcome, check_outcome}
 use Rattle.rd_run.specs.Progress.{IsRead}
-use Rattle.rd_run.specs.Register.{register_alone}
-use Rattle.rd_run.specs.Specifications.{IsOutcomeOn, most_bytes}
+use Rattle.rd_run.specs.Specifications.{IsSpecOutcome, fault_outcome, most_bytes, refused_outcome}
 use Rattle.rd_run.specs.Walk.{Walked, ends, entries_of, trace_of, step_bound}
-use Rattle.rd_run.specs.declared.endings.Ending.TheVariants.{Fault}
 use Rattle.rd_run.specs.declared.status.Status.{Status}
-use Rattle.rd_run.specs.declared.status.Status.TheVariants.{Clean, Raced, Usage, SpecRefused, TraceRefused, LimitReached}
+use Rattle.rd_run.specs.declared.status.Status.TheVariants.{Usage}
 
 -- ---- commands
 
 -- what the words ask for
 pub data Command : Type 0 where
-  check : List ℕ → Command
+  -- a trace, and a specification where one is named
+  check : List ℕ → Option (List ℕ) → Command
   spec : List ℕ → Command
 
 -- the words are exactly those of a command
 abbrev pub command_of : List (List ℕ) → Option Command
 command_of (word ∷ name ∷ []) =
-    if same_name word (codes "check") then Some (check name)
+    if same_name word (codes "check") then Some (check name None)
     else if same_name word (codes "spec") then Some (spec name) else None
+command_of (word ∷ trace ∷ file ∷ []) = if same_name word (codes "check") then Some (check trace (Some file)) else None
 command_of _ = None
 
--- the file that a command names
-abbrev pub file_name : Command → List ℕ
-file_name (check name) = name
-file_name (spec name) = name
-
+-- the files that a command names, in the order in which they are opened
 abbrev pub files_of : Option Command → List (List ℕ)
 files_of None = []
-files_of (Some command) = file_name command ∷ []
+files_of (Some (check trace None)) = trace ∷ []
+files_of (Some (check trace (Some file))) = file ∷ trace ∷ []
+files_of (Some (spec file)) = file ∷ []
+
+-- the specification that it names
+abbrev pub specification_of : Command → Option (List ℕ)
+specification_of (check trace file) = file
+specification_of (spec file) = Some file
+
+-- ---- the files
+
+-- these are the bytes of a specification that are judged: the first of its file's
+pub record IsSpecText (old : Source) (file bytes : List ℕ) : Type 0 where
+  pub whole : List ℕ
+  pub held : file_of old.files file ≡ Some whole
+  pub front : bytes ≡ take most_bytes whole
+
+-- the kinds of a trace's objects: the shipped ones, then those of the specification, where one is named
+abbrev pub AreKinds : Source → Option (List ℕ) → List SpecifiedKind → Type 0
+AreKinds old None kinds = kinds ≡ shipped_kinds
+AreKinds old (Some file) kinds =
+    (bytes : List ℕ) × (said : List SpecifiedKind) × IsSpecText old file bytes × SpecSays bytes reserved_names said × (kinds ≡ shipped_kinds ++ said)
+
+-- what is walked over: where the count of the inputs' faults rose (`rose`) what was taken before a read failed, and else the whole file
+abbrev pub input_of : List ℕ → Bool → Source → Source → Option (Stop × List ℕ)
+input_of trace rose old new =
+    if rose then Some (fault, new.taken) else option_map (λ bytes. (end, bytes)) (file_of old.files trace)
+
+abbrev pub walk_on : List SpecifiedKind → Limits → Option (Stop × List ℕ) → Walked
+walk_on kinds limits None = ends Fault
+walk_on kinds limits (Some input) = trace_of (kinds_of kinds) limits input.0 input.1
+
+-- the walk over the lines of a trace whose objects are of these kinds
+abbrev pub walk_of : List SpecifiedKind → List ℕ → Limits → Bool → Source → Source → Walked
+walk_of kinds trace limits rose old new = walk_on kinds limits (input_of trace rose old new)
 
 -- ---- outcomes
 
@@ -45,61 +79,92 @@ files_of (Some command) = file_name command ∷ []
 abbrev pub usage_outcome : Outcome
 usage_outcome = record { text = codes "refused usage\n"; status = Usage }
 
--- What a command works on, over inputs that told `old` before it and `new` after it: nothing, where the file that it names was not
--- opened. Else where the count of the inputs' faults rose (`rose`) it is what was taken before a read failed, and else the whole file.
-abbrev pub input_of : Command → Bool → Source → Source → Option (Stop × List ℕ)
-input_of command rose old new =
-    if new.opens == old.opens + 1 then
-    (if rose then Some (fault, new.taken) else option_map (λ bytes. (end, bytes)) (file_of old.files (file_name command)))
-    else None
+-- where a file could not be opened, or a specification not be read: not all of so many files were opened
+pub record IsFaulted (files : ℕ) (rose : Bool) (old new : Source) (outcome : Outcome) : Type 0 where
+  pub risen : rose ≡ true
+  pub some_unopened : new.opens < old.opens + files
+  pub is : outcome ≡ fault_outcome
 
--- the walk over what a command works on. Over nothing it ends at once, by the fault of the open that failed
-abbrev pub walk_on : List Kind → Limits → Option (Stop × List ℕ) → Walked
-walk_on kinds limits None = ends Fault
-walk_on kinds limits (Some input) = trace_of kinds limits input.0 input.1
+-- where the specification is refused: the trace isn't opened
+pub record IsRefused (file : List ℕ) (rose : Bool) (old new : Source) (outcome : Outcome) : Type 0 where
+  pub calm : rose ≡ false
+  pub one_opened : new.opens ≡ old.opens + 1
+  pub bytes : List ℕ
+  pub text : IsSpecText old file bytes
+  pub refused : Refusal
+  pub refuses : IsSpecRefused bytes reserved_names refused
+  pub is : outcome ≡ refused_outcome refused
 
--- the walk of `check` on a file
-abbrev pub walk_of : List ℕ → Limits → Bool → Source → Source → Walked
-walk_of name limits rose old new = walk_on register_alone limits (input_of (check name) rose old new)
+-- where all of so many files were opened: the trace is checked
+pub record IsCheckedWith (trace : List ℕ) (file : Option (List ℕ)) (files : ℕ) (limits : Limits) (rose : Bool) (old new : Source) (outcome : Outcome) : Type 0 where
+  pub all_opened : new.opens ≡ old.opens + files
+  pub kinds : List SpecifiedKind
+  pub are : AreKinds old file kinds
+  pub is : outcome ≡ check_outcome kinds (walk_of kinds trace limits rose old new)
 
--- the outcome of a command over such inputs
+abbrev pub IsCheckOutcome : List ℕ → Option (List ℕ) → Limits → Bool → Source → Source → Outcome → Type 0
+IsCheckOutcome trace None limits rose old new outcome = IsFaulted 1 rose old new outcome ⊎ IsCheckedWith trace None 1 limits rose old new outcome
+IsCheckOutcome trace (Some file) limits rose old new outcome =
+    IsFaulted 2 rose old new outcome
+    ⊎ (IsRefused file rose old new outcome ⊎ IsCheckedWith trace (Some file) 2 limits rose old new outcome)
+
+-- where the specification was read: it is judged
+pub record IsJudged (file : List ℕ) (rose : Bool) (old new : Source) (outcome : Outcome) : Type 0 where
+  pub calm : rose ≡ false
+  pub one_opened : new.opens ≡ old.opens + 1
+  pub bytes : List ℕ
+  pub text : IsSpecText old file bytes
+  pub is : IsSpecOutcome bytes outcome
+
+-- where it could not be opened, or not be read
+pub record IsUnread (rose : Bool) (outcome : Outcome) : Type 0 where
+  pub risen : rose ≡ true
+  pub is : outcome ≡ fault_outcome
+
+-- the outcome of a command over inputs that told `old` before it and `new` after it
 abbrev pub IsOutcome : Option Command → Limits → Bool → Source → Source → Outcome → Type 0
 IsOutcome None limits rose old new outcome = outcome ≡ usage_outcome
-IsOutcome (Some (check name)) limits rose old new outcome = outcome ≡ check_outcome commutes register_alone (walk_of name limits rose old new)
-IsOutcome (Some (spec name)) limits rose old new outcome = IsOutcomeOn (input_of (spec name) rose old new) outcome
+IsOutcome (Some (check trace file)) limits rose old new outcome = IsCheckOutcome trace file limits rose old new outcome
+IsOutcome (Some (spec file)) limits rose old new outcome = IsUnread rose outcome ⊎ IsJudged file rose old new outcome
 
 -- ---- files and steps
 
--- of the files, only those that the command names were opened, each at most once, and only a missing one of them was missed
-pub record OpensOnly (command : Option Command) (old new : Source) : Type 0 where
+-- of these files only these were opened, each at most once, and only a missing one of them was missed
+pub record OpensOnly (names : List (List ℕ)) (old new : Source) : Type 0 where
   pub files : new.files ≡ old.files
-  pub opens : new.opens ≤ old.opens + length (files_of command)
-  pub misses : new.misses ≤ old.misses + count_by (λ name. is_none (file_of old.files name)) (files_of command)
+  pub later : old.opens ≤ new.opens
+  pub opens : new.opens ≤ old.opens + length names
+  pub misses : new.misses ≤ old.misses + count_by (λ name. is_none (file_of old.files name)) names
 
--- the status tells how a file was judged
-abbrev pub tells_file : Status → Bool
-tells_file Clean = true
-tells_file Raced = true
-tells_file SpecRefused = true
-tells_file TraceRefused = true
-tells_file LimitReached = true
-tells_file _ = false
+-- What was taken of a specification that is the current input: what was taken and what is left are its file's bytes, and no more was
+-- taken than may be.
+pub record TakesSpec (file : List ℕ) (old new : Source) : Type 0 where
+  pub whole : file_of old.files file ≡ Some (new.taken ++ new.held)
+  pub few : length new.taken ≤ most_bytes
 
--- What was taken of the file of a command that opened it: what was taken and what is left are the file's bytes, and no more was taken
--- than may be, of a trace by how many of its lines are accepted.
-abbrev pub TakesOnly : Option Command → Limits → Bool → Source → Source → Type 0
-TakesOnly None limits rose old new = new ≡ old
-TakesOnly (Some (check name)) limits rose old new =
-    new.opens ≡ old.opens + 1 → (file_of old.files name ≡ Some (new.taken ++ new.held))
-    × IsRead limits new.taken (length (entries_of (walk_of name limits rose old new)))
-TakesOnly (Some (spec name)) limits rose old new =
-    new.opens ≡ old.opens + 1 → (file_of old.files name ≡ Some (new.taken ++ new.held)) × (length new.taken ≤ most_bytes)
+-- What was taken of a trace that was opened, and the steps that were counted: what was taken and what is left are the file's bytes, and no
+-- more was taken than may be by how many of its lines are accepted; and the steps are those of these lines.
+pub record TakesTrace (kinds : List SpecifiedKind) (trace : List ℕ) (limits : Limits) (rose : Bool) (old new : Source) (before after : ℕ) : Type 0 where
+  pub whole : file_of old.files trace ≡ Some (new.taken ++ new.held)
+  pub read : IsRead limits new.taken (length (entries_of (walk_of kinds trace limits rose old new)))
+  pub cost : after ≤ before + step_bound (entries_of (walk_of kinds trace limits rose old new))
 
--- the steps that were counted
-abbrev pub CountsOnly : Option Command → Limits → Bool → Source → Source → ℕ → ℕ → Type 0
-CountsOnly (Some (check name)) limits rose old new before after =
-    after ≤ before + step_bound (entries_of (walk_of name limits rose old new))
-CountsOnly _ limits rose old new before after = after ≡ before
+-- so it is with the kinds of its objects
+abbrev pub TakesKnown : Option (List ℕ) → List ℕ → Limits → Bool → Source → Source → ℕ → ℕ → Type 0
+TakesKnown file trace limits rose old new before after =
+    (kinds : List SpecifiedKind) × AreKinds old file kinds × TakesTrace kinds trace limits rose old new before after
+
+-- what was taken of the last file that was opened, and the steps that were counted
+abbrev pub TakesOnly : Option Command → Limits → Bool → Source → Source → ℕ → ℕ → Type 0
+TakesOnly None limits rose old new before after = (new ≡ old) × (after ≡ before)
+TakesOnly (Some (check trace None)) limits rose old new before after =
+    (new.opens ≡ old.opens + 1 → TakesKnown None trace limits rose old new before after)
+    × (new.opens ≡ old.opens → after ≡ before)
+TakesOnly (Some (check trace (Some file))) limits rose old new before after =
+    (new.opens ≡ old.opens + 2 → TakesKnown (Some file) trace limits rose old new before after)
+    × (new.opens ≡ old.opens + 1 → TakesSpec file old new × (after ≡ before))
+    × (new.opens ≡ old.opens → after ≡ before)
+TakesOnly (Some (spec file)) limits rose old new before after = (new.opens ≡ old.opens + 1 → TakesSpec file old new) × (after ≡ before)
 
 -- ---- the whole
 
@@ -107,9 +172,33 @@ CountsOnly _ limits rose old new before after = after ≡ before
 pub record Runs (command : Option Command) (limits : Limits) (rose : Bool) (old new : Source) (part : List ℕ) (status : Status) (before after : ℕ) : Type 0 where
   -- what was written, and the status
   pub output : HasOutcome (IsOutcome command limits rose old new) status part
-  -- the files that were opened, and what was taken of them
-  pub opened : OpensOnly command old new
-  pub all_opened : tells_file status ≡ true → new.opens ≡ old.opens + length (files_of command)
-  pub taken : TakesOnly command limits rose old new
-  -- the steps that were counted
-  pub cost : CountsOnly command limits rose old new before after
+  -- the files that were opened
+  pub opened : OpensOnly (files_of command) old new
+  -- what was taken of them, and the steps that were counted
+  pub taken : TakesOnly command limits rose old new before after
+
+-- ---- a part of it
+
+-- the outcome of `check` on a trace whose objects are of these kinds
+abbrev pub IsTraceOutcome : List SpecifiedKind → List ℕ → Limits → Bool → Source → Source → Outcome → Type 0
+IsTraceOutcome kinds trace limits rose old new outcome =
+    IsFaulted 1 rose old new outcome
+    ⊎ ((new.opens ≡ old.opens + 1) × (outcome ≡ check_outcome kinds (walk_of kinds trace limits rose old new)))
+
+-- what `check` leaves of a trace whose objects are of these kinds, where inputs told `old` before the trace was opened
+pub record ChecksTrace (kinds : List SpecifiedKind) (trace : List ℕ) (limits : Limits) (rose : Bool) (old new : Source) (part : List ℕ) (status : Status) (before after : ℕ) : Type 0 where
+  pub output : HasOutcome (IsTraceOutcome kinds trace limits rose old new) status part
+  pub opened : OpensOnly (trace ∷ []) old new
+  pub taken : new.opens ≡ old.opens + 1 → TakesTrace kinds trace limits rose old new before after
+  pub unopened : new.opens ≡ old.opens → (after ≡ before) × (new.taken ≡ old.taken) × (new.held ≡ old.held)
+
+-- what reading a specification leaves
+pub record LeavesSpec (file : List ℕ) (old new : Source) : Type 0 where
+  pub opened : OpensOnly (file ∷ []) old new
+  pub taken : new.opens ≡ old.opens + 1 → TakesSpec file old new
+
+-- and where these are the bytes that are judged
+pub record ReadsSpec (file : List ℕ) (old new : Source) (bytes : List ℕ) : Type 0 where
+  pub opens : new.opens ≡ old.opens + 1
+  pub misses : new.misses ≡ old.misses
+  pub text : IsSpecText old file bytes

@@ -1,18 +1,20 @@
 -- What `spec` writes for the bytes of a specification, and its status. This project's profile.
-use Rattle.std.specs.Prelude.{◌≡◌, ◌⊎◌, ℕ, List, [], ◌∷◌, ◌++◌, codes, decimal, take, Option, Some, None}
+use Rattle.std.specs.Prelude.{◌≡◌, ◌⊎◌, ℕ, List, [], ◌++◌, codes, decimal}
 use Rattle.rd_causes.specs.declared.causes.SpecCause.{SpecCause}
 use Rattle.rd_causes.specs.declared.causes.SpecCause.TheVariants.{Header, Syntax, UnknownMethod, UnknownVariable, NoVariable, OutsideFragment, Duplicate, MissingPair, KindTaken, Limit}
 use Rattle.rd_ecl.specs.Specified.{SpecifiedKind}
 use Rattle.rd_ecl.specs.declared.formulas.Reason.{Reason}
 use Rattle.rd_ecl.specs.declared.formulas.Reason.TheVariants.{CrossRelation, NotOverCross, OrOfCross}
-use Rattle.rd_io.specs.Lines.{Stop}
-use Rattle.rd_io.specs.Lines.Stop.{end, fault}
+use Rattle.rd_kinds.specs.Shipped.{reserved_names}
 use Rattle.rd_print.specs.Printed.{spec_text}
 use Rattle.rd_spec.specs.Texts.{IsSpecRefused, SpecSays}
 use Rattle.rd_spec.specs.declared.parsing.SpecRefused.{SpecRefused as Refusal}
-use Rattle.rd_run.specs.Output.{Outcome, limit_cause_text}
+use Rattle.rd_report.specs.Texts.{fault_line, limit_cause_text}
+use Rattle.rd_run.specs.Output.{IsOutput, Outcome}
+use Rattle.rd_run.specs.declared.specifications.Unread.{Unread}
+use Rattle.rd_run.specs.declared.specifications.Unread.TheVariants.{Fault, Refused, NoMemory}
 use Rattle.rd_run.specs.declared.status.Status.{Status}
-use Rattle.rd_run.specs.declared.status.Status.TheVariants.{Clean, SpecRefused, InputFault, LimitReached}
+use Rattle.rd_run.specs.declared.status.Status.TheVariants.{Clean, SpecRefused, InputFault, OutputFault, LimitReached, NoMemory as MemoryRanOut}
 
 -- ---- texts
 
@@ -43,11 +45,6 @@ spec_refused_line refused =
 
 -- ---- the outcome
 
--- the names of kinds that are taken, whichever of them are built
-abbrev pub reserved_names : List (List ℕ)
-reserved_names =
-    codes "register" ∷ codes "counter" ∷ codes "set" ∷ codes "dictionary" ∷ codes "bag" ∷ codes "peak" ∷ codes "queue" ∷ codes "tally" ∷ []
-
 -- the status of a refusal, by its cause
 abbrev pub spec_status : SpecCause → Status
 spec_status (Limit name number) = LimitReached
@@ -63,7 +60,7 @@ refused_outcome refused = record { text = spec_refused_line refused; status = sp
 
 -- where the file could not be opened, or not be read
 abbrev pub fault_outcome : Outcome
-fault_outcome = record { text = codes "fault input\n"; status = InputFault }
+fault_outcome = record { text = fault_line; status = InputFault }
 
 -- the outcome for these bytes: they say kinds, or they are refused
 abbrev pub IsSpecOutcome : List ℕ → Outcome → Type 0
@@ -75,8 +72,10 @@ IsSpecOutcome bytes outcome =
 abbrev pub most_bytes : ℕ
 most_bytes = 1048577
 
--- the outcome on a file: none was opened, or a read failed, or all of it can be read
-abbrev pub IsOutcomeOn : Option (Stop × List ℕ) → Outcome → Type 0
-IsOutcomeOn None outcome = outcome ≡ fault_outcome
-IsOutcomeOn (Some (fault, bytes)) outcome = outcome ≡ fault_outcome
-IsOutcomeOn (Some (end, bytes)) outcome = IsSpecOutcome (take most_bytes bytes) outcome
+-- ---- a specification that isn't there
+
+-- what is written where a specification isn't there, and the status
+abbrev pub TellsUnread : Unread → Status → List ℕ → Type 0
+TellsUnread Fault status part = IsOutput status part fault_outcome × ((status ≡ InputFault) ⊎ (status ≡ OutputFault))
+TellsUnread (Refused refused) status part = IsOutput status part (refused_outcome refused)
+TellsUnread NoMemory status part = (status ≡ MemoryRanOut) × (part ≡ [])

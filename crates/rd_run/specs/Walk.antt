@@ -1,5 +1,5 @@
 -- The walk over the lines of a trace: which are accepted, and how they end. This project's profile.
-use Rattle.std.specs.Prelude.{ℕ, ◌+◌, ◌*◌, ◌==◌, List, [], ◌∷◌, ◌++◌, map, length, codes, Option, Some, None, Result, Ok, Err, if◌then◌else◌}
+use Rattle.std.specs.Prelude.{ℕ, ◌+◌, ◌*◌, ◌==◌, List, [], ◌∷◌, ◌++◌, map, length, Option, Some, None, Result, Ok, Err, if◌then◌else◌}
 use Rattle.rd_io.specs.Lines.{Stop, Reading, reading, Ending as LinesEnding}
 use Rattle.rd_io.specs.Lines.Ending.{at_end, no_final_newline, line_too_long, bytes_limit, faulted}
 use Rattle.rd_io.specs.Lines.Reading.{stops, line}
@@ -7,15 +7,14 @@ use Rattle.rd_base.specs.declared.limits.Limits.{Limits}
 use Rattle.rd_base.specs.declared.limits.LimitName.TheVariants.{Bytes, Line as LineBytes}
 use Rattle.rd_event.specs.Reading.{item_of}
 use Rattle.rd_event.specs.declared.items.Line.{Line}
-use Rattle.rd_event.specs.declared.items.Line.TheVariants.{Object}
 use Rattle.rd_ecl.specs.Kinds.{Kind}
-use Rattle.rd_wf.specs.MayFollow.{call_count, first_broken, is_among, is_call, headers, is_event, threads_of}
+use Rattle.rd_wf.specs.MayFollow.{call_count, first_broken, is_call, headers, is_event, threads_of}
 use Rattle.rd_wf.specs.declared.causes.WfCause.{WfCause}
-use Rattle.rd_wf.specs.declared.causes.WfCause.TheVariants.{HeaderFirst, UnknownKind}
-use Rattle.rd_run.specs.declared.endings.TraceCause.{TraceCause}
-use Rattle.rd_run.specs.declared.endings.TraceCause.TheVariants.{NotBuilt, BadLine, NoFinalNewline, Wf, Limit}
-use Rattle.rd_run.specs.declared.endings.Ending.{Ending}
-use Rattle.rd_run.specs.declared.endings.Ending.TheVariants.{End, Refused, Fault}
+use Rattle.rd_wf.specs.declared.causes.WfCause.TheVariants.{HeaderFirst}
+use Rattle.rd_report.specs.declared.endings.TraceCause.{TraceCause}
+use Rattle.rd_report.specs.declared.endings.TraceCause.TheVariants.{BadLine, NoFinalNewline, Wf, Limit}
+use Rattle.rd_report.specs.declared.endings.Ending.{Ending}
+use Rattle.rd_report.specs.declared.endings.Ending.TheVariants.{End, Refused, Fault}
 
 -- an accepted line, and its number in the trace, from 1
 pub record Entry : Type 0 where
@@ -38,19 +37,10 @@ unfoldable pub ending_of : Walked → Ending
 ending_of (ends ending) = ending
 ending_of (goes entry more) = ending_of more
 
--- the kinds of objects that aren't built yet
-abbrev pub unbuilt_kinds : List (List ℕ)
-unbuilt_kinds = codes "counter" ∷ codes "set" ∷ codes "dictionary" ∷ []
-
--- why an item is refused that breaks the rule of this cause: an object of such a kind is told of as not built, and not as of an
--- unknown kind
-abbrev pub refusal : Line → WfCause → TraceCause
-refusal (Object name kind) UnknownKind = if is_among unbuilt_kinds kind then NotBuilt else Wf UnknownKind
-refusal item cause = Wf cause
-
+-- an item that breaks no rule is accepted; one that breaks the rule of a cause is refused for it
 abbrev pub accepted_or : Line → Option WfCause → Result Line TraceCause
 accepted_or item None = Ok item
-accepted_or item (Some cause) = Err (refusal item cause)
+accepted_or item (Some cause) = Err (Wf cause)
 
 abbrev pub judged_item : List Kind → Limits → List Line → Option Line → Result Line TraceCause
 judged_item kinds limits before None = Err BadLine

@@ -21,8 +21,8 @@ pub enum Halt {
 
 /// What a command does with each accepted line of a trace, one after another. The kinds are those of the trace's objects.
 pub trait Analysis {
-    /// It has taken no line yet.
-    ghost begins: { Self → Type 0 };
+    /// It has taken no line yet, of a trace whose objects are of these kinds.
+    ghost begins: { List Kind → Self → Type 0 };
 
     /// From the first, these accepted lines lead to the second.
     ghost leads: { List Kind → Self → List Entry → Self → Type 0 };
@@ -59,7 +59,7 @@ pub trait Analysis {
         ensures fault { TellsFault (S.faults out.old) (S.faults out.new) (S.at_fault out.new) (S.written out.new) result };
 
     /// No line leads anywhere else, and nothing is written for none.
-    ghost starts: { (kinds : List Kind) (start : Self) → begins start → leads kinds start [] start };
+    ghost starts: { (kinds : List Kind) (start : Self) → begins kinds start → leads kinds start [] start };
 
     ghost silent: { (kinds : List Kind) (start : Self) → text kinds start [] ≡ [] };
 }

@@ -3,15 +3,15 @@ ghost use Rattle.std.specs.Prelude.{◌≡◌, ◌≤◌, ◌++◌, [], ◌∷�
 ghost use Rattle.rd_base.specs.Limits.{AreUsable};
 ghost use Rattle.rd_event.specs.Reading.{item_of};
 ghost use Rattle.rd_event.specs.declared.items.Line.{Line as Item};
-ghost use Rattle.rd_run.specs.Walk.{judged, refusal, unbuilt_kinds};
+ghost use Rattle.rd_run.specs.Walk.{judged};
 ghost use Rattle.rd_ecl.specs.Kinds.{Kind};
-ghost use Rattle.rd_wf.specs.MayFollow.{MayFollow, accepted_of, is_among, threads_of};
+ghost use Rattle.rd_wf.specs.MayFollow.{MayFollow, accepted_of, threads_of};
 ghost use Rattle.rd_wf.specs.Roster.{StandsFor};
 
-use crate::endings::TraceCause;
-use rd_base::{Limits, Name};
+use rd_base::Limits;
 use rd_event::{Line, LineRefused, read_into};
-use rd_wf::{Accepted, Roster, WfCause, WfRefused};
+use rd_report::TraceCause;
+use rd_wf::{Accepted, Roster, WfRefused};
 use std::alloc::Global;
 
 /// Why a line isn't accepted.
@@ -21,27 +21,6 @@ pub enum Refusal {
     Cause(TraceCause),
     /// memory ran out
     NoMemory,
-}
-
-fn is_unbuilt(kind: &Name) -> bool
-    ensures { result ≡ is_among unbuilt_kinds kind.now }
-{
-    let counter = kind.items() == b"counter".as_slice();
-    let set = kind.items() == b"set".as_slice();
-    let dictionary = kind.items() == b"dictionary".as_slice();
-    counter || (set || dictionary)
-}
-
-// Why an item is refused that breaks the rule of this cause.
-fn told(item: &Line, cause: WfCause) -> TraceCause
-    ensures { result ≡ refusal item.now cause }
-{
-    if let (Line::Object { kind, .. }, WfCause::UnknownKind) = (item, cause)
-        && is_unbuilt(kind)
-    {
-        return TraceCause::NotBuilt;
-    }
-    TraceCause::Wf(cause)
 }
 
 /// Reads the bytes of a line into `line`, and asks the roster whether what they say may follow its lines. It then has it, and the
@@ -83,7 +62,7 @@ pub fn judge(
     }
     match roster.accept(line, limits) {
         Ok(accepted) => Ok(accepted),
-        Err(WfRefused::Cause(cause)) => Err(Refusal::Cause(told(line, cause))),
+        Err(WfRefused::Cause(cause)) => Err(Refusal::Cause(TraceCause::Wf(cause))),
         Err(WfRefused::NoMemory) => Err(Refusal::NoMemory),
     }
 }

@@ -3,19 +3,19 @@ ghost use Rattle.std.specs.Prelude.{◌≡◌, ◌↔◌, ℕ, ◌<◌, ◌^◌,
 ghost use Rattle.rd_base.specs.Limits.{AreUsable};
 ghost use Rattle.rd_base.specs.declared.limits.Limits.{Limits};
 ghost use Rattle.rd_detect.specs.Races.{Reported};
-ghost use Rattle.rd_detect.specs.Register.{Commute};
-ghost use Rattle.rd_detect.specs.RegisterTests.{commutes};
+ghost use Rattle.rd_detect.specs.Commuting.{Commute};
 ghost use Rattle.rd_order.specs.EventLists.{WellFormedWith};
 ghost use Rattle.rd_io.specs.Lines.{Stop};
 ghost use Rattle.rd_io.specs.Lines.Stop.{fault};
-ghost use Rattle.rd_run.specs.Output.{IsFront, check_outcome, entry_events, event_numbers, race_texts, races_of};
+ghost use Rattle.rd_run.specs.Output.{IsFront, check_outcome, entries_race, entry_events, race_texts, races_of};
 ghost use Rattle.rd_run.specs.Reports.{IsChecked, IsReport};
 ghost use Rattle.rd_run.specs.Walk.{Entry, Walked, ending_of, entries_of, items, trace_of};
 ghost use Rattle.rd_wf.specs.Events.{AreAccepted, events_of, roots_of};
-ghost use Rattle.rd_ecl.specs.Kinds.{Kind};
+ghost use Rattle.rd_ecl.specs.Kinds.{Kind, kinds_of};
+ghost use Rattle.rd_ecl.specs.Specified.{SpecifiedKind};
 
-use crate::endings::Ending;
 use crate::status::Status;
+use rd_report::Ending;
 
 /// The lines that the walk over the bytes of a trace accepts are accepted each after those in front of it, whatever the bytes, and
 /// their events are a well-formed list for the threads that no event begins, with calls of the kinds.
@@ -27,31 +27,32 @@ pub fn law_of_walks()
 {}
 
 /// What `check` writes and answers, in the words of races. The texts of the races are, for each event of the accepted lines in
-/// their order, nothing where no earlier call races with it, else its line and the line of the latest that does. The
+/// their order, nothing where no earlier call races with it, else the text of the race with the latest that does. The
 /// count of races is 0 exactly where no call is reported. The status is `Raced` exactly where the trace was read to its
 /// end and some call is reported.
 pub fn law_of_reports()
-    ensures report { (kinds : List Kind) (entries : List Entry) → IsReport Commute (event_numbers entries) (entry_events kinds entries)
-        (length (entry_events kinds entries)) (race_texts commutes kinds entries) }
-    ensures none { (kinds : List Kind) (entries : List Entry) →
-        ((races_of commutes kinds entries ≡ 0) ↔ ((j : ℕ) → ¬ (Reported Commute (entry_events kinds entries) j))) }
-    ensures raced { (kinds : List Kind) (walked : Walked) → ((check_outcome commutes kinds walked).status ≡ Status.Raced
-        ↔ ((ending_of walked ≡ Ending.End) × ((j : ℕ) × Reported Commute (entry_events kinds (entries_of walked)) j))) }
+    ensures report { (kinds : List SpecifiedKind) (entries : List Entry) → IsReport (Commute kinds) (entries_race kinds entries) (entry_events kinds entries)
+        (length (entry_events kinds entries)) (race_texts kinds entries) }
+    ensures none { (kinds : List SpecifiedKind) (entries : List Entry) →
+        ((races_of kinds entries ≡ 0) ↔ ((j : ℕ) → ¬ (Reported (Commute kinds) (entry_events kinds entries) j))) }
+    ensures raced { (kinds : List SpecifiedKind) (walked : Walked) → ((check_outcome kinds walked).status ≡ Status.Raced
+        ↔ ((ending_of walked ≡ Ending.End) × ((j : ℕ) × Reported (Commute kinds) (entry_events kinds (entries_of walked)) j))) }
 {}
 
-/// The headline, for all bytes of a trace, whatever the limits within their ranges, and wherever the reading of it ends. The outcome
-/// that `run` is proved to write and answer is this: the accepted lines are those that say an item which may follow, up to the
-/// first line that doesn't; the text has, for each event of theirs with which an earlier call races, its line and the line of the
-/// latest that does, then how many calls are reported, and then why a line was refused, where one was; and the status is that of how
-/// the lines end and of whether a call is reported.
+/// The headline, for all bytes of a trace, whatever the kinds of its objects and the limits within their ranges, and wherever the reading
+/// of it ends. The outcome that `run` is proved to write and answer is this: the accepted lines are those that say an item which may
+/// follow, up to the first line that doesn't; the text has, for each event of theirs with which an earlier call races, the text of the race
+/// with the latest that does, which tells both calls with their lines and clocks and the formula that they fail; then how many calls are
+/// reported, and then why a line was refused, where one was, or that a read failed; and the status is that of how the lines end and of
+/// whether a call is reported.
 pub fn law_of_checks()
-    ensures { (kinds : List Kind) (limits : Limits) → AreUsable limits → limits.threads < 2 ^ 32 → (stop : Stop) (bytes : List ℕ) →
-        IsChecked Commute kinds limits stop bytes (check_outcome commutes kinds (trace_of kinds limits stop bytes)) }
+    ensures { (kinds : List SpecifiedKind) (limits : Limits) → AreUsable limits → limits.threads < 2 ^ 32 → (stop : Stop) (bytes : List ℕ) →
+        IsChecked kinds limits stop bytes (check_outcome kinds (trace_of (kinds_of kinds) limits stop bytes)) }
 {}
 
-/// What is written before a read fails is a front of what is written for the whole, whatever bytes were still to come.
+/// The texts of races that are written before a read fails are a front of what is written for the whole, whatever bytes were still to come.
 pub fn law_of_faults()
-    ensures { (kinds : List Kind) (limits : Limits) (stop : Stop) (bytes more : List ℕ) →
-        IsFront (check_outcome commutes kinds (trace_of kinds limits fault bytes)).text
-        (check_outcome commutes kinds (trace_of kinds limits stop (bytes ++ more))).text }
+    ensures { (kinds : List SpecifiedKind) (limits : Limits) → AreUsable limits → limits.threads < 2 ^ 32 → (stop : Stop) (bytes more : List ℕ) →
+        IsFront (race_texts kinds (entries_of (trace_of (kinds_of kinds) limits fault bytes)))
+        (check_outcome kinds (trace_of (kinds_of kinds) limits stop (bytes ++ more))).text }
 {}

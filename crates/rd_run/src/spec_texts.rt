@@ -2,9 +2,9 @@
 ghost use Rattle.std.specs.Prelude.{◌≡◌, ◌++◌, codes, IfOk, OnOk};
 ghost use Rattle.rd_run.specs.Specifications.{reason_text, spec_cause_text, spec_refused_line};
 
-use crate::texts::{append_limit, append_number};
 use rd_base::{Bytes, Name, NoMemory};
 use rd_ecl::Reason;
+use rd_report::{append_limit, append_number};
 use rd_spec::{SpecCause, SpecRefused};
 use std::alloc::Global;
 

@@ -1,21 +1,24 @@
-//! The command `spec`.
-ghost use Rattle.std.specs.Prelude.{◌≡◌, ◌≢◌, ◌⊎◌, ℕ, ◌<◌, ◌^◌, nat_lt, List, Some};
+//! Specifications from files, and the command `spec`.
+ghost use Rattle.std.specs.Prelude.{◌≡◌, ◌≢◌, ◌⊎◌, ℕ, ◌<◌, ◌^◌, nat_lt, List, Err, Some, IfOk, IfErr};
 ghost use Rattle.rd_base.specs.declared.limits.Limits.{Limits};
-ghost use Rattle.rd_io.specs.Inputs.{Source, Rose};
+ghost use Rattle.rd_io.specs.Inputs.{Source, Goes, Rose};
 ghost use Rattle.rd_io.specs.Sinks.{Appends};
-ghost use Rattle.rd_run.specs.Output.{HasOutcome, IsOutput, StatusTellsFault};
-ghost use Rattle.rd_run.specs.Runs.{Runs};
+ghost use Rattle.rd_kinds.specs.Shipped.{reserved_names};
+ghost use Rattle.rd_spec.specs.Texts.{HasNewNames, IsSpecRefused, SpecSays};
+ghost use Rattle.rd_spec.specs.declared.parsing.SpecRefused.{SpecRefused as Refusal};
+ghost use Rattle.rd_run.specs.Output.{IsOutput, StatusTellsFault};
+ghost use Rattle.rd_run.specs.Runs.{LeavesSpec, ReadsSpec, Runs};
 ghost use Rattle.rd_run.specs.Runs.Command.{spec};
-ghost use Rattle.rd_run.specs.Specifications.{IsSpecOutcome, accepted_outcome, fault_outcome, refused_outcome, reserved_names, spec_status};
+ghost use Rattle.rd_run.specs.Specifications.{TellsUnread, accepted_outcome, fault_outcome, refused_outcome, spec_status};
 
-use crate::reserved::reserved;
 use crate::spec_texts::spec_refused_line;
 use crate::status::Status;
 use crate::writing::{status_of, write_line, write_lines};
-use rd_base::{Name, Word};
+use rd_base::Word;
 use rd_ecl::Spec;
 use rd_files::{FrontRefused, read_front};
 use rd_io::{Inputs, Sink};
+use rd_kinds::reserved;
 use rd_print::print;
 use rd_spec::{ParseRefused, SpecCause, SpecRefused, parse};
 use std::alloc::Global;
@@ -23,8 +26,56 @@ use std::alloc::Global;
 /// How many bytes of a file are read at most: one more than a text may have.
 const MOST_BYTES: u32 = 1_048_577;
 
+/// Why a specification isn't there.
+#[derive(Debug, Drop)]
+pub enum Unread {
+    /// the file could not be opened or read
+    Fault,
+    /// its text is refused
+    Refused(SpecRefused),
+    /// memory ran out
+    NoMemory,
+}
+
+/// Reads and judges the specification in a file, where the names of the shipped kinds and of those to come are taken.
+pub fn read_spec<I: Inputs>(alloc: Global, file: &Word, inputs: &mut I) -> Result<Spec, Unread>
+    // what was opened and taken
+    ensures leaves { Goes (I.told inputs.old) (I.told inputs.new) (λ old new. old.opens < 2 ^ 63 → LeavesSpec file.now old new) }
+
+    // the text says the specification, or is refused
+    ensures said { IfOk result (λ said. Goes (I.told inputs.old) (I.told inputs.new) (λ old new. old.opens < 2 ^ 63 →
+        (bytes : List ℕ) × ReadsSpec file.now old new bytes × SpecSays bytes reserved_names said)) }
+    ensures refused { IfErr result (λ unread. (refused : Refusal) → unread ≡ Unread.Refused refused →
+        Goes (I.told inputs.old) (I.told inputs.new) (λ old new. old.opens < 2 ^ 63 →
+        (bytes : List ℕ) × ReadsSpec file.now old new bytes × IsSpecRefused bytes reserved_names refused)) }
+
+    // and has names of its own
+    ensures names { IfOk result (HasNewNames reserved_names) }
+
+    // or the file could not be opened or read
+    ensures fault { result ≡ Err Unread.Fault → Rose (I.faults inputs.old) (I.faults inputs.new) }
+    ensures calm { result ≢ Err Unread.Fault → I.faults inputs.new ≡ I.faults inputs.old }
+{
+    let Ok(taken) = reserved(alloc) else {
+        return Err(Unread::NoMemory);
+    };
+    let Ok(()) = inputs.open(file) else {
+        return Err(Unread::Fault);
+    };
+    let text = match read_front(alloc, inputs, MOST_BYTES) {
+        Ok(text) => text,
+        Err(FrontRefused::Fault) => return Err(Unread::Fault),
+        Err(FrontRefused::NoMemory) => return Err(Unread::NoMemory),
+    };
+    match parse(alloc, text.items(), &taken) {
+        Ok(said) => Ok(said),
+        Err(ParseRefused::Spec(refused)) => Err(Unread::Refused(refused)),
+        Err(ParseRefused::NoMemory) => Err(Unread::NoMemory),
+    }
+}
+
 /// Says that the file could not be opened or read.
-fn write_fault<S: Sink>(out: &mut S) -> Status
+pub fn write_fault<S: Sink>(out: &mut S) -> Status
     ensures output { (part : List ℕ) × Appends (S.written out.old) (S.written out.new) part × IsOutput result part fault_outcome }
     ensures status { (result ≡ Status.InputFault) ⊎ (result ≡ Status.OutputFault) }
     ensures fault { StatusTellsFault (S.faults out.old) (S.faults out.new) (S.at_fault out.new) (S.written out.new) result }
@@ -78,19 +129,18 @@ fn refuse<S: Sink>(alloc: Global, refused: &SpecRefused, out: &mut S) -> Status
     }
 }
 
-/// Judges the bytes of a specification, where these names of kinds are taken, and writes what is to be written.
-fn judge_text<S: Sink>(alloc: Global, text: &[u8], taken: &[Name], out: &mut S) -> Status
-    requires { taken.now ≡ reserved_names }
-    ensures output { (part : List ℕ) × Appends (S.written out.old) (S.written out.new) part
-        × HasOutcome (IsSpecOutcome text.now) result part }
+/// Says why a specification isn't there.
+pub fn refuse_unread<S: Sink>(alloc: Global, unread: &Unread, out: &mut S) -> Status
+    ensures output { (part : List ℕ) × Appends (S.written out.old) (S.written out.new) part × TellsUnread unread.now result part }
     ensures fault { StatusTellsFault (S.faults out.old) (S.faults out.new) (S.at_fault out.new) (S.written out.new) result }
-    ensures no_input { result ≢ Status.InputFault }
+    ensures input { result ≡ Status.InputFault → unread.now ≡ Unread.Fault }
+    ensures calm { result ≢ Status.InputFault → result ≢ Status.OutputFault → unread.now ≢ Unread.Fault }
     ensures no_usage { result ≢ Status.Usage }
 {
-    match parse(alloc, text, taken) {
-        Ok(said) => accept(alloc, &said, out),
-        Err(ParseRefused::Spec(refused)) => refuse(alloc, &refused, out),
-        Err(ParseRefused::NoMemory) => Status::NoMemory,
+    match unread {
+        Unread::Fault => write_fault(out),
+        Unread::Refused(refused) => refuse(alloc, refused, out),
+        Unread::NoMemory => Status::NoMemory,
     }
 }
 
@@ -107,15 +157,8 @@ pub fn spec<I: Inputs, S: Sink>(alloc: Global, file: &Word, inputs: &mut I, out:
     ensures fault { StatusTellsFault (S.faults out.old) (S.faults out.new) (S.at_fault out.new) (S.written out.new) result }
     ensures no_usage { result ≢ Status.Usage }
 {
-    let Ok(taken) = reserved(alloc) else {
-        return Status::NoMemory;
-    };
-    let Ok(()) = inputs.open(file) else {
-        return write_fault(out);
-    };
-    match read_front(alloc, inputs, MOST_BYTES) {
-        Ok(text) => judge_text(alloc, text.items(), &taken, out),
-        Err(FrontRefused::Fault) => write_fault(out),
-        Err(FrontRefused::NoMemory) => Status::NoMemory,
+    match read_spec(alloc, file, inputs) {
+        Ok(said) => accept(alloc, &said, out),
+        Err(unread) => refuse_unread(alloc, &unread, out),
     }
 }

@@ -14,11 +14,11 @@ ghost use Rattle.rd_ecl.specs.Kinds.{Kind};
 ghost use Rattle.rd_wf.specs.Roster.{StandsFor, kinds_in};
 
 use crate::analysis::{Analysis, Halt};
-use crate::endings::{Ending, TraceCause};
 use crate::judging::{Refusal, judge};
 use rd_base::{LimitName, Limits, Steps};
 use rd_event::Line;
 use rd_io::{Inputs, LineReader, Next, ReadEnd, Sink};
+use rd_report::{Ending, TraceCause};
 use rd_wf::Roster;
 use std::alloc::Global;
 use std::sync::ledger::Ledger;
@@ -144,7 +144,7 @@ pub fn walk_lines<A: Analysis, I: Inputs, S: Sink, L: Ledger>(
     requires usable { AreUsable walker.old.limits }
     requires fresh { reader.old ≡ fresh walker.old.limits }
     requires none { StandsFor (kinds_in walker.old.roster) walker.old.roster [] }
-    requires begins { A.begins walker.old.analysis }
+    requires begins { A.begins (kinds_in walker.old.roster) walker.old.analysis }
 
     // all lines were walked over, as far as they go
     ensures walked { IfOk result (λ ending. (entries : List Entry) × (taken : List ℕ)

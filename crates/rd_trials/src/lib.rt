@@ -2,7 +2,11 @@
 #![tactic(auto)]
 
 #[cfg(test)]
+mod kinds;
+#[cfg(test)]
 mod random;
+#[cfg(test)]
+mod random_calls;
 #[cfg(test)]
 mod refusals;
 #[cfg(test)]

@@ -1,9 +1,14 @@
-//! Random traces of two registers, by their definition: what `check` writes for each is compared with what a program writes
-//! that tries all pairs of calls and all paths of edges between them. The traces have two roots, up to five threads, two locks and
-//! up to 23 events: forks, joins, acquires, releases, reads, writes and swaps of the values 0 and 1. A lock may be acquired
-//! again by the thread that has it. Traces that are refused, other values and longer traces are not covered here.
+//! Random traces of two objects, by their definition: what `check` writes for each is compared with what a program writes that
+//! tries all pairs of calls and all paths of edges between them, and counts the events that come before a call one by one. The objects
+//! are of the kinds that are built in or of one that a specification adds, and their formulas are written here anew. The traces have
+//! two roots, up to five threads, two locks and up to 39 events: forks, joins, acquires, releases and calls with the values 0, 1, nil,
+//! true and false. A lock may be acquired again by the thread that has it. Traces that are refused, other values and longer traces are
+//! not covered here.
 ghost use Rattle.std.specs.Prelude.{◌<◌};
 
+use crate::random_calls::{
+    Call, CounterCall, DictionaryCall, GATE, GateCall, Kind, RegisterCall, SetCall, Value, pair,
+};
 use crate::runs::Row;
 use rd_run::Status;
 use std::alloc::Global;
@@ -18,14 +23,7 @@ const THREADS: u32 = 5;
 /// The line of the first event: before it stand the header, the roots and the two objects.
 const FIRST_LINE: usize = 6;
 
-#[derive(Clone, Copy)]
-enum Method {
-    Read,
-    Write,
-    Swap,
-}
-
-/// An event by numbers. A read has no value, and a write has no result of use.
+/// An event by numbers.
 #[derive(Clone, Copy)]
 enum Step {
     Fork {
@@ -47,9 +45,7 @@ enum Step {
     Call {
         thread: u32,
         object: u32,
-        method: Method,
-        value: u32,
-        result: u32,
+        call: Call,
     },
 }
 
@@ -92,35 +88,31 @@ fn is_edge(first: &Step, second: &Step) -> bool {
     }
 }
 
-/// Two calls on one object that don't commute.
-fn are_apart(first: &Step, second: &Step) -> bool {
+/// The formula that two calls on one object fail, the first of which comes before the second in the trace. It is asked for both orders
+/// where they have the same method, and else for the order in which their methods were declared.
+fn failed(first: &Step, second: &Step) -> Option<&'static str> {
     let (
         Step::Call {
             object: x,
-            method: m,
-            value: v,
-            result: r,
+            call: first,
             ..
         },
         Step::Call {
             object: y,
-            method: n,
-            value: w,
-            result: s,
+            call: second,
             ..
         },
     ) = (first, second)
     else {
-        return false;
+        return None;
     };
-    let commute = match (m, n) {
-        (Method::Read, Method::Read) => true,
-        (Method::Read, Method::Swap) => w == s,
-        (Method::Swap, Method::Read) => v == r,
-        (Method::Swap, Method::Swap) => v == r && w == s,
-        _ => false,
-    };
-    x == y && !commute
+    if x != y {
+        return None;
+    }
+    match (pair(first, second), pair(second, first)) {
+        (Some((formula, false)), _) | (_, Some((formula, false))) => Some(formula),
+        _ => None,
+    }
 }
 
 /// For each place, which of the places before it reach it: by an edge, or by an edge from a place that is reached.
@@ -146,21 +138,69 @@ fn reaching(alloc: Global, steps: &[Step]) -> Result<Vec<Vec<bool>>, Fail> {
     Ok(rows)
 }
 
+/// `T:N` for each thread that has events which are the one at a place or come before it, and how many. The row says which of the events
+/// before the place come before it.
+fn clock(alloc: Global, steps: &[Step], own: &Step, row: &[bool]) -> Result<String, Fail> {
+    let mut text = String::new(alloc);
+    for thread in 0..THREADS {
+        let mut count = 0u32;
+        for (step, reached) in steps.iter().zip(row.iter()) {
+            if *reached && step.actor() == thread {
+                count = count.saturating_add(1);
+            }
+        }
+        if own.actor() == thread {
+            count = count.saturating_add(1);
+        }
+        if count > 0 && !text.is_empty() {
+            text.push_str(",")?;
+        }
+        if count > 0 {
+            text.push_str(&format!(in alloc; "t{thread}:{count}")?)?;
+        }
+    }
+    Ok(text)
+}
+
+/// The event at a place, its line and its clock.
+fn told(
+    alloc: Global,
+    steps: &[Step],
+    place: usize,
+    own: &Step,
+    row: &[bool],
+) -> Result<String, Fail> {
+    let line = place.saturating_add(FIRST_LINE);
+    let call = spelled(alloc, own)?;
+    let clock = clock(alloc, steps, own, row)?;
+    Ok(format!(in alloc; "line {line} {call} clock {clock}\n")?)
+}
+
 /// The report of a trace of these events.
 fn report(alloc: Global, steps: &[Step]) -> Result<(Status, String), Fail> {
     let rows = reaching(alloc, steps)?;
     let mut text = String::new(alloc);
     let mut reported = Vec::new(alloc);
     for ((later, second), row) in steps.iter().enumerate().zip(rows.iter()) {
-        let mut latest = None;
-        for ((earlier, first), reached) in steps.iter().enumerate().zip(row.iter()) {
-            if !*reached && are_apart(first, second) {
-                latest = Some(earlier);
+        let mut latest = String::new(alloc);
+        for (((earlier, first), its), reached) in steps
+            .iter()
+            .enumerate()
+            .zip(rows.iter())
+            .zip(row.iter())
+        {
+            if *reached {
+                continue;
+            }
+            if let Some(formula) = failed(first, second) {
+                let witness = told(alloc, steps, earlier, first, its)?;
+                latest = format!(in alloc; "with {witness}formula {formula}\n")?;
             }
         }
-        if let Some(earlier) = latest {
+        if !latest.is_empty() {
             reported.push(later)?;
-            text.push_str(&race(alloc, later, earlier)?)?;
+            let race = told(alloc, steps, later, second, row)?;
+            text.push_str(&format!(in alloc; "race {race}{latest}")?)?;
         }
     }
     let races = reported.len();
@@ -171,15 +211,6 @@ fn report(alloc: Global, steps: &[Step]) -> Result<(Status, String), Fail> {
         Status::Raced
     };
     Ok((status, text))
-}
-
-/// The line of a race of the calls at two places.
-fn race(alloc: Global, later: usize, earlier: usize) -> Result<String, Fail> {
-    let (later, earlier) = (
-        later.saturating_add(FIRST_LINE),
-        earlier.saturating_add(FIRST_LINE),
-    );
-    Ok(format!(in alloc; "race line {later} with line {earlier}\n")?)
 }
 
 /// What may be done with a lock: who has it, and how often it was acquired and not released.
@@ -219,23 +250,102 @@ impl Random {
         (self.state / 65_536) % end
     }
 
-    fn call(&mut self, thread: u32) -> Step {
-        let method = match self.below(3) {
-            0 => Method::Read,
-            1 => Method::Write,
-            _ => Method::Swap,
-        };
-        Step::Call {
-            thread,
-            object: self.below(2),
-            method,
-            value: self.below(2),
-            result: self.below(2),
+    fn kind(&mut self) -> Kind {
+        match self.below(5) {
+            0 => Kind::Register,
+            1 => Kind::Counter,
+            2 => Kind::Set,
+            3 => Kind::Dictionary,
+            _ => Kind::Gate,
+        }
+    }
+
+    fn number(&mut self) -> Value {
+        if self.below(2) == 0 {
+            Value::Zero
+        } else {
+            Value::One
+        }
+    }
+
+    fn truth(&mut self) -> Value {
+        if self.below(2) == 0 {
+            Value::True
+        } else {
+            Value::False
+        }
+    }
+
+    fn content(&mut self) -> Value {
+        match self.below(3) {
+            0 => Value::Nil,
+            1 => Value::Zero,
+            _ => Value::One,
+        }
+    }
+
+    fn call(&mut self, kind: Kind) -> Call {
+        let method = self.below(4);
+        match kind {
+            Kind::Register => Call::Register(match method {
+                0 => RegisterCall::Read {
+                    value: self.number(),
+                },
+                1 => RegisterCall::Write {
+                    value: self.number(),
+                },
+                _ => RegisterCall::Swap {
+                    value: self.number(),
+                    prev: self.number(),
+                },
+            }),
+            Kind::Counter => Call::Counter(match method {
+                0 | 1 => CounterCall::Add {
+                    amount: self.number(),
+                },
+                _ => CounterCall::Get {
+                    total: self.number(),
+                },
+            }),
+            Kind::Set => Call::Set(match method {
+                0 => SetCall::Add {
+                    item: self.number(),
+                    done: self.truth(),
+                },
+                1 => SetCall::Remove {
+                    item: self.number(),
+                    done: self.truth(),
+                },
+                2 => SetCall::Contains {
+                    item: self.number(),
+                    found: self.truth(),
+                },
+                _ => SetCall::Size { n: self.number() },
+            }),
+            Kind::Dictionary => Call::Dictionary(match method {
+                0 | 1 => DictionaryCall::Put {
+                    key: self.number(),
+                    value: self.content(),
+                    prev: self.content(),
+                },
+                2 => DictionaryCall::Get {
+                    key: self.number(),
+                    value: self.content(),
+                },
+                _ => DictionaryCall::Size { n: self.number() },
+            }),
+            Kind::Gate => Call::Gate(match method {
+                0 | 1 => GateCall::Pass {
+                    by: self.number(),
+                    done: self.truth(),
+                },
+                _ => GateCall::Look { seen: self.truth() },
+            }),
         }
     }
 
     /// Events that may follow one another.
-    fn steps(&mut self, alloc: Global) -> Result<Vec<Step>, Fail> {
+    fn steps(&mut self, alloc: Global, kinds: (Kind, Kind)) -> Result<Vec<Step>, Fail> {
         let mut steps = Vec::new(alloc);
         let mut ended: Vec<u32> = Vec::new(alloc);
         let mut threads = ROOTS;
@@ -244,7 +354,7 @@ impl Random {
             depth: 0,
         };
         let mut second = first;
-        for _ in 0..self.below(24) {
+        for _ in 0..self.below(40) {
             let thread = self.below(THREADS);
             if thread >= threads || ended.contains(&thread) {
                 continue;
@@ -260,7 +370,7 @@ impl Random {
             } else if choice == 1 && child < threads && child != thread {
                 steps.push(Step::Join { thread, child })?;
                 ended.push(child)?;
-            } else if choice <= 4 {
+            } else if choice <= 3 {
                 let acquires = self.below(2) == 0;
                 let used = if self.below(2) == 0 {
                     first.used(thread, 0, acquires)
@@ -271,42 +381,48 @@ impl Random {
                     steps.push(step)?;
                 }
             } else {
-                steps.push(self.call(thread))?;
+                let object = self.below(2);
+                let kind = if object == 0 { kinds.0 } else { kinds.1 };
+                steps.push(Step::Call {
+                    thread,
+                    object,
+                    call: self.call(kind),
+                })?;
             }
         }
         Ok(steps)
     }
 }
 
+/// An event as in its line, a call without the word `call`.
 fn spelled(alloc: Global, step: &Step) -> Result<String, Fail> {
     Ok(match step {
-        Step::Fork { thread, child } => format!(in alloc; "fork t{thread} t{child}\n")?,
-        Step::Join { thread, child } => format!(in alloc; "join t{thread} t{child}\n")?,
-        Step::Acquire { thread, lock } => format!(in alloc; "acquire t{thread} l{lock}\n")?,
-        Step::Release { thread, lock } => format!(in alloc; "release t{thread} l{lock}\n")?,
+        Step::Fork { thread, child } => format!(in alloc; "fork t{thread} t{child}")?,
+        Step::Join { thread, child } => format!(in alloc; "join t{thread} t{child}")?,
+        Step::Acquire { thread, lock } => format!(in alloc; "acquire t{thread} l{lock}")?,
+        Step::Release { thread, lock } => format!(in alloc; "release t{thread} l{lock}")?,
         Step::Call {
             thread,
             object,
-            method,
-            value,
-            result,
-        } => match method {
-            Method::Read => format!(in alloc; "call t{thread} x{object} read -> {result}\n")?,
-            Method::Write => format!(in alloc; "call t{thread} x{object} write {value} -> nil\n")?,
-            Method::Swap => format!(in alloc;
-                "call t{thread} x{object} swap {value} -> {result}\n"
-            )?,
-        },
+            call,
+        } => {
+            let call = call.spelled(alloc)?;
+            format!(in alloc; "t{thread} x{object} {call}")?
+        }
     })
 }
 
-fn trace(alloc: Global, steps: &[Step]) -> Result<String, Fail> {
-    let mut text = String::from_str(
-        alloc,
-        "rdtrace 1\nthread t0\nthread t1\nobject x0 register\nobject x1 register\n",
+fn trace(alloc: Global, kinds: (Kind, Kind), steps: &[Step]) -> Result<String, Fail> {
+    let (first, second) = (kinds.0.name(), kinds.1.name());
+    let mut text = format!(in alloc;
+        "rdtrace 1\nthread t0\nthread t1\nobject x0 {first}\nobject x1 {second}\n"
     )?;
     for step in steps {
+        if let Step::Call { .. } = step {
+            text.push_str("call ")?;
+        }
         text.push_str(&spelled(alloc, step)?)?;
+        text.push_str("\n")?;
     }
     Ok(text)
 }
@@ -318,19 +434,20 @@ fn random_traces(rt: HostRuntime) -> Result<(), Fail> {
     let mut clean = Vec::new(alloc);
     let mut raced = Vec::new(alloc);
     for number in 0..1000u32 {
-        let steps = random.steps(alloc)?;
+        let kinds = (random.kind(), random.kind());
+        let steps = random.steps(alloc, kinds)?;
         let (status, text) = report(alloc, &steps)?;
-        let trace = trace(alloc, &steps)?;
-        let (answer, out) = Row::check(trace.as_bytes()).run(alloc)?;
-        assert_eq!(rt; answer, status, "{trace}");
+        let trace = trace(alloc, kinds, &steps)?;
+        let (answer, out) = Row::check_with(trace.as_bytes(), GATE).run(alloc)?;
         assert_eq!(rt; out.written(), text.as_bytes(), "{trace}");
+        assert_eq!(rt; answer, status, "{trace}");
         if status == Status::Clean {
             clean.push(number)?;
         } else {
             raced.push(number)?;
         }
     }
-    // Both kinds come often.
+    // Both come often.
     assert!(rt; clean.len() >= 200 && raced.len() >= 200);
     Ok(())
 }

@@ -25,7 +25,7 @@ fn each_cause_has_its_text(rt: HostRuntime) -> Result<(), Fail> {
         ("release q l", "unknown-thread"),
         ("join p p", "own-thread"),
         ("object y queue", "unknown-kind"),
-        ("object y counter", "not-built"),
+        ("object y Counter", "unknown-kind"),
         ("call p y read -> nil", "unknown-object"),
         ("call p x add 1 -> nil", "unknown-method"),
         ("call p x write -> nil", "wrong-count"),
@@ -80,6 +80,10 @@ fn ended_threads_and_late_roots(rt: HostRuntime) -> Result<(), Fail> {
 const ACQUIRED_AGAIN: &[u8] =
     b"rdtrace 1\nthread p\nthread q\nobject x register\nacquire p l\nacquire p l\ncall p x write 1 -> nil\ncall q x read -> 1\nrelease p l\nacquire q l\n";
 
+/// What is told of it.
+const ACQUIRED_AGAIN_TEXT: &[u8] =
+    b"race line 8 q x read -> 1 clock q:1\nwith line 7 p x write 1 -> nil clock p:3\nformula register read write when false\nraces 1\nrefused line 10 lock-held p\n";
+
 /// Two threads write, each while it has the lock.
 const GUARDED: &[u8] =
     b"rdtrace 1\nthread main\nobject x register\nfork main a\nfork main b\nacquire a l\ncall a x write 1 -> nil\nrelease a l\nacquire b l\ncall b x write 2 -> nil\nrelease b l\njoin main a\njoin main b\ncall main x read -> 2\n";
@@ -87,23 +91,19 @@ const GUARDED: &[u8] =
 #[test]
 fn locks_order_what_they_guard(rt: HostRuntime) -> Result<(), Fail> {
     let rows = [
-        (
-            ACQUIRED_AGAIN,
-            Status::TraceRefused,
-            b"race line 8 with line 7\nraces 1\nrefused line 10 lock-held p\n".as_slice(),
-        ),
+        (ACQUIRED_AGAIN, Status::TraceRefused, ACQUIRED_AGAIN_TEXT),
         (GUARDED, Status::Clean, b"races 0\n"),
         // Another lock guards nothing.
         (
             b"rdtrace 1\nthread a\nthread b\nobject x register\nacquire a l\ncall a x write 1 -> nil\nrelease a l\nacquire b m\ncall b x write 2 -> nil\nrelease b m\n",
             Status::Raced,
-            b"race line 9 with line 6\nraces 1\n",
+            b"race line 9 b x write 2 -> nil clock b:2\nwith line 6 a x write 1 -> nil clock a:2\nformula register write write when false\nraces 1\n",
         ),
         // What is done behind a release is not ordered by it, and what is done before is ordered through every later release.
         (
             b"rdtrace 1\nthread p\nthread q\nobject x register\nacquire p l\ncall p x write 1 -> nil\nrelease p l\ncall p x write 2 -> nil\nacquire q l\ncall q x read -> 2\nrelease q l\nacquire p l\ncall p x write 3 -> nil\n",
             Status::Raced,
-            b"race line 10 with line 8\nraces 1\n",
+            b"race line 10 q x read -> 2 clock p:3,q:2\nwith line 8 p x write 2 -> nil clock p:4\nformula register read write when false\nraces 1\n",
         ),
         (
             b"rdtrace 1\nthread p\nthread q\nthread r\nobject x register\nacquire p l\ncall p x write 1 -> nil\nrelease p l\nacquire q l\nrelease q l\nacquire q m\nrelease q m\nacquire r m\ncall r x read -> 1\n",
@@ -175,7 +175,7 @@ fn limits_on_locks(rt: HostRuntime) -> Result<(), Fail> {
                 ..standard
             },
             ACQUIRED_AGAIN,
-            b"race line 8 with line 7\nraces 1\nrefused line 10 lock-held p\n",
+            ACQUIRED_AGAIN_TEXT,
         ),
         (
             Limits {
@@ -231,7 +231,7 @@ fn texts_are_values(rt: HostRuntime) -> Result<(), Fail> {
         (
             "call p x swap \"a\" -> \"A\"",
             "call q x read -> \"a\"",
-            "race line 6 with line 5\nraces 1\n",
+            "race line 6 q x read -> \"a\" clock q:1\nwith line 5 p x swap \"a\" -> \"A\" clock p:1\nformula register read swap when value@2 = prev@2\nraces 1\n",
         ),
         (
             "call p x write \"\\x00\\xff\" -> nil",

@@ -42,12 +42,12 @@ fn run_counted<L: Ledger>(
     run(alloc, words, inputs, out, limits, &mut steps)
 }
 
-/// What a run over one file answers and writes.
+/// What a run over two files answers and writes: a trace by the name `t.trace`, and a specification by the name `s`.
 #[derive(Clone, Copy)]
 pub struct Row<'a> {
     pub words: &'a [u8],
-    pub name: &'a [u8],
     pub trace: &'a [u8],
+    pub spec: &'a [u8],
     pub piece: u32,
     pub failing_reads: &'a [u32],
     pub failing_writes: &'a [u32],
@@ -61,8 +61,8 @@ impl<'a> Row<'a> {
     {
         Row {
             words: b"check t.trace",
-            name: b"t.trace",
             trace,
+            spec: b"",
             piece: 4096,
             failing_reads: &[],
             failing_writes: &[],
@@ -76,8 +76,19 @@ impl<'a> Row<'a> {
     {
         Row {
             words: b"spec s",
-            name: b"s",
-            ..Row::check(text)
+            spec: text,
+            ..Row::check(b"")
+        }
+    }
+
+    pub fn check_with(trace: &'a [u8], spec: &'a [u8]) -> Row<'a>
+        ensures limits { AreUsable result.limits }
+        ensures piece { 1 ≤ result.piece }
+    {
+        Row {
+            words: b"check t.trace s",
+            spec,
+            ..Row::check(trace)
         }
     }
 
@@ -86,9 +97,11 @@ impl<'a> Row<'a> {
         requires piece { 1 ≤ self.now.piece }
     {
         let mut inputs = MemoryInputs::new(alloc, self.failing_reads)?;
-        let name = Word::from_bytes(alloc, self.name)?;
-        inputs.add(&name, self.trace, self.piece)?;
-        let mut out = MemorySink::new(alloc, 4096, self.failing_writes)?;
+        let trace = Word::from_bytes(alloc, b"t.trace")?;
+        let spec = Word::from_bytes(alloc, b"s")?;
+        inputs.add(&trace, self.trace, self.piece)?;
+        inputs.add(&spec, self.spec, self.piece)?;
+        let mut out = MemorySink::new(alloc, 16_384, self.failing_writes)?;
         let words = words(alloc, self.words)?;
         let status = run_counted::<Brand>(
             alloc,
@@ -120,8 +133,9 @@ fn the_words_of_the_command_line(rt: HostRuntime) -> Result<(), Fail> {
         ),
         (b"t.trace", Status::Usage, b"refused usage\n"),
         (b" t.trace", Status::Usage, b"refused usage\n"),
-        (b"check u.trace", Status::InputFault, b""),
-        (b"check ", Status::InputFault, b""),
+        (b"check a b c", Status::Usage, b"refused usage\n"),
+        (b"check u.trace", Status::InputFault, b"fault input\n"),
+        (b"check ", Status::InputFault, b"fault input\n"),
     ];
     for (words, status, text) in rows {
         let row = Row {
@@ -145,18 +159,23 @@ fn traces_are_read_to_their_end_or_refused(rt: HostRuntime) -> Result<(), Fail> 
             b"races 0\n",
         ),
         (
-            b"rdtrace 1\nthread p\nobject d dictionary\n",
-            Status::TraceRefused,
-            b"races 0\nrefused line 3 not-built\n",
+            b"rdtrace 1\nthread p\nobject d dictionary\nobject s set\n",
+            Status::Clean,
+            b"races 0\n",
         ),
         (
             b"rdtrace 1\nthread p\nobject c counter\n",
-            Status::TraceRefused,
-            b"races 0\nrefused line 3 not-built\n",
+            Status::Clean,
+            b"races 0\n",
         ),
-        // A kind that isn't built is told where its kind would be unknown, and not before.
         (
-            b"object c counter\n",
+            b"rdtrace 1\nthread p\nobject q queue\n",
+            Status::TraceRefused,
+            b"races 0\nrefused line 3 unknown-kind\n",
+        ),
+        // Before the header no line is looked at further.
+        (
+            b"object q queue\n",
             Status::TraceRefused,
             b"races 0\nrefused line 1 header-first\n",
         ),
@@ -308,7 +327,7 @@ fn limits_at_their_edges(rt: HostRuntime) -> Result<(), Fail> {
 
 /// The first call opens the file; the reads take 74 bytes by twenty, and one more finds the end.
 #[test]
-fn a_read_that_fails_writes_nothing(rt: HostRuntime) -> Result<(), Fail> {
+fn an_open_or_a_read_that_fails(rt: HostRuntime) -> Result<(), Fail> {
     for failing in 1..10 {
         let failing_reads = [failing];
         let row = Row {
@@ -317,20 +336,15 @@ fn a_read_that_fails_writes_nothing(rt: HostRuntime) -> Result<(), Fail> {
             ..Row::check(FORK_AND_JOIN)
         };
         let (answer, out) = row.run(rt.alloc())?;
-        let fails = failing <= 6;
-        assert_eq!(rt;
-            answer,
-            if fails {
-                Status::InputFault
-            } else {
-                Status::Clean
-            },
-            "{failing}"
-        );
-        assert_eq!(rt;
-            out.written(),
-            if fails { b"".as_slice() } else { b"races 0\n" }
-        );
+        let (status, text) = if failing == 1 {
+            (Status::InputFault, b"fault input\n".as_slice())
+        } else if failing <= 6 {
+            (Status::InputFault, b"races 0\nfault input\n".as_slice())
+        } else {
+            (Status::Clean, b"races 0\n".as_slice())
+        };
+        assert_eq!(rt; answer, status, "{failing}");
+        assert_eq!(rt; out.written(), text);
     }
     Ok(())
 }
@@ -356,7 +370,14 @@ fn a_refusal_before_a_read_that_fails(rt: HostRuntime) -> Result<(), Fail> {
             }
         );
         let text = b"races 0\nrefused line 2 bad-line\n".as_slice();
-        assert_eq!(rt; out.written(), if fails { b"".as_slice() } else { text });
+        assert_eq!(rt;
+            out.written(),
+            if fails {
+                b"races 0\nfault input\n".as_slice()
+            } else {
+                text
+            }
+        );
     }
     Ok(())
 }
@@ -369,15 +390,15 @@ const STORED_RUN: &[u8] =
 const FOUR_WRITES: &[u8] =
     b"rdtrace 1\nthread p\nthread q\nthread r\nobject x register\ncall p x write 1 -> nil\ncall q x write 2 -> nil\ncall p x write 3 -> nil\ncall r x write 4 -> nil\n";
 
+/// What is told of them. Each call races with two earlier ones or one; the latest is named.
+const FOUR_RACES: &[u8] =
+    b"race line 7 q x write 2 -> nil clock q:1\nwith line 6 p x write 1 -> nil clock p:1\nformula register write write when false\nrace line 8 p x write 3 -> nil clock p:2\nwith line 7 q x write 2 -> nil clock q:1\nformula register write write when false\nrace line 9 r x write 4 -> nil clock r:1\nwith line 8 p x write 3 -> nil clock p:2\nformula register write write when false\nraces 3\n";
+
 #[test]
 fn races_of_a_register(rt: HostRuntime) -> Result<(), Fail> {
     let rows = [
         (STORED_RUN, b"races 0\n".as_slice()),
-        // Each call races with two earlier ones or one; the latest is named.
-        (
-            FOUR_WRITES,
-            b"race line 7 with line 6\nrace line 8 with line 7\nrace line 9 with line 8\nraces 3\n",
-        ),
+        (FOUR_WRITES, FOUR_RACES),
         // A fork and its thread's join order what stands before and behind them.
         (
             b"rdtrace 1\nthread p\nthread q\nobject x register\ncall p x write 1 -> nil\nfork p u\njoin q u\ncall q x write 2 -> nil\n",
@@ -386,7 +407,7 @@ fn races_of_a_register(rt: HostRuntime) -> Result<(), Fail> {
         // The last call is ordered behind one write and not behind the one before it.
         (
             b"rdtrace 1\nthread a\nthread b\nobject x register\ncall a x write 1 -> nil\ncall b x write 2 -> nil\nfork b c\ncall c x write 3 -> nil\n",
-            b"race line 6 with line 5\nrace line 8 with line 5\nraces 2\n",
+            b"race line 6 b x write 2 -> nil clock b:1\nwith line 5 a x write 1 -> nil clock a:1\nformula register write write when false\nrace line 8 c x write 3 -> nil clock b:2,c:1\nwith line 5 a x write 1 -> nil clock a:1\nformula register write write when false\nraces 2\n",
         ),
         // Calls on two objects don't race.
         (
@@ -396,7 +417,7 @@ fn races_of_a_register(rt: HostRuntime) -> Result<(), Fail> {
         // What was reported before a refused line stands.
         (
             b"rdtrace 1\nthread p\nthread q\nobject x register\ncall p x write 1 -> nil\n\ncall q x write 2 -> nil\ncall s x read -> 2\n",
-            b"race line 7 with line 5\nraces 1\nrefused line 8 unknown-thread\n",
+            b"race line 7 q x write 2 -> nil clock q:1\nwith line 5 p x write 1 -> nil clock p:1\nformula register write write when false\nraces 1\nrefused line 8 unknown-thread\n",
         ),
     ];
     for (trace, text) in rows {
@@ -421,41 +442,61 @@ fn races_of_a_register(rt: HostRuntime) -> Result<(), Fail> {
     Ok(())
 }
 
-/// Two threads that never meet call one register, one call each.
+/// Two threads that never meet call one register, one call each. Where the calls don't commute, the formula that they fail is told.
 #[test]
 fn pairs_of_calls_that_commute(rt: HostRuntime) -> Result<(), Fail> {
     let rows = [
-        ("read -> 1", "read -> 2", true),
-        ("read -> 1", "write 1 -> nil", false),
-        ("write 1 -> nil", "read -> 1", false),
-        ("write 1 -> nil", "write 1 -> nil", false),
-        ("write 3 -> nil", "swap 3 -> 3", false),
-        ("swap 3 -> 3", "write 3 -> nil", false),
-        ("read -> 3", "swap 3 -> 3", true),
-        ("swap 3 -> 3", "read -> 3", true),
-        ("read -> 3", "swap 4 -> 3", false),
-        ("swap 4 -> 3", "read -> 4", false),
-        ("swap nil -> nil", "swap true -> true", true),
-        ("swap nil -> nil", "swap true -> false", false),
-        ("swap -1 -> 1", "swap 2 -> 2", false),
-        ("swap 0 -> nil", "swap 2 -> 2", false),
+        ("read -> 1", "read -> 2", ""),
+        ("read -> 1", "write 1 -> nil", "read write when false"),
+        ("write 1 -> nil", "read -> 1", "read write when false"),
+        ("write 1 -> nil", "write 1 -> nil", "write write when false"),
+        ("write 3 -> nil", "swap 3 -> 3", "write swap when false"),
+        ("swap 3 -> 3", "write 3 -> nil", "write swap when false"),
+        ("read -> 3", "swap 3 -> 3", ""),
+        ("swap 3 -> 3", "read -> 3", ""),
+        (
+            "read -> 3",
+            "swap 4 -> 3",
+            "read swap when value@2 = prev@2",
+        ),
+        (
+            "swap 4 -> 3",
+            "read -> 4",
+            "read swap when value@2 = prev@2",
+        ),
+        ("swap nil -> nil", "swap true -> true", ""),
+        (
+            "swap nil -> nil",
+            "swap true -> false",
+            "swap swap when value@1 = prev@1 and value@2 = prev@2",
+        ),
+        (
+            "swap -1 -> 1",
+            "swap 2 -> 2",
+            "swap swap when value@1 = prev@1 and value@2 = prev@2",
+        ),
+        (
+            "swap 0 -> nil",
+            "swap 2 -> 2",
+            "swap swap when value@1 = prev@1 and value@2 = prev@2",
+        ),
     ];
     let alloc = rt.alloc();
-    for (first, second, commute) in rows {
+    for (first, second, formula) in rows {
         let trace = format!(in alloc;
             "rdtrace 1\nthread p\nthread q\nobject x register\ncall p x {first}\ncall q x {second}\n"
         )?;
         let (answer, out) = Row::check(trace.as_bytes()).run(alloc)?;
-        let (status, text) = if commute {
-            (Status::Clean, b"races 0\n".as_slice())
+        if formula.is_empty() {
+            assert_eq!(rt; answer, Status::Clean, "{first} and {second}");
+            assert_eq!(rt; out.written(), b"races 0\n".as_slice());
         } else {
-            (
-                Status::Raced,
-                b"race line 6 with line 5\nraces 1\n".as_slice(),
-            )
-        };
-        assert_eq!(rt; answer, status, "{first} and {second}");
-        assert_eq!(rt; out.written(), text);
+            let text = format!(in alloc;
+                "race line 6 q x {second} clock q:1\nwith line 5 p x {first} clock p:1\nformula register {formula}\nraces 1\n"
+            )?;
+            assert_eq!(rt; answer, Status::Raced, "{first} and {second}");
+            assert_eq!(rt; out.written(), text.as_bytes());
+        }
     }
     Ok(())
 }
@@ -496,43 +537,65 @@ fn call_lines(rt: HostRuntime) -> Result<(), Fail> {
 }
 
 /// The first call opens the file; the reads take 151 bytes by sixty, and one more finds the end. The first 60 bytes hold lines 1
-/// to 5, the first 120 lines 1 to 7. The races that were read before a read fails are told, and nothing else is.
+/// to 5, the first 120 lines 1 to 7. The races that were read before a read fails are told, and then the fault.
 #[test]
 fn a_read_that_fails_behind_a_race(rt: HostRuntime) -> Result<(), Fail> {
-    let whole =
-        b"race line 7 with line 6\nrace line 8 with line 7\nrace line 9 with line 8\nraces 3\n";
-    for (failing, length) in [(1, 0), (2, 0), (3, 0), (4, 24), (5, 72), (6, 80)] {
+    let one =
+        "race line 7 q x write 2 -> nil clock q:1\nwith line 6 p x write 1 -> nil clock p:1\nformula register write write when false\n";
+    let others =
+        "race line 8 p x write 3 -> nil clock p:2\nwith line 7 q x write 2 -> nil clock q:1\nformula register write write when false\nrace line 9 r x write 4 -> nil clock r:1\nwith line 8 p x write 3 -> nil clock p:2\nformula register write write when false\n";
+    let rows = [
+        (1, "", "", ""),
+        (2, "", "", "races 0\n"),
+        (3, "", "", "races 0\n"),
+        (4, one, "", "races 1\n"),
+        (5, one, others, "races 3\n"),
+    ];
+    let alloc = rt.alloc();
+    for (failing, first, then, races) in rows {
         let failing_reads = [failing];
         let row = Row {
             piece: 60,
             failing_reads: &failing_reads,
             ..Row::check(FOUR_WRITES)
         };
-        let (answer, out) = row.run(rt.alloc())?;
-        let status = if failing == 6 {
-            Status::Raced
-        } else {
-            Status::InputFault
-        };
-        assert_eq!(rt; answer, status);
-        assert_eq!(rt; out.written(), &whole[..length]);
+        let (answer, out) = row.run(alloc)?;
+        let text = format!(in alloc; "{first}{then}{races}fault input\n")?;
+        assert_eq!(rt; answer, Status::InputFault, "{failing}");
+        assert_eq!(rt; out.written(), text.as_bytes());
     }
+    let row = Row {
+        piece: 60,
+        failing_reads: &[6],
+        ..Row::check(FOUR_WRITES)
+    };
+    let (answer, out) = row.run(alloc)?;
+    assert_eq!(rt; answer, Status::Raced);
+    assert_eq!(rt; out.written(), FOUR_RACES);
     Ok(())
 }
 
-/// The output ends with the last line that was written whole.
+/// The output ends with the last line that was written whole, also inside what is told of one race.
 #[test]
 fn a_write_that_fails_behind_a_race(rt: HostRuntime) -> Result<(), Fail> {
     let whole =
-        b"race line 7 with line 6\nrace line 8 with line 7\nrace line 9 with line 8\nraces 3\n";
-    for (failing, length) in [(1, 0), (2, 24), (3, 48), (4, 72), (5, 80)] {
+        b"race line 7 q x write 2 -> nil clock q:1\nwith line 6 p x write 1 -> nil clock p:1\nformula register write write when false\nrace line 8 p x write 3 -> nil clock p:2\nwith line 7 q x write 2 -> nil clock q:1\nformula register write write when false\nrace line 9 r x write 4 -> nil clock r:1\nwith line 8 p x write 3 -> nil clock p:2\nformula register write write when false\nraces 3\n";
+    for (failing, length) in [
+        (1, 0),
+        (2, 41),
+        (3, 82),
+        (4, 122),
+        (5, 163),
+        (10, 366),
+        (11, 374),
+    ] {
         let failing_writes = [failing];
         let row = Row {
             failing_writes: &failing_writes,
             ..Row::check(FOUR_WRITES)
         };
         let (answer, out) = row.run(rt.alloc())?;
-        let status = if failing == 5 {
+        let status = if failing == 11 {
             Status::Raced
         } else {
             Status::OutputFault
@@ -562,7 +625,8 @@ fn a_write_that_fails_is_the_last(rt: HostRuntime) -> Result<(), Fail> {
         ),
         (b"check", 1, Status::OutputFault, b""),
         (b"check", 2, Status::Usage, b"refused usage\n"),
-        (b"check u.trace", 1, Status::InputFault, b""),
+        (b"check u.trace", 1, Status::OutputFault, b""),
+        (b"check u.trace", 2, Status::InputFault, b"fault input\n"),
     ];
     for (words, failing, status, text) in rows {
         let failing_writes = [failing];

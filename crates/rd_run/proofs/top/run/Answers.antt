@@ -1,7 +1,8 @@
-use Rattle.std.proofs.Common.{Some, sym, ap, ◌∙◌, subst}
+use Rattle.std.proofs.Common.{Some, refl, sym, ap, ◌∙◌, subst}
 use Rattle.std.specs.Prelude.{nat_lt}
 use Rattle.rd_run.specs.Commands.{asked}
 use Rattle.rd_run.specs.Runs.{Runs}
+use Rattle.rd_run.specs.Runs.Command.{spec}
 use Rattle.rd_run.specs.declared.top.Command.{Command as Asked}
 use Rattle.rd_run.proofs.RunLemmas.{runs_usage}
 use Rattle.rd_run.proofs.top.run.Goals as goal
@@ -29,3 +30,8 @@ returns-in-Some-Spec-clause-runs g c = λ old told few few_opens.
       writes,
       subst (λ command. Runs command c.args.limits.now rose old new part c.spec.result c.args.steps.now c.args.steps.now) words runs,
     )
+
+pub returns-in-Some-Spec-clause-spec_refused : goal.returns-in-Some-Spec-clause-spec_refused
+returns-in-Some-Spec-clause-spec_refused g c = λ refused.
+    let words = ap (λ (command : Asked). asked (Some command)) (sym c.in-Some-Spec.field-0-is) ∙ c.in-Some-Spec.ensures in
+    (spec c.in-Some-Spec.file.now, c.in-Some-Spec.file.now, sym words, refl)

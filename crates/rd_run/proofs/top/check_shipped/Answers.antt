@@ -1,0 +1,40 @@
+use Rattle.std.proofs.Common.{[], refl, ◌≢◌, ◌^◌, ◌<◌, length, subst, sym, arith}
+use Rattle.std.specs.Prelude.{AllPairs, nat_lt}
+use Rattle.rd_io.proofs.SinkLemmas.{appends_none}
+use Rattle.rd_ecl.specs.Kinds.{kind_names, kinds_of}
+use Rattle.rd_kinds.specs.Shipped.{shipped_kinds}
+use Rattle.rd_kinds.proofs.NameLemmas.{listed_differ}
+use Rattle.rd_run.specs.Runs.{ChecksTrace}
+use Rattle.rd_run.proofs.CombinedLemmas.{runs_shipped}
+use Rattle.rd_run.proofs.TraceLemmas.{checks_before}
+use Rattle.rd_run.proofs.top.check_shipped.Goals as goal
+
+pub check-requires-clause-few : goal.check-requires-clause-few
+check-requires-clause-few g c = subst (λ kinds. length kinds < 2 ^ 32) (sym c.in-Ok.ensures) (omega arith)
+
+pub check-requires-clause-different : goal.check-requires-clause-different
+check-requires-clause-different g c = subst (λ kinds. AllPairs (λ x y. x ≢ y) (kind_names (kinds_of kinds))) (sym c.in-Ok.ensures) listed_differ
+
+pub returns-in-Ok-clause-runs : goal.returns-in-Ok-clause-runs
+returns-in-Ok-clause-runs g c = λ old told few few_opens.
+    let (new, part, now, writes, checks) = c.check.ensures.checks old told few (omega (arith, few_opens)) in
+    let rose = nat_lt (g.I.Inputs.faults c.args.inputs.now) (g.I.Inputs.faults c.check.new.inputs) in (
+      new,
+      part,
+      now,
+      writes,
+      runs_shipped c.args.trace.now c.args.limits.now rose old new part c.check.result c.args.steps.now c.check.new.steps
+          (subst (λ kinds. ChecksTrace kinds c.args.trace.now c.args.limits.now rose old new part c.check.result c.args.steps.now c.check.new.steps) c.in-Ok.ensures checks),
+    )
+
+pub returns-in-Err-clause-runs : goal.returns-in-Err-clause-runs
+returns-in-Err-clause-runs g c = λ old told few few_opens.
+    let wrote = g.S.Sink.written c.args.out.now in
+    let faults = g.I.Inputs.faults c.args.inputs.now in (
+      old,
+      [],
+      told,
+      appends_none wrote wrote refl,
+      runs_shipped c.args.trace.now c.args.limits.now (nat_lt faults faults) old old [] _ c.args.steps.now c.args.steps.now
+          (checks_before shipped_kinds c.args.trace.now c.args.limits.now faults old c.args.steps.now),
+    )

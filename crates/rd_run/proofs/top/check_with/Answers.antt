@@ -1,0 +1,72 @@
+use Rattle.std.proofs.Common.{[], ◌++◌, refl, ◌≡◌, ◌≢◌, ◌^◌, ◌<◌, Err, length, subst, sym, ap, ◌∙◌, arith}
+use Rattle.std.specs.Prelude.{AllPairs, nat_lt}
+use Rattle.std.proofs.lemmas.Option.{same_Some}
+use Rattle.rd_io.proofs.SinkLemmas.{appends_none}
+use Rattle.rd_ecl.specs.Kinds.{kind_names, kinds_of}
+use Rattle.rd_kinds.specs.Shipped.{shipped_kinds}
+use Rattle.rd_run.specs.Runs.{ChecksTrace, ReadsSpec}
+use Rattle.rd_run.specs.declared.status.Status.TheVariants.{NoMemory}
+use Rattle.rd_run.proofs.CombinedLemmas.{runs_said, unread_told, unread_without}
+use Rattle.rd_run.proofs.KindLemmas.{all_differ, few_kinds}
+use Rattle.rd_run.proofs.top.check_with.Goals as goal
+
+pub returns-in-Err-clause-runs : goal.returns-in-Err-clause-runs
+returns-in-Err-clause-runs g c = λ old told few few_opens.
+    let (new, now, leaves) = c.in-Err.ensures.leaves old told in
+    let (part, writes, tells) = c.refuse_unread.ensures.output in (
+      new,
+      part,
+      now,
+      writes,
+      unread_told c.args.trace.now c.args.file.now c.args.limits.now (g.I.Inputs.faults c.args.inputs.now) (g.I.Inputs.faults c.read_spec.new.inputs) old new part
+          c.refuse_unread.result c.args.steps.now few (leaves few_opens) c.in-Err.unread tells
+          (λ e. c.read_spec.ensures.fault (c.in-Err.is ∙ ap Err e))
+          (λ other. c.read_spec.ensures.calm (λ e. other (let is = c.in-Err.is in cc)))
+          (λ refused e.
+          let (source, now_too, reads) = c.in-Err.ensures.refused refused e old told in
+          let (bytes, read, refuses) = reads few_opens in
+          let same : source ≡ new = same_Some source new (sym now_too ∙ now) in
+          (bytes, subst (λ source. ReadsSpec c.args.file.now old source bytes) same read, refuses)),
+    )
+
+pub check-requires-clause-few : goal.check-requires-clause-few
+check-requires-clause-few g c = subst (λ kinds. length kinds < 2 ^ 32) (sym c.in-Ok-with_shipped.ensures) (few_kinds c.in-Ok.said c.in-Ok.ensures.names)
+
+pub check-requires-clause-different : goal.check-requires-clause-different
+check-requires-clause-different g c =
+    subst (λ kinds. AllPairs (λ x y. x ≢ y) (kind_names (kinds_of kinds))) (sym c.in-Ok-with_shipped.ensures) (all_differ c.in-Ok.said c.in-Ok.ensures.names)
+
+pub returns-in-Ok-with_shipped-clause-runs : goal.returns-in-Ok-with_shipped-clause-runs
+returns-in-Ok-with_shipped-clause-runs g c = λ old told few few_opens.
+    let (mid, now_mid, leaves) = c.in-Ok.ensures.leaves old told in
+    let (other, now_too, reads) = c.in-Ok.ensures.said old told in
+    let (bytes, read, says) = reads few_opens in
+    let same : other ≡ mid = same_Some other mid (sym now_too ∙ now_mid) in
+    let left = leaves few_opens in
+    let was = subst (λ source. ReadsSpec c.args.file.now old source bytes) same read in
+    let calm = c.in-Ok.ensures.calm (λ e. let is = c.in-Ok.is in cc) in
+    let (new, part, now, writes, checks) = c.check.ensures.checks mid now_mid (subst (λ n. n < 2 ^ 63) (sym calm) few) (omega (arith, was.opens, few_opens)) in
+    let before = g.I.Inputs.faults c.args.inputs.now in
+    let after = g.I.Inputs.faults c.check.new.inputs in (
+      new,
+      part,
+      now,
+      writes,
+      runs_said c.args.trace.now c.args.file.now c.args.limits.now (nat_lt before after) old mid new part c.check.result c.args.steps.now c.check.new.steps
+          left bytes c.in-Ok.said was says
+          (subst (λ faults. ChecksTrace (shipped_kinds ++ c.in-Ok.said) c.args.trace.now c.args.limits.now (nat_lt faults after) mid new part c.check.result c.args.steps.now c.check.new.steps) calm
+          (subst (λ kinds. ChecksTrace kinds c.args.trace.now c.args.limits.now (nat_lt (g.I.Inputs.faults c.read_spec.new.inputs) after) mid new part c.check.result c.args.steps.now c.check.new.steps)
+          c.in-Ok-with_shipped.ensures checks)),
+    )
+
+pub returns-in-Err-with_shipped-clause-runs : goal.returns-in-Err-with_shipped-clause-runs
+returns-in-Err-with_shipped-clause-runs g c = λ old told few few_opens.
+    let (new, now, leaves) = c.in-Ok.ensures.leaves old told in
+    let wrote = g.S.Sink.written c.args.out.now in (
+      new,
+      [],
+      now,
+      appends_none wrote wrote refl,
+      unread_without c.args.trace.now c.args.file.now c.args.limits.now (g.I.Inputs.faults c.args.inputs.now) (g.I.Inputs.faults c.read_spec.new.inputs) old new [] NoMemory
+          c.args.steps.now few (leaves few_opens) refl refl,
+    )
