@@ -13,3 +13,4 @@ pub mod RunLemmas
 pub mod SpecLemmas
 pub mod TraceLemmas
 pub mod WalkLemmas
+pub mod WholeLemmas

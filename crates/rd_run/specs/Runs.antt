@@ -16,7 +16,7 @@ use Rattle.rd_run.specs.Progress.{IsRead}
 use Rattle.rd_run.specs.Specifications.{IsSpecOutcome, fault_outcome, most_bytes, refused_outcome}
 use Rattle.rd_run.specs.Walk.{Walked, ends, entries_of, trace_of, step_bound}
 use Rattle.rd_run.specs.declared.status.Status.{Status}
-use Rattle.rd_run.specs.declared.status.Status.TheVariants.{Usage}
+use Rattle.rd_run.specs.declared.status.Status.TheVariants.{Clean, Raced, Usage}
 
 -- ---- commands
 
@@ -176,6 +176,12 @@ pub record Runs (command : Option Command) (limits : Limits) (rose : Bool) (old 
   pub opened : OpensOnly (files_of command) old new
   -- what was taken of them, and the steps that were counted
   pub taken : TakesOnly command limits rose old new before after
+
+-- what was written and answered is the whole of a check of a trace with these bytes, in which no line is refused
+pub record IsWhole (kinds : List SpecifiedKind) (limits : Limits) (bytes part : List ℕ) (status : Status) : Type 0 where
+  pub text : part ≡ (check_outcome kinds (trace_of (kinds_of kinds) limits end bytes)).text
+  pub told : status ≡ (check_outcome kinds (trace_of (kinds_of kinds) limits end bytes)).status
+  pub well : (status ≡ Clean) ⊎ (status ≡ Raced)
 
 -- ---- a part of it
 
