@@ -269,6 +269,7 @@ module _ (start now : Check) (tracker : Tracking) (before : List Entry) (entry :
   checks_no_event quiet no_call = record {
     starts = checks.starts;
     spec = checks.spec;
+    formulas = checks.formulas;
     asks = checks.asks;
     tracks = tracks_now;
     detects = subst (λ (T : Type 0). T) (λ i. Detects now.detector.calls (sym (quiet_numbers spec before entry quiet) i) (sym (quiet_events spec before entry quiet) i)) checks.detects;
@@ -284,6 +285,7 @@ module _ (start now : Check) (tracker : Tracking) (before : List Entry) (entry :
       = not_reported (Commute spec) (commuting spec) (passing spec) (entry_events spec before) e other in record {
         starts = checks.starts;
         spec = checks.spec;
+        formulas = checks.formulas;
         asks = checks.asks;
         tracks = tracks_now;
         detects = subst (λ (T : Type 0). T) (λ i. Detects now.detector.calls (sym (event_numbers_more spec before entry event is) i) (sym (events_all spec before entry event is) i))
@@ -438,13 +440,14 @@ module _ (start now : Check) (before : List Entry) (entry : Entry) (e : Numbered
       omega (arith, checks.held, tracked, known, bound, detect)
 
   -- what is kept, and what is written
-  pub checks_call : (new : Check) → new.spec.now ≡ now.spec.now → new.detector.kinds ≡ now.detector.kinds → Tracks known new.tracker (items before ++ entry.item ∷ [])
+  pub checks_call : (new : Check) → new.spec.now ≡ now.spec.now → new.formulas ≡ now.formulas → new.detector.kinds ≡ now.detector.kinds → Tracks known new.tracker (items before ++ entry.item ∷ [])
       → Detects new.detector.calls (event_numbers before ++ entry.number ∷ []) (es ++ numbered.Call call ∷ []) → length new.detector.calls ≡ length now.detector.calls + 1
       → new.races ≡ now.races + next_races asked es (numbered.Call call) → Checks start (before ++ entry ∷ []) new
-  checks_call new one_spec one_kinds tracks detects held races =
+  checks_call new one_spec one_formulas one_kinds tracks detects held races =
       let (event, is, same) = event_is in record {
         starts = checks.starts;
         spec = one_spec ∙ checks.spec;
+        formulas = one_formulas ∙ checks.formulas;
         asks = one_kinds ∙ checks.asks;
         tracks = subst (Tracks known new.tracker) (sym (items_more before entry)) tracks;
         detects = subst (λ (T : Type 0). T)

@@ -41,6 +41,7 @@ leads_none kinds start begins = record {
   checks = record {
     starts = begins.new;
     spec = refl;
+    formulas = begins.new.formulas;
     tracks = record {
       told = told_none (kinds_of start.spec.now);
       stands = subst (λ tracker. StandsFor tracker (roots_of []) (events_of (kinds_of start.spec.now) [])) (sym begins.new.no_event) (stands_none (kinds_of start.spec.now));

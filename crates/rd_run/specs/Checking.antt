@@ -42,12 +42,14 @@ pub record IsNew (start : Check) : Type 0 where
   pub no_event : start.tracker ≡ record { threads = []; locks = [] }
   pub no_call : start.detector ≡ record { kinds = start.spec.now; calls = [] }
   pub no_race : start.races ≡ 0
+  pub formulas : start.formulas ≡ start.spec.now
 
 -- from a new one on, the tracker and the detector stand for the events of these accepted lines, whose objects are of the kinds of its
 -- specification, and the calls that are reported among them are counted
 pub record Checks (start : Check) (entries : List Entry) (now : Check) : Type 0 where
   pub starts : IsNew start
   pub spec : now.spec.now ≡ start.spec.now
+  pub formulas : now.formulas ≡ start.spec.now
   pub tracks : Tracks (kinds_of start.spec.now) now.tracker (items entries)
   pub asks : now.detector.kinds ≡ start.spec.now
   pub detects : Detects now.detector.calls (event_numbers entries) (entry_events start.spec.now entries)

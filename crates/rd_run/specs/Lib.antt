@@ -2,6 +2,7 @@ pub mod Analysis
 pub mod CheckLaws
 pub mod Checking
 pub mod Commands
+pub mod Formulas
 pub mod Output
 pub mod Progress
 pub mod Reports

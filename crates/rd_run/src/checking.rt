@@ -2,6 +2,7 @@
 ghost use Rattle.std.specs.Prelude.{◌≡◌, ◌+◌, ◌≤◌, List, ◌∷◌, [], ◌++◌};
 
 use crate::analysis::{Analysis, Halt};
+use crate::formulas::Formulas;
 use crate::writing::write_lines;
 use rd_base::{Bytes, NoMemory, Steps};
 use rd_clock::Stamp;
@@ -22,6 +23,8 @@ pub struct Check<'a> {
     alloc: Global,
     /// the kinds of the objects
     spec: &'a Spec,
+    /// the lines of the formulas that races failed
+    formulas: Formulas<'a>,
     /// the text of the last race, kept for its memory
     text: Bytes,
     tracker: Tracker,
@@ -56,6 +59,7 @@ impl<'a> Check<'a> {
         Ok(Check {
             alloc,
             spec,
+            formulas: Formulas::new(alloc, spec),
             text: Bytes::new(alloc),
             tracker: Tracker::new(alloc),
             detector,
@@ -74,7 +78,8 @@ impl<'a> Check<'a> {
     ) -> Result<Option<Race>, Halt>
         requires next { (numbers : List ℕ) × (es : List EventOf) × IsNextCall self.old.detector.kinds self.old.detector.calls numbers es place call.now stamp.now }
         requires few { self.old.races + 1 < 2 ^ 64 }
-        ensures same { (self.new.spec.now ≡ self.old.spec.now) × (self.new.tracker ≡ self.old.tracker) × (self.new.detector.kinds ≡ self.old.detector.kinds) }
+        ensures same { (self.new.spec.now ≡ self.old.spec.now) × (self.new.tracker ≡ self.old.tracker) × (self.new.detector.kinds ≡ self.old.detector.kinds)
+            × (self.new.formulas ≡ self.old.formulas) }
         ensures answer { IfOk result (λ answer. (numbers : List ℕ) (es : List EventOf)
             → IsNextCall self.old.detector.kinds self.old.detector.calls numbers es place call.now stamp.now
             → IsAnswer self.old.detector.kinds (numbers ++ line ∷ []) (es ++ event.Call call.now ∷ []) place answer) }
@@ -98,22 +103,28 @@ impl<'a> Check<'a> {
 
     /// Makes the text that of a race. The numbers in it are known to the specification and the roster.
     fn set_text(&mut self, race: &Race, names: &Roster) -> Result<(), NoMemory>
-        requires { IsKnownRace self.old.spec.now (naming_in names.now) race.now }
+        requires known { IsKnownRace self.old.spec.now (naming_in names.now) race.now }
+        requires formulas { self.old.formulas ≡ self.old.spec.now }
         ensures same { (self.new.spec.now ≡ self.old.spec.now) × (self.new.tracker ≡ self.old.tracker) × (self.new.detector ≡ self.old.detector)
-            × (self.new.races ≡ self.old.races) }
+            × (self.new.races ≡ self.old.races) × (self.new.formulas ≡ self.old.formulas) }
         ensures text { OnOk result (self.new.text ≡ race_text self.old.spec.now (naming_in names.now) (told_by race.now.later.value) (told_by race.now.earlier.value)) }
     {
-        let kind = &self.spec.kinds()[race.kind as usize];
-        let formula = formula_line(self.alloc, kind, race.first, race.second)?;
         self.text.clear();
-        append_race(&mut self.text, race, formula.items(), self.spec, names)
+        if let Some(line) = self.formulas.find(race.kind, race.first, race.second) {
+            return append_race(&mut self.text, race, line, self.spec, names);
+        }
+        let kind = &self.spec.kinds()[race.kind as usize];
+        let line = formula_line(self.alloc, kind, race.first, race.second)?;
+        append_race(&mut self.text, race, line.items(), self.spec, names)?;
+        self.formulas.keep(race.kind, race.first, race.second, line)
     }
 
     /// Writes the text of a race. The numbers in it are known to the specification and the roster.
     fn report<S: Sink>(&mut self, race: &Race, names: &Roster, out: &mut S) -> Result<(), Halt>
-        requires { IsKnownRace self.old.spec.now (naming_in names.now) race.now }
+        requires known { IsKnownRace self.old.spec.now (naming_in names.now) race.now }
+        requires formulas { self.old.formulas ≡ self.old.spec.now }
         ensures same { (self.new.spec.now ≡ self.old.spec.now) × (self.new.tracker ≡ self.old.tracker) × (self.new.detector ≡ self.old.detector)
-            × (self.new.races ≡ self.old.races) }
+            × (self.new.races ≡ self.old.races) × (self.new.formulas ≡ self.old.formulas) }
         ensures ok { OnOk result (Appends (S.written out.old) (S.written out.new)
             (race_text self.old.spec.now (naming_in names.now) (told_by race.now.later.value) (told_by race.now.earlier.value))) }
         ensures front { OnErr result (WritesFront (S.written out.old) (S.written out.new) []

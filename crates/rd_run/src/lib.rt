@@ -3,6 +3,7 @@
 
 mod analysis;
 mod checking;
+mod formulas;
 mod judging;
 mod laws;
 mod spec_texts;

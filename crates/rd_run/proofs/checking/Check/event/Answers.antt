@@ -93,7 +93,7 @@ returns-in-Ok-None-clause-checks g c = λ start before item ready.
     let next = call_next start c.args.self.now before entry c.args.event.now c.in-Call.call c.in-Call.is names c.args.place ready c.in-Ok-event.stamp c.in-Ok-event.ensures.stamp in
     let said = c.in-Ok-None.ensures in
     let tracked = event_tracks (kinds_of start.spec.now) c.args.self.now.tracker (items before) item c.args.event.now ready.next c.event.new.self c.in-Ok-event.ensures.stands c.in-Ok-event.ensures.count in
-    checks_call start c.args.self.now before entry c.args.event.now c.in-Call.call c.in-Call.is names c.args.place ready c.detect.new.self said.same.0 said.same.2
+    checks_call start c.args.self.now before entry c.args.event.now c.in-Call.call c.in-Call.is names c.args.place ready c.detect.new.self said.same.0 said.same.3 said.same.2
     (subst (λ tracker. Tracks (kinds_of start.spec.now) tracker (items before ++ item ∷ [])) (sym said.same.1) tracked)
     (said.stands numbers es next) said.held
     (races_call start c.args.self.now before entry c.args.event.now c.in-Call.call c.in-Call.is names c.args.place ready c.in-Ok-None.field-0
@@ -119,8 +119,8 @@ returns-in-Ok-None-clause-cost g c = λ start before item ready.
     call_cost start c.args.self.now before entry c.args.event.now c.in-Call.call c.in-Call.is (naming_in c.args.names.now) c.args.place ready c.args.steps.now
     c.event.new.steps c.detect.new.steps c.event.ensures.cost c.in-Ok-None.ensures.cost
 
-pub report-requires : goal.report-requires
-report-requires g c =
+pub report-requires-clause-known : goal.report-requires-clause-known
+report-requires-clause-known g c =
     let (start, before, item, ready) = c.requires in
     let entry : Entry = record { number = c.args.number; item = item } in
     let names = naming_in c.args.names.now in
@@ -141,7 +141,7 @@ returns-in-Ok-Some-clause-checks g c = always_ok _ c.report.result (λ start bef
     let said = c.in-Ok-Some.ensures in
     let same = c.report.ensures.same in
     let tracked = event_tracks (kinds_of start.spec.now) c.args.self.now.tracker (items before) item c.args.event.now ready.next c.event.new.self c.in-Ok-event.ensures.stands c.in-Ok-event.ensures.count in
-    checks_call start c.args.self.now before entry c.args.event.now c.in-Call.call c.in-Call.is names c.args.place ready c.report.new.self (same.0 ∙ said.same.0)
+    checks_call start c.args.self.now before entry c.args.event.now c.in-Call.call c.in-Call.is names c.args.place ready c.report.new.self (same.0 ∙ said.same.0) (same.4 ∙ said.same.3)
     (ap (λ d. d.kinds) same.2 ∙ said.same.2)
     (subst (λ tracker. Tracks (kinds_of start.spec.now) tracker (items before ++ item ∷ [])) (sym (same.1 ∙ said.same.1)) tracked)
     (subst (λ d. Detects d.calls (numbers ++ c.args.number ∷ []) (es ++ event.Call c.in-Call.call ∷ [])) (sym same.2) (said.stands numbers es next))
@@ -207,3 +207,9 @@ returns-clause-cost g c = λ start before item ready.
     let entry : Entry = record { number = c.args.number; item = item } in
     call_cost start c.args.self.now before entry c.args.event.now c.in-Call.call c.in-Call.is (naming_in c.args.names.now) c.args.place ready c.args.steps.now
     c.event.new.steps c.detect.new.steps c.event.ensures.cost c.in-Err-detect.ensures.cost
+
+pub report-requires-clause-formulas : goal.report-requires-clause-formulas
+report-requires-clause-formulas g c =
+    let (start, before, item, ready) = c.requires in
+    let same = c.in-Ok-Some.ensures.same in
+    same.3 ∙ ready.checks.formulas ∙ sym (same.0 ∙ ready.checks.spec)
