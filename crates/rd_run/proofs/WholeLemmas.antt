@@ -1,20 +1,22 @@
 -- A check in which nothing failed and nothing is refused writes all.
-use Rattle.std.proofs.Common.{◌≡◌, ◌≢◌, ◌⊎◌, ℕ, Bool, true, false, cond, eqb, List, ◌++◌, Option, Some, None, refl, sym, ap, ◌∙◌, subst, inl, inr, true≢false}
-use Rattle.std.specs.Prelude.{option_map, take}
-use Rattle.std.proofs.lemmas.Option.{same_Some}
+use Rattle.std.proofs.Common.{◌≡◌, ◌≢◌, ◌⊎◌, ◌<◌, ◌^◌, ℕ, Bool, true, false, arith, cond, eqb, List, ◌++◌, Option, Some, None, refl, sym, ap, ◌∙◌, subst, inl, inr, true≢false}
+use Rattle.std.specs.Prelude.{min, nat_lt, option_map, take}
+use Rattle.std.proofs.lemmas.Bool.{le-ltb}
+use Rattle.std.proofs.lemmas.Option.{none-some, same_Some}
 use Rattle.rd_base.specs.declared.limits.Limits.{Limits}
 use Rattle.rd_ecl.specs.Kinds.{kinds_of}
 use Rattle.rd_ecl.specs.Specified.{SpecifiedKind}
-use Rattle.rd_io.specs.Inputs.{Source, file_of}
+use Rattle.rd_io.specs.Inputs.{Source, file_of, next_count}
 use Rattle.rd_io.specs.Lines.Stop.{end}
 use Rattle.rd_kinds.specs.Shipped.{reserved_names, shipped_kinds}
 use Rattle.rd_report.specs.declared.endings.Ending.TheVariants.{End}
 use Rattle.rd_spec.specs.Texts.{IsSpecRefused, SpecSays}
 use Rattle.rd_spec.proofs.OneLemmas.{never_refused, one_said}
-use Rattle.rd_run.specs.Output.{HasOutcome, Outcome, check_outcome, check_status, races_of}
-use Rattle.rd_run.specs.Runs.{AreKinds, IsCheckOutcome, IsCheckedWith, IsRefused, IsSpecText, IsWhole, Runs, walk_on}
-use Rattle.rd_run.specs.Runs.Command.{check}
-use Rattle.rd_run.specs.Specifications.{most_bytes}
+use Rattle.rd_print.specs.Printed.{spec_text}
+use Rattle.rd_run.specs.Output.{HasOutcome, Outcome, StatusTellsFault, check_outcome, check_status, races_of}
+use Rattle.rd_run.specs.Runs.{AreKinds, Command, IsCheckOutcome, IsCheckedWith, IsJudged, IsRefused, IsSpecText, IsUnread, IsWhole, Runs, WritesAll, usage_outcome, walk_on}
+use Rattle.rd_run.specs.Runs.Command.{check, spec}
+use Rattle.rd_run.specs.Specifications.{IsSpecOutcome, most_bytes}
 use Rattle.rd_run.specs.Walk.{ending_of, entries_of, trace_of}
 use Rattle.rd_run.specs.declared.status.Status.{Status}
 use Rattle.rd_run.specs.declared.status.Status.TheVariants.{Clean, Raced, Usage, SpecRefused, TraceRefused, ReplayDiffers, InputFault, OutputFault, NoMemory, LimitReached}
@@ -95,12 +97,73 @@ module _ (trace : List ℕ) (limits : Limits) (old new : Source) (kinds : List S
   whole_of (Some file) outcome are (inr (inl refused)) text told = absurd (not_refused old new file kinds outcome are refused)
   whole_of (Some file) outcome are (inr (inr checked)) text told = whole_checked (Some file) 2 outcome are checked text told
 
-pub whole_check : (trace : List ℕ) (file : Option (List ℕ)) (limits : Limits) (old new : Source) (part : List ℕ) (status : Status) (before after : ℕ)
-    (kinds : List SpecifiedKind) (bytes : List ℕ) → Runs (Some (check trace file)) limits false old new part status before after
-    → AreKinds old file kinds → file_of old.files trace ≡ Some bytes → ending_of (trace_of (kinds_of kinds) limits end bytes) ≡ End
-    → status ≢ OutputFault → (status ≡ NoMemory) ⊎ IsWhole kinds limits bytes part status
-whole_check trace file limits old new part status before after kinds bytes runs are at well other =
-    elim (all_written (IsCheckOutcome trace file limits false old new) status part runs.output other) [
+whole_check : (trace : List ℕ) (file : Option (List ℕ)) (limits : Limits) (old new : Source) (part : List ℕ) (status : Status)
+    → HasOutcome (IsCheckOutcome trace file limits false old new) status part → status ≢ OutputFault → WritesAll (Some (check trace file)) limits old part status
+whole_check trace file limits old new part status has other kinds bytes are at well =
+    elim (all_written (IsCheckOutcome trace file limits false old new) status part has other) [
       | inl none ↦ inl none
       | inr all ↦ inr (whole_of trace limits old new kinds bytes at well part status file all.outcome are all.is all.text all.told)
     ]
+
+-- what a specification says is printed
+said_whole : (bytes : List ℕ) (kinds : List SpecifiedKind) (outcome : Outcome) (part : List ℕ) (status : Status) → SpecSays bytes reserved_names kinds
+    → IsSpecOutcome bytes outcome → part ≡ outcome.text → status ≡ outcome.status → (part ≡ spec_text kinds) × (status ≡ Clean)
+said_whole bytes kinds outcome part status says (inl (others, also, is)) text told =
+    let same = one_said bytes reserved_names others kinds also says in
+    (text ∙ ap (λ o. o.text) is ∙ ap spec_text same, told ∙ ap (λ o. o.status) is)
+said_whole bytes kinds outcome part status says (inr (refused, refuses, is)) text told =
+    absurd (never_refused bytes reserved_names kinds refused says refuses)
+
+whole_spec : (file : List ℕ) (limits : Limits) (old new : Source) (part : List ℕ) (status : Status)
+    → HasOutcome (λ outcome. IsUnread false outcome ⊎ IsJudged file false old new outcome) status part → status ≢ OutputFault
+    → WritesAll (Some (spec file)) limits old part status
+whole_spec file limits old new part status has other kinds bytes is says =
+    elim (all_written (λ outcome. IsUnread false outcome ⊎ IsJudged file false old new outcome) status part has other) [
+      | inl none ↦ inl none
+      | inr all ↦ inr (by all.outcome all.is all.text all.told)
+    ]
+  where
+    by : (outcome : Outcome) → IsUnread false outcome ⊎ IsJudged file false old new outcome → part ≡ outcome.text → status ≡ outcome.status
+        → (part ≡ spec_text kinds) × (status ≡ Clean)
+    by outcome (inl unread) text told = absurd (true≢false (sym unread.risen))
+    by outcome (inr judged) text told =
+        said_whole judged.bytes kinds outcome part status
+        (subst (λ b. SpecSays b reserved_names kinds) (one_text old file bytes judged.bytes is judged.text) says) judged.is text told
+
+whole_usage : (part : List ℕ) (status : Status) → HasOutcome (λ outcome. outcome ≡ usage_outcome) status part → status ≢ OutputFault → status ≢ NoMemory
+    → (part ≡ usage_outcome.text) × (status ≡ Usage)
+whole_usage part status has other some =
+    elim (all_written (λ outcome. outcome ≡ usage_outcome) status part has other) [
+      | inl none ↦ absurd (some none)
+      | inr all ↦ (all.text ∙ ap (λ o. o.text) all.is, all.told ∙ ap (λ o. o.status) all.is)
+    ]
+
+-- a run in which no read and no write failed writes all
+pub whole_run : (command : Option Command) (limits : Limits) (rose : Bool) (old new : Source) (part : List ℕ) (status : Status) (before after : ℕ)
+    → Runs command limits rose old new part status before after → rose ≡ false → status ≢ OutputFault → (command ≡ None → status ≢ NoMemory)
+    → WritesAll command limits old part status
+whole_run None limits rose old new part status before after runs calm other some = whole_usage part status runs.output other (some refl)
+whole_run (Some (check trace file)) limits rose old new part status before after runs calm other some =
+    whole_check trace file limits old new part status
+    (subst (λ r. HasOutcome (IsCheckOutcome trace file limits r old new) status part) calm runs.output) other
+whole_run (Some (spec file)) limits rose old new part status before after runs calm other some =
+    whole_spec file limits old new part status
+    (subst (λ r. HasOutcome (λ outcome. IsUnread r outcome ⊎ IsJudged file r old new outcome) status part) calm runs.output) other
+
+-- where the count of the faults of the output stays, no write failed
+pub none_failed : (before now : ℕ) (point written : Option (List ℕ)) (status : Status) → StatusTellsFault before now point written status → before < 2 ^ 63
+    → now ≡ before → status ≢ OutputFault
+none_failed before now point written status tells few same failed =
+    let risen : now ≡ next_count before = (subst (λ s. StatusTellsFault before now point written s) failed tells).0 in omega arith
+
+-- a count that stays doesn't rise
+pub not_risen : (before now : ℕ) → now ≡ before → nat_lt before now ≡ false
+not_risen before now same = le-ltb before now (omega arith)
+
+pub some≢none : {command : Command} → Some command ≡ None → ⊥
+some≢none same = none-some _ (sym same)
+
+-- where the words match no command memory doesn't run out
+pub usage_or_fault : (status : Status) → (status ≡ Usage) ⊎ (status ≡ OutputFault) → status ≢ NoMemory
+usage_or_fault status (inl usage) none = let apart : Usage ≡ NoMemory = sym usage ∙ none in cc
+usage_or_fault status (inr fault) none = let apart : OutputFault ≡ NoMemory = sym fault ∙ none in cc

@@ -7,16 +7,17 @@ use Rattle.rd_base.specs.declared.limits.Limits.{Limits}
 use Rattle.rd_ecl.specs.Kinds.{kinds_of}
 use Rattle.rd_ecl.specs.Specified.{SpecifiedKind}
 use Rattle.rd_kinds.specs.Shipped.{reserved_names, shipped_kinds}
-use Rattle.rd_report.specs.declared.endings.Ending.TheVariants.{Fault}
+use Rattle.rd_print.specs.Printed.{spec_text}
+use Rattle.rd_report.specs.declared.endings.Ending.TheVariants.{End, Fault}
 use Rattle.rd_spec.specs.Texts.{IsSpecRefused, SpecSays}
 use Rattle.rd_spec.specs.declared.parsing.SpecRefused.{SpecRefused as Refusal}
 use Rattle.rd_wf.specs.MayFollow.{same_name}
 use Rattle.rd_run.specs.Output.{HasOutcome, Outcome, check_outcome}
 use Rattle.rd_run.specs.Progress.{IsRead}
 use Rattle.rd_run.specs.Specifications.{IsSpecOutcome, fault_outcome, most_bytes, refused_outcome}
-use Rattle.rd_run.specs.Walk.{Walked, ends, entries_of, trace_of, step_bound}
+use Rattle.rd_run.specs.Walk.{Walked, ending_of, ends, entries_of, trace_of, step_bound}
 use Rattle.rd_run.specs.declared.status.Status.{Status}
-use Rattle.rd_run.specs.declared.status.Status.TheVariants.{Clean, Raced, Usage}
+use Rattle.rd_run.specs.declared.status.Status.TheVariants.{Clean, NoMemory, Raced, Usage}
 
 -- ---- commands
 
@@ -182,6 +183,17 @@ pub record IsWhole (kinds : List SpecifiedKind) (limits : Limits) (bytes part : 
   pub text : part ≡ (check_outcome kinds (trace_of (kinds_of kinds) limits end bytes)).text
   pub told : status ≡ (check_outcome kinds (trace_of (kinds_of kinds) limits end bytes)).status
   pub well : (status ≡ Clean) ⊎ (status ≡ Raced)
+
+-- Nothing is left out: where all files are there and nothing is refused, the whole is written, unless memory ran out. It is said of runs
+-- in which no read and no write failed.
+abbrev pub WritesAll : Option Command → Limits → Source → List ℕ → Status → Type 0
+WritesAll None limits old part status = (part ≡ usage_outcome.text) × (status ≡ Usage)
+WritesAll (Some (check trace file)) limits old part status =
+    (kinds : List SpecifiedKind) (bytes : List ℕ) → AreKinds old file kinds → file_of old.files trace ≡ Some bytes
+    → ending_of (trace_of (kinds_of kinds) limits end bytes) ≡ End → (status ≡ NoMemory) ⊎ IsWhole kinds limits bytes part status
+WritesAll (Some (spec file)) limits old part status =
+    (kinds : List SpecifiedKind) (bytes : List ℕ) → IsSpecText old file bytes → SpecSays bytes reserved_names kinds
+    → (status ≡ NoMemory) ⊎ ((part ≡ spec_text kinds) × (status ≡ Clean))
 
 -- ---- a part of it
 

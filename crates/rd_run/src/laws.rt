@@ -6,10 +6,7 @@ ghost use Rattle.rd_detect.specs.Races.{Reported};
 ghost use Rattle.rd_detect.specs.Commuting.{Commute};
 ghost use Rattle.rd_order.specs.EventLists.{WellFormedWith};
 ghost use Rattle.rd_io.specs.Lines.{Stop};
-ghost use Rattle.rd_io.specs.Inputs.{Source, file_of};
-ghost use Rattle.rd_io.specs.Lines.Stop.{end, fault};
-ghost use Rattle.rd_run.specs.Runs.{AreKinds, IsWhole, Runs};
-ghost use Rattle.rd_run.specs.Runs.Command.{check};
+ghost use Rattle.rd_io.specs.Lines.Stop.{fault};
 ghost use Rattle.rd_run.specs.Output.{IsFront, check_outcome, entries_race, entry_events, race_texts, races_of};
 ghost use Rattle.rd_run.specs.Reports.{IsChecked, IsReport};
 ghost use Rattle.rd_run.specs.Walk.{Entry, Walked, ending_of, entries_of, items, trace_of};
@@ -58,13 +55,4 @@ pub fn law_of_faults()
     ensures { (kinds : List SpecifiedKind) (limits : Limits) → AreUsable limits → limits.threads < 2 ^ 32 → (stop : Stop) (bytes more : List ℕ) →
         IsFront (race_texts kinds (entries_of (trace_of (kinds_of kinds) limits fault bytes)))
         (check_outcome kinds (trace_of (kinds_of kinds) limits stop (bytes ++ more))).text }
-{}
-
-/// Nothing is left out: where the inputs hold the files of `check`, no read and no write failed, the specification is accepted where one is
-/// named, and no line of the trace is refused, what `run` leaves is the whole text, with 0 or 1, or want of memory.
-pub fn law_of_whole_checks()
-    ensures { (trace : List ℕ) (file : Option (List ℕ)) (limits : Limits) (old new : Source) (part : List ℕ) (status : Status) (before after : ℕ)
-        (kinds : List SpecifiedKind) (bytes : List ℕ) → Runs (Some (check trace file)) limits false old new part status before after
-        → AreKinds old file kinds → file_of old.files trace ≡ Some bytes → ending_of (trace_of (kinds_of kinds) limits end bytes) ≡ Ending.End
-        → status ≢ Status.OutputFault → (status ≡ Status.NoMemory) ⊎ IsWhole kinds limits bytes part status }
 {}

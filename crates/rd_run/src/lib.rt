@@ -14,6 +14,6 @@ mod walk;
 mod writing;
 
 pub use analysis::{Analysis, Halt};
-pub use laws::{law_of_checks, law_of_faults, law_of_reports, law_of_walks, law_of_whole_checks};
+pub use laws::{law_of_checks, law_of_faults, law_of_reports, law_of_walks};
 pub use status::Status;
 pub use top::run;

@@ -11,7 +11,7 @@ ghost use Rattle.rd_run.specs.Checking.{Begins};
 ghost use Rattle.rd_run.specs.Commands.{asked, Checked};
 ghost use Rattle.rd_run.specs.Output.{IsOutput, StatusTellsFault, check_status, is_limit};
 ghost use Rattle.rd_run.specs.Progress.{IsRead};
-ghost use Rattle.rd_run.specs.Runs.{ChecksTrace, Command as CommandOf, Runs, command_of, specification_of, usage_outcome};
+ghost use Rattle.rd_run.specs.Runs.{ChecksTrace, Command as CommandOf, Runs, WritesAll, command_of, specification_of, usage_outcome};
 ghost use Rattle.rd_run.specs.Runs.Command.{check};
 ghost use Rattle.rd_run.specs.Walk.{Entry, step_bound};
 ghost use Rattle.rd_wf.specs.Roster.{StandsFor, kinds_in, names_in};
@@ -291,6 +291,12 @@ pub fn run<I: Inputs, S: Sink, L: Ledger>(
     ensures runs { (old : Source) → I.told inputs.old ≡ Some old → I.faults inputs.old < 2 ^ 63 → old.opens < 2 ^ 63 →
         (new : Source) × (part : List ℕ) × (I.told inputs.new ≡ Some new) × Appends (S.written out.old) (S.written out.new) part
         × Runs (command_of words.now) limits.now (nat_lt (I.faults inputs.old) (I.faults inputs.new)) old new part result steps.old steps.new }
+
+    // nothing is left out: where no read and no write failed, all files are there and nothing is refused, the whole is written, unless
+    // memory ran out
+    ensures whole { (old : Source) → I.told inputs.old ≡ Some old → I.faults inputs.old < 2 ^ 63 → old.opens < 2 ^ 63 → S.faults out.old < 2 ^ 63 →
+        I.faults inputs.new ≡ I.faults inputs.old → S.faults out.new ≡ S.faults out.old →
+        (part : List ℕ) × Appends (S.written out.old) (S.written out.new) part × WritesAll (command_of words.now) limits.now old part result }
 
     // each of these statuses has its cause
     ensures usage { result ≡ Status.Usage → command_of words.now ≡ None }

@@ -1,10 +1,11 @@
-use Rattle.std.proofs.Common.{Some, refl, sym, ap, ◌∙◌, subst}
+use Rattle.std.proofs.Common.{None, Some, refl, sym, ap, ◌∙◌, subst}
 use Rattle.std.specs.Prelude.{nat_lt}
 use Rattle.rd_run.specs.Commands.{asked}
-use Rattle.rd_run.specs.Runs.{Runs}
-use Rattle.rd_run.specs.Runs.Command.{spec}
+use Rattle.rd_run.specs.Runs.{Runs, WritesAll}
+use Rattle.rd_run.specs.Runs.Command.{check, spec}
 use Rattle.rd_run.specs.declared.top.Command.{Command as Asked}
 use Rattle.rd_run.proofs.RunLemmas.{runs_usage}
+use Rattle.rd_run.proofs.WholeLemmas.{none_failed, not_risen, some≢none, usage_or_fault, whole_run}
 use Rattle.rd_run.proofs.top.run.Goals as goal
 
 pub returns-in-None-clause-runs : goal.returns-in-None-clause-runs
@@ -35,3 +36,50 @@ pub returns-in-Some-Spec-clause-spec_refused : goal.returns-in-Some-Spec-clause-
 returns-in-Some-Spec-clause-spec_refused g c = λ refused.
     let words = ap (λ (command : Asked). asked (Some command)) (sym c.in-Some-Spec.field-0-is) ∙ c.in-Some-Spec.ensures in
     (spec c.in-Some-Spec.file.now, c.in-Some-Spec.file.now, sym words, refl)
+
+pub returns-in-None-clause-whole : goal.returns-in-None-clause-whole
+returns-in-None-clause-whole g c = λ old told few few_opens few_faults calm silent.
+    let (part, writes, output) = c.refuse_usage.ensures.output in
+    let faults = g.I.Inputs.faults c.args.inputs.now in
+    let status = c.refuse_usage.result in
+    let runs = runs_usage c.args.limits.now (nat_lt faults faults) old part status c.args.steps.now output in (
+      part,
+      writes,
+      subst (λ command. WritesAll command c.args.limits.now old part status) c.in-None.ensures
+          (whole_run None c.args.limits.now (nat_lt faults faults) old old part status c.args.steps.now c.args.steps.now runs (not_risen faults faults refl)
+          (none_failed (g.S.Sink.faults c.args.out.now) (g.S.Sink.faults c.refuse_usage.new.out) _ _ status c.refuse_usage.ensures.fault few_faults silent)
+          (λ _. usage_or_fault status c.refuse_usage.ensures.status)),
+    )
+
+pub returns-in-Some-Check-clause-whole : goal.returns-in-Some-Check-clause-whole
+returns-in-Some-Check-clause-whole g c = λ old told few few_opens few_faults calm silent.
+    let (new, part, now, writes, runs) = c.check_shipped.ensures.runs old told few few_opens in
+    let words = ap (λ (command : Asked). asked (Some command)) (sym c.in-Some-Check.field-0-is) ∙ c.in-Some-Check.ensures in (
+      part,
+      writes,
+      subst (λ command. WritesAll command c.args.limits.now old part c.check_shipped.result) words
+          (whole_run (Some (check c.in-Some-Check.trace.now None)) c.args.limits.now _ old new part c.check_shipped.result _ _ runs (not_risen _ _ calm)
+          (none_failed _ _ _ _ c.check_shipped.result c.check_shipped.ensures.fault few_faults silent) (λ none. absurd (some≢none none))),
+    )
+
+pub returns-in-Some-CheckWith-clause-whole : goal.returns-in-Some-CheckWith-clause-whole
+returns-in-Some-CheckWith-clause-whole g c = λ old told few few_opens few_faults calm silent.
+    let (new, part, now, writes, runs) = c.check_with.ensures.runs old told few few_opens in
+    let words = ap (λ (command : Asked). asked (Some command)) (sym c.in-Some-CheckWith.field-0-is) ∙ c.in-Some-CheckWith.ensures in (
+      part,
+      writes,
+      subst (λ command. WritesAll command c.args.limits.now old part c.check_with.result) words
+          (whole_run (Some (check c.in-Some-CheckWith.trace.now (Some c.in-Some-CheckWith.file.now))) c.args.limits.now _ old new part c.check_with.result _ _ runs
+          (not_risen _ _ calm) (none_failed _ _ _ _ c.check_with.result c.check_with.ensures.fault few_faults silent) (λ none. absurd (some≢none none))),
+    )
+
+pub returns-in-Some-Spec-clause-whole : goal.returns-in-Some-Spec-clause-whole
+returns-in-Some-Spec-clause-whole g c = λ old told few few_opens few_faults calm silent.
+    let (new, part, now, writes, runs) = c.spec.ensures.runs c.args.limits.now c.args.steps.now old told few few_opens in
+    let words = ap (λ (command : Asked). asked (Some command)) (sym c.in-Some-Spec.field-0-is) ∙ c.in-Some-Spec.ensures in (
+      part,
+      writes,
+      subst (λ command. WritesAll command c.args.limits.now old part c.spec.result) words
+          (whole_run (Some (spec c.in-Some-Spec.file.now)) c.args.limits.now _ old new part c.spec.result _ _ runs (not_risen _ _ calm)
+          (none_failed _ _ _ _ c.spec.result c.spec.ensures.fault few_faults silent) (λ none. absurd (some≢none none))),
+    )
