@@ -1,5 +1,5 @@
 -- The names of the kinds that are built in: they differ, and are taken.
-use Rattle.std.proofs.Common.{◌≡◌, ◌≢◌, List, refl}
+use Rattle.std.proofs.Common.{◌≢◌, refl}
 use Rattle.std.specs.Prelude.{All, AllPairs, Contains, IsTrue, map}
 use Rattle.std.proofs.lemmas.List.Elements.{All-weaker}
 use Rattle.std.proofs.lemmas.List.Sums.{AllPass-from_list_all}

@@ -1,62 +1,27 @@
-//! The law of the kinds that are built in.
-ghost use Rattle.std.specs.Prelude.{◌≡◌, ◌≢◌, ◌++◌, All, AllPairs, Contains, codes, map};
+//! The laws of the kinds that are built in.
+ghost use Rattle.std.specs.Prelude.{◌≡◌, ◌≢◌, All, AllPairs, Contains, Some, map};
 ghost use Rattle.rd_ecl.specs.Kinds.{kind_names, kinds_of};
 ghost use Rattle.rd_ecl.specs.Specified.{IsKind};
-ghost use Rattle.rd_print.specs.Printed.{block_text, spec_text};
-ghost use Rattle.rd_kinds.specs.Shipped.{counter_kind, dictionary_kind, register_kind, reserved_names, set_kind, shipped_kinds};
+ghost use Rattle.rd_object.specs.Machines.{IsSound, KeepsShapes};
+ghost use Rattle.rd_kinds.specs.Machines.{machine_of, shipped_machines};
+ghost use Rattle.rd_kinds.specs.Objects.{kind_of, machine_for};
+ghost use Rattle.rd_kinds.specs.Shipped.{reserved_names, shipped_kinds};
+ghost use Rattle.rd_kinds.specs.declared.objects.Object.{Object};
 
-/// The law of the kinds that are built in: the lines of each are these, and behind the header they are the canonical text of all.
-/// Each is a kind, within the limits. Their names differ, also as a trace knows them, and are among those that are taken.
+/// The law of the kinds that are built in: each is a kind, within the limits. Their names differ, also as a trace knows them, and are
+/// among those that are taken.
 pub fn law_of_shipped_kinds()
-    ensures register { block_text register_kind ≡
-        codes "kind register\n"
-        ++ codes "method read -> value\n"
-        ++ codes "method write value -> done\n"
-        ++ codes "method swap value -> prev\n"
-        ++ codes "commute read read when true\n"
-        ++ codes "commute read write when false\n"
-        ++ codes "commute read swap when value@2 = prev@2\n"
-        ++ codes "commute write write when false\n"
-        ++ codes "commute write swap when false\n"
-        ++ codes "commute swap swap when value@1 = prev@1 and value@2 = prev@2\n" }
-    ensures counter { block_text counter_kind ≡
-        codes "kind counter\n"
-        ++ codes "method add amount -> done\n"
-        ++ codes "method get -> total\n"
-        ++ codes "commute add add when true\n"
-        ++ codes "commute add get when amount@1 = 0\n"
-        ++ codes "commute get get when true\n" }
-    ensures set { block_text set_kind ≡
-        codes "kind set\n"
-        ++ codes "method add item -> done\n"
-        ++ codes "method remove item -> done\n"
-        ++ codes "method contains item -> found\n"
-        ++ codes "method size -> n\n"
-        ++ codes "commute add add when item@1 != item@2 or done@1 = false and done@2 = false\n"
-        ++ codes "commute add remove when item@1 != item@2 or done@1 = false and done@2 = false\n"
-        ++ codes "commute add contains when item@1 != item@2 or done@1 = false\n"
-        ++ codes "commute add size when done@1 = false\n"
-        ++ codes "commute remove remove when item@1 != item@2 or done@1 = false and done@2 = false\n"
-        ++ codes "commute remove contains when item@1 != item@2 or done@1 = false\n"
-        ++ codes "commute remove size when done@1 = false\n"
-        ++ codes "commute contains contains when true\n"
-        ++ codes "commute contains size when true\n"
-        ++ codes "commute size size when true\n" }
-    ensures dictionary { block_text dictionary_kind ≡
-        codes "kind dictionary\n"
-        ++ codes "method put key value -> prev\n"
-        ++ codes "method get key -> value\n"
-        ++ codes "method size -> n\n"
-        ++ codes "commute put put when key@1 != key@2 or value@1 = prev@1 and value@2 = prev@2\n"
-        ++ codes "commute put get when key@1 != key@2 or value@1 = prev@1\n"
-        ++ codes "commute put size when value@1 = nil and prev@1 = nil or value@1 != nil and prev@1 != nil\n"
-        ++ codes "commute get get when true\n"
-        ++ codes "commute get size when true\n"
-        ++ codes "commute size size when true\n" }
-    ensures text { spec_text shipped_kinds ≡
-        codes "rdspec 1\n" ++ block_text register_kind ++ block_text counter_kind ++ block_text set_kind ++ block_text dictionary_kind }
     ensures kinds { All IsKind shipped_kinds }
     ensures different { AllPairs (λ x y. x ≢ y) (map (λ kind. kind.name) shipped_kinds) }
     ensures different_in_traces { AllPairs (λ x y. x ≢ y) (kind_names (kinds_of shipped_kinds)) }
     ensures reserved { All (λ kind. Contains reserved_names kind.name) shipped_kinds }
+{}
+
+/// The law of the machines of these kinds: they are of these kinds, calls that commute may be exchanged, and what they lead to is
+/// what an object may hold. The machine of an object is the one of its kind.
+pub fn law_of_machines()
+    ensures kinds { map (λ machine. machine.kind) shipped_machines ≡ shipped_kinds }
+    ensures sound { All IsSound shipped_machines }
+    ensures keeps { All KeepsShapes shipped_machines }
+    ensures objects { (object : Object) → machine_of (kind_of object) ≡ Some (machine_for object) }
 {}

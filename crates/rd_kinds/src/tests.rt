@@ -1,8 +1,14 @@
-//! The kinds, their text, and calls that commute or don't.
+//! The kinds, their objects, and calls that commute or don't.
+
+ghost use Rattle.std.specs.Prelude.{◌≡◌, ◌<◌, IfOk, length, slice_index_or};
+ghost use Rattle.rd_object.specs.Machines.{IsTaken};
+ghost use Rattle.rd_kinds.specs.Machines.{register_machine, shipped_machines};
+ghost use Rattle.rd_kinds.specs.Objects.{kind_of};
 
 use super::*;
-use rd_base::Value;
-use rd_print::print;
+use rd_base::{Name, Text, Value};
+use rd_object::{ApplyRefused, RefObject, Shape};
+use std::alloc::Global;
 use std::test::Fail;
 
 #[test]
@@ -30,55 +36,6 @@ fn kinds_by_number(rt: HostRuntime) -> Result<(), Fail> {
         let method = kind.methods().last().expect(&rt, "a method");
         assert_eq!(rt; method.name.items(), last);
     }
-    Ok(())
-}
-
-#[test]
-fn the_text_of_all(rt: HostRuntime) -> Result<(), Fail> {
-    let spec = shipped(rt.alloc())?;
-    let text = b"rdspec 1\n\
-        kind register\n\
-        method read -> value\n\
-        method write value -> done\n\
-        method swap value -> prev\n\
-        commute read read when true\n\
-        commute read write when false\n\
-        commute read swap when value@2 = prev@2\n\
-        commute write write when false\n\
-        commute write swap when false\n\
-        commute swap swap when value@1 = prev@1 and value@2 = prev@2\n\
-        kind counter\n\
-        method add amount -> done\n\
-        method get -> total\n\
-        commute add add when true\n\
-        commute add get when amount@1 = 0\n\
-        commute get get when true\n\
-        kind set\n\
-        method add item -> done\n\
-        method remove item -> done\n\
-        method contains item -> found\n\
-        method size -> n\n\
-        commute add add when item@1 != item@2 or done@1 = false and done@2 = false\n\
-        commute add remove when item@1 != item@2 or done@1 = false and done@2 = false\n\
-        commute add contains when item@1 != item@2 or done@1 = false\n\
-        commute add size when done@1 = false\n\
-        commute remove remove when item@1 != item@2 or done@1 = false and done@2 = false\n\
-        commute remove contains when item@1 != item@2 or done@1 = false\n\
-        commute remove size when done@1 = false\n\
-        commute contains contains when true\n\
-        commute contains size when true\n\
-        commute size size when true\n\
-        kind dictionary\n\
-        method put key value -> prev\n\
-        method get key -> value\n\
-        method size -> n\n\
-        commute put put when key@1 != key@2 or value@1 = prev@1 and value@2 = prev@2\n\
-        commute put get when key@1 != key@2 or value@1 = prev@1\n\
-        commute put size when value@1 = nil and prev@1 = nil or value@1 != nil and prev@1 != nil\n\
-        commute get get when true\n\
-        commute get size when true\n\
-        commute size size when true\n";
-    assert_eq!(rt; print(rt.alloc(), &spec)?.items(), text.as_slice());
     Ok(())
 }
 
@@ -158,7 +115,7 @@ fn calls_of_a_dictionary(rt: HostRuntime) -> Result<(), Fail> {
 
 #[test]
 fn taken_names(rt: HostRuntime) -> Result<(), Fail> {
-    let names = reserved(rt.alloc())?;
+    let names = reserved();
     let rows: [&[u8]; 8] = [
         b"register",
         b"counter",
@@ -173,5 +130,240 @@ fn taken_names(rt: HostRuntime) -> Result<(), Fail> {
     for (name, bytes) in names.iter().zip(rows) {
         assert_eq!(rt; name.items(), bytes);
     }
+    Ok(())
+}
+
+#[test]
+#[tactic(auto, unfolding(crate::specs::Shipped::register_kind))]
+fn a_register_replaces(rt: HostRuntime) -> Result<(), Fail> {
+    let mut register = Register::start(rt.alloc());
+    assert_eq!(rt; register.apply(2, &[Value::Int(5)])?, Value::Nil);
+    assert_eq!(rt; register.apply(1, &[Value::Int(6)])?, Value::Nil);
+    assert_eq!(rt; register.apply(0, &[])?, Value::Int(6));
+    assert!(rt; matches!(register.shape()?, Shape::One(Value::Int(6))));
+    Ok(())
+}
+
+// Runs a call of an object of this kind.
+fn run(object: &mut Object, kind: u32, method: u8, args: &[Value]) -> Result<Value, ApplyRefused>
+    requires is_kind { kind_of object.old ≡ kind }
+    requires taken { IsTaken (slice_index_or shipped_machines kind register_machine) method args.now }
+    ensures { kind_of object.new ≡ kind }
+{
+    object.apply(method, args)
+}
+
+#[test]
+#[tactic(auto, unfolding(crate::specs::Shipped::counter_kind))]
+fn a_counter_adds(rt: HostRuntime) -> Result<(), Fail> {
+    let mut counter = Object::start(rt.alloc(), 1);
+    let text = Value::Text(Text::from_bytes(rt.alloc(), b"x")?);
+    let refused = run(&mut counter, 1, 0, &[text]);
+    assert_eq!(rt; refused, Err(ApplyRefused::BadArgument(0)));
+    assert!(rt; matches!(counter.shape()?, Shape::Number(0)));
+    assert_eq!(rt;
+        run(&mut counter, 1, 0, &[Value::Int(i64::MAX)])?,
+        Value::Nil
+    );
+    assert_eq!(rt; run(&mut counter, 1, 0, &[Value::Int(1)])?, Value::Nil);
+    assert_eq!(rt; run(&mut counter, 1, 1, &[])?, Value::Int(i64::MIN));
+    Ok(())
+}
+
+#[test]
+#[tactic(auto, unfolding(crate::specs::Shipped::set_kind))]
+fn runs_of_a_set(rt: HostRuntime) -> Result<(), Fail> {
+    let mut set = Set::start(rt.alloc());
+    let nil = [Value::Nil];
+    assert_eq!(rt; set.apply(0, &nil)?, Value::Bool(true));
+    assert_eq!(rt; set.apply(0, &nil)?, Value::Bool(false));
+    assert_eq!(rt; set.apply(1, &nil)?, Value::Bool(true));
+    assert_eq!(rt; set.apply(2, &nil)?, Value::Bool(false));
+    assert_eq!(rt; set.apply(3, &[])?, Value::Int(0));
+    Ok(())
+}
+
+#[test]
+#[tactic(auto, unfolding(crate::specs::Shipped::set_kind))]
+fn shape_of_a_set(rt: HostRuntime) -> Result<(), Fail> {
+    let mut set = Set::start(rt.alloc());
+    for item in [3, 1, 2] {
+        set.apply(0, &[Value::Int(item)])?;
+    }
+    let Shape::Items(items) = set.shape()? else {
+        return Err(Fail::new("no items"));
+    };
+    let rising = [Value::Int(1), Value::Int(2), Value::Int(3)];
+    assert!(rt; items.items() == rising.as_slice());
+    Ok(())
+}
+
+#[test]
+#[tactic(auto, unfolding(crate::specs::Shipped::dictionary_kind))]
+fn runs_of_a_dictionary(rt: HostRuntime) -> Result<(), Fail> {
+    let mut dictionary = Dictionary::start(rt.alloc());
+    let put = [Value::Int(1), Value::Int(2)];
+    assert_eq!(rt; dictionary.apply(0, &put)?, Value::Nil);
+    let out = [Value::Int(1), Value::Nil];
+    assert_eq!(rt; dictionary.apply(0, &out)?, Value::Int(2));
+    assert_eq!(rt; dictionary.apply(2, &[])?, Value::Int(0));
+    let Shape::Map(entries) = dictionary.shape()? else {
+        return Err(Fail::new("no entries"));
+    };
+    assert!(rt; entries.items().is_empty());
+    Ok(())
+}
+
+#[test]
+fn tables(rt: HostRuntime) -> Result<(), Fail> {
+    let table = dictionary_table();
+    let rows: [(&[u8], u8, u8); 3] = [(b"put", 0, 2), (b"get", 1, 1), (b"size", 2, 0)];
+    for (bytes, method, args) in rows {
+        let name = Name::from_bytes(bytes)?;
+        assert_eq!(rt; table.find(&name), Some(method));
+        assert_eq!(rt; table.args(method), Some(args));
+    }
+    assert_eq!(rt; table.find(&Name::from_bytes(b"add")?), None);
+    assert_eq!(rt; table.args(3), None);
+    Ok(())
+}
+
+// A call, without its result.
+#[derive(Clone, Copy)]
+struct Call<'a> {
+    method: u8,
+    args: &'a [Value],
+}
+
+// An object of this kind that has run a call.
+fn begun(alloc: Global, kind: u32, call: &Call<'_>) -> Result<Object, ApplyRefused>
+    requires known { kind < length shipped_machines }
+    requires taken { IsTaken (slice_index_or shipped_machines kind register_machine) call.now.method call.now.args.now }
+    ensures { IfOk result (λ object. kind_of object ≡ kind) }
+{
+    let mut object = Object::start(alloc, kind);
+    let _result = run(&mut object, kind, call.method, call.args)?;
+    Ok(object)
+}
+
+// Do objects hold the same?
+fn same_shape(one: &Shape, other: &Shape) -> bool {
+    match (one, other) {
+        (Shape::One(one), Shape::One(other)) => one == other,
+        (Shape::Number(one), Shape::Number(other)) => one == other,
+        (Shape::Items(one), Shape::Items(other)) => one == other,
+        (Shape::Map(one), Shape::Map(other)) => one.items() == other.items(),
+        _ => false,
+    }
+}
+
+// Do two calls, which run behind another one, give the same results in both orders, and does the object hold the same then?
+fn alike(
+    alloc: Global,
+    kind: u32,
+    before: &Call<'_>,
+    first: &Call<'_>,
+    second: &Call<'_>,
+) -> Result<bool, ApplyRefused>
+    requires known { kind < length shipped_machines }
+    requires before { IsTaken (slice_index_or shipped_machines kind register_machine) before.now.method before.now.args.now }
+    requires first { IsTaken (slice_index_or shipped_machines kind register_machine) first.now.method first.now.args.now }
+    requires second { IsTaken (slice_index_or shipped_machines kind register_machine) second.now.method second.now.args.now }
+{
+    let mut one = begun(alloc, kind, before)?;
+    let mut other = begun(alloc, kind, before)?;
+    let a = run(&mut one, kind, first.method, first.args)?;
+    let b = run(&mut one, kind, second.method, second.args)?;
+    let b_before = run(&mut other, kind, second.method, second.args)?;
+    let a_behind = run(&mut other, kind, first.method, first.args)?;
+    Ok(a == a_behind && b == b_before && same_shape(&one.shape()?, &other.shape()?))
+}
+
+#[test]
+#[tactic(auto, unfolding(crate::specs::Shipped::register_kind, crate::specs::Shipped::counter_kind))]
+fn calls_in_both_orders(rt: HostRuntime) -> Result<(), Fail> {
+    let spec = shipped(rt.alloc())?;
+    let no_args = Call {
+        method: 0,
+        args: &[],
+    };
+    // a register of 3, `swap 3 -> 3` and `read -> 3`
+    let three = [Value::Int(3)];
+    let write = Call {
+        method: 1,
+        args: &three,
+    };
+    let swap = Call {
+        method: 2,
+        args: &three,
+    };
+    let swapped = [Value::Int(3), Value::Int(3)];
+    assert!(rt; spec.kinds()[0].commute(2, &swapped, 0, &three));
+    assert!(rt; alike(rt.alloc(), 0, &write, &swap, &no_args)?);
+    // a counter of 5, `add 0 -> nil` and `get -> 5`
+    let five = [Value::Int(5)];
+    let add = Call {
+        method: 0,
+        args: &five,
+    };
+    let zero = [Value::Int(0)];
+    let add_zero = Call {
+        method: 0,
+        args: &zero,
+    };
+    let get = Call {
+        method: 1,
+        args: &[],
+    };
+    let added = [Value::Int(0), Value::Nil];
+    assert!(rt; spec.kinds()[1].commute(0, &added, 1, &five));
+    assert!(rt; alike(rt.alloc(), 1, &add, &add_zero, &get)?);
+    Ok(())
+}
+
+#[test]
+#[tactic(auto, unfolding(crate::specs::Shipped::set_kind, crate::specs::Shipped::dictionary_kind))]
+fn calls_of_items_in_both_orders(rt: HostRuntime) -> Result<(), Fail> {
+    let spec = shipped(rt.alloc())?;
+    let one = [Value::Int(1)];
+    let two = [Value::Int(2)];
+    // an empty set, `add 1 -> true` and `add 1 -> false`
+    let add = Call {
+        method: 0,
+        args: &one,
+    };
+    let contains = Call {
+        method: 2,
+        args: &one,
+    };
+    let new = [Value::Int(1), Value::Bool(true)];
+    let old = [Value::Int(1), Value::Bool(false)];
+    assert!(rt; !spec.kinds()[2].commute(0, &new, 0, &old));
+    assert!(rt; !alike(rt.alloc(), 2, &contains, &add, &add)?);
+    // a set of 1, `remove 2 -> false` and `size -> 1`
+    let remove = Call {
+        method: 1,
+        args: &two,
+    };
+    let size = Call {
+        method: 3,
+        args: &[],
+    };
+    let absent = [Value::Int(2), Value::Bool(false)];
+    assert!(rt; spec.kinds()[2].commute(1, &absent, 3, &one));
+    assert!(rt; alike(rt.alloc(), 2, &add, &remove, &size)?);
+    // a dictionary of 1 to 2, `put 1 2 -> 2` and `get 1 -> 2`
+    let pair = [Value::Int(1), Value::Int(2)];
+    let put = Call {
+        method: 0,
+        args: &pair,
+    };
+    let get = Call {
+        method: 1,
+        args: &one,
+    };
+    let same = [Value::Int(1), Value::Int(2), Value::Int(2)];
+    assert!(rt; spec.kinds()[3].commute(0, &same, 1, &pair));
+    assert!(rt; alike(rt.alloc(), 3, &put, &put, &get)?);
     Ok(())
 }

@@ -1,31 +1,10 @@
-use Rattle.std.proofs.Common.{refl, [], ◌∷◌}
-use Rattle.std.specs.Fmt.{digits}
+use Rattle.std.proofs.Common.{[], ◌∷◌}
 use Rattle.std.proofs.lemmas.List.Elements.{All-cons, All-nil}
 use Rattle.rd_ecl.specs.Specified.{IsKind}
 use Rattle.rd_kinds.specs.Shipped.{counter_kind, dictionary_kind, register_kind, set_kind}
 use Rattle.rd_kinds.proofs.NameLemmas.{listed_differ, names_differ, names_reserved}
 use Rattle.rd_kinds.proofs.ShippedLemmas.{counter_is, dictionary_is, register_is, set_is}
 use Rattle.rd_kinds.proofs.laws.law_of_shipped_kinds.Goals as goal
-
-pub returns-clause-register : goal.returns-clause-register
-unfolding register_kind
-returns-clause-register c = refl
-
-pub returns-clause-counter : goal.returns-clause-counter
-unfolding counter_kind digits
-returns-clause-counter c = refl
-
-pub returns-clause-set : goal.returns-clause-set
-unfolding set_kind
-returns-clause-set c = refl
-
-pub returns-clause-dictionary : goal.returns-clause-dictionary
-unfolding dictionary_kind
-returns-clause-dictionary c = refl
-
-pub returns-clause-text : goal.returns-clause-text
-unfolding counter_kind dictionary_kind digits register_kind set_kind
-returns-clause-text c = refl
 
 pub returns-clause-kinds : goal.returns-clause-kinds
 returns-clause-kinds c =

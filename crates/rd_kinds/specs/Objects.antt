@@ -1,0 +1,28 @@
+-- What an object of a kind that is built in holds, and its machine.
+use Rattle.std.specs.Prelude.{ℕ}
+use Rattle.rd_object.specs.Machines.{Machine}
+use Rattle.rd_object.specs.declared.shapes.Shape.{Shape}
+use Rattle.rd_object.specs.declared.shapes.Shape.TheVariants.{One, Number, Items, Map}
+use Rattle.rd_kinds.specs.Machines.{counter_machine, dictionary_machine, register_machine, set_machine}
+use Rattle.rd_kinds.specs.declared.objects.Object.{Object}
+use Rattle.rd_kinds.specs.declared.objects.Object.TheVariants.{Register, Counter, Set, Dictionary}
+
+-- the number of its kind
+abbrev pub kind_of : Object → ℕ
+kind_of (Register held) = 0
+kind_of (Counter number) = 1
+kind_of (Set items) = 2
+kind_of (Dictionary entries) = 3
+
+-- what it holds
+abbrev pub shape_of : Object → Shape
+shape_of (Register held) = One held
+shape_of (Counter number) = Number number
+shape_of (Set items) = Items items
+shape_of (Dictionary entries) = Map entries
+
+abbrev pub machine_for : Object → Machine
+machine_for (Register held) = register_machine
+machine_for (Counter number) = counter_machine
+machine_for (Set items) = set_machine
+machine_for (Dictionary entries) = dictionary_machine
