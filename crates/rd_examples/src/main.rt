@@ -15,7 +15,7 @@ use std::rt::Files;
 use std::sync::ledger::{Blank, Ledger};
 
 /// The traces, each with what `check` writes for it.
-const TRACES: [(&str, &str); 35] = [
+const TRACES: [(&str, &str); 36] = [
     ("a_race_is_no_order.trace", "a_race_is_no_order.out"),
     ("acquired_again.trace", "acquired_again.out"),
     ("another_lock.trace", "another_lock.out"),
@@ -46,6 +46,7 @@ const TRACES: [(&str, &str); 35] = [
     ("refused_unknown_method.trace", "refused_unknown_method.out"),
     ("refused_unknown_object.trace", "refused_unknown_object.out"),
     ("refused_wrong_count.trace", "refused_wrong_count.out"),
+    ("replay_differs.trace", "replay_differs.out"),
     ("swaps.trace", "swaps.out"),
     ("tasks.trace", "tasks.out"),
     ("texts.trace", "texts.out"),

@@ -1,8 +1,13 @@
 -- How a trace ends, in words, and the names by which a report tells of threads and objects: this project's profile.
-use Rattle.std.specs.Prelude.{ℕ, List, [], ◌++◌, codes, decimal, slice_index_or}
+use Rattle.std.specs.Prelude.{ℕ, ◌+◌, List, [], ◌++◌, codes, decimal, slice_index_or}
 use Rattle.rd_base.specs.declared.limits.LimitName.{LimitName}
 use Rattle.rd_base.specs.declared.limits.LimitName.TheVariants.{Bytes, Line, Events, Threads, Locks, Objects, Depth, SpecText, Tokens, Kinds, Methods, Arguments, Nodes, FormulaDepth, Predicates}
+use Rattle.rd_base.specs.Spelling.{spelling}
 use Rattle.rd_event.specs.declared.items.Line.{Line as Item}
+use Rattle.rd_object.specs.declared.shapes.Expected.{Expected}
+use Rattle.rd_object.specs.declared.shapes.Expected.TheVariants.{Value, BadArgument}
+use Rattle.rd_object.specs.declared.shapes.ReplayEnd.{ReplayEnd}
+use Rattle.rd_object.specs.declared.shapes.ReplayEnd.TheVariants.{Exact, Differs, NotShipped}
 use Rattle.rd_wf.specs.MayFollow.{objects_of, threads_of}
 use Rattle.rd_wf.specs.Roster.{names_in, object_names_in}
 use Rattle.rd_wf.specs.declared.causes.WfCause.{WfCause}
@@ -77,6 +82,19 @@ cause_text names cause.NoFinalNewline = codes "no-final-newline"
 cause_text names (cause.Wf broken) = wf_text names broken
 cause_text names (cause.Limit name number) = limit_cause_text name number
 
+-- ---- replays
+
+-- what a machine gives in place of what was recorded: a result, or none, since it doesn't take that argument, counted from 1
+unfoldable pub expected_text : Expected → List ℕ
+expected_text (Value value) = codes "expected " ++ spelling value
+expected_text (BadArgument argument) = codes "argument " ++ decimal (argument + 1)
+
+-- the line that tells how a replay ended
+unfoldable pub replay_line : ReplayEnd → List ℕ
+replay_line Exact = codes "replay exact\n"
+replay_line (Differs number expected) = codes "replay differs line " ++ decimal number ++ codes " " ++ expected_text expected ++ codes "\n"
+replay_line NotShipped = codes "replay not shipped\n"
+
 -- ---- endings
 
 -- the line that tells how many calls are reported
@@ -91,9 +109,9 @@ refused_line names number cause = codes "refused line " ++ decimal number ++ cod
 abbrev pub fault_line : List ℕ
 fault_line = codes "fault input\n"
 
--- the text behind the races: how many calls are reported, and where the trace was refused, by the names of the threads, or that it could
--- not be read on
+-- the text behind the races: how many calls are reported, and how the replay ended, or where the trace was refused, by the names of the
+-- threads, or that it could not be read on
 abbrev pub ending_text : List (List ℕ) → ℕ → Ending → List ℕ
-ending_text names races End = races_line races
+ending_text names races (End replay) = races_line races ++ replay_line replay
 ending_text names races (Refused number cause) = races_line races ++ refused_line names number cause
 ending_text names races Fault = races_line races ++ fault_line

@@ -5,6 +5,7 @@ ghost use Rattle.rd_wf.specs.Roster.{names_in};
 
 use crate::endings::{Ending, TraceCause};
 use crate::numbers::append_number;
+use crate::replays::append_replay;
 use rd_base::{Bytes, LimitName, NoMemory};
 use rd_wf::{Roster, WfCause};
 use std::alloc::Global;
@@ -113,8 +114,22 @@ fn append_refused(
     text.append(b"\n")
 }
 
-/// The text behind the races: how many calls are reported, and where and why the trace was refused, or that it could not be read on. The
-/// roster has the names of the threads.
+/// The line of a refusal: which line of a trace is refused, and why. The roster has the names of the threads.
+pub fn refused_text(
+    alloc: Global,
+    line: u64,
+    cause: TraceCause,
+    names: &Roster,
+) -> Result<Bytes, NoMemory>
+    ensures { IfOk result (λ text. text ≡ refused_line (names_in names.now) line cause) }
+{
+    let mut text = Bytes::new(alloc);
+    append_refused(&mut text, names, line, cause)?;
+    Ok(text)
+}
+
+/// The text behind the races: how many calls are reported, and how the replay ended, or where and why the trace was refused, or that it
+/// could not be read on. The roster has the names of the threads.
 pub fn ending_text(
     alloc: Global,
     races: u64,
@@ -125,9 +140,9 @@ pub fn ending_text(
 {
     let mut text = Bytes::new(alloc);
     append_races(&mut text, races)?;
-    match *ending {
-        Ending::End => {}
-        Ending::Refused { line, cause } => append_refused(&mut text, names, line, cause)?,
+    match ending {
+        Ending::End { replay } => append_replay(&mut text, replay)?,
+        Ending::Refused { line, cause } => append_refused(&mut text, names, *line, *cause)?,
         Ending::Fault => text.append(b"fault input\n")?,
     }
     Ok(text)

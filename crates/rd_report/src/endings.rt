@@ -1,6 +1,7 @@
 //! How the lines of a trace end.
 
 use rd_base::LimitName;
+use rd_object::ReplayEnd;
 use rd_wf::WfCause;
 
 /// Why a line is refused.
@@ -17,10 +18,10 @@ pub enum TraceCause {
 }
 
 /// How the lines of a trace end.
-#[derive(Clone, Copy, Debug, PartialEq, Eq)]
+#[derive(Debug, Drop, PartialEq, Eq)]
 pub enum Ending {
-    /// the trace was read to its end
-    End,
+    /// the trace was read to its end, and the replay of its calls ended so
+    End { replay: ReplayEnd },
     /// a line was refused
     Refused { line: u64, cause: TraceCause },
     /// a read of the input failed

@@ -4,12 +4,18 @@
 mod causes;
 mod clocks;
 mod endings;
+mod laws;
 mod numbers;
 mod races;
+mod replays;
+mod states;
 #[cfg(test)]
 mod tests;
 
-pub use causes::{append_limit, ending_text};
+pub use causes::{append_limit, ending_text, refused_text};
 pub use endings::{Ending, TraceCause};
+pub use laws::law_of_shipped_texts;
 pub use numbers::append_number;
 pub use races::{append_race, formula_line, race_text};
+pub use replays::{append_replay, replay_text};
+pub use states::append_state;

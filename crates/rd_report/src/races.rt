@@ -1,5 +1,6 @@
 //! The text of a race.
 ghost use Rattle.std.specs.Prelude.{◌≡◌, ◌≤◌, ◌<◌, ◌++◌, length, IfOk, OnOk};
+ghost use Rattle.rd_clock.specs.Clock.{component};
 ghost use Rattle.rd_ecl.specs.Specified.{kind_at};
 ghost use Rattle.rd_event.specs.Items.{call_text};
 ghost use Rattle.rd_print.specs.Printed.{name_at};
@@ -10,6 +11,7 @@ ghost use Rattle.rd_wf.specs.Roster.{names_in, object_names_in};
 use crate::clocks::append_clock;
 use crate::numbers::append_number;
 use rd_base::{Bytes, Name, NoMemory, Steps};
+use rd_clock::Clock;
 use rd_ecl::{KindSpec, Spec};
 use rd_event::{Call, append_call};
 use rd_print::formula_text;
@@ -67,23 +69,25 @@ fn append_named_call(
     append_call(text, thread, object, method, call.slots.items())
 }
 
-// Puts behind the text what is told of a call: the number of its line, the call and its clock.
+// Puts behind the text what is told of a call that has this clock: the number of its line, the call and the clock.
 #[tactic(auto, unfolding(crate::specs::Races::told_text))]
 fn append_told<L: Ledger>(
     text: &mut Bytes,
     told: &Witness,
+    clock: &Clock,
     spec: &Spec,
     names: &Roster,
     steps: &mut Steps<L>,
 ) -> Result<(), NoMemory>
     requires { IsNamed spec.now (naming_in names.now) told.now.call }
-    ensures { OnOk result (text.new ≡ text.old ++ told_text spec.now (naming_in names.now) (told_by told.now)) }
+    ensures { OnOk result (text.new ≡ text.old ++ told_text spec.now (naming_in names.now)
+        (record { line = told.now.line; call = told.now.call; clock = component clock.now })) }
 {
     append_number(text, told.line)?;
     text.push(b' ')?;
     append_named_call(text, &told.call, spec, names)?;
     text.append(b" clock ")?;
-    append_clock(text, &told.stamp.clock, names, steps)?;
+    append_clock(text, clock, names, steps)?;
     text.push(b'\n')
 }
 
@@ -106,9 +110,23 @@ fn append_race_with<L: Ledger>(
 {
     let mut steps = Steps::<L>::new(blank);
     text.append(b"race line ")?;
-    append_told(text, &race.later, spec, names, &mut steps)?;
+    append_told(
+        text,
+        &race.later,
+        &race.later.stamp.clock,
+        spec,
+        names,
+        &mut steps,
+    )?;
     text.append(b"with line ")?;
-    append_told(text, &race.earlier, spec, names, &mut steps)?;
+    append_told(
+        text,
+        &race.earlier,
+        &race.earlier.stamp.clock,
+        spec,
+        names,
+        &mut steps,
+    )?;
     text.append(formula)
 }
 

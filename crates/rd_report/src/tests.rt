@@ -5,10 +5,13 @@ ghost use Rattle.rd_report.specs.TestRaces.{AreFlags, IsOfFlag};
 ghost use Rattle.rd_report.specs.Texts.{naming_in};
 
 use super::*;
-use rd_base::{Bytes, LimitName, Limits, Name, NoMemory, Slots, Steps, Value};
+use rd_base::{Bytes, LimitName, Limits, Name, NoMemory, Slots, Steps, Text, Value};
 use rd_clock::{Clock, Stamp};
 use rd_ecl::{Formula, KindDraft, KindSpec, Names, Rel, Side, Spec, Term};
 use rd_event::{Call, read_line};
+use rd_kinds::shipped;
+use rd_object::{Expected, ReplayEnd, Shape, ValueCounts, ValuePairs};
+use rd_print::{formula_text, print};
 use rd_store::{Race, Witness};
 use rd_wf::{Roster, WfCause};
 use std::alloc::Global;
@@ -229,7 +232,13 @@ fn endings(rt: HostRuntime) -> Result<(), Fail> {
     let spec = flags(alloc)?;
     let names = roster_of(&rt, alloc, &spec, "rdtrace 1;thread p;thread q");
     let rows: [(u64, Ending, &[u8]); 6] = [
-        (0, Ending::End, b"races 0\n"),
+        (
+            0,
+            Ending::End {
+                replay: ReplayEnd::Exact,
+            },
+            b"races 0\nreplay exact\n",
+        ),
         (
             1,
             Ending::Refused {
@@ -268,5 +277,152 @@ fn endings(rt: HostRuntime) -> Result<(), Fail> {
         let text = ending_text(alloc, races, &ending, &names)?;
         assert_eq!(rt; text.items(), expected);
     }
+    let refused = refused_text(alloc, 4, TraceCause::Wf(WfCause::LockHeld(1)), &names)?;
+    assert_eq!(rt; refused.items(), b"refused line 4 lock-held q\n".as_slice());
+    Ok(())
+}
+
+#[test]
+fn replays(rt: HostRuntime) -> Result<(), Fail> {
+    let alloc = rt.alloc();
+    let rows: [(ReplayEnd, &[u8]); 4] = [
+        (ReplayEnd::Exact, b"replay exact\n"),
+        (
+            ReplayEnd::Differs {
+                line: 12,
+                expected: Expected::Value(Value::Nil),
+            },
+            b"replay differs line 12 expected nil\n",
+        ),
+        (
+            ReplayEnd::Differs {
+                line: 7,
+                expected: Expected::BadArgument(0),
+            },
+            b"replay differs line 7 argument 1\n",
+        ),
+        (ReplayEnd::NotShipped, b"replay not shipped\n"),
+    ];
+    for (end, expected) in rows {
+        assert_eq!(rt; replay_text(alloc, &end)?.items(), expected);
+    }
+    Ok(())
+}
+
+// The value of a text with this one letter.
+fn letter(alloc: Global, letter: u8) -> Result<Value, NoMemory> {
+    let Ok(text) = Text::from_bytes(alloc, [letter].as_slice()) else {
+        return Err(NoMemory);
+    };
+    Ok(Value::Text(text))
+}
+
+// These integers.
+fn integers(alloc: Global, values: [i64; 2]) -> Result<Slots, NoMemory> {
+    let mut slots = Slots::new(alloc);
+    slots.push(Value::Int(values[0]))?;
+    slots.push(Value::Int(values[1]))?;
+    Ok(slots)
+}
+
+// One shape of each kind, and one that holds nothing.
+fn shapes(alloc: Global) -> Result<[Shape; 7], NoMemory> {
+    let mut pairs = Vec::new(alloc);
+    pairs.push((letter(alloc, b'a')?, Value::Int(1)))?;
+    pairs.push((letter(alloc, b'b')?, Value::Bool(true)))?;
+    let mut counts = Vec::new(alloc);
+    counts.push((Value::Nil, 3))?;
+    counts.push((letter(alloc, b'"')?, 1))?;
+    Ok([
+        Shape::One(Value::Nil),
+        Shape::Number(-5),
+        Shape::Items(integers(alloc, [-1, 10])?),
+        Shape::Map(ValuePairs::from_pairs(pairs)),
+        Shape::Counts(ValueCounts::from_counts(counts)),
+        Shape::Row(integers(alloc, [-3, -4])?),
+        Shape::Items(Slots::new(alloc)),
+    ])
+}
+
+#[test]
+fn states(rt: HostRuntime) -> Result<(), Fail> {
+    let alloc = rt.alloc();
+    let name = Name::from_bytes(b"o").unwrap();
+    let mut text = Bytes::new(alloc);
+    for shape in shapes(alloc)? {
+        append_state(&mut text, &name, &shape)?;
+    }
+    assert_eq!(rt;
+        text.items(),
+        b"state o one nil\n\
+          state o number -5\n\
+          state o items -1 10\n\
+          state o map \"a\" 1 \"b\" true\n\
+          state o counts nil 3 \"\\\"\" 1\n\
+          state o row -3 -4\n\
+          state o items\n"
+            .as_slice()
+    );
+    Ok(())
+}
+
+#[test]
+fn the_text_of_all(rt: HostRuntime) -> Result<(), Fail> {
+    let spec = shipped(rt.alloc())?;
+    let text = b"rdspec 1\n\
+        kind register\n\
+        method read -> value\n\
+        method write value -> done\n\
+        method swap value -> prev\n\
+        commute read read when true\n\
+        commute read write when false\n\
+        commute read swap when value@2 = prev@2\n\
+        commute write write when false\n\
+        commute write swap when false\n\
+        commute swap swap when value@1 = prev@1 and value@2 = prev@2\n\
+        kind counter\n\
+        method add amount -> done\n\
+        method get -> total\n\
+        commute add add when true\n\
+        commute add get when amount@1 = 0\n\
+        commute get get when true\n\
+        kind set\n\
+        method add item -> done\n\
+        method remove item -> done\n\
+        method contains item -> found\n\
+        method size -> n\n\
+        commute add add when item@1 != item@2 or done@1 = false and done@2 = false\n\
+        commute add remove when item@1 != item@2 or done@1 = false and done@2 = false\n\
+        commute add contains when item@1 != item@2 or done@1 = false\n\
+        commute add size when done@1 = false\n\
+        commute remove remove when item@1 != item@2 or done@1 = false and done@2 = false\n\
+        commute remove contains when item@1 != item@2 or done@1 = false\n\
+        commute remove size when done@1 = false\n\
+        commute contains contains when true\n\
+        commute contains size when true\n\
+        commute size size when true\n\
+        kind dictionary\n\
+        method put key value -> prev\n\
+        method get key -> value\n\
+        method size -> n\n\
+        commute put put when key@1 != key@2 or value@1 = prev@1 and value@2 = prev@2\n\
+        commute put get when key@1 != key@2 or value@1 = prev@1\n\
+        commute put size when value@1 = nil and prev@1 = nil or value@1 != nil and prev@1 != nil\n\
+        commute get get when true\n\
+        commute get size when true\n\
+        commute size size when true\n";
+    assert_eq!(rt; print(rt.alloc(), &spec)?.items(), text.as_slice());
+    Ok(())
+}
+
+#[test]
+#[tactic(auto, unfolding(rd_kinds::specs::Shipped::counter_kind))]
+fn a_formula_of_counters(rt: HostRuntime) -> Result<(), Fail> {
+    let spec = shipped(rt.alloc())?;
+    let counter = &spec.kinds()[1];
+    assert_eq!(rt;
+        formula_text(rt.alloc(), counter, 0, 1)?.items(),
+        b"add get when amount@1 = 0".as_slice()
+    );
     Ok(())
 }

@@ -17,7 +17,7 @@ use Rattle.rd_run.specs.Progress.{Continues, WalksTo, WalksOn, ending_for}
 use Rattle.rd_report.specs.declared.endings.TraceCause.{TraceCause}
 use Rattle.rd_report.specs.declared.endings.TraceCause.TheVariants.{Wf}
 use Rattle.rd_wf.specs.declared.causes.WfCause.TheVariants.{HeaderFirst}
-use Rattle.rd_report.specs.declared.endings.Ending.TheVariants.{End, Refused}
+use Rattle.rd_run.specs.declared.walk.WalkEnd.TheVariants.{End, Refused}
 use Rattle.rd_run.proofs.WalkLemmas.{walk_stops, walk_accepts, walk_refuses, items_more, after_more}
 
 module _ (kinds : List Kind) where

@@ -15,9 +15,9 @@ use Rattle.rd_ecl.specs.Kinds.{Kind, kinds_of}
 use Rattle.rd_ecl.specs.Specified.{SpecifiedKind}
 use Rattle.rd_run.proofs.AcceptedLemmas.{trace_accepted}
 use Rattle.rd_run.proofs.RunLemmas.{entries_at, front_outcome}
-use Rattle.rd_run.specs.Output.{IsFront, check_outcome, race_texts, races_of, thread_names}
+use Rattle.rd_run.specs.Output.{IsFront, check_outcome, entries_ending, race_texts, races_of, thread_names}
 use Rattle.rd_run.specs.Walk.{Entry, Walked, after, ending_of, ends, entries_of, goes, goes_or_ends, items, judged, trace_of, walk}
-use Rattle.rd_report.specs.declared.endings.Ending.TheVariants.{Fault}
+use Rattle.rd_run.specs.declared.walk.WalkEnd.TheVariants.{Fault}
 use Rattle.rd_report.specs.declared.endings.TraceCause.{TraceCause}
 
 -- the walk is that of the whole, or was cut by a fault behind some of its entries
@@ -71,8 +71,8 @@ fault_front kinds limits usable range stop bytes more = by (cut_trace (kinds_of 
 
     by : IsCutOf cut whole → IsFront (race_texts kinds (entries_of cut)) (check_outcome kinds whole).text
     by (inl same) = (
-      ending_text (thread_names (entries_of whole)) (races_of kinds (entries_of whole)) (ending_of whole),
-      ap (λ w. race_texts kinds (entries_of w) ++ ending_text (thread_names (entries_of whole)) (races_of kinds (entries_of whole)) (ending_of whole)) (sym same),
+      ending_text (thread_names (entries_of whole)) (races_of kinds (entries_of whole)) (entries_ending kinds (entries_of whole) (ending_of whole)),
+      ap (λ w. race_texts kinds (entries_of w) ++ ending_text (thread_names (entries_of whole)) (races_of kinds (entries_of whole)) (entries_ending kinds (entries_of whole) (ending_of whole))) (sym same),
     )
     by (inr (entries, later, is_cut, is)) =
         let accepted = subst (λ w. AreAccepted (kinds_of kinds) (items (entries_of w))) is (trace_accepted (kinds_of kinds) limits usable range stop (bytes ++ more)) in

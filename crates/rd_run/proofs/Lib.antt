@@ -8,6 +8,7 @@ pub mod KindLemmas
 pub mod NamingLemmas
 pub mod OutputLemmas
 pub mod ProgressLemmas
+pub mod ReplayingLemmas
 pub mod ReportLemmas
 pub mod RunLemmas
 pub mod SpecLemmas

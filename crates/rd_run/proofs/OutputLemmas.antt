@@ -3,9 +3,11 @@ use Rattle.std.proofs.Common.{◌≡◌, ◌≢◌, ℕ, Bool, true, false, cond
 use Rattle.std.proofs.lemmas.List.{append_assoc, append-nil}
 use Rattle.rd_run.specs.Commands.{halted_with}
 use Rattle.rd_run.specs.Analysis.{TellsFault}
-use Rattle.rd_run.specs.Output.{HasOutcome, Outcome, IsOutput, StatusTellsFault, check_status, is_limit}
+use Rattle.rd_run.specs.Output.{HasOutcome, Outcome, IsOutput, StatusTellsFault, check_status, is_limit, replay_status}
 use Rattle.rd_run.specs.declared.analysis.Halt.{Halt}
 use Rattle.rd_run.specs.declared.analysis.Halt.TheVariants as halt
+use Rattle.rd_object.specs.declared.shapes.ReplayEnd.{ReplayEnd}
+use Rattle.rd_object.specs.declared.shapes.ReplayEnd.TheVariants.{Exact, Differs, NotShipped}
 use Rattle.rd_report.specs.declared.endings.Ending.{Ending}
 use Rattle.rd_report.specs.declared.endings.Ending.TheVariants.{End, Refused, Fault}
 use Rattle.rd_run.specs.declared.status.Status.{Status}
@@ -72,15 +74,20 @@ behind OutputFault front part text given is = (is.0, ap (λ t. front ++ t) is.1 
 behind NoMemory front part text given is = (is.0, ap (λ t. front ++ t) is.1 ∙ sym (append_assoc front part is.0))
 behind LimitReached front part text given is = (ap (λ t. front ++ t) is.0, is.1)
 
-record IsPlain (status : Status) : Type 0 where
-  output : status ≢ OutputFault
-  input : status ≢ InputFault
-  usage : status ≢ Usage
-  spec : status ≢ SpecRefused
+pub record IsPlain (status : Status) : Type 0 where
+  pub output : status ≢ OutputFault
+  pub input : status ≢ InputFault
+  pub usage : status ≢ Usage
+  pub spec : status ≢ SpecRefused
 
-end_status : (b : Bool) → IsPlain (cond b Clean Raced)
-end_status true = record { output = λ e. cc; input = λ e. cc; usage = λ e. cc; spec = λ e. cc }
-end_status false = record { output = λ e. cc; input = λ e. cc; usage = λ e. cc; spec = λ e. cc }
+pub replay_plain : (replay : ReplayEnd) → IsPlain (replay_status replay)
+replay_plain Exact = record { output = λ e. cc; input = λ e. cc; usage = λ e. cc; spec = λ e. cc }
+replay_plain (Differs line expected) = record { output = λ e. cc; input = λ e. cc; usage = λ e. cc; spec = λ e. cc }
+replay_plain NotShipped = record { output = λ e. cc; input = λ e. cc; usage = λ e. cc; spec = λ e. cc }
+
+end_status : (b : Bool) (replay : ReplayEnd) → IsPlain (cond b (replay_status replay) Raced)
+end_status true replay = replay_plain replay
+end_status false replay = record { output = λ e. cc; input = λ e. cc; usage = λ e. cc; spec = λ e. cc }
 
 refused_status : (b : Bool) → IsPlain (cond b LimitReached TraceRefused)
 refused_status true = record { output = λ e. cc; input = λ e. cc; usage = λ e. cc; spec = λ e. cc }
@@ -88,13 +95,13 @@ refused_status false = record { output = λ e. cc; input = λ e. cc; usage = λ 
 
 pub no_output_fault : (races : ℕ) (ending : Ending) → check_status races ending ≢ OutputFault
 unfolding check_status
-no_output_fault races End = (end_status (eqb races 0)).output
+no_output_fault races (End replay) = (end_status (eqb races 0) replay).output
 no_output_fault races (Refused number cause) = (refused_status (is_limit cause)).output
 no_output_fault races Fault = λ e. cc
 
 pub only_fault : (races : ℕ) (ending : Ending) → check_status races ending ≡ InputFault → ending ≡ Fault
 unfolding check_status
-only_fault races End e = absurd ((end_status (eqb races 0)).input e)
+only_fault races (End replay) e = absurd ((end_status (eqb races 0) replay).input e)
 only_fault races (Refused number cause) e = absurd ((refused_status (is_limit cause)).input e)
 only_fault races Fault e = refl
 
@@ -104,13 +111,13 @@ fault_status races ending is = ap (check_status races) is
 
 pub no_usage : (races : ℕ) (ending : Ending) → check_status races ending ≢ Usage
 unfolding check_status
-no_usage races End = (end_status (eqb races 0)).usage
+no_usage races (End replay) = (end_status (eqb races 0) replay).usage
 no_usage races (Refused number cause) = (refused_status (is_limit cause)).usage
 no_usage races Fault = λ e. cc
 
 pub no_spec : (races : ℕ) (ending : Ending) → check_status races ending ≢ SpecRefused
 unfolding check_status
-no_spec races End = (end_status (eqb races 0)).spec
+no_spec races (End replay) = (end_status (eqb races 0) replay).spec
 no_spec races (Refused number cause) = (refused_status (is_limit cause)).spec
 no_spec races Fault = λ e. cc
 
@@ -125,11 +132,13 @@ halted_no_input halt.NoMemory = λ e. cc
 -- where all was written, no fault is told
 pub quiet_status : (before now : ℕ) (point written : Option (List ℕ)) (races : ℕ) (ending : Ending) → now ≡ before → StatusTellsFault before now point written (check_status races ending)
 unfolding check_status
-quiet_status before now point written races End same = by (eqb races 0)
+quiet_status before now point written races (End replay) same = by (eqb races 0) replay
   where
-    by : (b : Bool) → StatusTellsFault before now point written (cond b Clean Raced)
-    by true = same
-    by false = same
+    by : (b : Bool) (replay : ReplayEnd) → StatusTellsFault before now point written (cond b (replay_status replay) Raced)
+    by true Exact = same
+    by true (Differs line expected) = same
+    by true NotShipped = same
+    by false replay = same
 quiet_status before now point written races (Refused number cause) same = by (is_limit cause)
   where
     by : (b : Bool) → StatusTellsFault before now point written (cond b LimitReached TraceRefused)

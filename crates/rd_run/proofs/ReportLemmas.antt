@@ -27,14 +27,18 @@ use Rattle.rd_report.specs.Races.{race_text, told_by}
 use Rattle.rd_report.specs.Texts.{Naming, naming}
 use Rattle.rd_store.specs.declared.Race.{Race}
 use Rattle.rd_run.proofs.NamingLemmas.{race_longer, witness_told}
-use Rattle.rd_run.specs.Output.{IsFront, calls_text, check_status, entries_race, entry_events, event_number, event_numbers, is_limit, race_at, race_texts, races_before, races_of, text_with, texts_before, told_at}
+use Rattle.rd_run.specs.Output.{IsFront, calls_text, check_status, entries_ending, entries_race, entry_events, event_number, event_numbers, is_limit, race_at, race_texts, races_before, races_of, replay_status, text_with, texts_before, told_at}
 use Rattle.rd_detect.specs.RaceTests.{latest_of}
 use Rattle.rd_detect.specs.Races.{IsLatest, Reported}
 use Rattle.rd_run.specs.Reports.{IsReport}
 use Rattle.rd_run.specs.Walk.{Entry, items}
-use Rattle.rd_report.specs.declared.endings.Ending.{Ending}
-use Rattle.rd_report.specs.declared.endings.Ending.TheVariants.{End, Refused, Fault}
-use Rattle.rd_run.specs.declared.status.Status.TheVariants.{Clean, Raced, TraceRefused, LimitReached}
+use Rattle.rd_object.specs.declared.shapes.Expected.{Expected}
+use Rattle.rd_object.specs.declared.shapes.ReplayEnd.{ReplayEnd}
+use Rattle.rd_object.specs.declared.shapes.ReplayEnd.TheVariants.{Exact, Differs, NotShipped}
+use Rattle.rd_run.specs.Replaying.{replay_of}
+use Rattle.rd_run.specs.declared.walk.WalkEnd.{WalkEnd}
+use Rattle.rd_run.specs.declared.walk.WalkEnd.TheVariants.{End, Refused, Fault}
+use Rattle.rd_run.specs.declared.status.Status.TheVariants.{Clean, Raced, ReplayDiffers, TraceRefused, LimitReached}
 
 -- ---- each event has the number of a line
 
@@ -254,18 +258,25 @@ module _ (kinds : List SpecifiedKind) where
   some_reported entries some = some_before (entry_events kinds entries) (length (entry_events kinds entries)) some
 
   -- the status of a check tells whether a call is reported
-  raced_end : (entries : List Entry) → (check_status (races_of kinds entries) End ≡ Raced) ↔ ((j : ℕ) × Reported (Commute kinds) (entry_events kinds entries) j)
+  not_raced : (replay : ReplayEnd) → replay_status replay ≢ Raced
+  not_raced Exact = λ e. cc
+  not_raced (Differs line expected) = λ e. cc
+  not_raced NotShipped = λ e. cc
+
+  raced_end : (entries : List Entry) → (check_status (races_of kinds entries) (entries_ending kinds entries End) ≡ Raced) ↔ ((j : ℕ) × Reported (Commute kinds) (entry_events kinds entries) j)
   unfolding check_status
   raced_end entries = (
     λ raced. by (cases_eq (races_of kinds entries) 0) raced,
-    λ reported. ap (λ b. cond b Clean Raced) (ne_eqb (races_of kinds entries) 0 (λ none. (none_reported entries).0 none reported.0 reported.1)),
+    λ found. ap (λ b. cond b (replay_status (replay_of (kinds_of kinds) entries)) Raced) (ne_eqb (races_of kinds entries) 0 (λ none. (none_reported entries).0 none found.0 found.1)),
   )
     where
-      by : (races_of kinds entries ≡ 0) ⊎ (races_of kinds entries ≢ 0) → cond (races_of kinds entries == 0) Clean Raced ≡ Raced → (j : ℕ) × Reported (Commute kinds) (entry_events kinds entries) j
-      by (inl none) raced = (let clean : Clean ≡ Raced = ap (λ b. cond b Clean Raced) (sym (eq-eqb (races_of kinds entries) 0 none)) ∙ raced in cc)
+      by : (races_of kinds entries ≡ 0) ⊎ (races_of kinds entries ≢ 0) → cond (races_of kinds entries == 0) (replay_status (replay_of (kinds_of kinds) entries)) Raced ≡ Raced
+          → (j : ℕ) × Reported (Commute kinds) (entry_events kinds entries) j
+      by (inl none) raced = absurd (not_raced (replay_of (kinds_of kinds) entries)
+          (ap (λ b. cond b (replay_status (replay_of (kinds_of kinds) entries)) Raced) (sym (eq-eqb (races_of kinds entries) 0 none)) ∙ raced))
       by (inr some) raced = some_reported entries some
 
-  pub raced_where : (entries : List Entry) (ending : Ending) → (check_status (races_of kinds entries) ending ≡ Raced) ↔ ((ending ≡ End) × ((j : ℕ) × Reported (Commute kinds) (entry_events kinds entries) j))
+  pub raced_where : (entries : List Entry) (ending : WalkEnd) → (check_status (races_of kinds entries) (entries_ending kinds entries ending) ≡ Raced) ↔ ((ending ≡ End) × ((j : ℕ) × Reported (Commute kinds) (entry_events kinds entries) j))
   unfolding check_status
   raced_where entries End = (λ raced. (refl, (raced_end entries).0 raced), λ h. (raced_end entries).1 h.1)
   raced_where entries (Refused number cause) = (λ raced. absurd (by (is_limit cause) raced), λ h. let is = h.0 in cc)
@@ -274,6 +285,43 @@ module _ (kinds : List SpecifiedKind) where
       by true e = cc
       by false e = cc
   raced_where entries Fault = (λ raced. cc, λ h. let is = h.0 in cc)
+
+  -- and whether none is, but a call differs from its record
+  is_difference : (replay : ReplayEnd) → replay_status replay ≡ ReplayDiffers → (line : ℕ) × (expected : Expected) × (replay ≡ Differs line expected)
+  is_difference Exact e = cc
+  is_difference (Differs line expected) e = (line, expected, refl)
+  is_difference NotShipped e = cc
+
+  differs_end : (entries : List Entry) → (check_status (races_of kinds entries) (entries_ending kinds entries End) ≡ ReplayDiffers)
+      ↔ (((j : ℕ) → ¬ (Reported (Commute kinds) (entry_events kinds entries) j)) × ((line : ℕ) × (expected : Expected) × (replay_of (kinds_of kinds) entries ≡ Differs line expected)))
+  unfolding check_status
+  differs_end entries = (
+    λ differs. by (cases_eq (races_of kinds entries) 0) differs,
+    λ h. let (none, (line, expected, is)) = h in
+        ap (λ b. cond b (replay_status (replay_of (kinds_of kinds) entries)) Raced) (eq-eqb (races_of kinds entries) 0 ((none_reported entries).1 none)) ∙ ap replay_status is,
+  )
+    where
+      by : (races_of kinds entries ≡ 0) ⊎ (races_of kinds entries ≢ 0) → cond (races_of kinds entries == 0) (replay_status (replay_of (kinds_of kinds) entries)) Raced ≡ ReplayDiffers
+          → ((j : ℕ) → ¬ (Reported (Commute kinds) (entry_events kinds entries) j)) × ((line : ℕ) × (expected : Expected) × (replay_of (kinds_of kinds) entries ≡ Differs line expected))
+      by (inl none) differs = (
+        (none_reported entries).0 none,
+        is_difference (replay_of (kinds_of kinds) entries)
+            (ap (λ b. cond b (replay_status (replay_of (kinds_of kinds) entries)) Raced) (sym (eq-eqb (races_of kinds entries) 0 none)) ∙ differs),
+      )
+      by (inr some) differs = (let raced : Raced ≡ ReplayDiffers =
+          ap (λ b. cond b (replay_status (replay_of (kinds_of kinds) entries)) Raced) (sym (ne_eqb (races_of kinds entries) 0 some)) ∙ differs in cc)
+
+  pub differs_where : (entries : List Entry) (ending : WalkEnd) → (check_status (races_of kinds entries) (entries_ending kinds entries ending) ≡ ReplayDiffers)
+      ↔ ((ending ≡ End) × (((j : ℕ) → ¬ (Reported (Commute kinds) (entry_events kinds entries) j))
+      × ((line : ℕ) × (expected : Expected) × (replay_of (kinds_of kinds) entries ≡ Differs line expected))))
+  unfolding check_status
+  differs_where entries End = (λ differs. (refl, (differs_end entries).0 differs), λ h. (differs_end entries).1 h.1)
+  differs_where entries (Refused number cause) = (λ differs. absurd (by (is_limit cause) differs), λ h. let is = h.0 in cc)
+    where
+      by : (b : Bool) → cond b LimitReached TraceRefused ≡ ReplayDiffers → ⊥
+      by true e = cc
+      by false e = cc
+  differs_where entries Fault = (λ differs. cc, λ h. let is = h.0 in cc)
 
   -- ---- the texts are a report
 

@@ -7,10 +7,10 @@ use Rattle.rd_ecl.specs.Kinds.{kinds_of}
 use Rattle.rd_ecl.specs.Specified.{SpecifiedKind}
 use Rattle.rd_io.specs.Inputs.{Source, Takes, IsOpened, IsNotOpened, next_count, file_of}
 use Rattle.rd_report.specs.Texts.{ending_text}
-use Rattle.rd_report.specs.declared.endings.Ending.{Ending}
+use Rattle.rd_run.specs.declared.walk.WalkEnd.{WalkEnd}
 use Rattle.rd_wf.specs.Events.{AreAccepted, AreAcceptedFrom}
 use Rattle.rd_wf.proofs.EventsLemmas.{accepted_told}
-use Rattle.rd_run.specs.Output.{Outcome, IsOutput, IsFront, race_texts, races_of, thread_names, check_status, check_outcome}
+use Rattle.rd_run.specs.Output.{Outcome, IsOutput, IsFront, race_texts, races_of, thread_names, check_status, check_outcome, entries_ending}
 use Rattle.rd_run.specs.Runs.{IsOutcome, OpensOnly, Runs, usage_outcome}
 use Rattle.rd_run.specs.Walk.{Entry, Walked, ends, after, entries_of, ending_of, items, step_bound}
 use Rattle.rd_run.specs.declared.status.Status.{Status}
@@ -20,11 +20,11 @@ use Rattle.rd_run.proofs.WalkLemmas.{entries_after, ending_after, bound_front}
 
 -- ---- what is written of a trace
 
-pub entries_at : (entries : List Entry) (ending : Ending) → entries_of (after entries (ends ending)) ≡ entries
+pub entries_at : (entries : List Entry) (ending : WalkEnd) → entries_of (after entries (ends ending)) ≡ entries
 unfolding entries_of
 entries_at entries ending = entries_after entries (ends ending) ∙ append-nil entries
 
-ending_at : (entries : List Entry) (ending : Ending) → ending_of (after entries (ends ending)) ≡ ending
+ending_at : (entries : List Entry) (ending : WalkEnd) → ending_of (after entries (ends ending)) ≡ ending
 unfolding ending_of
 ending_at entries ending = ending_after entries (ends ending)
 
@@ -36,23 +36,23 @@ accepted_front kinds before (x ∷ xs) ys accepted =
     ((accepted.0, rest.0), subst (λ b. AreAcceptedFrom kinds b ys) (append_assoc before (x ∷ []) xs) rest.1)
 
 module _ (kinds : List SpecifiedKind) where
-  pub outcome_at : (entries : List Entry) (ending : Ending) → check_outcome kinds (after entries (ends ending))
-      ≡ record { text = race_texts kinds entries ++ ending_text (thread_names entries) (races_of kinds entries) ending; status = check_status (races_of kinds entries) ending }
+  pub outcome_at : (entries : List Entry) (ending : WalkEnd) → check_outcome kinds (after entries (ends ending))
+      ≡ record { text = race_texts kinds entries ++ ending_text (thread_names entries) (races_of kinds entries) (entries_ending kinds entries ending); status = check_status (races_of kinds entries) (entries_ending kinds entries ending) }
   outcome_at entries ending =
       ap (λ es. let o : Outcome = record {
-        text = race_texts kinds es ++ ending_text (thread_names es) (races_of kinds es) (ending_of (after entries (ends ending)));
-        status = check_status (races_of kinds es) (ending_of (after entries (ends ending)));
+        text = race_texts kinds es ++ ending_text (thread_names es) (races_of kinds es) (entries_ending kinds es (ending_of (after entries (ends ending))));
+        status = check_status (races_of kinds es) (entries_ending kinds es (ending_of (after entries (ends ending))));
       } in o) (entries_at entries ending)
       ∙ ap (λ e. let o : Outcome = record {
-        text = race_texts kinds entries ++ ending_text (thread_names entries) (races_of kinds entries) e;
-        status = check_status (races_of kinds entries) e;
+        text = race_texts kinds entries ++ ending_text (thread_names entries) (races_of kinds entries) (entries_ending kinds entries e);
+        status = check_status (races_of kinds entries) (entries_ending kinds entries e);
       } in o) (ending_at entries ending)
 
   pub front_outcome : (entries : List Entry) (walked : Walked) → AreAccepted (kinds_of kinds) (items (entries_of (after entries walked)))
       → (part rest : List ℕ) → race_texts kinds entries ≡ part ++ rest → IsFront part (check_outcome kinds (after entries walked)).text
   front_outcome entries walked accepted part rest is =
       let all = entries_of (after entries walked) in
-      let behind = ending_text (thread_names all) (races_of kinds all) (ending_of (after entries walked)) in
+      let behind = ending_text (thread_names all) (races_of kinds all) (entries_ending kinds all (ending_of (after entries walked))) in
       let split = subst (AreAccepted (kinds_of kinds)) (ap items (entries_after entries walked) ∙ map-append (λ (entry : Entry). entry.item) entries (entries_of walked)) accepted in
       let (first, later) = accepted_front (kinds_of kinds) [] (items entries) (items (entries_of walked)) split in
       let (more, texts) = texts_front kinds entries (entries_of walked) later (accepted_told (kinds_of kinds) (items entries) first) in (

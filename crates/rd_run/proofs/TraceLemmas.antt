@@ -8,7 +8,7 @@ use Rattle.rd_ecl.specs.Kinds.{kinds_of}
 use Rattle.rd_ecl.specs.Specified.{SpecifiedKind}
 use Rattle.rd_io.specs.Inputs.{Source, Takes, IsOpened, IsNotOpened, Rose}
 use Rattle.rd_io.specs.Lines.Stop.{end, fault}
-use Rattle.rd_report.specs.declared.endings.Ending.TheVariants.{End, Refused, Fault}
+use Rattle.rd_run.specs.declared.walk.WalkEnd.TheVariants.{End, Refused, Fault}
 use Rattle.rd_wf.specs.Events.{AreAccepted}
 use Rattle.rd_run.specs.Commands.{Checked}
 use Rattle.rd_run.specs.Output.{IsOutput, check_outcome}

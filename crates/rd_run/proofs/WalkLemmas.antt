@@ -12,7 +12,7 @@ use Rattle.rd_run.specs.Walk.{Entry, items, Walked, ends, goes, after, entries_o
 use Rattle.rd_wf.specs.declared.causes.WfCause.{WfCause}
 use Rattle.rd_report.specs.declared.endings.TraceCause.{TraceCause}
 use Rattle.rd_report.specs.declared.endings.TraceCause.TheVariants.{Wf}
-use Rattle.rd_report.specs.declared.endings.Ending.TheVariants.{Refused}
+use Rattle.rd_run.specs.declared.walk.WalkEnd.TheVariants.{Refused}
 
 pub judged_broken : (kinds : List Kind) (limits : Limits) (before : List Line) (bytes : List ℕ) (item : Line) (cause : WfCause)
     → item_of bytes ≡ Some item → first_broken kinds limits before item ≡ Some cause → judged kinds limits before bytes ≡ Err (Wf cause)

@@ -9,11 +9,14 @@ use Rattle.rd_ecl.specs.Specified.{SpecifiedKind}
 use Rattle.rd_io.specs.Inputs.{Source, file_of, next_count}
 use Rattle.rd_io.specs.Lines.Stop.{end}
 use Rattle.rd_kinds.specs.Shipped.{reserved_names, shipped_kinds}
-use Rattle.rd_report.specs.declared.endings.Ending.TheVariants.{End}
+use Rattle.rd_run.specs.declared.walk.WalkEnd.TheVariants.{End}
 use Rattle.rd_spec.specs.Texts.{IsSpecRefused, SpecSays}
 use Rattle.rd_spec.proofs.OneLemmas.{never_refused, one_said}
 use Rattle.rd_print.specs.Printed.{spec_text}
-use Rattle.rd_run.specs.Output.{HasOutcome, Outcome, StatusTellsFault, check_outcome, check_status, races_of}
+use Rattle.rd_object.specs.declared.shapes.ReplayEnd.{ReplayEnd}
+use Rattle.rd_object.specs.declared.shapes.ReplayEnd.TheVariants.{Exact, Differs, NotShipped}
+use Rattle.rd_run.specs.Output.{HasOutcome, Outcome, StatusTellsFault, check_outcome, check_status, races_of, replay_status, reported}
+use Rattle.rd_run.specs.Replaying.{replay_of}
 use Rattle.rd_run.specs.Runs.{AreKinds, Command, IsCheckOutcome, IsCheckedWith, IsJudged, IsRefused, IsSpecText, IsUnread, IsWhole, Runs, WritesAll, usage_outcome, walk_on}
 use Rattle.rd_run.specs.Runs.Command.{check, spec}
 use Rattle.rd_run.specs.Specifications.{IsSpecOutcome, most_bytes}
@@ -63,13 +66,15 @@ module _ (trace : List ℕ) (limits : Limits) (old new : Source) (kinds : List S
   whole_outcome : Outcome
   whole_outcome = check_outcome kinds (trace_of (kinds_of kinds) limits end bytes)
 
-  ends_well : (races : ℕ) → (check_status races End ≡ Clean) ⊎ (check_status races End ≡ Raced)
+  ends_well : (races : ℕ) (replay : ReplayEnd) → let s = check_status races (reported replay End) in (s ≡ Clean) ⊎ ((s ≡ Raced) ⊎ (s ≡ ReplayDiffers))
   unfolding check_status
-  ends_well races = by (eqb races 0)
+  ends_well races replay = by (eqb races 0) replay
     where
-      by : (b : Bool) → (cond b Clean Raced ≡ Clean) ⊎ (cond b Clean Raced ≡ Raced)
-      by true = inl refl
-      by false = inr refl
+      by : (b : Bool) (replay : ReplayEnd) → let s = cond b (replay_status replay) Raced in (s ≡ Clean) ⊎ ((s ≡ Raced) ⊎ (s ≡ ReplayDiffers))
+      by true Exact = inl refl
+      by true (Differs line expected) = inr (inr refl)
+      by true NotShipped = inl refl
+      by false replay = inr (inl refl)
 
   whole_from : (outcome : Outcome) → outcome ≡ check_outcome kinds (trace_of (kinds_of kinds) limits end bytes) → part ≡ outcome.text → status ≡ outcome.status
       → IsWhole kinds limits bytes part status
@@ -77,9 +82,15 @@ module _ (trace : List ℕ) (limits : Limits) (old new : Source) (kinds : List S
     text = text ∙ ap (λ o. o.text) is;
     told = told ∙ ap (λ o. o.status) is;
     well =
-        let races = races_of kinds (entries_of (trace_of (kinds_of kinds) limits end bytes)) in
-        let ended : status ≡ check_status races End = told ∙ ap (λ o. o.status) is ∙ ap (check_status races) well in
-        elim (ends_well races) [ inl clean ↦ inl (ended ∙ clean) | inr raced ↦ inr (ended ∙ raced) ];
+        let entries = entries_of (trace_of (kinds_of kinds) limits end bytes) in
+        let races = races_of kinds entries in
+        let replay = replay_of (kinds_of kinds) entries in
+        let ended : status ≡ check_status races (reported replay End) = told ∙ ap (λ o. o.status) is ∙ ap (λ e. check_status races (reported replay e)) well in
+        elim (ends_well races replay) [
+          | inl clean ↦ inl (ended ∙ clean)
+          | inr (inl raced) ↦ inr (inl (ended ∙ raced))
+          | inr (inr differs) ↦ inr (inr (ended ∙ differs))
+        ];
   }
 
   whole_checked : (file : Option (List ℕ)) (files : ℕ) (outcome : Outcome) → AreKinds old file kinds → IsCheckedWith trace file files limits false old new outcome

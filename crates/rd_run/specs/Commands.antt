@@ -9,8 +9,8 @@ use Rattle.rd_run.specs.Runs.{Command}
 use Rattle.rd_run.specs.Runs.Command.{check, spec}
 use Rattle.rd_run.specs.Walk.{Entry, after, ends}
 use Rattle.rd_run.specs.Progress.{WalksTo, WalksOn}
-use Rattle.rd_report.specs.declared.endings.Ending.{Ending}
-use Rattle.rd_report.specs.declared.endings.Ending.TheVariants.{Fault}
+use Rattle.rd_run.specs.declared.walk.WalkEnd.{WalkEnd}
+use Rattle.rd_run.specs.declared.walk.WalkEnd.TheVariants.{Fault}
 use Rattle.rd_run.specs.declared.analysis.Halt.{Halt}
 use Rattle.rd_run.specs.declared.analysis.Halt.TheVariants as halt
 use Rattle.rd_run.specs.declared.status.Status.{Status}
@@ -33,7 +33,7 @@ halted_with halt.NoMemory = NoMemory
 -- taken of the input and `held` is left of it, and the count of the inputs' faults rose where a read failed.
 abbrev pub Checked : List SpecifiedKind → Limits → List ℕ → List ℕ → List Entry → List ℕ → Status → ℕ → ℕ → Type 0
 Checked kinds limits taken held entries part status before now =
-    ((ending : Ending) × WalksTo (kinds_of kinds) limits taken held entries ending
+    ((ending : WalkEnd) × WalksTo (kinds_of kinds) limits taken held entries ending
     × IsOutput status part (check_outcome kinds (after entries (ends ending)))
     × (ending ≡ Fault → Rose before now) × (ending ≢ Fault → now ≡ before))
     ⊎ ((halt : Halt) × (rest : List ℕ) × WalksOn (kinds_of kinds) limits taken entries × (race_texts kinds entries ≡ part ++ rest)

@@ -5,6 +5,7 @@ pub mod Commands
 pub mod Formulas
 pub mod Output
 pub mod Progress
+pub mod Replaying
 pub mod Reports
 pub mod Runs
 pub mod Specifications

@@ -19,7 +19,12 @@ use Rattle.rd_wf.specs.declared.causes.WfCause.TheVariants as wf
 use Rattle.rd_report.specs.declared.endings.TraceCause.{TraceCause}
 use Rattle.rd_report.specs.declared.endings.TraceCause.TheVariants as cause
 use Rattle.rd_report.specs.declared.endings.Ending.{Ending}
-use Rattle.rd_report.specs.declared.endings.Ending.TheVariants.{End, Refused, Fault}
+use Rattle.rd_report.specs.declared.endings.Ending.TheVariants as report
+use Rattle.rd_object.specs.declared.shapes.ReplayEnd.{ReplayEnd}
+use Rattle.rd_object.specs.declared.shapes.ReplayEnd.TheVariants.{Differs}
+use Rattle.rd_run.specs.Replaying.{replay_of}
+use Rattle.rd_run.specs.declared.walk.WalkEnd.{WalkEnd}
+use Rattle.rd_run.specs.declared.walk.WalkEnd.TheVariants.{End, Refused, Fault}
 use Rattle.rd_run.specs.declared.status.Status.{Status}
 use Rattle.rd_run.specs.declared.status.Status.TheVariants.{Clean, Raced, Usage, SpecRefused, TraceRefused, ReplayDiffers, InputFault, OutputFault, NoMemory, LimitReached}
 
@@ -118,19 +123,37 @@ is_limit (cause.Wf broken) = is_wf_limit broken
 is_limit (cause.Limit name number) = true
 is_limit _ = false
 
+-- of a replay alone
+abbrev pub replay_status : ReplayEnd → Status
+replay_status (Differs line expected) = ReplayDiffers
+replay_status _ = Clean
+
 unfoldable pub check_status : ℕ → Ending → Status
-check_status races End = if races == 0 then Clean else Raced
-check_status races (Refused number cause) = if is_limit cause then LimitReached else TraceRefused
-check_status races Fault = InputFault
+check_status races (report.End replay) = if races == 0 then replay_status replay else Raced
+check_status races (report.Refused number cause) = if is_limit cause then LimitReached else TraceRefused
+check_status races report.Fault = InputFault
+
+-- ---- endings
+
+-- how a report ends: as the walk does, and at the end of the trace with how the replay of the calls ends
+abbrev pub reported : ReplayEnd → WalkEnd → Ending
+reported replay End = report.End replay
+reported replay (Refused number cause) = report.Refused number cause
+reported replay Fault = report.Fault
+
+-- the ending of a report of these accepted lines
+abbrev pub entries_ending : List SpecifiedKind → List Entry → WalkEnd → Ending
+entries_ending kinds entries ending = reported (replay_of (kinds_of kinds) entries) ending
 
 -- `check` on a trace with objects of these kinds
 abbrev pub check_outcome : List SpecifiedKind → Walked → Outcome
 check_outcome kinds walked =
     let entries = entries_of walked in
     let races = races_of kinds entries in
+    let ending = entries_ending kinds entries (ending_of walked) in
     record {
-      text = race_texts kinds entries ++ ending_text (thread_names entries) races (ending_of walked);
-      status = check_status races (ending_of walked);
+      text = race_texts kinds entries ++ ending_text (thread_names entries) races ending;
+      status = check_status races ending;
     }
 
 -- ---- how far an outcome is written

@@ -11,18 +11,18 @@ use Rattle.rd_base.specs.declared.limits.LimitName.TheVariants.{Bytes, Line}
 use Rattle.rd_ecl.specs.Kinds.{Kind}
 use Rattle.rd_run.specs.Walk.{Entry, items, Walked, ends, after, trace_of, walk}
 use Rattle.rd_report.specs.declared.endings.TraceCause.TheVariants.{NoFinalNewline, Limit}
-use Rattle.rd_report.specs.declared.endings.Ending.{Ending}
-use Rattle.rd_report.specs.declared.endings.Ending.TheVariants.{End, Refused, Fault}
+use Rattle.rd_run.specs.declared.walk.WalkEnd.{WalkEnd}
+use Rattle.rd_run.specs.declared.walk.WalkEnd.TheVariants.{End, Refused, Fault}
 
 -- how a trace ends where the reader refuses the line with this number
-abbrev pub ending_for : Limits → ℕ → ReadEnd → Ending
+abbrev pub ending_for : Limits → ℕ → ReadEnd → WalkEnd
 ending_for limits number ReadFault = Fault
 ending_for limits number LineTooLong = Refused number (Limit Line limits.line)
 ending_for limits number BytesLimit = Refused number (Limit Bytes limits.bytes)
 ending_for limits number NoLineFeed = Refused number NoFinalNewline
 
 -- where these bytes were taken of an input and `held` is left of it: these lines of it are accepted, and it ends so
-abbrev pub WalksTo : List Kind → Limits → List ℕ → List ℕ → List Entry → Ending → Type 0
+abbrev pub WalksTo : List Kind → Limits → List ℕ → List ℕ → List Entry → WalkEnd → Type 0
 WalksTo kinds limits taken held entries Fault = trace_of kinds limits fault taken ≡ after entries (ends Fault)
 WalksTo kinds limits taken held entries End = trace_of kinds limits end (taken ++ held) ≡ after entries (ends End)
 WalksTo kinds limits taken held entries (Refused number cause) =

@@ -17,10 +17,10 @@ use Rattle.rd_ecl.specs.Specified.{SpecifiedKind}
 use Rattle.rd_report.specs.Texts.{ending_text}
 use Rattle.rd_wf.specs.MayFollow.{IsBrokenFirst, MayFollow}
 use Rattle.rd_wf.specs.declared.causes.WfCause.{WfCause}
-use Rattle.rd_run.specs.Output.{Outcome, check_status, entries_race, entry_events, thread_names}
+use Rattle.rd_run.specs.Output.{Outcome, check_status, entries_ending, entries_race, entry_events, thread_names}
 use Rattle.rd_run.specs.Walk.{Entry, ended, items}
-use Rattle.rd_report.specs.declared.endings.Ending.{Ending}
-use Rattle.rd_report.specs.declared.endings.Ending.TheVariants.{Refused}
+use Rattle.rd_run.specs.declared.walk.WalkEnd.{WalkEnd}
+use Rattle.rd_run.specs.declared.walk.WalkEnd.TheVariants.{Refused}
 use Rattle.rd_report.specs.declared.endings.TraceCause.{TraceCause}
 use Rattle.rd_report.specs.declared.endings.TraceCause.TheVariants.{BadLine, Wf}
 
@@ -49,7 +49,7 @@ IsRefusedLine kinds limits before bytes refused =
 
 -- Of the lines that come behind the accepted ones, the first of them with this number, these are accepted, up to the first that is
 -- refused or to the end of the lines, and so they end.
-abbrev pub IsWalk : List Kind → Limits → List Line → ℕ → Reading → List Entry → Ending → Type 0
+abbrev pub IsWalk : List Kind → Limits → List Line → ℕ → Reading → List Entry → WalkEnd → Type 0
 IsWalk kinds limits before number (stops end) entries ending = (entries ≡ []) × (ending ≡ ended limits before number end)
 IsWalk kinds limits before number (line bytes more) entries ending =
     ((cause : TraceCause) × IsRefusedLine kinds limits before bytes cause × (entries ≡ []) × (ending ≡ Refused number cause))
@@ -74,7 +74,7 @@ IsReport Commuting race es (suc place) text =
 pub record IsChecked (kinds : List SpecifiedKind) (limits : Limits) (stop : Stop) (bytes : List ℕ) (outcome : Outcome) : Type 0 where
   -- the accepted lines, and how they end
   pub entries : List Entry
-  pub ending : Ending
+  pub ending : WalkEnd
   pub walk : IsWalk (kinds_of kinds) limits [] 1 (reading limits.line limits.bytes stop bytes) entries ending
   -- their events are a well-formed list, with calls of these kinds
   pub formed : WellFormedWith (kinds_of kinds) (roots_of (items entries)) (entry_events kinds entries)
@@ -85,5 +85,5 @@ pub record IsChecked (kinds : List SpecifiedKind) (limits : Limits) (stop : Stop
   pub count : ℕ
   pub counted : Counts (Reported (Commute kinds) (entry_events kinds entries)) (length (entry_events kinds entries)) count
   -- what is written, and the status
-  pub text : outcome.text ≡ races ++ ending_text (thread_names entries) count ending
-  pub status : outcome.status ≡ check_status count ending
+  pub text : outcome.text ≡ races ++ ending_text (thread_names entries) count (entries_ending kinds entries ending)
+  pub status : outcome.status ≡ check_status count (entries_ending kinds entries ending)

@@ -8,7 +8,7 @@ use Rattle.rd_ecl.specs.Kinds.{kinds_of}
 use Rattle.rd_ecl.specs.Specified.{SpecifiedKind}
 use Rattle.rd_kinds.specs.Shipped.{reserved_names, shipped_kinds}
 use Rattle.rd_print.specs.Printed.{spec_text}
-use Rattle.rd_report.specs.declared.endings.Ending.TheVariants.{End, Fault}
+use Rattle.rd_run.specs.declared.walk.WalkEnd.TheVariants.{End, Fault}
 use Rattle.rd_spec.specs.Texts.{IsSpecRefused, SpecSays}
 use Rattle.rd_spec.specs.declared.parsing.SpecRefused.{SpecRefused as Refusal}
 use Rattle.rd_wf.specs.MayFollow.{same_name}
@@ -17,7 +17,7 @@ use Rattle.rd_run.specs.Progress.{IsRead}
 use Rattle.rd_run.specs.Specifications.{IsSpecOutcome, fault_outcome, most_bytes, refused_outcome}
 use Rattle.rd_run.specs.Walk.{Walked, ending_of, ends, entries_of, trace_of, step_bound}
 use Rattle.rd_run.specs.declared.status.Status.{Status}
-use Rattle.rd_run.specs.declared.status.Status.TheVariants.{Clean, NoMemory, Raced, Usage}
+use Rattle.rd_run.specs.declared.status.Status.TheVariants.{Clean, NoMemory, Raced, ReplayDiffers, Usage}
 
 -- ---- commands
 
@@ -182,7 +182,7 @@ pub record Runs (command : Option Command) (limits : Limits) (rose : Bool) (old 
 pub record IsWhole (kinds : List SpecifiedKind) (limits : Limits) (bytes part : List ℕ) (status : Status) : Type 0 where
   pub text : part ≡ (check_outcome kinds (trace_of (kinds_of kinds) limits end bytes)).text
   pub told : status ≡ (check_outcome kinds (trace_of (kinds_of kinds) limits end bytes)).status
-  pub well : (status ≡ Clean) ⊎ (status ≡ Raced)
+  pub well : (status ≡ Clean) ⊎ ((status ≡ Raced) ⊎ (status ≡ ReplayDiffers))
 
 -- Nothing is left out: where all files are there and nothing is refused, the whole is written, unless memory ran out. It is said of runs
 -- in which no read and no write failed.

@@ -13,8 +13,8 @@ use Rattle.rd_wf.specs.declared.causes.WfCause.{WfCause}
 use Rattle.rd_wf.specs.declared.causes.WfCause.TheVariants.{HeaderFirst}
 use Rattle.rd_report.specs.declared.endings.TraceCause.{TraceCause}
 use Rattle.rd_report.specs.declared.endings.TraceCause.TheVariants.{BadLine, NoFinalNewline, Wf, Limit}
-use Rattle.rd_report.specs.declared.endings.Ending.{Ending}
-use Rattle.rd_report.specs.declared.endings.Ending.TheVariants.{End, Refused, Fault}
+use Rattle.rd_run.specs.declared.walk.WalkEnd.{WalkEnd}
+use Rattle.rd_run.specs.declared.walk.WalkEnd.TheVariants.{End, Refused, Fault}
 
 -- an accepted line, and its number in the trace, from 1
 pub record Entry : Type 0 where
@@ -26,14 +26,14 @@ items entries = map (λ entry. entry.item) entries
 
 -- the accepted lines one after another, and how they end
 pub data Walked : Type 0 where
-  ends : Ending → Walked
+  ends : WalkEnd → Walked
   goes : Entry → Walked → Walked
 
 unfoldable pub entries_of : Walked → List Entry
 entries_of (ends ending) = []
 entries_of (goes entry more) = entry ∷ entries_of more
 
-unfoldable pub ending_of : Walked → Ending
+unfoldable pub ending_of : Walked → WalkEnd
 ending_of (ends ending) = ending
 ending_of (goes entry more) = ending_of more
 
@@ -52,7 +52,7 @@ unfoldable pub judged : List Kind → Limits → List Line → List ℕ → Resu
 judged kinds limits before bytes = judged_item kinds limits before (item_of bytes)
 
 -- how a trace ends where its lines end so behind the accepted ones. The number is that of the next line
-abbrev pub ended : Limits → List Line → ℕ → LinesEnding → Ending
+abbrev pub ended : Limits → List Line → ℕ → LinesEnding → WalkEnd
 ended limits before number at_end = if headers before == 0 then Refused number (Wf HeaderFirst) else End
 ended limits before number no_final_newline = Refused number NoFinalNewline
 ended limits before number line_too_long = Refused number (Limit LineBytes limits.line)

@@ -8,6 +8,8 @@ ghost use Rattle.rd_order.specs.EventLists.{WellFormedWith};
 ghost use Rattle.rd_io.specs.Lines.{Stop};
 ghost use Rattle.rd_io.specs.Lines.Stop.{fault};
 ghost use Rattle.rd_run.specs.Output.{IsFront, check_outcome, entries_race, entry_events, race_texts, races_of};
+ghost use Rattle.rd_object.specs.declared.shapes.Expected.{Expected as ExpectedOf};
+ghost use Rattle.rd_run.specs.Replaying.{replay_of};
 ghost use Rattle.rd_run.specs.Reports.{IsChecked, IsReport};
 ghost use Rattle.rd_run.specs.Walk.{Entry, Walked, ending_of, entries_of, items, trace_of};
 ghost use Rattle.rd_wf.specs.Events.{AreAccepted, events_of, roots_of};
@@ -15,7 +17,8 @@ ghost use Rattle.rd_ecl.specs.Kinds.{Kind, kinds_of};
 ghost use Rattle.rd_ecl.specs.Specified.{SpecifiedKind};
 
 use crate::status::Status;
-use rd_report::Ending;
+use crate::walk::WalkEnd;
+use rd_object::ReplayEnd;
 
 /// The lines that the walk over the bytes of a trace accepts are accepted each after those in front of it, whatever the bytes, and
 /// their events are a well-formed list for the threads that no event begins, with calls of the kinds.
@@ -29,14 +32,18 @@ pub fn law_of_walks()
 /// What `check` writes and answers, in the words of races. The texts of the races are, for each event of the accepted lines in
 /// their order, nothing where no earlier call races with it, else the text of the race with the latest that does. The
 /// count of races is 0 exactly where no call is reported. The status is `Raced` exactly where the trace was read to its
-/// end and some call is reported.
+/// end and some call is reported, and `ReplayDiffers` exactly where it was read to its end, no call is reported, and in the replay a call
+/// differs from its record.
 pub fn law_of_reports()
     ensures report { (kinds : List SpecifiedKind) (entries : List Entry) → IsReport (Commute kinds) (entries_race kinds entries) (entry_events kinds entries)
         (length (entry_events kinds entries)) (race_texts kinds entries) }
     ensures none { (kinds : List SpecifiedKind) (entries : List Entry) →
         ((races_of kinds entries ≡ 0) ↔ ((j : ℕ) → ¬ (Reported (Commute kinds) (entry_events kinds entries) j))) }
     ensures raced { (kinds : List SpecifiedKind) (walked : Walked) → ((check_outcome kinds walked).status ≡ Status.Raced
-        ↔ ((ending_of walked ≡ Ending.End) × ((j : ℕ) × Reported (Commute kinds) (entry_events kinds (entries_of walked)) j))) }
+        ↔ ((ending_of walked ≡ WalkEnd.End) × ((j : ℕ) × Reported (Commute kinds) (entry_events kinds (entries_of walked)) j))) }
+    ensures differs { (kinds : List SpecifiedKind) (walked : Walked) → ((check_outcome kinds walked).status ≡ Status.ReplayDiffers
+        ↔ ((ending_of walked ≡ WalkEnd.End) × (((j : ℕ) → ¬ (Reported (Commute kinds) (entry_events kinds (entries_of walked)) j))
+        × ((line : ℕ) × (expected : ExpectedOf) × (replay_of (kinds_of kinds) (entries_of walked) ≡ ReplayEnd.Differs line expected))))) }
 {}
 
 /// The headline, for all bytes of a trace, whatever the kinds of its objects and the limits within their ranges, and wherever the reading

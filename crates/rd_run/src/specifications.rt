@@ -56,9 +56,6 @@ pub fn read_spec<I: Inputs>(alloc: Global, file: &Word, inputs: &mut I) -> Resul
     ensures fault { result ≡ Err Unread.Fault → Rose (I.faults inputs.old) (I.faults inputs.new) }
     ensures calm { result ≢ Err Unread.Fault → I.faults inputs.new ≡ I.faults inputs.old }
 {
-    let Ok(taken) = reserved(alloc) else {
-        return Err(Unread::NoMemory);
-    };
     let Ok(()) = inputs.open(file) else {
         return Err(Unread::Fault);
     };
@@ -67,7 +64,7 @@ pub fn read_spec<I: Inputs>(alloc: Global, file: &Word, inputs: &mut I) -> Resul
         Err(FrontRefused::Fault) => return Err(Unread::Fault),
         Err(FrontRefused::NoMemory) => return Err(Unread::NoMemory),
     };
-    match parse(alloc, text.items(), &taken) {
+    match parse(alloc, text.items(), &reserved()) {
         Ok(said) => Ok(said),
         Err(ParseRefused::Spec(refused)) => Err(Unread::Refused(refused)),
         Err(ParseRefused::NoMemory) => Err(Unread::NoMemory),

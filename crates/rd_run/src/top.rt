@@ -9,7 +9,10 @@ ghost use Rattle.rd_kinds.specs.Shipped.{shipped_kinds};
 ghost use Rattle.rd_report.specs.Texts.{ending_text};
 ghost use Rattle.rd_run.specs.Checking.{Begins};
 ghost use Rattle.rd_run.specs.Commands.{asked, Checked};
-ghost use Rattle.rd_run.specs.Output.{IsOutput, StatusTellsFault, check_status, is_limit};
+ghost use Rattle.rd_replay.specs.Replays.{Recorded, replay_end};
+ghost use Rattle.rd_replay.specs.Replayer.{StandsFor as Replays};
+ghost use Rattle.rd_run.specs.Output.{IsOutput, StatusTellsFault, check_status, is_limit, replay_status, reported};
+ghost use Rattle.rd_run.specs.Replaying.{AreNumbered, Replayed};
 ghost use Rattle.rd_run.specs.Progress.{IsRead};
 ghost use Rattle.rd_run.specs.Runs.{ChecksTrace, Command as CommandOf, Runs, WritesAll, command_of, specification_of, usage_outcome};
 ghost use Rattle.rd_run.specs.Runs.Command.{check};
@@ -17,15 +20,18 @@ ghost use Rattle.rd_run.specs.Walk.{Entry, step_bound};
 ghost use Rattle.rd_wf.specs.Roster.{StandsFor, kinds_in, names_in};
 
 use crate::checking::Check;
+use crate::replaying::Replaying;
 use crate::specifications::{read_spec, refuse_unread, spec, write_fault};
 use crate::status::Status;
-use crate::walk::{Walker, walk_lines};
+use crate::walk::{WalkEnd, Walker, walk_lines};
 use crate::writing::{status_of, write_line, write_lines};
 use rd_base::{Limits, NoMemory, Steps, Word};
 use rd_ecl::Spec;
 use rd_event::Line;
 use rd_io::{Inputs, LineReader, Sink};
 use rd_kinds::shipped;
+use rd_object::ReplayEnd;
+use rd_replay::Replayer;
 use rd_report::{Ending, TraceCause, ending_text};
 use rd_wf::{Roster, WfCause};
 use std::alloc::Global;
@@ -63,21 +69,46 @@ fn is_limit(cause: TraceCause) -> bool
     )
 }
 
+/// The status of a replay that was written.
+fn replay_status(replay: &ReplayEnd) -> Status
+    ensures { result ≡ replay_status replay.now }
+{
+    match replay {
+        ReplayEnd::Differs { .. } => Status::ReplayDiffers,
+        ReplayEnd::Exact | ReplayEnd::NotShipped => Status::Clean,
+    }
+}
+
+/// How a report ends, by how the walk does and what the replayer was told.
+fn reported(replayer: &Replayer, ending: WalkEnd) -> Result<Ending, NoMemory>
+    ensures reported { IfOk result (λ report. (kinds : List ℕ) (calls : List Recorded) → Replays replayer.now kinds calls →
+        report ≡ reported (replay_end kinds calls) ending) }
+    ensures fault { IfOk result (λ report. (report ≡ Ending.Fault) ↔ (ending ≡ WalkEnd.Fault)) }
+{
+    Ok(match ending {
+        WalkEnd::End => Ending::End {
+            replay: replayer.end()?,
+        },
+        WalkEnd::Refused { line, cause } => Ending::Refused { line, cause },
+        WalkEnd::Fault => Ending::Fault,
+    })
+}
+
 /// The status of a check that wrote all.
 #[tactic(auto, unfolding(crate::specs::Output::check_status))]
-fn check_status(races: u64, ending: Ending) -> Status
-    ensures { result ≡ check_status races ending }
+fn check_status(races: u64, ending: &Ending) -> Status
+    ensures { result ≡ check_status races ending.now }
 {
     match ending {
-        Ending::End => {
+        Ending::End { replay } => {
             if races == 0 {
-                Status::Clean
+                replay_status(replay)
             } else {
                 Status::Raced
             }
         }
         Ending::Refused { line: _, cause } => {
-            if is_limit(cause) {
+            if is_limit(*cause) {
                 Status::LimitReached
             } else {
                 Status::TraceRefused
@@ -87,17 +118,23 @@ fn check_status(races: u64, ending: Ending) -> Status
     }
 }
 
-/// Writes how `check` ends, and gives its status. The roster has the names of the threads.
-fn report<S: Sink>(alloc: Global, names: &Roster, races: u64, ending: Ending, out: &mut S) -> Status
+/// Writes how a report ends, and gives the status of `check`. The roster has the names of the threads.
+fn write_ending<S: Sink>(
+    alloc: Global,
+    names: &Roster,
+    races: u64,
+    ending: &Ending,
+    out: &mut S,
+) -> Status
     ensures output { (part : List ℕ) × Appends (S.written out.old) (S.written out.new) part
-        × IsOutput result part (record { text = ending_text (names_in names.now) races ending; status = check_status races ending }) }
-    ensures input { result ≡ Status.InputFault → ending ≡ Ending.Fault }
-    ensures calm { result ≢ Status.InputFault → result ≢ Status.OutputFault → result ≢ Status.NoMemory → ending ≢ Ending.Fault }
+        × IsOutput result part (record { text = ending_text (names_in names.now) races ending.now; status = check_status races ending.now }) }
+    ensures input { result ≡ Status.InputFault → ending.now ≡ Ending.Fault }
+    ensures calm { result ≢ Status.InputFault → result ≢ Status.OutputFault → result ≢ Status.NoMemory → ending.now ≢ Ending.Fault }
     ensures fault { StatusTellsFault (S.faults out.old) (S.faults out.new) (S.at_fault out.new) (S.written out.new) result }
     ensures no_usage { result ≢ Status.Usage }
     ensures no_spec { result ≢ Status.SpecRefused }
 {
-    let Ok(text) = ending_text(alloc, races, &ending, names) else {
+    let Ok(text) = ending_text(alloc, races, ending, names) else {
         return Status::NoMemory;
     };
     match write_lines(out, text.items()) {
@@ -106,9 +143,36 @@ fn report<S: Sink>(alloc: Global, names: &Roster, races: u64, ending: Ending, ou
     }
 }
 
+/// Writes how `check` ends, and gives its status, by how the walk ended and what the replayer was told.
+fn report<S: Sink>(
+    alloc: Global,
+    names: &Roster,
+    races: u64,
+    replayer: &Replayer,
+    ending: WalkEnd,
+    out: &mut S,
+) -> Status
+    ensures output { (kinds : List ℕ) (calls : List Recorded) → Replays replayer.now kinds calls →
+        (part : List ℕ) × Appends (S.written out.old) (S.written out.new) part
+        × IsOutput result part (record {
+          text = ending_text (names_in names.now) races (reported (replay_end kinds calls) ending);
+          status = check_status races (reported (replay_end kinds calls) ending);
+        }) }
+    ensures input { result ≡ Status.InputFault → ending ≡ WalkEnd.Fault }
+    ensures calm { result ≢ Status.InputFault → result ≢ Status.OutputFault → result ≢ Status.NoMemory → ending ≢ WalkEnd.Fault }
+    ensures fault { StatusTellsFault (S.faults out.old) (S.faults out.new) (S.at_fault out.new) (S.written out.new) result }
+    ensures no_usage { result ≢ Status.Usage }
+    ensures no_spec { result ≢ Status.SpecRefused }
+{
+    match reported(replayer, ending) {
+        Ok(ending) => write_ending(alloc, names, races, &ending, out),
+        Err(_) => Status::NoMemory,
+    }
+}
+
 /// `check` on the current input, from its first byte on.
 fn check_opened<I: Inputs, S: Sink, L: Ledger>(
-    mut walker: Walker<Check<'_>>,
+    mut walker: Walker<Replaying<Check<'_>>>,
     mut reader: LineReader,
     inputs: &mut I,
     out: &mut S,
@@ -117,13 +181,14 @@ fn check_opened<I: Inputs, S: Sink, L: Ledger>(
     requires usable { AreUsable walker.limits }
     requires fresh { reader ≡ fresh walker.limits }
     requires none { StandsFor (kinds_in walker.roster) walker.roster [] }
-    requires begins { Begins (kinds_in walker.roster) walker.analysis }
+    requires begins { Begins (kinds_in walker.roster) walker.analysis.inner }
+    requires replays { Replayed (kinds_in walker.roster) [] walker.analysis.replayer }
     ensures checked { (entries : List Entry) × (taken : List ℕ) × (part : List ℕ)
         × Appends (S.written out.old) (S.written out.new) part
         × (steps.new ≤ steps.old + step_bound entries)
         × IsRead walker.entry.limits taken (length entries)
         × Goes (I.told inputs.old) (I.told inputs.new) (λ old new. Takes old new taken
-        × Checked walker.entry.analysis.spec.now walker.entry.limits taken new.held entries part result (I.faults inputs.old) (I.faults inputs.new)) }
+        × Checked walker.entry.analysis.inner.spec.now walker.entry.limits taken new.held entries part result (I.faults inputs.old) (I.faults inputs.new)) }
     ensures input_fault { result ≡ Status.InputFault → Rose (I.faults inputs.old) (I.faults inputs.new) }
     ensures calm { result ≢ Status.InputFault → result ≢ Status.OutputFault → result ≢ Status.NoMemory → I.faults inputs.new ≡ I.faults inputs.old }
     ensures fault { StatusTellsFault (S.faults out.old) (S.faults out.new) (S.at_fault out.new) (S.written out.new) result }
@@ -134,7 +199,8 @@ fn check_opened<I: Inputs, S: Sink, L: Ledger>(
         Ok(ending) => report(
             walker.alloc,
             &walker.roster,
-            walker.analysis.races,
+            walker.analysis.inner.races,
+            &walker.analysis.replayer,
             ending,
             out,
         ),
@@ -155,6 +221,7 @@ fn check<I: Inputs, S: Sink, L: Ledger>(
     requires usable { AreUsable limits.now }
     requires few { length spec.now < 2 ^ 32 }
     requires different { AllPairs (λ x y. x ≢ y) (kind_names (kinds_of spec.now)) }
+    requires numbered { AreNumbered (kinds_of spec.now) }
     ensures checks { (old : Source) → I.told inputs.old ≡ Some old → I.faults inputs.old < 2 ^ 63 → old.opens ≤ 2 ^ 63 →
         (new : Source) × (part : List ℕ) × (I.told inputs.new ≡ Some new) × Appends (S.written out.old) (S.written out.new) part
         × ChecksTrace spec.now trace.now limits.now (nat_lt (I.faults inputs.old) (I.faults inputs.new)) old new part result steps.old steps.new }
@@ -182,7 +249,7 @@ fn check<I: Inputs, S: Sink, L: Ledger>(
         alloc,
         limits: *limits,
         roster,
-        analysis,
+        analysis: Replaying::new(alloc, analysis),
         line: Line::Skip,
     };
     check_opened(walker, reader, inputs, out, steps)

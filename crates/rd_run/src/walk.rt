@@ -18,10 +18,21 @@ use crate::judging::{Refusal, judge};
 use rd_base::{LimitName, Limits, Steps};
 use rd_event::Line;
 use rd_io::{Inputs, LineReader, Next, ReadEnd, Sink};
-use rd_report::{Ending, TraceCause};
+use rd_report::TraceCause;
 use rd_wf::Roster;
 use std::alloc::Global;
 use std::sync::ledger::Ledger;
+
+/// How the lines of a trace end.
+#[derive(Clone, Copy, Debug, PartialEq, Eq)]
+pub enum WalkEnd {
+    /// the trace was read to its end
+    End,
+    /// a line was refused
+    Refused { line: u64, cause: TraceCause },
+    /// a read of the input failed
+    Fault,
+}
 
 /// What goes over the lines of a trace: the roster of the accepted lines, and the analysis that is handed each of them.
 #[derive(Drop)]
@@ -35,14 +46,14 @@ pub struct Walker<A> {
 }
 
 /// How a trace ends whose lines ended well. The number is that of its last line.
-fn at_end(roster: &Roster, number: u64) -> Ending
+fn at_end(roster: &Roster, number: u64) -> WalkEnd
     requires { number < 2 ^ 64 - 1 }
     ensures ending { (kinds : List Kind) (before : List Item) → StandsFor kinds roster.now before → (limits : _) → result ≡ ended limits before (number + 1) at_end }
-    ensures whole { result ≢ Ending.Fault }
+    ensures whole { result ≢ WalkEnd.Fault }
 {
     match roster.finish() {
-        Ok(()) => Ending::End,
-        Err(cause) => Ending::Refused {
+        Ok(()) => WalkEnd::End,
+        Err(cause) => WalkEnd::Refused {
             line: number + 1,
             cause: TraceCause::Wf(cause),
         },
@@ -50,16 +61,16 @@ fn at_end(roster: &Roster, number: u64) -> Ending
 }
 
 /// How a trace ends whose lines the reader refused. The number is that of the line that was being read.
-fn at_refusal(refused: ReadEnd, number: u64, limits: &Limits) -> Ending
+fn at_refusal(refused: ReadEnd, number: u64, limits: &Limits) -> WalkEnd
     ensures { result ≡ ending_for limits.now number refused }
 {
     let cause = match refused {
-        ReadEnd::ReadFault => return Ending::Fault,
+        ReadEnd::ReadFault => return WalkEnd::Fault,
         ReadEnd::LineTooLong => TraceCause::Limit(LimitName::Line, u64::from(limits.line)),
         ReadEnd::BytesLimit => TraceCause::Limit(LimitName::Bytes, limits.bytes),
         ReadEnd::NoFinalNewline => TraceCause::NoFinalNewline,
     };
-    Ending::Refused {
+    WalkEnd::Refused {
         line: number,
         cause,
     }
@@ -140,7 +151,7 @@ pub fn walk_lines<A: Analysis, I: Inputs, S: Sink, L: Ledger>(
     inputs: &mut I,
     out: &mut S,
     steps: &mut Steps<L>,
-) -> Result<Ending, Halt>
+) -> Result<WalkEnd, Halt>
     requires usable { AreUsable walker.old.limits }
     requires fresh { reader.old ≡ fresh walker.old.limits }
     requires none { StandsFor (kinds_in walker.old.roster) walker.old.roster [] }
@@ -165,8 +176,8 @@ pub fn walk_lines<A: Analysis, I: Inputs, S: Sink, L: Ledger>(
         × Goes (I.told inputs.old) (I.told inputs.new) (λ old new. Takes old new taken)) }
 
     // each fault is told as one
-    ensures input_fault { result ≡ Ok Ending.Fault → Rose (I.faults inputs.old) (I.faults inputs.new) }
-    ensures calm { result ≢ Ok Ending.Fault → I.faults inputs.new ≡ I.faults inputs.old }
+    ensures input_fault { result ≡ Ok WalkEnd.Fault → Rose (I.faults inputs.old) (I.faults inputs.new) }
+    ensures calm { result ≢ Ok WalkEnd.Fault → I.faults inputs.new ≡ I.faults inputs.old }
     ensures fault { TellsFault (S.faults out.old) (S.faults out.new) (S.at_fault out.new) (S.written out.new) result }
 {
     'lines: loop {
@@ -178,7 +189,7 @@ pub fn walk_lines<A: Analysis, I: Inputs, S: Sink, L: Ledger>(
         let number = reader.number();
         match take_line(walker, number, reader.line(), out, steps) {
             Ok(None) => {}
-            Ok(Some(cause)) => return Ok(Ending::Refused {
+            Ok(Some(cause)) => return Ok(WalkEnd::Refused {
                 line: number,
                 cause,
             }),

@@ -10,7 +10,7 @@ use std::process::Abort;
 use std::test::Fail;
 
 /// Two workers put values under two keys, and the main thread asks for the size when both have ended.
-const TWO_KEYS: &[u8] =
+pub const TWO_KEYS: &[u8] =
     b"rdtrace 1\nthread main\nobject d dictionary\nfork main a\nfork main b\ncall a d put \"x\" 1 -> nil\ncall b d put \"y\" 2 -> nil\njoin main a\njoin main b\ncall main d size -> 2\n";
 
 /// The same without its last line feed.
@@ -26,9 +26,10 @@ const COVERED: &[u8] =
 
 /// What is told of it. The second call is ordered before the third one, and the first isn't.
 const COVERED_TEXT: &[u8] =
-    b"race line 6 b d put \"k\" 2 -> 1 clock b:1\nwith line 5 a d put \"k\" 1 -> nil clock a:1\nformula dictionary put put when key@1 != key@2 or value@1 = prev@1 and value@2 = prev@2\nrace line 8 c d put \"k\" 3 -> 2 clock b:2,c:1\nwith line 5 a d put \"k\" 1 -> nil clock a:1\nformula dictionary put put when key@1 != key@2 or value@1 = prev@1 and value@2 = prev@2\nraces 2\n";
+    b"race line 6 b d put \"k\" 2 -> 1 clock b:1\nwith line 5 a d put \"k\" 1 -> nil clock a:1\nformula dictionary put put when key@1 != key@2 or value@1 = prev@1 and value@2 = prev@2\nrace line 8 c d put \"k\" 3 -> 2 clock b:2,c:1\nwith line 5 a d put \"k\" 1 -> nil clock a:1\nformula dictionary put put when key@1 != key@2 or value@1 = prev@1 and value@2 = prev@2\nraces 2\nreplay exact\n";
 
-fn answers(
+/// What is written for a trace, however it is read.
+pub fn answers(
     rt: &impl Abort,
     alloc: Global,
     trace: &[u8],
@@ -50,74 +51,38 @@ fn answers(
 #[test]
 fn dictionaries(rt: HostRuntime) -> Result<(), Fail> {
     let rows = [
-        // Two keys.
-        (TWO_KEYS, Status::Clean, b"races 0\n".as_slice()),
-        // One key.
-        (
-            b"rdtrace 1\nthread main\nobject d dictionary\nfork main a\nfork main b\ncall a d put \"k\" 1 -> nil\ncall b d put \"k\" 1 -> 1\njoin main a\njoin main b\ncall main d size -> 1\n",
-            Status::Raced,
-            b"race line 7 b d put \"k\" 1 -> 1 clock main:2,b:1\nwith line 6 a d put \"k\" 1 -> nil clock main:1,a:1\nformula dictionary put put when key@1 != key@2 or value@1 = prev@1 and value@2 = prev@2\nraces 1\n",
-        ),
         // One key, guarded by a lock.
         (
-            b"rdtrace 1\nthread main\nobject d dictionary\nfork main a\nfork main b\nacquire a l\ncall a d put \"k\" 1 -> nil\nrelease a l\nacquire b l\ncall b d put \"k\" 1 -> 1\nrelease b l\njoin main a\njoin main b\ncall main d size -> 1\n",
+            b"rdtrace 1\nthread main\nobject d dictionary\nfork main a\nfork main b\nacquire a l\ncall a d put \"k\" 1 -> nil\nrelease a l\nacquire b l\ncall b d put \"k\" 1 -> 1\nrelease b l\njoin main a\njoin main b\ncall main d size -> 1\n".as_slice(),
             Status::Clean,
-            b"races 0\n",
+            b"races 0\nreplay exact\n".as_slice(),
         ),
         // A put of the value that was there changes nothing.
         (
             b"rdtrace 1\nthread main\nobject d dictionary\ncall main d put \"k\" 1 -> nil\nfork main a\nfork main b\ncall a d put \"k\" 1 -> 1\ncall b d get \"k\" -> 1\n",
             Status::Clean,
-            b"races 0\n",
+            b"races 0\nreplay exact\n",
         ),
         // A put under a key that was there leaves the size.
         (
             b"rdtrace 1\nthread main\nobject d dictionary\ncall main d put \"k\" 1 -> nil\nfork main a\nfork main b\ncall a d put \"k\" 2 -> 1\ncall b d size -> 1\n",
             Status::Clean,
-            b"races 0\n",
+            b"races 0\nreplay exact\n",
         ),
         // A put under a new key changes it.
         (
             b"rdtrace 1\nthread p\nthread q\nobject d dictionary\ncall p d put \"k\" 1 -> nil\ncall q d size -> 1\n",
             Status::Raced,
-            b"race line 6 q d size -> 1 clock q:1\nwith line 5 p d put \"k\" 1 -> nil clock p:1\nformula dictionary put size when value@1 = nil and prev@1 = nil or value@1 != nil and prev@1 != nil\nraces 1\n",
+            b"race line 6 q d size -> 1 clock q:1\nwith line 5 p d put \"k\" 1 -> nil clock p:1\nformula dictionary put size when value@1 = nil and prev@1 = nil or value@1 != nil and prev@1 != nil\nraces 1\nreplay exact\n",
         ),
         // A thread is begun by one thread and awaited by another.
         (
             b"rdtrace 1\nthread p\nthread q\nobject d dictionary\ncall p d put \"k\" 1 -> nil\nfork p u\njoin q u\ncall q d put \"k\" 2 -> 1\n",
             Status::Clean,
-            b"races 0\n",
+            b"races 0\nreplay exact\n",
         ),
         // A call that is ordered before the third one hides no other.
         (COVERED, Status::Raced, COVERED_TEXT),
-    ];
-    for (trace, status, text) in rows {
-        answers(&rt, rt.alloc(), trace, status, text)?;
-    }
-    Ok(())
-}
-
-#[test]
-fn counters(rt: HostRuntime) -> Result<(), Fail> {
-    let rows = [
-        // A sum that wraps.
-        (
-            b"rdtrace 1\nthread main\nobject c counter\nfork main a\nfork main b\ncall a c add 9223372036854775807 -> nil\ncall b c add 1 -> nil\njoin main a\njoin main b\ncall main c get -> -9223372036854775808\n".as_slice(),
-            Status::Clean,
-            b"races 0\n".as_slice(),
-        ),
-        // Nothing is added.
-        (
-            b"rdtrace 1\nthread p\nthread q\nobject c counter\ncall p c add 0 -> nil\ncall q c get -> 0\n",
-            Status::Clean,
-            b"races 0\n",
-        ),
-        // Something is.
-        (
-            b"rdtrace 1\nthread p\nthread q\nobject c counter\ncall p c add 1 -> nil\ncall q c get -> 0\n",
-            Status::Raced,
-            b"race line 6 q c get -> 0 clock q:1\nwith line 5 p c add 1 -> nil clock p:1\nformula counter add get when amount@1 = 0\nraces 1\n",
-        ),
     ];
     for (trace, status, text) in rows {
         answers(&rt, rt.alloc(), trace, status, text)?;
@@ -131,7 +96,7 @@ fn check_then_act_on_a_set(rt: HostRuntime) -> Result<(), Fail> {
     let rows = [(
         b"rdtrace 1\nthread p\nthread q\nobject s set\ncall p s contains 1 -> false\ncall q s contains 1 -> false\ncall p s add 1 -> true\ncall q s add 1 -> false\n".as_slice(),
         Status::Raced,
-        b"race line 7 p s add 1 -> true clock p:2\nwith line 6 q s contains 1 -> false clock q:1\nformula set add contains when item@1 != item@2 or done@1 = false\nrace line 8 q s add 1 -> false clock q:2\nwith line 7 p s add 1 -> true clock p:2\nformula set add add when item@1 != item@2 or done@1 = false and done@2 = false\nraces 2\n".as_slice(),
+        b"race line 7 p s add 1 -> true clock p:2\nwith line 6 q s contains 1 -> false clock q:1\nformula set add contains when item@1 != item@2 or done@1 = false\nrace line 8 q s add 1 -> false clock q:2\nwith line 7 p s add 1 -> true clock p:2\nformula set add add when item@1 != item@2 or done@1 = false and done@2 = false\nraces 2\nreplay exact\n".as_slice(),
     )];
     for (trace, status, text) in rows {
         answers(&rt, rt.alloc(), trace, status, text)?;
@@ -139,7 +104,8 @@ fn check_then_act_on_a_set(rt: HostRuntime) -> Result<(), Fail> {
     Ok(())
 }
 
-/// Two threads that never meet call one object, one call each. Where the calls don't commute, the formula that they fail is told.
+/// Two threads that never meet call one new object, one call each. Where the calls don't commute, the formula that they fail is told; and
+/// then how their results compare with those of the object.
 fn answers_pair(
     rt: &impl Abort,
     alloc: Global,
@@ -147,24 +113,116 @@ fn answers_pair(
     first: &str,
     second: &str,
     formula: &str,
+    replay: &str,
 ) -> Result<(), Fail> {
     let trace = format!(in alloc;
         "rdtrace 1\nthread p\nthread q\nobject x {kind}\ncall p x {first}\ncall q x {second}\n"
     )?;
     let (answer, out) = Row::check(trace.as_bytes()).run(alloc)?;
-    if formula.is_empty() {
-        assert_eq!(rt;
-            out.written(),
-            b"races 0\n".as_slice(),
-            "{first} and {second}"
-        );
-        assert_eq!(rt; answer, Status::Clean);
+    let text = if formula.is_empty() {
+        format!(in alloc; "races 0\nreplay {replay}\n")?
     } else {
-        let text = format!(in alloc;
-            "race line 6 q x {second} clock q:1\nwith line 5 p x {first} clock p:1\nformula {kind} {formula}\nraces 1\n"
-        )?;
-        assert_eq!(rt; out.written(), text.as_bytes(), "{first} and {second}");
-        assert_eq!(rt; answer, Status::Raced);
+        format!(in alloc;
+            "race line 6 q x {second} clock q:1\nwith line 5 p x {first} clock p:1\nformula {kind} {formula}\nraces 1\nreplay {replay}\n"
+        )?
+    };
+    let status = if !formula.is_empty() {
+        Status::Raced
+    } else if replay == "exact" {
+        Status::Clean
+    } else {
+        Status::ReplayDiffers
+    };
+    assert_eq!(rt; out.written(), text.as_bytes(), "{first} and {second}");
+    assert_eq!(rt; answer, status, "{first} and {second}");
+    Ok(())
+}
+
+#[test]
+fn pairs_of_calls_on_registers(rt: HostRuntime) -> Result<(), Fail> {
+    let rows = [
+        ("read -> 1", "read -> 2", "", "differs line 5 expected nil"),
+        (
+            "read -> 1",
+            "write 1 -> nil",
+            "read write when false",
+            "differs line 5 expected nil",
+        ),
+        (
+            "write 1 -> nil",
+            "read -> 1",
+            "read write when false",
+            "exact",
+        ),
+        (
+            "write 1 -> nil",
+            "write 1 -> nil",
+            "write write when false",
+            "exact",
+        ),
+        (
+            "write 3 -> nil",
+            "swap 3 -> 3",
+            "write swap when false",
+            "exact",
+        ),
+        (
+            "swap 3 -> 3",
+            "write 3 -> nil",
+            "write swap when false",
+            "differs line 5 expected nil",
+        ),
+        (
+            "read -> 3",
+            "swap 3 -> 3",
+            "",
+            "differs line 5 expected nil",
+        ),
+        (
+            "swap 3 -> 3",
+            "read -> 3",
+            "",
+            "differs line 5 expected nil",
+        ),
+        (
+            "read -> 3",
+            "swap 4 -> 3",
+            "read swap when value@2 = prev@2",
+            "differs line 5 expected nil",
+        ),
+        (
+            "swap 4 -> 3",
+            "read -> 4",
+            "read swap when value@2 = prev@2",
+            "differs line 5 expected nil",
+        ),
+        (
+            "swap nil -> nil",
+            "swap true -> true",
+            "",
+            "differs line 6 expected nil",
+        ),
+        (
+            "swap nil -> nil",
+            "swap true -> false",
+            "swap swap when value@1 = prev@1 and value@2 = prev@2",
+            "differs line 6 expected nil",
+        ),
+        (
+            "swap -1 -> 1",
+            "swap 2 -> 2",
+            "swap swap when value@1 = prev@1 and value@2 = prev@2",
+            "differs line 5 expected nil",
+        ),
+        (
+            "swap 0 -> nil",
+            "swap 2 -> 2",
+            "swap swap when value@1 = prev@1 and value@2 = prev@2",
+            "differs line 6 expected 0",
+        ),
+    ];
+    for (first, second, formula, replay) in rows {
+        answers_pair(&rt, rt.alloc(), "register", first, second, formula, replay)?;
     }
     Ok(())
 }
@@ -172,13 +230,19 @@ fn answers_pair(
 #[test]
 fn pairs_of_calls_on_counters(rt: HostRuntime) -> Result<(), Fail> {
     let rows = [
-        ("add 1 -> nil", "add 2 -> nil", ""),
-        ("get -> 0", "get -> 1", ""),
-        ("get -> 1", "add 1 -> nil", "add get when amount@1 = 0"),
-        ("get -> 1", "add 0 -> nil", ""),
+        ("add 1 -> nil", "add 2 -> nil", "", "exact"),
+        ("get -> 0", "get -> 1", "", "differs line 6 expected 0"),
+        (
+            "get -> 1",
+            "add 1 -> nil",
+            "add get when amount@1 = 0",
+            "differs line 5 expected 0",
+        ),
+        ("get -> 1", "add 0 -> nil", "", "differs line 5 expected 0"),
+        ("add 0 -> nil", "get -> 0", "", "exact"),
     ];
-    for (first, second, formula) in rows {
-        answers_pair(&rt, rt.alloc(), "counter", first, second, formula)?;
+    for (first, second, formula, replay) in rows {
+        answers_pair(&rt, rt.alloc(), "counter", first, second, formula, replay)?;
     }
     Ok(())
 }
@@ -186,47 +250,88 @@ fn pairs_of_calls_on_counters(rt: HostRuntime) -> Result<(), Fail> {
 #[test]
 fn pairs_of_calls_on_sets(rt: HostRuntime) -> Result<(), Fail> {
     let rows = [
-        ("add 1 -> true", "add 2 -> true", ""),
-        ("add 1 -> false", "add 1 -> false", ""),
+        ("add 1 -> true", "add 2 -> true", "", "exact"),
+        (
+            "add 1 -> false",
+            "add 1 -> false",
+            "",
+            "differs line 5 expected true",
+        ),
         (
             "add 1 -> true",
             "add 1 -> false",
             "add add when item@1 != item@2 or done@1 = false and done@2 = false",
+            "exact",
         ),
         (
             "remove 1 -> false",
             "add 1 -> true",
             "add remove when item@1 != item@2 or done@1 = false and done@2 = false",
+            "exact",
         ),
-        ("remove \"1\" -> true", "add 1 -> true", ""),
+        (
+            "remove \"1\" -> true",
+            "add 1 -> true",
+            "",
+            "differs line 5 expected false",
+        ),
         (
             "contains 1 -> true",
             "add 1 -> true",
             "add contains when item@1 != item@2 or done@1 = false",
+            "differs line 5 expected false",
         ),
-        ("contains 1 -> true", "add 1 -> false", ""),
-        ("size -> 1", "add 1 -> true", "add size when done@1 = false"),
-        ("add 1 -> false", "size -> 1", ""),
+        (
+            "contains 1 -> true",
+            "add 1 -> false",
+            "",
+            "differs line 5 expected false",
+        ),
+        (
+            "size -> 1",
+            "add 1 -> true",
+            "add size when done@1 = false",
+            "differs line 5 expected 0",
+        ),
+        (
+            "add 1 -> false",
+            "size -> 1",
+            "",
+            "differs line 5 expected true",
+        ),
         (
             "remove 1 -> true",
             "remove 1 -> false",
             "remove remove when item@1 != item@2 or done@1 = false and done@2 = false",
+            "differs line 5 expected false",
         ),
         (
             "remove 1 -> true",
             "contains 1 -> false",
             "remove contains when item@1 != item@2 or done@1 = false",
+            "differs line 5 expected false",
         ),
         (
             "size -> 0",
             "remove 1 -> true",
             "remove size when done@1 = false",
+            "differs line 6 expected false",
         ),
-        ("contains 1 -> true", "contains 1 -> false", ""),
-        ("size -> 1", "contains 1 -> false", ""),
+        (
+            "contains 1 -> true",
+            "contains 1 -> false",
+            "",
+            "differs line 5 expected false",
+        ),
+        (
+            "size -> 1",
+            "contains 1 -> false",
+            "",
+            "differs line 5 expected 0",
+        ),
     ];
-    for (first, second, formula) in rows {
-        answers_pair(&rt, rt.alloc(), "set", first, second, formula)?;
+    for (first, second, formula, replay) in rows {
+        answers_pair(&rt, rt.alloc(), "set", first, second, formula, replay)?;
     }
     Ok(())
 }
@@ -238,26 +343,52 @@ fn pairs_of_calls_on_dictionaries(rt: HostRuntime) -> Result<(), Fail> {
             "get 1 -> 2",
             "put 1 2 -> nil",
             "put get when key@1 != key@2 or value@1 = prev@1",
+            "differs line 5 expected nil",
         ),
-        ("get 1 -> 2", "put 2 2 -> nil", ""),
-        ("put 1 2 -> 2", "put 1 2 -> 2", ""),
+        (
+            "get 1 -> 2",
+            "put 2 2 -> nil",
+            "",
+            "differs line 5 expected nil",
+        ),
+        (
+            "put 1 2 -> 2",
+            "put 1 2 -> 2",
+            "",
+            "differs line 5 expected nil",
+        ),
         (
             "put 1 2 -> 2",
             "put 1 3 -> 2",
             "put put when key@1 != key@2 or value@1 = prev@1 and value@2 = prev@2",
+            "differs line 5 expected nil",
         ),
-        ("put 1 nil -> nil", "size -> 0", ""),
+        ("put 1 nil -> nil", "size -> 0", "", "exact"),
         (
             "size -> 0",
             "put 1 nil -> 2",
             "put size when value@1 = nil and prev@1 = nil or value@1 != nil and prev@1 != nil",
+            "differs line 6 expected nil",
         ),
-        ("get 1 -> 2", "get 1 -> nil", ""),
-        ("get 1 -> 2", "size -> 0", ""),
-        ("size -> 1", "size -> 0", ""),
+        (
+            "get 1 -> 2",
+            "get 1 -> nil",
+            "",
+            "differs line 5 expected nil",
+        ),
+        ("get 1 -> 2", "size -> 0", "", "differs line 5 expected nil"),
+        ("size -> 1", "size -> 0", "", "differs line 5 expected 0"),
     ];
-    for (first, second, formula) in rows {
-        answers_pair(&rt, rt.alloc(), "dictionary", first, second, formula)?;
+    for (first, second, formula, replay) in rows {
+        answers_pair(
+            &rt,
+            rt.alloc(),
+            "dictionary",
+            first,
+            second,
+            formula,
+            replay,
+        )?;
     }
     Ok(())
 }
@@ -305,7 +436,7 @@ fn a_limit_on_events(rt: HostRuntime) -> Result<(), Fail> {
             Status::LimitReached,
             b"races 0\nrefused line 6 limit events 2\n".as_slice(),
         ),
-        (TWO_FORKS, Status::Clean, b"races 0\n"),
+        (TWO_FORKS, Status::Clean, b"races 0\nreplay exact\n"),
     ];
     assert!(rt; limits.line >= 1 && limits.events <= 4_294_967_294);
     assert!(rt; limits.bytes < u64::MAX);
@@ -322,16 +453,16 @@ fn a_limit_on_events(rt: HostRuntime) -> Result<(), Fail> {
 }
 
 /// A kind whose formula says something of the first call alone.
-const FLAG: &[u8] =
+pub const FLAG: &[u8] =
     b"rdspec 1\nkind flag\nmethod set -> done\ncommute set set when done@1 = true\n";
 
 /// A call that was done and then one that wasn't.
-const DONE_FIRST: &[u8] =
+pub const DONE_FIRST: &[u8] =
     b"rdtrace 1\nthread p\nthread q\nobject f flag\ncall p f set -> true\ncall q f set -> false\n";
 
 /// What is told of it.
-const DONE_FIRST_TEXT: &[u8] =
-    b"race line 6 q f set -> false clock q:1\nwith line 5 p f set -> true clock p:1\nformula flag set set when done@1 = true\nraces 1\n";
+pub const DONE_FIRST_TEXT: &[u8] =
+    b"race line 6 q f set -> false clock q:1\nwith line 5 p f set -> true clock p:1\nformula flag set set when done@1 = true\nraces 1\nreplay not shipped\n";
 
 /// The calls commute where the formula holds for them in both orders.
 #[test]
@@ -341,18 +472,18 @@ fn a_formula_that_asks_for_the_first_call(rt: HostRuntime) -> Result<(), Fail> {
         (
             b"rdtrace 1\nthread p\nthread q\nobject f flag\ncall p f set -> false\ncall q f set -> true\n",
             Status::Raced,
-            b"race line 6 q f set -> true clock q:1\nwith line 5 p f set -> false clock p:1\nformula flag set set when done@1 = true\nraces 1\n",
+            b"race line 6 q f set -> true clock q:1\nwith line 5 p f set -> false clock p:1\nformula flag set set when done@1 = true\nraces 1\nreplay not shipped\n",
         ),
         (
             b"rdtrace 1\nthread p\nthread q\nobject f flag\ncall p f set -> true\ncall q f set -> true\n",
             Status::Clean,
-            b"races 0\n",
+            b"races 0\nreplay not shipped\n",
         ),
         // The kinds that are built in are there too.
         (
             b"rdtrace 1\nthread p\nthread q\nobject c counter\nobject f flag\ncall p c add 1 -> nil\ncall q f set -> true\ncall q c get -> 0\n",
             Status::Raced,
-            b"race line 8 q c get -> 0 clock q:2\nwith line 6 p c add 1 -> nil clock p:1\nformula counter add get when amount@1 = 0\nraces 1\n",
+            b"race line 8 q c get -> 0 clock q:2\nwith line 6 p c add 1 -> nil clock p:1\nformula counter add get when amount@1 = 0\nraces 1\nreplay not shipped\n",
         ),
         // A kind has the methods of its specification alone.
         (

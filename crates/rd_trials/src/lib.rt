@@ -1,4 +1,4 @@
-//! Trials of whole runs, over inputs and a sink in memory.
+//! Trials of whole runs, over inputs and a sink in memory, and of calls that lie across crates.
 #![tactic(auto)]
 
 #[cfg(test)]
@@ -8,9 +8,15 @@ mod random;
 #[cfg(test)]
 mod random_calls;
 #[cfg(test)]
+mod random_objects;
+#[cfg(test)]
 mod refusals;
 #[cfg(test)]
+mod replays;
+#[cfg(test)]
 mod runs;
+#[cfg(test)]
+mod single_calls;
 #[cfg(test)]
 mod specifications;
 #[cfg(test)]

@@ -1,14 +1,16 @@
 //! Random traces of two objects, by their definition: what `check` writes for each is compared with what a program writes that
-//! tries all pairs of calls and all paths of edges between them, and counts the events that come before a call one by one. The objects
-//! are of the kinds that are built in or of one that a specification adds, and their formulas are written here anew. The traces have
-//! two roots, up to five threads, two locks and up to 39 events: forks, joins, acquires, releases and calls with the values 0, 1, nil,
-//! true and false. A lock may be acquired again by the thread that has it. Traces that are refused, other values and longer traces are
-//! not covered here.
+//! tries all pairs of calls and all paths of edges between them, counts the events that come before a call one by one, and runs the
+//! calls by objects that are lists. The objects are of the kinds that are built in or of one that a specification adds, and their
+//! formulas are written here anew. The traces have two roots, up to five threads, two locks and up to 39 events: forks, joins, acquires,
+//! releases and calls with the values 0, 1, nil, true and false, and 9223372036854775807 to be added. In about half of them the results
+//! are those that the objects give, in the others they are random. A lock may be acquired again by the thread that has it. Traces that
+//! are refused, other values and longer traces are not covered here.
 ghost use Rattle.std.specs.Prelude.{◌<◌};
 
 use crate::random_calls::{
     Call, CounterCall, DictionaryCall, GATE, GateCall, Kind, RegisterCall, SetCall, Value, pair,
 };
+use crate::random_objects::Object;
 use crate::runs::Row;
 use rd_run::Status;
 use std::alloc::Global;
@@ -176,8 +178,42 @@ fn told(
     Ok(format!(in alloc; "line {line} {call} clock {clock}\n")?)
 }
 
+/// The line of the replay, and whether some call has another result than its object gives.
+fn replay(alloc: Global, kinds: (Kind, Kind), steps: &[Step]) -> Result<(String, bool), Fail> {
+    if kinds.0 == Kind::Gate || kinds.1 == Kind::Gate {
+        return Ok((String::from_str(alloc, "replay not shipped\n")?, false));
+    }
+    let mut first = Object::new(alloc);
+    let mut second = Object::new(alloc);
+    for (place, step) in steps.iter().enumerate() {
+        let Step::Call { object, call, .. } = step else {
+            continue;
+        };
+        let given = if *object == 0 {
+            first.run(alloc, call)?
+        } else {
+            second.run(alloc, call)?
+        };
+        let line = place.saturating_add(FIRST_LINE);
+        let Some(value) = given else {
+            return Ok((
+                format!(in alloc; "replay differs line {line} argument 1\n")?,
+                true,
+            ));
+        };
+        if value != call.result() {
+            let value = value.spelled(alloc)?;
+            return Ok((
+                format!(in alloc; "replay differs line {line} expected {value}\n")?,
+                true,
+            ));
+        }
+    }
+    Ok((String::from_str(alloc, "replay exact\n")?, false))
+}
+
 /// The report of a trace of these events.
-fn report(alloc: Global, steps: &[Step]) -> Result<(Status, String), Fail> {
+fn report(alloc: Global, kinds: (Kind, Kind), steps: &[Step]) -> Result<(Status, String), Fail> {
     let rows = reaching(alloc, steps)?;
     let mut text = String::new(alloc);
     let mut reported = Vec::new(alloc);
@@ -204,11 +240,14 @@ fn report(alloc: Global, steps: &[Step]) -> Result<(Status, String), Fail> {
         }
     }
     let races = reported.len();
-    text.push_str(&format!(in alloc; "races {races}\n")?)?;
-    let status = if races == 0 {
-        Status::Clean
-    } else {
+    let (replay, differs) = replay(alloc, kinds, steps)?;
+    text.push_str(&format!(in alloc; "races {races}\n{replay}")?)?;
+    let status = if races > 0 {
         Status::Raced
+    } else if differs {
+        Status::ReplayDiffers
+    } else {
+        Status::Clean
     };
     Ok((status, text))
 }
@@ -262,25 +301,33 @@ impl Random {
 
     fn number(&mut self) -> Value {
         if self.below(2) == 0 {
-            Value::Zero
+            Value::Int(0)
         } else {
-            Value::One
+            Value::Int(1)
         }
     }
 
     fn truth(&mut self) -> Value {
         if self.below(2) == 0 {
-            Value::True
+            Value::Bool(true)
         } else {
-            Value::False
+            Value::Bool(false)
+        }
+    }
+
+    fn amount(&mut self) -> Value {
+        match self.below(8) {
+            0 => Value::Nil,
+            1 => Value::Int(i64::MAX),
+            _ => self.number(),
         }
     }
 
     fn content(&mut self) -> Value {
         match self.below(3) {
             0 => Value::Nil,
-            1 => Value::Zero,
-            _ => Value::One,
+            1 => Value::Int(0),
+            _ => Value::Int(1),
         }
     }
 
@@ -301,7 +348,7 @@ impl Random {
             }),
             Kind::Counter => Call::Counter(match method {
                 0 | 1 => CounterCall::Add {
-                    amount: self.number(),
+                    amount: self.amount(),
                 },
                 _ => CounterCall::Get {
                     total: self.number(),
@@ -344,9 +391,15 @@ impl Random {
         }
     }
 
-    /// Events that may follow one another.
-    fn steps(&mut self, alloc: Global, kinds: (Kind, Kind)) -> Result<Vec<Step>, Fail> {
+    /// Events that may follow one another. The results are those that the objects give, or random.
+    fn steps(
+        &mut self,
+        alloc: Global,
+        kinds: (Kind, Kind),
+        are_given: bool,
+    ) -> Result<Vec<Step>, Fail> {
         let mut steps = Vec::new(alloc);
+        let mut objects = (Object::new(alloc), Object::new(alloc));
         let mut ended: Vec<u32> = Vec::new(alloc);
         let mut threads = ROOTS;
         let mut first = Held {
@@ -383,10 +436,20 @@ impl Random {
             } else {
                 let object = self.below(2);
                 let kind = if object == 0 { kinds.0 } else { kinds.1 };
+                let call = self.call(kind);
+                let given = if object == 0 {
+                    objects.0.run(alloc, &call)?
+                } else {
+                    objects.1.run(alloc, &call)?
+                };
+                let call = match given {
+                    Some(value) if are_given => call.with_result(value),
+                    _ => call,
+                };
                 steps.push(Step::Call {
                     thread,
                     object,
-                    call: self.call(kind),
+                    call,
                 })?;
             }
         }
@@ -431,23 +494,32 @@ fn trace(alloc: Global, kinds: (Kind, Kind), steps: &[Step]) -> Result<String, F
 fn random_traces(rt: HostRuntime) -> Result<(), Fail> {
     let alloc = rt.alloc();
     let mut random = Random { state: 1 };
-    let mut clean = Vec::new(alloc);
-    let mut raced = Vec::new(alloc);
-    for number in 0..1000u32 {
+    let mut clean = 0u32;
+    let mut raced = 0u32;
+    let mut exact = 0u32;
+    let mut differing = 0u32;
+    for _ in 0..800u32 {
         let kinds = (random.kind(), random.kind());
-        let steps = random.steps(alloc, kinds)?;
-        let (status, text) = report(alloc, &steps)?;
+        let are_given = random.below(2) == 0;
+        let steps = random.steps(alloc, kinds, are_given)?;
+        let (status, text) = report(alloc, kinds, &steps)?;
         let trace = trace(alloc, kinds, &steps)?;
         let (answer, out) = Row::check_with(trace.as_bytes(), GATE).run(alloc)?;
         assert_eq!(rt; out.written(), text.as_bytes(), "{trace}");
         assert_eq!(rt; answer, status, "{trace}");
-        if status == Status::Clean {
-            clean.push(number)?;
-        } else {
-            raced.push(number)?;
+        match status {
+            Status::Clean => clean = clean.saturating_add(1),
+            Status::Raced => raced = raced.saturating_add(1),
+            _ => {}
+        }
+        if text.ends_with("replay exact\n") {
+            exact = exact.saturating_add(1);
+        } else if !text.ends_with("replay not shipped\n") {
+            differing = differing.saturating_add(1);
         }
     }
-    // Both come often.
-    assert!(rt; clean.len() >= 200 && raced.len() >= 200);
+    // Each comes often.
+    assert!(rt; clean >= 150 && raced >= 150, "{clean} {raced}");
+    assert!(rt; exact >= 150 && differing >= 150, "{exact} {differing}");
     Ok(())
 }

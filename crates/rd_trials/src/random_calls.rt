@@ -4,7 +4,7 @@ use std::alloc::Global;
 use std::test::Fail;
 
 /// The kind of an object.
-#[derive(Clone, Copy)]
+#[derive(Clone, Copy, PartialEq, Eq)]
 pub enum Kind {
     Register,
     Counter,
@@ -33,21 +33,17 @@ pub const GATE: &[u8] =
 #[derive(Clone, Copy, PartialEq, Eq)]
 pub enum Value {
     Nil,
-    Zero,
-    One,
-    True,
-    False,
+    Bool(bool),
+    Int(i64),
 }
 
 impl Value {
-    fn spelled(&self) -> &'static str {
-        match self {
-            Value::Nil => "nil",
-            Value::Zero => "0",
-            Value::One => "1",
-            Value::True => "true",
-            Value::False => "false",
-        }
+    pub fn spelled(&self, alloc: Global) -> Result<String, Fail> {
+        Ok(match self {
+            Value::Nil => String::from_str(alloc, "nil")?,
+            Value::Bool(truth) => format!(in alloc; "{truth}")?,
+            Value::Int(number) => format!(in alloc; "{number}")?,
+        })
     }
 }
 
@@ -105,9 +101,9 @@ pub enum Call {
 }
 
 impl Call {
-    /// The method, the arguments and the result, as in a line.
-    pub fn spelled(&self, alloc: Global) -> Result<String, Fail> {
-        let (method, arguments, result) = match self {
+    /// The method, the arguments and the result.
+    fn parts(&self) -> (&'static str, [Option<Value>; 2], Value) {
+        match self {
             Call::Register(RegisterCall::Read { value }) => ("read", [None, None], *value),
             Call::Register(RegisterCall::Write { value }) => (
                 "write",
@@ -146,16 +142,71 @@ impl Call {
             Call::Dictionary(DictionaryCall::Size { n }) => ("size", [None, None], *n),
             Call::Gate(GateCall::Pass { by, done }) => ("pass", [Some(*by), None], *done),
             Call::Gate(GateCall::Look { seen }) => ("look", [None, None], *seen),
-        };
+        }
+    }
+
+    pub fn result(&self) -> Value {
+        let (_, _, result) = self.parts();
+        result
+    }
+
+    /// The same call with another result. A write and an addition keep theirs.
+    pub fn with_result(&self, given: Value) -> Call {
+        match *self {
+            Call::Register(RegisterCall::Read { .. }) => {
+                Call::Register(RegisterCall::Read { value: given })
+            }
+            Call::Register(RegisterCall::Swap { value, .. }) => {
+                Call::Register(RegisterCall::Swap { value, prev: given })
+            }
+            Call::Counter(CounterCall::Get { .. }) => {
+                Call::Counter(CounterCall::Get { total: given })
+            }
+            Call::Set(SetCall::Add { item, .. }) => {
+                Call::Set(SetCall::Add { item, done: given })
+            }
+            Call::Set(SetCall::Remove { item, .. }) => {
+                Call::Set(SetCall::Remove { item, done: given })
+            }
+            Call::Set(SetCall::Contains { item, .. }) => {
+                Call::Set(SetCall::Contains { item, found: given })
+            }
+            Call::Set(SetCall::Size { .. }) => Call::Set(SetCall::Size { n: given }),
+            Call::Dictionary(DictionaryCall::Put { key, value, .. }) => {
+                Call::Dictionary(DictionaryCall::Put {
+                    key,
+                    value,
+                    prev: given,
+                })
+            }
+            Call::Dictionary(DictionaryCall::Get { key, .. }) => {
+                Call::Dictionary(DictionaryCall::Get { key, value: given })
+            }
+            Call::Dictionary(DictionaryCall::Size { .. }) => {
+                Call::Dictionary(DictionaryCall::Size { n: given })
+            }
+            Call::Gate(GateCall::Pass { by, .. }) => {
+                Call::Gate(GateCall::Pass { by, done: given })
+            }
+            Call::Gate(GateCall::Look { .. }) => { Call::Gate(GateCall::Look { seen: given }) }
+            Call::Register(RegisterCall::Write { .. }) | Call::Counter(CounterCall::Add { .. }) => {
+                *self
+            }
+        }
+    }
+
+    /// The method, the arguments and the result, as in a line.
+    pub fn spelled(&self, alloc: Global) -> Result<String, Fail> {
+        let (method, arguments, result) = self.parts();
         let mut text = String::from_str(alloc, method)?;
         for argument in arguments {
             if let Some(value) = argument {
                 text.push_str(" ")?;
-                text.push_str(value.spelled())?;
+                text.push_str(&value.spelled(alloc)?)?;
             }
         }
         text.push_str(" -> ")?;
-        text.push_str(result.spelled())?;
+        text.push_str(&result.spelled(alloc)?)?;
         Ok(text)
     }
 }
@@ -213,7 +264,10 @@ fn counter(first: &CounterCall, second: &CounterCall) -> Option<(&'static str, b
             ("counter add add when true", true)
         }
         (CounterCall::Add { amount }, CounterCall::Get { .. }) => {
-            ("counter add get when amount@1 = 0", *amount == Value::Zero)
+            (
+                "counter add get when amount@1 = 0",
+                *amount == Value::Int(0),
+            )
         }
         (CounterCall::Get { .. }, CounterCall::Get { .. }) => {
             ("counter get get when true", true)
@@ -247,10 +301,13 @@ fn set(first: &SetCall, second: &SetCall) -> Option<(&'static str, bool)> {
         ),
         (SetCall::Add { item, done }, SetCall::Contains { item: other, .. }) => (
             "set add contains when item@1 != item@2 or done@1 = false",
-            item != other || *done == Value::False,
+            item != other || *done == Value::Bool(false),
         ),
         (SetCall::Add { done, .. }, SetCall::Size { .. }) => {
-            ("set add size when done@1 = false", *done == Value::False)
+            (
+                "set add size when done@1 = false",
+                *done == Value::Bool(false),
+            )
         }
         (
             SetCall::Remove { item, done },
@@ -264,10 +321,13 @@ fn set(first: &SetCall, second: &SetCall) -> Option<(&'static str, bool)> {
         ),
         (SetCall::Remove { item, done }, SetCall::Contains { item: other, .. }) => (
             "set remove contains when item@1 != item@2 or done@1 = false",
-            item != other || *done == Value::False,
+            item != other || *done == Value::Bool(false),
         ),
         (SetCall::Remove { done, .. }, SetCall::Size { .. }) => {
-            ("set remove size when done@1 = false", *done == Value::False)
+            (
+                "set remove size when done@1 = false",
+                *done == Value::Bool(false),
+            )
         }
         (SetCall::Contains { .. }, SetCall::Contains { .. }) => {
             ("set contains contains when true", true)
@@ -281,7 +341,7 @@ fn set(first: &SetCall, second: &SetCall) -> Option<(&'static str, bool)> {
 }
 
 fn idle(done: Value, also: Value) -> bool {
-    done == Value::False && also == Value::False
+    done == Value::Bool(false) && also == Value::Bool(false)
 }
 
 /// Calls with different keys commute, and a put of the value that was there is a get. A size commutes with a put that neither makes nor
@@ -330,10 +390,13 @@ fn gate(first: &GateCall, second: &GateCall) -> Option<(&'static str, bool)> {
             },
         ) => (
             "gate pass pass when by@1 != by@2 and done@1 = true or done@2 = false",
-            (by != other && *done == Value::True) || *also == Value::False,
+            (by != other && *done == Value::Bool(true)) || *also == Value::Bool(false),
         ),
         (GateCall::Pass { done, .. }, GateCall::Look { .. }) => {
-            ("gate pass look when done@1 = false", *done == Value::False)
+            (
+                "gate pass look when done@1 = false",
+                *done == Value::Bool(false),
+            )
         }
         (GateCall::Look { .. }, GateCall::Look { .. }) => ("gate look look when true", true),
         _ => return None,

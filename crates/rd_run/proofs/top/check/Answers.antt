@@ -1,6 +1,10 @@
 use Rattle.std.proofs.Common.{[], refl, ◌∙◌, subst, sym, ap, arith}
 use Rattle.rd_io.proofs.SinkLemmas.{appends_none}
 use Rattle.rd_ecl.specs.Kinds.{kinds_of}
+use Rattle.rd_wf.specs.NoLines.{told_none}
+use Rattle.rd_wf.specs.Roster.{kinds_in}
+use Rattle.rd_run.specs.Checking.{Begins}
+use Rattle.rd_run.specs.Replaying.{AreNumbered, recorded_of}
 use Rattle.rd_run.specs.Commands.{Checked}
 use Rattle.rd_run.proofs.TraceLemmas.{checks_before, checks_opened, checks_unopened}
 use Rattle.rd_run.proofs.top.check.Goals as goal
@@ -48,9 +52,18 @@ returns-in_default-open-clause-checks g c = λ old told few few_opens.
     )
 
 pub check_opened-requires-clause-begins : goal.check_opened-requires-clause-begins
-check_opened-requires-clause-begins g c = record {
-  kinds_are = c.in-Ok.ensures.kind_entries ∙ ap kinds_of (sym c.in-Ok-new-2.ensures.spec);
-  new = c.in-Ok-new-2.ensures.new;
+check_opened-requires-clause-begins g c =
+    subst (Begins (kinds_in c.in-Ok.roster)) (sym c.new-4.ensures.inner) (record {
+      kinds_are = c.in-Ok.ensures.kind_entries ∙ ap kinds_of (sym c.in-Ok-new-2.ensures.spec);
+      new = c.in-Ok-new-2.ensures.new;
+    })
+
+pub check_opened-requires-clause-replays : goal.check_opened-requires-clause-replays
+unfolding recorded_of
+check_opened-requires-clause-replays g c = record {
+  numbered = subst AreNumbered (sym c.in-Ok.ensures.kind_entries) c.requires.numbered;
+  told = told_none (kinds_in c.in-Ok.roster);
+  stands = c.new-4.ensures.none;
 }
 
 pub returns-clause-checks : goal.returns-clause-checks
@@ -68,5 +81,5 @@ returns-clause-checks g c = λ old told few few_opens.
       checks_opened c.args.spec.now c.args.trace.now c.args.limits.now c.requires.usable (omega arith) before after old mid new entries taken part
           c.check_opened.result c.args.steps.now c.check_opened.new.steps few few_opens opened takes cost read
           (subst (λ faults. Checked c.args.spec.now c.args.limits.now taken new.held entries part c.check_opened.result faults after) calm
-          (subst (λ kinds. Checked kinds c.args.limits.now taken new.held entries part c.check_opened.result (g.I.Inputs.faults c.open.new.self) after) c.in-Ok-new-2.ensures.spec checked)),
+          (subst (λ kinds. Checked kinds c.args.limits.now taken new.held entries part c.check_opened.result (g.I.Inputs.faults c.open.new.self) after) (ap (λ a. a.spec.now) c.new-4.ensures.inner ∙ c.in-Ok-new-2.ensures.spec) checked)),
     )

@@ -9,7 +9,7 @@ use Rattle.rd_io.proofs.AdvanceLemmas.{takes_none, takes_on, takes_then}
 use Rattle.rd_wf.specs.Roster.{StandsFor, kinds_in}
 use Rattle.rd_run.specs.Walk.{Entry, items, bound_from, ended}
 use Rattle.rd_run.specs.Progress.{WalksTo, ending_for}
-use Rattle.rd_report.specs.declared.endings.Ending.TheVariants.{Refused}
+use Rattle.rd_run.specs.declared.walk.WalkEnd.TheVariants.{Refused}
 use Rattle.rd_run.proofs.WalkLemmas.{items_more, bound_more}
 use Rattle.rd_run.proofs.ContinueLemmas.{continues_fresh, walks_end, walks_refused, continues_line, walks_to_refusal, walks_on, walks_further}
 use Rattle.rd_run.proofs.ProgressLemmas.{cut_line, cut_none, read_so_far}
