@@ -1,20 +1,25 @@
-use Rattle.std.proofs.Common.{◌≡◌, List, [], ◌∷◌, ◌++◌, subst}
+use Rattle.std.proofs.Common.{◌≡◌, ℕ, List, [], ◌∷◌, ◌++◌, length, subst}
 use Rattle.std.proofs.lemmas.Result.{on_ok_weaker}
 use Rattle.rd_event.specs.declared.items.Line.{Line}
 use Rattle.rd_ecl.specs.Kinds.{Kind}
 use Rattle.rd_wf.specs.declared.causes.Accepted.TheVariants as accepted
 use Rattle.rd_wf.specs.declared.roster.Roster.{Roster}
+use Rattle.rd_replay.specs.Replays.{Recorded}
+use Rattle.rd_replay.specs.Replayer.{StandsFor}
 use Rattle.rd_run.specs.Analysis.{IsNextEntry}
 use Rattle.rd_run.specs.Replaying.{Replayed}
 use Rattle.rd_run.specs.Walk.{Entry}
 use Rattle.rd_run.proofs.ReplayingLemmas.{nothing_no_call, nothing_no_object, replayed_object, replayed_quiet, root_no_call, root_no_object}
 use Rattle.rd_run.proofs.replaying.follow.Goals as goal
 
-pub returns-in-Ok-clause-follows : goal.returns-in-Ok-clause-follows
-returns-in-Ok-clause-follows c = λ kinds before item roster replayed next.
+pub returns-in-Object-clause-follows : goal.returns-in-Object-clause-follows
+returns-in-Object-clause-follows c = on_ok_weaker c.follow_object.result
+    (λ (all : (those : List ℕ) (calls : List Recorded) → StandsFor c.args.replayer.now those calls → c.in-Object.object ≡ length those
+    → StandsFor c.follow_object.new.replayer (those ++ c.in-Object.kind ∷ []) calls) kinds before item roster replayed next.
     let entry : Entry = record { number = c.args.number; item = item } in
-    replayed_object kinds before entry c.args.replayer.now c.declare.new.self replayed roster c.args.accepted.now next c.in-Object.object c.in-Object.kind c.in-Object.is
-    c.in-Ok.ensures.ok
+    replayed_object kinds before entry c.args.replayer.now c.follow_object.new.replayer replayed roster c.args.accepted.now next c.in-Object.object c.in-Object.kind
+    c.in-Object.is all)
+    c.follow_object.ensures.follows
 
 pub returns-in-Nothing-clause-follows : goal.returns-in-Nothing-clause-follows
 returns-in-Nothing-clause-follows c = λ kinds before item roster replayed next.

@@ -1,15 +1,18 @@
-use Rattle.std.proofs.Common.{◌≡◌, ◌≢◌, ap}
+use Rattle.std.proofs.Common.{◌≡◌, ◌≢◌, ℕ, List, [], ◌∷◌, ◌++◌, ap}
+use Rattle.std.proofs.lemmas.Result.{on_ok_weaker}
 use Rattle.rd_event.specs.declared.events.Call.{Call as CallOf}
 use Rattle.rd_event.specs.declared.events.Event.TheVariants as numbered
 use Rattle.rd_wf.specs.MayFollow.{object_kinds}
 use Rattle.rd_wf.specs.declared.causes.Accepted.TheVariants as accepted
+use Rattle.rd_replay.specs.Replays.{Recorded}
+use Rattle.rd_replay.specs.Replayer.{IsRecordable, StandsFor}
 use Rattle.rd_run.specs.Replaying.{recorded_of}
 use Rattle.rd_run.specs.Walk.{Entry, items}
 use Rattle.rd_run.proofs.ReplayingLemmas.{call_recordable, event_no_call, event_no_object, replayed_call, replayed_quiet}
 use Rattle.rd_run.proofs.replaying.follow_event.Goals as goal
 
-pub call-requires : goal.call-requires
-call-requires c =
+pub follow_call-requires : goal.follow_call-requires
+follow_call-requires c =
     let (kinds, before, item, roster, replayed, next) = c.requires in
     let entry : Entry = record { number = c.args.number; item = item } in (
       object_kinds kinds (items before),
@@ -25,8 +28,11 @@ returns-in_default-clause-follows c = λ kinds before item roster replayed next.
     replayed_quiet kinds before entry c.args.replayer.now c.args.replayer.now replayed roster (accepted.Event c.args.event.now) next
     (event_no_object c.args.event.now) (event_no_call c.args.event.now c.in_default.not-Call)
 
-pub returns-in-Ok-clause-follows : goal.returns-in-Ok-clause-follows
-returns-in-Ok-clause-follows c = λ kinds before item roster replayed next.
+pub returns-clause-follows : goal.returns-clause-follows
+returns-clause-follows c = on_ok_weaker c.follow_call.result
+    (λ (all : (those : List ℕ) (calls : List Recorded) → StandsFor c.args.replayer.now those calls → IsRecordable those c.in-Call.call
+    → StandsFor c.follow_call.new.replayer those (calls ++ (c.args.number, c.in-Call.call) ∷ [])) kinds before item roster replayed next.
     let entry : Entry = record { number = c.args.number; item = item } in
-    replayed_call kinds before entry c.args.replayer.now c.call.new.self replayed roster (accepted.Event c.args.event.now) next c.in-Call.call
-    (ap accepted.Event c.in-Call.is) c.in-Ok.ensures.stands
+    replayed_call kinds before entry c.args.replayer.now c.follow_call.new.replayer replayed roster (accepted.Event c.args.event.now) next c.in-Call.call
+    (ap accepted.Event c.in-Call.is) all)
+    c.follow_call.ensures.follows
