@@ -1,7 +1,5 @@
 -- What the end of a replay says of each object.
-use Rattle.std.proofs.Common.{◌≡◌, ◌≢◌, ◌⊎◌, ◌↔◌, inl, inr, ℕ, zero, suc, ◌<◌, Bool, true, false, cond, ltb, ◌&&◌, List, [], ◌∷◌, ◌++◌, length, Option, Some, None, refl, sym, ap, ◌∙◌, subst, arith, true≢false}
-use Rattle.std.specs.Prelude.{All, IsSome, slice_get}
-use Rattle.std.specs.List.{list_all}
+use Rattle.std.proofs.Common.{◌≡◌, ◌↔◌, inl, inr, ℕ, zero, suc, ◌<◌, Bool, true, false, cond, ltb, List, [], ◌∷◌, ◌++◌, length, Option, Some, None, refl, sym, ap, ◌∙◌, subst, arith}
 use Rattle.std.specs.Option.{option_and_then, option_or}
 use Rattle.std.proofs.lemmas.Bool.{and_parts, cases_eq, ltb-true}
 use Rattle.std.proofs.lemmas.List.{append_assoc, append-nil}
@@ -9,17 +7,15 @@ use Rattle.std.proofs.lemmas.List.Elements.{All-head, All-tail}
 use Rattle.std.proofs.lemmas.Option.{none-some, same_Some}
 use Rattle.rd_base.specs.declared.values.Value.{Value as Result}
 use Rattle.rd_ecl.specs.Formulas.{same_value}
-use Rattle.rd_event.specs.declared.events.Call.{Call}
 use Rattle.rd_kinds.specs.Machines.{counter_machine, dictionary_machine, machine_of, register_machine, set_machine, shipped_machines}
 use Rattle.rd_object.specs.Machines.{Machine, Step}
 use Rattle.rd_object.specs.Machines.Step.{goes, refuses, unknown}
 use Rattle.rd_object.specs.declared.shapes.Expected.{Expected}
 use Rattle.rd_object.specs.declared.shapes.Expected.TheVariants.{Value}
-use Rattle.rd_object.specs.declared.shapes.ReplayEnd.{ReplayEnd}
 use Rattle.rd_object.specs.declared.shapes.ReplayEnd.TheVariants.{Exact, Differs, NotShipped}
 use Rattle.rd_object.specs.declared.shapes.Shape.{Shape}
-use Rattle.rd_replay.specs.Replays.{FirstDiffers, Recorded, ReplaysAll, all_shipped, difference, ended, first_difference, held, object_machine, replay_end, result_of, shape_after, shape_by, step_at, told, unlike}
-use Rattle.rd_replay.proofs.ReplayLemmas.{AreDeclared, difference_here, held_elsewhere, held_here, shape_then}
+use Rattle.rd_replay.specs.Replays.{FirstDiffers, Recorded, ReplaysAll, all_shipped, difference, ended, first_difference, held, object_machine, replay_end, result_of, shape_after, step_at, told, unlike}
+use Rattle.rd_replay.proofs.ReplayLemmas.{AreDeclared, difference_here, end_of, exact_parts, held_elsewhere, held_here, nothing_more}
 
 -- ---- one call
 
@@ -100,6 +96,36 @@ module _ (kinds : List ℕ) (shipped : all_shipped kinds ≡ true) where
       neither None p e = (refl, e)
       neither (Some expected) p e = absurd (none-some _ (sym e))
 
+  -- behind one that gives something else its object holds nothing
+  holds_nothing : (calls : List Recorded) (last : Recorded) (expected : Expected) → Holds calls → last.1.object < length kinds
+      → difference kinds calls last.1 ≡ Some expected → held kinds (calls ++ last ∷ []) last.1.object ≡ None
+  holds_nothing calls last expected holds declared other =
+      let (shape, is) = holds last.1.object declared in
+      let (machine, has) = machine_at kinds last.1.object shipped declared in
+      held_here kinds calls last machine shape has is
+      ∙ none_behind (step_at machine shape last.1) (result_of last.1.slots) expected (sym (difference_here kinds calls last.1 machine shape has is) ∙ other)
+
+  -- where each object holds something in the end, no call differs
+  none_differs : (before calls : List Recorded) → Holds before → AreDeclared kinds calls → Holds (before ++ calls) → first_difference kinds before calls ≡ None
+  none_differs before [] holds all ends = refl
+  none_differs before (recorded ∷ calls) holds all ends =
+      by (difference kinds before recorded.1) refl
+      (λ is. none_differs (before ++ recorded ∷ []) calls (holds_more before recorded holds here is)
+      (All-tail (λ (r : Recorded). r.1.object < length kinds) recorded calls all)
+      (subst Holds (sym (append_assoc before (recorded ∷ []) calls)) ends))
+    where
+      here : recorded.1.object < length kinds
+      here = All-head (λ (r : Recorded). r.1.object < length kinds) recorded calls all
+
+      by : (o : Option Expected) → difference kinds before recorded.1 ≡ o
+          → (difference kinds before recorded.1 ≡ None → first_difference kinds (before ++ recorded ∷ []) calls ≡ None)
+          → first_difference kinds before (recorded ∷ calls) ≡ None
+      by (Some expected) is later =
+          let (shape, some) = ends recorded.1.object here in
+          let nothing = nothing_more kinds (before ++ recorded ∷ []) calls recorded.1.object (holds_nothing before recorded expected holds here is) in
+          absurd (none-some shape (sym nothing ∙ (ap (λ all. held kinds all recorded.1.object) (append_assoc before (recorded ∷ []) calls) ∙ some)))
+      by None is later = ap (λ o. option_or (told recorded.0 o) (first_difference kinds (before ++ recorded ∷ []) calls)) is ∙ later is
+
   -- where one does, the first that does is behind calls that don't
   differs_first : (before calls : List Recorded) (first : ℕ × Expected) → Holds before → AreDeclared kinds calls → first_difference kinds before calls ≡ Some first
       → FirstDiffers kinds before calls first.0 first.1
@@ -119,21 +145,28 @@ module _ (kinds : List ℕ) (shipped : all_shipped kinds ≡ true) where
           inl (ap (λ f. f.0) same, is ∙ ap (λ f. Some f.1) same)
       by None is later = inr (is, later is)
 
+-- the first that differs is found
+first_found : (kinds : List ℕ) (before calls : List Recorded) (line : ℕ) (expected : Expected) → FirstDiffers kinds before calls line expected
+    → first_difference kinds before calls ≡ Some (line, expected)
+first_found kinds before [] line expected none = absurd none
+first_found kinds before (recorded ∷ calls) line expected (inl (same, is)) =
+    ap (λ o. option_or (told recorded.0 o) (first_difference kinds (before ++ recorded ∷ []) calls)) is ∙ ap (λ l. Some (l, expected)) same
+first_found kinds before (recorded ∷ calls) line expected (inr (is, later)) =
+    ap (λ o. option_or (told recorded.0 o) (first_difference kinds (before ++ recorded ∷ []) calls)) is
+    ∙ first_found kinds (before ++ recorded ∷ []) calls line expected later
+
 -- ---- the end
 
-pub exact_holds : (kinds : List ℕ) (calls : List Recorded) → AreDeclared kinds calls → replay_end kinds calls ≡ Exact → ReplaysAll kinds calls
-unfolding replay_end
-exact_holds kinds calls all exact = by (all_shipped kinds) refl (first_difference kinds [] calls) refl exact
-  where
-    by : (b : Bool) → all_shipped kinds ≡ b → (o : Option (ℕ × Expected)) → first_difference kinds [] calls ≡ o → cond b (ended o) NotShipped ≡ Exact → ReplaysAll kinds calls
-    by true shipped None none e = (shipped, holds_all kinds shipped [] calls (holds_first kinds shipped) all none)
-    by true shipped (Some first) some e = cc
-    by false shipped o is e = cc
+pub exact_where : (kinds : List ℕ) (calls : List Recorded) → AreDeclared kinds calls → (replay_end kinds calls ≡ Exact) ↔ ReplaysAll kinds calls
+exact_where kinds calls all = (
+  λ exact. let was = exact_parts kinds calls exact in (was.shipped, holds_all kinds was.shipped [] calls (holds_first kinds was.shipped) all was.none),
+  λ replays. end_of kinds calls None replays.0 (none_differs kinds replays.0 [] calls (holds_first kinds replays.0) all replays.1),
+)
 
-pub differs_where : (kinds : List ℕ) (calls : List Recorded) (line : ℕ) (expected : Expected) → AreDeclared kinds calls → replay_end kinds calls ≡ Differs line expected
+differs_holds : (kinds : List ℕ) (calls : List Recorded) (line : ℕ) (expected : Expected) → AreDeclared kinds calls → replay_end kinds calls ≡ Differs line expected
     → (all_shipped kinds ≡ true) × FirstDiffers kinds [] calls line expected
 unfolding replay_end
-differs_where kinds calls line expected all differs = by (all_shipped kinds) refl (first_difference kinds [] calls) refl differs
+differs_holds kinds calls line expected all differs = by (all_shipped kinds) refl (first_difference kinds [] calls) refl differs
   where
     by : (b : Bool) → all_shipped kinds ≡ b → (o : Option (ℕ × Expected)) → first_difference kinds [] calls ≡ o → cond b (ended o) NotShipped ≡ Differs line expected
         → (all_shipped kinds ≡ true) × FirstDiffers kinds [] calls line expected
@@ -149,6 +182,13 @@ differs_where kinds calls line expected all differs = by (all_shipped kinds) ref
         value_of : (a b : ℕ) (x y : Expected) → Differs a x ≡ Differs b y → x ≡ y
         value_of a b x y same = cc
     by false shipped o is e = cc
+
+pub differs_where : (kinds : List ℕ) (calls : List Recorded) (line : ℕ) (expected : Expected) → AreDeclared kinds calls
+    → (replay_end kinds calls ≡ Differs line expected) ↔ ((all_shipped kinds ≡ true) × FirstDiffers kinds [] calls line expected)
+differs_where kinds calls line expected all = (
+  differs_holds kinds calls line expected all,
+  λ differs. end_of kinds calls (Some (line, expected)) differs.0 (first_found kinds [] calls line expected differs.1),
+)
 
 pub not_shipped_where : (kinds : List ℕ) (calls : List Recorded) → (replay_end kinds calls ≡ NotShipped) ↔ (all_shipped kinds ≡ false)
 unfolding replay_end

@@ -1,9 +1,8 @@
 -- Replays of more calls, and of calls on more objects.
-use Rattle.std.proofs.Common.{◌≡◌, ◌≢◌, ◌⊎◌, inl, inr, ℕ, ◌+◌, ◌<◌, ◌≤◌, Bool, true, false, cond, eqb, ltb, ◌&&◌, List, [], ◌∷◌, ◌++◌, length, Option, Some, None, refl, sym, ap, ◌∙◌, subst, arith, true≢false}
+use Rattle.std.proofs.Common.{◌≡◌, ◌≢◌, ℕ, ◌<◌, ◌≤◌, Bool, true, false, cond, ltb, ◌&&◌, List, [], ◌∷◌, ◌++◌, length, Option, Some, None, refl, sym, ap, ◌∙◌, arith}
 use Rattle.std.specs.Prelude.{All, filter, slice_get}
-use Rattle.std.specs.List.{list_all}
 use Rattle.std.specs.Option.{option_and_then, option_or}
-use Rattle.std.proofs.lemmas.Bool.{and_parts, eqb-true, eq-eqb, ne_eqb, le-ltb, lt-ltb}
+use Rattle.std.proofs.lemmas.Bool.{eq-eqb, ne_eqb, le-ltb, lt-ltb}
 use Rattle.std.proofs.lemmas.List.{append_assoc, append-nil}
 use Rattle.std.proofs.lemmas.List.Elements.{All-head, All-tail, filter-append}
 use Rattle.std.proofs.lemmas.List.Folds.{list_all-append}
@@ -11,7 +10,6 @@ use Rattle.rd_event.specs.declared.events.Call.{Call}
 use Rattle.rd_kinds.specs.Machines.{machine_of, shipped_machines}
 use Rattle.rd_object.specs.Machines.{Machine}
 use Rattle.rd_object.specs.declared.shapes.Expected.{Expected}
-use Rattle.rd_object.specs.declared.shapes.ReplayEnd.{ReplayEnd}
 use Rattle.rd_object.specs.declared.shapes.ReplayEnd.TheVariants.{Exact, Differs, NotShipped}
 use Rattle.rd_object.specs.declared.shapes.Shape.{Shape}
 use Rattle.rd_order.proofs.OrderLemmas.{at_front}
@@ -38,6 +36,14 @@ shape_more machine shape (recorded ∷ calls) last =
     then_more (λ next. shape_by machine next (calls ++ last ∷ [])) (λ next. shape_by machine next calls) (λ next. shape_then machine next last)
     (λ next. shape_more machine next calls last) (shape_then machine shape recorded)
 
+-- the shape behind more calls
+shape_append : (machine : Machine) (shape : Shape) (calls more : List Recorded)
+    → shape_by machine shape (calls ++ more) ≡ option_and_then (λ next. shape_by machine next more) (shape_by machine shape calls)
+shape_append machine shape [] more = refl
+shape_append machine shape (recorded ∷ calls) more =
+    then_more (λ next. shape_by machine next (calls ++ more)) (λ next. shape_by machine next calls) (λ next. shape_by machine next more)
+    (λ next. shape_append machine next calls more) (shape_then machine shape recorded)
+
 -- the calls on an object, where the last is on it, and where it isn't
 calls_here : (object : ℕ) (calls : List Recorded) (last : Recorded) → last.1.object ≡ object → calls_on object (calls ++ last ∷ []) ≡ calls_on object calls ++ last ∷ []
 calls_here object calls last here =
@@ -62,6 +68,19 @@ held_here kinds calls last machine shape is holds =
     ap (option_and_then (λ m. shape_by m m.first (calls_on last.1.object (calls ++ last ∷ [])))) is
     ∙ (ap (shape_by machine machine.first) (calls_here last.1.object calls last refl)
     ∙ (shape_more machine machine.first (calls_on last.1.object calls) last ∙ ap (option_and_then (λ next. shape_then machine next last)) before))
+
+-- an object that holds nothing holds nothing behind more calls
+pub nothing_more : (kinds : List ℕ) (calls more : List Recorded) (object : ℕ) → held kinds calls object ≡ None → held kinds (calls ++ more) object ≡ None
+nothing_more kinds calls more object nothing =
+    ap (λ own. option_and_then (λ machine. shape_by machine machine.first own) (object_machine kinds object)) (filter-append (is_on object) calls more)
+    ∙ by (object_machine kinds object) nothing
+  where
+    by : (o : Option Machine) → option_and_then (λ machine. shape_by machine machine.first (calls_on object calls)) o ≡ None
+        → option_and_then (λ machine. shape_by machine machine.first (calls_on object calls ++ calls_on object more)) o ≡ None
+    by None e = refl
+    by (Some machine) e =
+        shape_append machine machine.first (calls_on object calls) (calls_on object more)
+        ∙ ap (option_and_then (λ next. shape_by machine next (calls_on object more))) e
 
 -- what a machine gives at a call in place of what was recorded
 pub difference_here : (kinds : List ℕ) (calls : List Recorded) (call : Call) (machine : Machine) (shape : Shape) → object_machine kinds call.object ≡ Some machine

@@ -1,6 +1,6 @@
 -- What a replayer stands for behind one object or one call more.
-use Rattle.std.proofs.Common.{◌≡◌, ◌≢◌, ◌⊎◌, inl, inr, ℕ, zero, suc, ◌+◌, ◌<◌, ◌≤◌, Bool, true, List, [], ◌∷◌, ◌++◌, length, Option, Some, None, refl, sym, ap, ◌∙◌, subst, arith}
-use Rattle.std.specs.Prelude.{◌-◌, All, get_or, set, slice_get}
+use Rattle.std.proofs.Common.{◌≡◌, ◌≢◌, inl, inr, ℕ, zero, suc, ◌<◌, ◌≤◌, List, [], ◌∷◌, ◌++◌, length, Some, None, refl, sym, ap, ◌∙◌, subst, arith}
+use Rattle.std.specs.Prelude.{◌-◌, get_or, set, slice_get}
 use Rattle.std.specs.Option.{option_and_then}
 use Rattle.std.proofs.lemmas.Bool.{cases_eq, cases_lt}
 use Rattle.std.proofs.lemmas.List.{length-set, length-take}
@@ -11,9 +11,8 @@ use Rattle.rd_kinds.specs.Machines.{machine_of, shipped_machines}
 use Rattle.rd_kinds.specs.Objects.{kind_of, machine_for, shape_of}
 use Rattle.rd_kinds.specs.declared.objects.Object.{Object}
 use Rattle.rd_kinds.specs.declared.objects.Object.TheVariants.{Register, Counter, Set, Dictionary}
-use Rattle.rd_object.specs.Machines.{IsTaken, Machine}
+use Rattle.rd_object.specs.Machines.{IsTaken}
 use Rattle.rd_object.specs.declared.shapes.Expected.{Expected}
-use Rattle.rd_object.specs.declared.shapes.ReplayEnd.{ReplayEnd}
 use Rattle.rd_object.specs.declared.shapes.ReplayEnd.TheVariants.{Exact, Differs, NotShipped}
 use Rattle.rd_order.proofs.OrderLemmas.{at_end, at_front, length_more}
 use Rattle.rd_replay.specs.Replays.{Recorded, arguments_of, difference, held, object_machine, replay_end, result_of, shape_after, step_at, unlike}

@@ -1,5 +1,5 @@
 -- What a replayer keeps of the objects and calls that it was told of.
-use Rattle.std.specs.Prelude.{◌≡◌, ℕ, ◌+◌, ◌<◌, List, [], ◌∷◌, ◌++◌, length, slice_get, All, Some}
+use Rattle.std.specs.Prelude.{◌≡◌, ℕ, ◌<◌, List, length, slice_get, All, Some}
 use Rattle.rd_ecl.specs.Specified.{slots_at}
 use Rattle.rd_event.specs.declared.events.Call.{Call}
 use Rattle.rd_kinds.specs.Machines.{machine_of}

@@ -1,8 +1,6 @@
-use Rattle.std.proofs.Common.{◌≡◌, ◌<◌, Some, arith, ap, refl, sym, ◌∙◌}
-use Rattle.std.specs.Prelude.{length, slice_get}
+use Rattle.std.proofs.Common.{Some, arith, ap, refl, sym, ◌∙◌}
 use Rattle.std.proofs.lemmas.Option.{slice_get-get_or}
-use Rattle.rd_kinds.specs.declared.objects.Object.{Object}
-use Rattle.rd_replay.proofs.ReplayerLemmas.{differs_answer, differs_stands, fits_here, inside_here, same_answer, same_stands, stands_stopped, stands_unshipped, still_stands, stopped_answer, unshipped_answer}
+use Rattle.rd_replay.proofs.ReplayerLemmas.{differs_answer, differs_stands, fits_here, inside_here, same_answer, same_stands, stands_stopped, stands_unshipped}
 use Rattle.rd_replay.proofs.replayer.Replayer.call.Goals as goal
 
 pub returns-in-NotShipped-clause-stands : goal.returns-in-NotShipped-clause-stands

@@ -1,5 +1,5 @@
-use Rattle.std.proofs.Common.{◌≡◌, ◌≤◌, ◌<◌, arith, refl}
-use Rattle.rd_replay.proofs.ReplayerLemmas.{machine_is, stands_declared, stands_foreign, stands_unchanged, stands_unkept}
+use Rattle.std.proofs.Common.{◌≡◌, arith, refl}
+use Rattle.rd_replay.proofs.ReplayerLemmas.{machine_is, stands_declared, stands_foreign, stands_unkept}
 use Rattle.rd_replay.proofs.replayer.Replayer.declare.Goals as goal
 
 pub returns-then-kind-shipped_count-clause-ok : goal.returns-then-kind-shipped_count-clause-ok

@@ -1,5 +1,5 @@
 use Rattle.std.proofs.Common.{◌≡◌, ◌<◌, Some, arith, ap, sym, ◌∙◌}
-use Rattle.std.specs.Prelude.{length, slice_get}
+use Rattle.std.specs.Prelude.{length}
 use Rattle.std.proofs.lemmas.Option.{slice_get-get_or}
 use Rattle.std.proofs.lemmas.Result.{IfOk-weaker}
 use Rattle.rd_object.specs.declared.shapes.ReplayEnd.TheVariants.{Exact}
