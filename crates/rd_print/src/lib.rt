@@ -14,4 +14,4 @@ mod tests;
 
 pub use laws::law_of_printed_texts;
 pub use pairs::formula_text;
-pub use printing::print;
+pub use printing::{print, print_kind};

@@ -1,5 +1,5 @@
 //! The text of a specification.
-ghost use Rattle.std.specs.Prelude.{◌≡◌, ◌++◌, IfOk, OnOk};
+ghost use Rattle.std.specs.Prelude.{◌≡◌, ◌++◌, [], ◌∷◌, IfOk, OnOk};
 ghost use Rattle.rd_print.specs.Printed.{AreNames, HasNames, HasValues, HaveValues, block_text, spec_text};
 
 use crate::lines::{append_head, append_methods};
@@ -7,6 +7,9 @@ use crate::pairs::append_pairs;
 use rd_base::{Bytes, NoMemory};
 use rd_ecl::{KindSpec, Spec};
 use std::alloc::Global;
+
+// The first line.
+const HEADER: &[u8] = b"rdspec 1\n";
 
 // Puts the lines of a kind last.
 fn append_kind(alloc: Global, text: &mut Bytes, kind: &KindSpec) -> Result<(), NoMemory>
@@ -27,10 +30,23 @@ pub fn print(alloc: Global, spec: &Spec) -> Result<Bytes, NoMemory>
     ensures names { IfOk result (λ _. AreNames spec.now) }
 {
     let mut text = Bytes::new(alloc);
-    text.append(b"rdspec 1\n")?;
+    text.append(HEADER)?;
     let kinds = spec.kinds();
     for kind in kinds {
         append_kind(alloc, &mut text, kind)?;
     }
     Ok(text)
+}
+
+/// The canonical text of one kind alone: the header, then the line of the kind, those of its methods and those of their pairs. Each
+/// constant of its formulas is a value, and what it and its methods are called are names.
+pub fn print_kind(alloc: Global, kind: &KindSpec) -> Result<Bytes, NoMemory>
+    ensures text { IfOk result (λ text. text ≡ spec_text (kind.now ∷ [])) }
+    ensures values { IfOk result (λ _. HasValues kind.now) }
+    ensures names { IfOk result (λ _. HasNames kind.now) }
+{
+    let mut printed = Bytes::new(alloc);
+    printed.append(HEADER)?;
+    append_kind(alloc, &mut printed, kind)?;
+    Ok(printed)
 }

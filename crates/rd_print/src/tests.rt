@@ -208,6 +208,20 @@ fn prints_specifications(rt: HostRuntime) -> Result<(), Fail> {
 }
 
 #[test]
+fn prints_one_kind(rt: HostRuntime) -> Result<(), Fail> {
+    let alloc = rt.alloc();
+    assert_eq!(rt;
+        print_kind(alloc, &bare(alloc)?)?.items(),
+        b"rdspec 1\nkind k\n".as_slice()
+    );
+    assert_eq!(rt;
+        print_kind(alloc, &map(alloc)?)?.items(),
+        b"rdspec 1\nkind map.1\nmethod put key value -> prev\ncommute put put when key@1 != key@2\n".as_slice()
+    );
+    Ok(())
+}
+
+#[test]
 fn writes_one_pair(rt: HostRuntime) -> Result<(), Fail> {
     let alloc = rt.alloc();
     let cell = cell(alloc)?;
