@@ -1,5 +1,5 @@
-//! Runs `check` over each trace of the examples, with a specification where its objects need one, and `spec` over each specification,
-//! and says how it ended and whether it wrote what stands in the file beside it.
+//! Runs `check` over each trace of the examples, with a specification where its objects need one, `replay` over some, and `spec` over each
+//! specification, and says how it ended and whether it wrote what stands in the file beside it.
 #![tactic(auto)]
 
 ghost use Rattle.std.specs.Prelude.{◌≡◌, ◌<◌};
@@ -52,6 +52,16 @@ const TRACES: [(&str, &str); 36] = [
     ("texts.trace", "texts.out"),
     ("unwritten_lock.trace", "unwritten_lock.out"),
     ("updates_in_turn.trace", "updates_in_turn.out"),
+];
+
+/// Traces, each with what `replay` writes for it.
+const REPLAYS: [(&str, &str); 6] = [
+    ("check_then_act.trace", "check_then_act.replay.out"),
+    ("dictionary_update.trace", "dictionary_update.replay.out"),
+    ("guarded_counter.trace", "guarded_counter.replay.out"),
+    ("refused_bad_line.trace", "refused_bad_line.replay.out"),
+    ("replay_differs.trace", "replay_differs.replay.out"),
+    ("updates_in_turn.trace", "updates_in_turn.replay.out"),
 ];
 
 /// The specifications, each with what `spec` writes for it.
@@ -148,7 +158,7 @@ fn example<R: Files + Alloc<A = Global> + Print>(
 ) -> Option<()> {
     let alloc = rt.alloc();
     let bytes = fs::read(rt, file).ok()?;
-    let wanted = fs::read(rt, wanted).ok()?;
+    let text = fs::read(rt, wanted).ok()?;
     let mut inputs = MemoryInputs::new(alloc, &[]).ok()?;
     let name = Word::from_bytes(alloc, file.as_bytes()).ok()?;
     inputs.add(&name, &bytes, 4096).ok()?;
@@ -157,7 +167,7 @@ fn example<R: Files + Alloc<A = Global> + Print>(
         .push(Word::from_bytes(alloc, command.as_bytes()).ok()?)
         .ok()?;
     words.push(name).ok()?;
-    tell(rt, &words, &mut inputs, &wanted, file)
+    tell(rt, &words, &mut inputs, &text, wanted)
 }
 
 /// Runs `check` over a trace with a specification. None where a file can't be read, memory runs out or writing fails.
@@ -189,6 +199,11 @@ fn specified<R: Files + Alloc<A = Global> + Print>(
 fn main(rt: HostRuntime) -> ExitCode {
     for (trace, wanted) in TRACES {
         if example(&rt, "check", trace, wanted).is_none() {
+            return ExitCode::FAILURE;
+        }
+    }
+    for (trace, wanted) in REPLAYS {
+        if example(&rt, "replay", trace, wanted).is_none() {
             return ExitCode::FAILURE;
         }
     }

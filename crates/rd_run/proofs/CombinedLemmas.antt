@@ -3,33 +3,45 @@ use Rattle.std.proofs.Common.{◌≡◌, ◌≢◌, ℕ, ◌+◌, ◌^◌, ◌<�
 use Rattle.std.specs.Prelude.{is_none}
 use Rattle.std.proofs.lemmas.Bool.Decides.{nat_tests}
 use Rattle.rd_base.specs.declared.limits.Limits.{Limits}
+use Rattle.rd_ecl.specs.Kinds.{kinds_of}
 use Rattle.rd_ecl.specs.Specified.{SpecifiedKind}
 use Rattle.rd_io.specs.Inputs.{Source, Rose, file_of}
 use Rattle.rd_kinds.specs.Shipped.{reserved_names, shipped_kinds}
 use Rattle.rd_spec.specs.Texts.{IsSpecRefused, SpecSays}
 use Rattle.rd_spec.specs.declared.parsing.SpecRefused.{SpecRefused as Refusal}
-use Rattle.rd_run.specs.Output.{HasOutcome, IsOutput, Outcome}
-use Rattle.rd_run.specs.Runs.{AreKinds, ChecksTrace, IsCheckOutcome, IsTraceOutcome, LeavesSpec, OpensOnly, ReadsSpec, Runs, TakesTrace}
-use Rattle.rd_run.specs.Runs.Command.{check}
+use Rattle.rd_run.specs.Output.{HasOutcome, IsOutput, IsWell, Outcome, check_outcome, replay_outcome}
+use Rattle.rd_run.specs.Runs.{AreKinds, IsCheckOutcome, IsTraceOutcome, LeavesSpec, OpensOnly, ReadsSpec, ReportsTrace, Runs, TakesTrace, built_in_kinds}
+use Rattle.rd_run.specs.Runs.Command.{check, replay}
 use Rattle.rd_run.specs.Specifications.{TellsUnread, fault_outcome, most_bytes, refused_outcome}
 use Rattle.rd_run.specs.declared.specifications.Unread.{Unread}
 use Rattle.rd_run.specs.declared.specifications.Unread.TheVariants.{Fault, Refused, NoMemory as OutOfMemory}
 use Rattle.rd_run.specs.declared.status.Status.{Status}
 use Rattle.rd_run.specs.declared.status.Status.TheVariants.{NoMemory}
-use Rattle.rd_run.proofs.OutputLemmas.{has_outcome, outcome_of}
+use Rattle.rd_run.specs.declared.analysis.Halt.TheVariants as halt
+use Rattle.rd_run.proofs.OutputLemmas.{fault_no_well, halted_no_well, has_outcome, outcome_of, refusal_no_well, well_written}
 
 -- ---- without a specification
 
 pub runs_shipped : (trace : List ℕ) (limits : Limits) (rose : Bool) (old new : Source) (part : List ℕ) (status : Status) (before after : ℕ)
-    → ChecksTrace shipped_kinds trace limits rose old new part status before after → Runs (Some (check trace None)) limits rose old new part status before after
+    → ReportsTrace (check_outcome shipped_kinds) built_in_kinds trace limits rose old new part status before after → Runs (Some (check trace None)) limits rose old new part status before after
 runs_shipped trace limits rose old new part status before after checks = record {
-  output = outcome_of (IsTraceOutcome shipped_kinds trace limits rose old new) (IsCheckOutcome trace None limits rose old new)
+  output = outcome_of (IsTraceOutcome (check_outcome shipped_kinds) built_in_kinds trace limits rose old new) (IsCheckOutcome trace None limits rose old new)
       (λ outcome is. elim is [
         | inl fault ↦ inl fault
         | inr checked ↦ inr (record { all_opened = checked.0; kinds = shipped_kinds; are = refl; is = checked.1 })
       ]) status part checks.output;
   opened = checks.opened;
   taken = (λ more. (shipped_kinds, refl, checks.taken more), λ same. (checks.unopened same).0);
+  read = λ well. (shipped_kinds, refl, checks.read well);
+}
+
+pub runs_replay : (trace : List ℕ) (limits : Limits) (rose : Bool) (old new : Source) (part : List ℕ) (status : Status) (before after : ℕ)
+    → ReportsTrace (replay_outcome built_in_kinds) built_in_kinds trace limits rose old new part status before after → Runs (Some (replay trace)) limits rose old new part status before after
+runs_replay trace limits rose old new part status before after reports = record {
+  output = reports.output;
+  opened = reports.opened;
+  taken = (reports.taken, λ same. (reports.unopened same).0);
+  read = reports.read;
 }
 
 -- ---- a specification that isn't there
@@ -46,9 +58,9 @@ more_files file trace old new opened = record {
 module _ (trace file : List ℕ) (limits : Limits) (before now : ℕ) (old new : Source) (part : List ℕ) (status : Status) (steps : ℕ) (few : before < 2 ^ 63)
     (leaves : LeavesSpec file old new) where
   -- with that outcome
-  unread_with : HasOutcome (IsCheckOutcome trace (Some file) limits (ltb before now) old new) status part
+  unread_with : HasOutcome (IsCheckOutcome trace (Some file) limits (ltb before now) old new) status part → ¬ (IsWell status)
       → Runs (Some (check trace (Some file))) limits (ltb before now) old new part status steps steps
-  unread_with output = record {
+  unread_with output other = record {
     output = output;
     opened = more_files file trace old new leaves.opened;
     taken = (
@@ -56,6 +68,7 @@ module _ (trace file : List ℕ) (limits : Limits) (before now : ℕ) (old new :
       λ more. (leaves.taken more, refl),
       λ same. refl,
     );
+    read = λ well. absurd (other well);
   }
 
   pub unread_faulted : Rose before now → IsOutput status part fault_outcome
@@ -64,6 +77,7 @@ module _ (trace file : List ℕ) (limits : Limits) (before now : ℕ) (old new :
       let rose : ltb before now ≡ true = grind (arith, nat_tests) in
       unread_with (has_outcome (IsCheckOutcome trace (Some file) limits (ltb before now) old new) status part fault_outcome
       (inl (record { risen = rose; some_unopened = omega (arith, leaves.opened.opens); is = refl })) output)
+      (λ well. fault_no_well (well_written status part fault_outcome well output))
 
   pub unread_refused : now ≡ before → (bytes : List ℕ) (refused : Refusal) → ReadsSpec file old new bytes → IsSpecRefused bytes reserved_names refused
       → IsOutput status part (refused_outcome refused) → Runs (Some (check trace (Some file))) limits (ltb before now) old new part status steps steps
@@ -71,10 +85,12 @@ module _ (trace file : List ℕ) (limits : Limits) (before now : ℕ) (old new :
       let quiet : ltb before now ≡ false = grind (arith, nat_tests) in
       unread_with (has_outcome (IsCheckOutcome trace (Some file) limits (ltb before now) old new) status part (refused_outcome refused)
       (inr (inl (record { calm = quiet; one_opened = reads.opens; bytes = bytes; text = reads.text; refused = refused; refuses = refuses; is = refl }))) output)
+      (λ well. refusal_no_well refused.cause (well_written status part (refused_outcome refused) well output))
 
   pub unread_without : status ≡ NoMemory → part ≡ [] → Runs (Some (check trace (Some file))) limits (ltb before now) old new part status steps steps
   unread_without is none =
       unread_with (subst (λ s. HasOutcome (IsCheckOutcome trace (Some file) limits (ltb before now) old new) s part) (sym is) (inl none))
+      (λ well. halted_no_well halt.NoMemory (subst IsWell is well))
 
   -- as it is told why the specification isn't there
   pub unread_told : (unread : Unread) → TellsUnread unread status part → (unread ≡ Fault → Rose before now) → (unread ≢ Fault → now ≡ before)
@@ -89,7 +105,7 @@ module _ (trace file : List ℕ) (limits : Limits) (before now : ℕ) (old new :
 
 module _ (trace file : List ℕ) (limits : Limits) (rose : Bool) (old mid new : Source) (part : List ℕ) (status : Status) (before after : ℕ)
     (leaves : LeavesSpec file old mid) (bytes : List ℕ) (said : List SpecifiedKind) (reads : ReadsSpec file old mid bytes) (says : SpecSays bytes reserved_names said)
-    (checks : ChecksTrace (shipped_kinds ++ said) trace limits rose mid new part status before after) where
+    (checks : ReportsTrace (check_outcome (shipped_kinds ++ said)) (kinds_of (shipped_kinds ++ said)) trace limits rose mid new part status before after) where
   abbrev kinds : List SpecifiedKind
   kinds = shipped_kinds ++ said
 
@@ -97,18 +113,18 @@ module _ (trace file : List ℕ) (limits : Limits) (rose : Bool) (old mid new : 
   are = (bytes, said, reads.text, says, refl)
 
   abbrev Traced : List (List ℕ × List ℕ) → Type 0
-  Traced files = (outcome : Outcome) → IsTraceOutcome kinds trace limits rose (record mid { files = files }) new outcome → IsCheckOutcome trace (Some file) limits rose old new outcome
+  Traced files = (outcome : Outcome) → IsTraceOutcome (check_outcome kinds) (kinds_of kinds) trace limits rose (record mid { files = files }) new outcome → IsCheckOutcome trace (Some file) limits rose old new outcome
 
-  traced : (outcome : Outcome) → IsTraceOutcome kinds trace limits rose (record mid { files = old.files }) new outcome → IsCheckOutcome trace (Some file) limits rose old new outcome
+  traced : (outcome : Outcome) → IsTraceOutcome (check_outcome kinds) (kinds_of kinds) trace limits rose (record mid { files = old.files }) new outcome → IsCheckOutcome trace (Some file) limits rose old new outcome
   traced outcome (inl fault) = inl (record { risen = fault.risen; some_unopened = omega (arith, fault.some_unopened, reads.opens); is = fault.is })
   traced outcome (inr checked) = inr (inr (record { all_opened = omega (arith, checked.0, reads.opens); kinds = kinds; are = are; is = checked.1 }))
 
-  took : TakesTrace kinds trace limits rose (record mid { files = old.files }) new before after → TakesTrace kinds trace limits rose old new before after
+  took : TakesTrace (kinds_of kinds) trace limits rose (record mid { files = old.files }) new before after → TakesTrace (kinds_of kinds) trace limits rose old new before after
   took takes = record { whole = takes.whole; read = takes.read; cost = takes.cost }
 
   pub runs_said : Runs (Some (check trace (Some file))) limits rose old new part status before after
   runs_said = record {
-    output = outcome_of (IsTraceOutcome kinds trace limits rose mid new) (IsCheckOutcome trace (Some file) limits rose old new)
+    output = outcome_of (IsTraceOutcome (check_outcome kinds) (kinds_of kinds) trace limits rose mid new) (IsCheckOutcome trace (Some file) limits rose old new)
         (subst Traced (sym leaves.opened.files) traced) status part checks.output;
     opened = record {
       files = checks.opened.files ∙ leaves.opened.files;
@@ -122,7 +138,7 @@ module _ (trace file : List ℕ) (limits : Limits) (rose : Bool) (old mid new : 
       λ more. (
         kinds,
         are,
-        took (subst (λ files. TakesTrace kinds trace limits rose (record mid { files = files }) new before after) leaves.opened.files (checks.taken (omega (arith, more, reads.opens)))),
+        took (subst (λ files. TakesTrace (kinds_of kinds) trace limits rose (record mid { files = files }) new before after) leaves.opened.files (checks.taken (omega (arith, more, reads.opens)))),
       ),
       λ more.
           let (cost, taken, held) = checks.unopened (omega (arith, more, reads.opens)) in
@@ -135,4 +151,10 @@ module _ (trace file : List ℕ) (limits : Limits) (rose : Bool) (old mid new : 
           ),
       λ same. absurd (omega (arith, same, reads.opens, checks.opened.later)),
     );
+    read = λ well.
+        let whole = checks.read well in (
+          kinds,
+          are,
+          record { none_left = whole.none_left; whole = subst (λ files. file_of files trace ≡ Some new.taken) leaves.opened.files whole.whole; well = whole.well },
+        );
   }

@@ -25,11 +25,11 @@ module _ (kinds : List Kind) where
   unfolding trace_of after
   continues_fresh limits stop more = refl
 
-  to_ended : (limits : Limits) (taken held : List ℕ) (entries : List Entry) (number : ℕ) (cause : TraceCause) (none : Bool)
+  to_ended : (limits : Limits) (taken held : List ℕ) (entries : List Entry) (number : ℕ) (cause : TraceCause) (none : Bool) → held ≡ []
       → trace_of kinds limits end (taken ++ held) ≡ after entries (ends (cond none (Refused number cause) End))
       → WalksTo kinds limits taken held entries (cond none (Refused number cause) End)
-  to_ended limits taken held entries number cause true is = is
-  to_ended limits taken held entries number cause false is = is
+  to_ended limits taken held entries number cause true all is = is
+  to_ended limits taken held entries number cause false all is = (all, is)
 
   module _ (limits : Limits) (taken bytes : List ℕ) (old new : Reader) (entries : List Entry) (so_far : Continues kinds limits taken old entries) where
     -- further bytes of the same input
@@ -60,7 +60,7 @@ module _ (kinds : List Kind) where
         → WalksTo kinds limits (taken ++ bytes) held entries (ended limits (items entries) (new.number + 1) at_end)
     walks_end held is same none =
         rw same
-        (to_ended limits (taken ++ bytes) held entries (old.number + 1) (Wf HeaderFirst) (eqb (headers (items entries)) 0)
+        (to_ended limits (taken ++ bytes) held entries (old.number + 1) (Wf HeaderFirst) (eqb (headers (items entries)) 0) none
         (ap (trace_of kinds limits end) (at_held held none) ∙ stopped end at_end is))
 
     pub walks_refused : (held : List ℕ) (refused : ReadEnd) → Tells old bytes new (Err refused) → Moves old new (Err refused)

@@ -1,6 +1,5 @@
 -- What is written before a read fails is a front of what is written for all bytes.
 use Rattle.std.proofs.Common.{◌≡◌, ◌<◌, ◌^◌, ◌⊎◌, inl, inr, ℕ, ◌+◌, List, [], ◌∷◌, ◌++◌, Result, Ok, Err, refl, sym, ap, subst, ◌∙◌}
-use Rattle.std.proofs.lemmas.List.{append-nil}
 use Rattle.rd_base.specs.Limits.{AreUsable}
 use Rattle.rd_base.specs.declared.limits.Limits.{Limits}
 use Rattle.rd_report.specs.Texts.{ending_text}
@@ -76,6 +75,6 @@ fault_front kinds limits usable range stop bytes more = by (cut_trace (kinds_of 
     )
     by (inr (entries, later, is_cut, is)) =
         let accepted = subst (λ w. AreAccepted (kinds_of kinds) (items (entries_of w))) is (trace_accepted (kinds_of kinds) limits usable range stop (bytes ++ more)) in
-        let front = front_outcome kinds entries later accepted (race_texts kinds entries) [] (sym (append-nil (race_texts kinds entries))) in
+        let front = front_outcome kinds entries later accepted in
         subst (λ text. IsFront text (check_outcome kinds whole).text) (ap (race_texts kinds) (sym (ap entries_of is_cut ∙ entries_at entries Fault)))
         (subst (λ w. IsFront (race_texts kinds entries) (check_outcome kinds w).text) (sym is) front)

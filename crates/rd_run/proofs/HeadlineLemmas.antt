@@ -22,6 +22,7 @@ use Rattle.rd_run.proofs.AcceptedLemmas.{trace_accepted}
 use Rattle.rd_detect.specs.Commuting.{Commute, commuting}
 use Rattle.rd_run.proofs.ReportLemmas.{passing, texts_report}
 use Rattle.rd_run.specs.Output.{check_outcome, entry_events, race_texts, races_before, races_of}
+use Rattle.rd_run.proofs.DeclaredLemmas.{calls_declared}
 use Rattle.rd_run.specs.Reports.{IsAcceptedLine, IsChecked, IsRefusedLine, IsWalk, SaysItem}
 use Rattle.rd_run.specs.Walk.{Walked, accepted_or, ending_of, entries_of, goes_or_ends, items, judged, judged_item, trace_of, walk}
 use Rattle.rd_report.specs.declared.endings.TraceCause.{TraceCause}
@@ -90,6 +91,7 @@ module _ (kinds : List SpecifiedKind) where
         report = texts_report kinds entries;
         count = races_of kinds entries;
         counted = counted_before es (length es);
+        declared = calls_declared (kinds_of kinds) entries (trace_accepted (kinds_of kinds) limits usable range stop bytes);
         text = refl;
         status = refl;
       }

@@ -1,9 +1,14 @@
 -- What is written, and the status.
-use Rattle.std.proofs.Common.{◌≡◌, ◌≢◌, ℕ, Bool, true, false, cond, List, [], ◌++◌, Option, Result, Err, refl, sym, ap, subst, ◌∙◌, eqb, inl, inr}
+use Rattle.std.proofs.Common.{◌≡◌, ◌≢◌, ◌⊎◌, ℕ, Bool, true, false, cond, List, [], ◌++◌, Option, Result, Err, refl, sym, ap, subst, ◌∙◌, eqb, inl, inr}
 use Rattle.std.proofs.lemmas.List.{append_assoc, append-nil}
 use Rattle.rd_run.specs.Commands.{halted_with}
 use Rattle.rd_run.specs.Analysis.{TellsFault}
-use Rattle.rd_run.specs.Output.{HasOutcome, Outcome, IsOutput, StatusTellsFault, check_status, is_limit, replay_status}
+use Rattle.rd_run.specs.Specifications.{spec_status}
+use Rattle.rd_causes.specs.declared.causes.SpecCause.{SpecCause}
+use Rattle.rd_causes.specs.declared.causes.SpecCause.TheVariants as cause
+use Rattle.rd_run.specs.Output.{HasOutcome, IsWell, Outcome, IsOutput, StatusTellsFault, check_status, is_limit, replay_status, reported}
+use Rattle.rd_run.specs.declared.walk.WalkEnd.{WalkEnd}
+use Rattle.rd_run.specs.declared.walk.WalkEnd.TheVariants as walk
 use Rattle.rd_run.specs.declared.analysis.Halt.{Halt}
 use Rattle.rd_run.specs.declared.analysis.Halt.TheVariants as halt
 use Rattle.rd_object.specs.declared.shapes.ReplayEnd.{ReplayEnd}
@@ -128,6 +133,72 @@ halted_no_usage halt.NoMemory = λ e. cc
 pub halted_no_input : (halt : Halt) → halted_with halt ≢ InputFault
 halted_no_input halt.OutputFault = λ e. cc
 halted_no_input halt.NoMemory = λ e. cc
+
+-- a status that says that a trace was read to its end comes only where it was
+pub well_end : (races : ℕ) (replay : ReplayEnd) (ending : WalkEnd) → IsWell (check_status races (reported replay ending)) → ending ≡ walk.End
+unfolding check_status
+well_end races replay walk.End well = refl
+well_end races replay (walk.Refused number cause) well = absurd (by (is_limit cause) well)
+  where
+    by : (b : Bool) → IsWell (cond b LimitReached TraceRefused) → ⊥
+    by true (inl e) = cc
+    by true (inr (inl e)) = cc
+    by true (inr (inr e)) = cc
+    by false (inl e) = cc
+    by false (inr (inl e)) = cc
+    by false (inr (inr e)) = cc
+well_end races replay walk.Fault (inl e) = cc
+well_end races replay walk.Fault (inr (inl e)) = cc
+well_end races replay walk.Fault (inr (inr e)) = cc
+
+-- no fault is such a status, nor is want of memory
+pub well_written : (status : Status) (part : List ℕ) (outcome : Outcome) → IsWell status → IsOutput status part outcome → IsWell outcome.status
+well_written status part outcome (inl is) output = inl (sym (subst (λ s. IsOutput s part outcome) is output).1)
+well_written status part outcome (inr (inl is)) output = inr (inl (sym (subst (λ s. IsOutput s part outcome) is output).1))
+well_written status part outcome (inr (inr is)) output = inr (inr (sym (subst (λ s. IsOutput s part outcome) is output).1))
+
+pub halted_no_well : (halt : Halt) → ¬ (IsWell (halted_with halt))
+halted_no_well halt.OutputFault (inl e) = cc
+halted_no_well halt.OutputFault (inr (inl e)) = cc
+halted_no_well halt.OutputFault (inr (inr e)) = cc
+halted_no_well halt.NoMemory (inl e) = cc
+halted_no_well halt.NoMemory (inr (inl e)) = cc
+halted_no_well halt.NoMemory (inr (inr e)) = cc
+
+pub fault_no_well : ¬ (IsWell InputFault)
+fault_no_well (inl e) = cc
+fault_no_well (inr (inl e)) = cc
+fault_no_well (inr (inr e)) = cc
+
+-- nor is a refusal of a specification
+spec_no_well : ¬ (IsWell SpecRefused)
+spec_no_well (inl e) = cc
+spec_no_well (inr (inl e)) = cc
+spec_no_well (inr (inr e)) = cc
+
+limit_no_well : ¬ (IsWell LimitReached)
+limit_no_well (inl e) = cc
+limit_no_well (inr (inl e)) = cc
+limit_no_well (inr (inr e)) = cc
+
+refusal_status : (cause : SpecCause) → (spec_status cause ≡ SpecRefused) ⊎ (spec_status cause ≡ LimitReached)
+refusal_status cause.Header = inl refl
+refusal_status cause.Syntax = inl refl
+refusal_status cause.UnknownMethod = inl refl
+refusal_status cause.UnknownVariable = inl refl
+refusal_status cause.NoVariable = inl refl
+refusal_status (cause.OutsideFragment reason) = inl refl
+refusal_status cause.Duplicate = inl refl
+refusal_status (cause.MissingPair first second) = inl refl
+refusal_status cause.KindTaken = inl refl
+refusal_status (cause.Limit name number) = inr refl
+
+pub refusal_no_well : (cause : SpecCause) → ¬ (IsWell (spec_status cause))
+refusal_no_well cause well =
+    elim (refusal_status cause) [
+      | inl refused ↦ spec_no_well (subst IsWell refused well)
+      | inr limit ↦ limit_no_well (subst IsWell limit well)
+    ]
 
 -- where all was written, no fault is told
 pub quiet_status : (before now : ℕ) (point written : Option (List ℕ)) (races : ℕ) (ending : Ending) → now ≡ before → StatusTellsFault before now point written (check_status races ending)

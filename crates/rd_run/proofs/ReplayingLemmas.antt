@@ -1,12 +1,12 @@
 -- What a replayer stands for behind one accepted line more.
-use Rattle.std.proofs.Common.{◌≡◌, ◌≢◌, ◌⊎◌, inl, inr, ℕ, zero, suc, ◌<◌, List, [], ◌∷◌, ◌++◌, length, Option, Some, None, refl, sym, ap, subst, ◌∙◌, arith}
-use Rattle.std.specs.Prelude.{All, Contains, IfSome, filter_map, map, option_map, slice_get, unwrap_or}
+use Rattle.std.proofs.Common.{◌≡◌, ◌≢◌, ℕ, zero, suc, ◌<◌, List, [], ◌∷◌, ◌++◌, length, Option, Some, None, refl, sym, ap, subst, ◌∙◌, arith}
+use Rattle.std.specs.Prelude.{All, Contains, IfSome, map, option_map, slice_get, unwrap_or}
 use Rattle.std.specs.List.{cons_option}
 use Rattle.std.specs.Option.{option_and_then}
-use Rattle.std.proofs.lemmas.List.{append-nil, append_assoc, length-map, map-append}
+use Rattle.std.proofs.lemmas.List.{append-nil, append_assoc, length-map}
 use Rattle.std.proofs.lemmas.List.Elements.{All-head, All-tail, filter_map-append}
-use Rattle.std.proofs.lemmas.Option.{none-some, same_Some, slice_get-get_or, slice_get-map}
-use Rattle.rd_ecl.specs.Kinds.{Kind, kind_names, kind_of, kinds_of, method_of, methods_at, slots_at}
+use Rattle.std.proofs.lemmas.Option.{none-some, same_Some, slice_get-map}
+use Rattle.rd_ecl.specs.Kinds.{Kind, kind_names, kind_of, method_of, methods_at, slots_at}
 use Rattle.rd_ecl.specs.Specified as specified
 use Rattle.rd_ecl.specs.Specified.{IsKind, SpecifiedKind}
 use Rattle.rd_ecl.specs.declared.kinds.Method.{Method as SpecifiedMethod}
@@ -15,10 +15,9 @@ use Rattle.rd_event.specs.declared.events.Event.{Event as Numbered}
 use Rattle.rd_event.specs.declared.events.Event.TheVariants as numbered
 use Rattle.rd_event.specs.declared.items.Line.{Line}
 use Rattle.rd_event.specs.declared.items.Line.TheVariants.{Skip, Header, Thread, Object, Event}
-use Rattle.rd_event.specs.declared.items.LineEvent.{LineEvent}
 use Rattle.rd_event.specs.declared.items.LineEvent.TheVariants.{Fork, Join, Acquire, Release, Call}
 use Rattle.rd_kinds.specs.Machines.{counter_machine, dictionary_machine, machine_of, register_machine, set_machine}
-use Rattle.rd_kinds.specs.Shipped.{counter_kind, dictionary_kind, register_kind, set_kind, shipped_kinds}
+use Rattle.rd_kinds.specs.Shipped.{shipped_kinds}
 use Rattle.rd_kinds.proofs.ShippedLemmas.{counter_is, dictionary_is, register_is, set_is}
 use Rattle.rd_object.specs.Machines.{Machine}
 use Rattle.rd_order.specs.EventLists.{IsCallOf}
@@ -27,7 +26,7 @@ use Rattle.rd_replay.specs.Replays.{Recorded}
 use Rattle.rd_replay.specs.Replayer.{IsRecordable, StandsFor}
 use Rattle.rd_replay.specs.declared.replayer.Replayer.{Replayer}
 use Rattle.rd_wf.specs.Events.{AreTold, event_of, events_of}
-use Rattle.rd_wf.specs.MayFollow.{MayFollow, accepted_of, declared_kind, is_skip, kind_number, numbered_event, object_kinds, objects_of, place, threads_of}
+use Rattle.rd_wf.specs.MayFollow.{MayFollow, accepted_of, declared_kind, is_skip, object_kinds, objects_of, place}
 use Rattle.rd_wf.specs.declared.causes.Accepted.{Accepted}
 use Rattle.rd_wf.specs.declared.causes.Accepted.TheVariants as accepted
 use Rattle.rd_wf.specs.declared.roster.Roster.{Roster}

@@ -38,7 +38,7 @@ use Rattle.rd_object.specs.declared.shapes.ReplayEnd.TheVariants.{Exact, Differs
 use Rattle.rd_run.specs.Replaying.{replay_of}
 use Rattle.rd_run.specs.declared.walk.WalkEnd.{WalkEnd}
 use Rattle.rd_run.specs.declared.walk.WalkEnd.TheVariants.{End, Refused, Fault}
-use Rattle.rd_run.specs.declared.status.Status.TheVariants.{Clean, Raced, ReplayDiffers, TraceRefused, LimitReached}
+use Rattle.rd_run.specs.declared.status.Status.TheVariants.{Raced, ReplayDiffers, TraceRefused, LimitReached}
 
 -- ---- each event has the number of a line
 

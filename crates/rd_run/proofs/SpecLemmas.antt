@@ -65,6 +65,7 @@ module _ (file : List ℕ) (limits : Limits) (before now : ℕ) (old new : Sourc
             (inr (record { calm = quiet; one_opened = reads.opens; bytes = bytes; text = reads.text; is = inl (said, says, refl) })) output;
         opened = leaves.opened;
         taken = (leaves.taken, refl);
+        read = λ well. tt;
       }
 
   pub spec_refused : now ≡ before → (bytes : List ℕ) (refused : Refusal) → ReadsSpec file old new bytes → IsSpecRefused bytes reserved_names refused
@@ -76,6 +77,7 @@ module _ (file : List ℕ) (limits : Limits) (before now : ℕ) (old new : Sourc
             (inr (record { calm = quiet; one_opened = reads.opens; bytes = bytes; text = reads.text; is = inr (refused, refuses, refl) })) output;
         opened = leaves.opened;
         taken = (leaves.taken, refl);
+        read = λ well. tt;
       }
 
   pub spec_faulted : Rose before now → IsOutput status part fault_outcome → Runs (Some (spec file)) limits (ltb before now) old new part status steps steps
@@ -85,6 +87,7 @@ module _ (file : List ℕ) (limits : Limits) (before now : ℕ) (old new : Sourc
         output = has_outcome (IsOutcome (Some (spec file)) limits (ltb before now) old new) status part fault_outcome (inl (record { risen = rose; is = refl })) output;
         opened = leaves.opened;
         taken = (leaves.taken, refl);
+        read = λ well. tt;
       }
 
   pub spec_unread : status ≡ NoMemory → part ≡ [] → Runs (Some (spec file)) limits (ltb before now) old new part status steps steps
@@ -94,6 +97,7 @@ module _ (file : List ℕ) (limits : Limits) (before now : ℕ) (old new : Sourc
         output = inl none;
         opened = leaves.opened;
         taken = (leaves.taken, refl);
+        read = λ well. tt;
       })
 
   -- as it is told why the specification isn't there

@@ -1,10 +1,10 @@
 -- A check in which nothing failed and nothing is refused writes all.
 use Rattle.std.proofs.Common.{◌≡◌, ◌≢◌, ◌⊎◌, ◌<◌, ◌^◌, ℕ, Bool, true, false, arith, cond, eqb, List, ◌++◌, Option, Some, None, refl, sym, ap, ◌∙◌, subst, inl, inr, true≢false}
-use Rattle.std.specs.Prelude.{min, nat_lt, option_map, take}
+use Rattle.std.specs.Prelude.{nat_lt, option_map, take}
 use Rattle.std.proofs.lemmas.Bool.{le-ltb}
 use Rattle.std.proofs.lemmas.Option.{none-some, same_Some}
 use Rattle.rd_base.specs.declared.limits.Limits.{Limits}
-use Rattle.rd_ecl.specs.Kinds.{kinds_of}
+use Rattle.rd_ecl.specs.Kinds.{Kind, kinds_of}
 use Rattle.rd_ecl.specs.Specified.{SpecifiedKind}
 use Rattle.rd_io.specs.Inputs.{Source, file_of, next_count}
 use Rattle.rd_io.specs.Lines.Stop.{end}
@@ -15,12 +15,12 @@ use Rattle.rd_spec.proofs.OneLemmas.{never_refused, one_said}
 use Rattle.rd_print.specs.Printed.{spec_text}
 use Rattle.rd_object.specs.declared.shapes.ReplayEnd.{ReplayEnd}
 use Rattle.rd_object.specs.declared.shapes.ReplayEnd.TheVariants.{Exact, Differs, NotShipped}
-use Rattle.rd_run.specs.Output.{HasOutcome, Outcome, StatusTellsFault, check_outcome, check_status, races_of, replay_status, reported}
+use Rattle.rd_run.specs.Output.{HasOutcome, IsWell, Outcome, StatusTellsFault, check_outcome, check_status, races_of, replay_outcome, replay_status, reported}
 use Rattle.rd_run.specs.Replaying.{replay_of}
-use Rattle.rd_run.specs.Runs.{AreKinds, Command, IsCheckOutcome, IsCheckedWith, IsJudged, IsRefused, IsSpecText, IsUnread, IsWhole, Runs, WritesAll, usage_outcome, walk_on}
-use Rattle.rd_run.specs.Runs.Command.{check, spec}
+use Rattle.rd_run.specs.Runs.{AreKinds, Command, IsCheckOutcome, IsCheckedWith, IsJudged, IsRefused, IsSpecText, IsTraceOutcome, IsUnread, IsWhole, Runs, WritesAll, built_in_kinds, kind_outcome, usage_outcome, walk_on}
+use Rattle.rd_run.specs.Runs.Command.{check, kind, replay, spec}
 use Rattle.rd_run.specs.Specifications.{IsSpecOutcome, most_bytes}
-use Rattle.rd_run.specs.Walk.{ending_of, entries_of, trace_of}
+use Rattle.rd_run.specs.Walk.{Walked, ending_of, entries_of, trace_of}
 use Rattle.rd_run.specs.declared.status.Status.{Status}
 use Rattle.rd_run.specs.declared.status.Status.TheVariants.{Clean, Raced, Usage, SpecRefused, TraceRefused, ReplayDiffers, InputFault, OutputFault, NoMemory, LimitReached}
 
@@ -61,47 +61,51 @@ not_refused old new file kinds outcome (bytes, said, text, says, is) refused =
     never_refused bytes reserved_names said refused.refused says
     (subst (λ b. IsSpecRefused b reserved_names refused.refused) (one_text old file refused.bytes bytes refused.text text) refused.refuses)
 
+-- what ends well says so
+ends_well : (races : ℕ) (ended : ReplayEnd) → IsWell (check_status races (reported ended End))
+unfolding check_status
+ends_well races ended = by (eqb races 0) ended
+  where
+    by : (b : Bool) (ended : ReplayEnd) → IsWell (cond b (replay_status ended) Raced)
+    by true Exact = inl refl
+    by true (Differs line expected) = inr (inr refl)
+    by true NotShipped = inl refl
+    by false ended = inr (inl refl)
+
+whole_from : (whole outcome : Outcome) (part : List ℕ) (status : Status) → IsWell whole.status → outcome ≡ whole → part ≡ outcome.text → status ≡ outcome.status
+    → IsWhole whole part status
+whole_from whole outcome part status well is text told =
+    let same : status ≡ whole.status = told ∙ ap (λ o. o.status) is in record {
+      text = text ∙ ap (λ o. o.text) is;
+      told = same;
+      well = subst IsWell (sym same) well;
+    }
+
+checked_well : (kinds : List SpecifiedKind) (walked : Walked) → ending_of walked ≡ End → IsWell (check_outcome kinds walked).status
+checked_well kinds walked well =
+    let entries = entries_of walked in
+    subst (λ e. IsWell (check_status (races_of kinds entries) (reported (replay_of (kinds_of kinds) entries) e))) (sym well)
+    (ends_well (races_of kinds entries) (replay_of (kinds_of kinds) entries))
+
+replayed_well : (kinds : List Kind) (walked : Walked) → ending_of walked ≡ End → IsWell (replay_outcome kinds walked).status
+replayed_well kinds walked well =
+    let entries = entries_of walked in
+    subst (λ e. IsWell (check_status 0 (reported (replay_of kinds entries) e))) (sym well) (ends_well 0 (replay_of kinds entries))
+
 module _ (trace : List ℕ) (limits : Limits) (old new : Source) (kinds : List SpecifiedKind) (bytes : List ℕ) (at : file_of old.files trace ≡ Some bytes)
     (well : ending_of (trace_of (kinds_of kinds) limits end bytes) ≡ End) (part : List ℕ) (status : Status) where
-  whole_outcome : Outcome
+  abbrev whole_outcome : Outcome
   whole_outcome = check_outcome kinds (trace_of (kinds_of kinds) limits end bytes)
 
-  ends_well : (races : ℕ) (replay : ReplayEnd) → let s = check_status races (reported replay End) in (s ≡ Clean) ⊎ ((s ≡ Raced) ⊎ (s ≡ ReplayDiffers))
-  unfolding check_status
-  ends_well races replay = by (eqb races 0) replay
-    where
-      by : (b : Bool) (replay : ReplayEnd) → let s = cond b (replay_status replay) Raced in (s ≡ Clean) ⊎ ((s ≡ Raced) ⊎ (s ≡ ReplayDiffers))
-      by true Exact = inl refl
-      by true (Differs line expected) = inr (inr refl)
-      by true NotShipped = inl refl
-      by false replay = inr (inl refl)
-
-  whole_from : (outcome : Outcome) → outcome ≡ check_outcome kinds (trace_of (kinds_of kinds) limits end bytes) → part ≡ outcome.text → status ≡ outcome.status
-      → IsWhole kinds limits bytes part status
-  whole_from outcome is text told = record {
-    text = text ∙ ap (λ o. o.text) is;
-    told = told ∙ ap (λ o. o.status) is;
-    well =
-        let entries = entries_of (trace_of (kinds_of kinds) limits end bytes) in
-        let races = races_of kinds entries in
-        let replay = replay_of (kinds_of kinds) entries in
-        let ended : status ≡ check_status races (reported replay End) = told ∙ ap (λ o. o.status) is ∙ ap (λ e. check_status races (reported replay e)) well in
-        elim (ends_well races replay) [
-          | inl clean ↦ inl (ended ∙ clean)
-          | inr (inl raced) ↦ inr (inl (ended ∙ raced))
-          | inr (inr differs) ↦ inr (inr (ended ∙ differs))
-        ];
-  }
-
   whole_checked : (file : Option (List ℕ)) (files : ℕ) (outcome : Outcome) → AreKinds old file kinds → IsCheckedWith trace file files limits false old new outcome
-      → part ≡ outcome.text → status ≡ outcome.status → IsWhole kinds limits bytes part status
+      → part ≡ outcome.text → status ≡ outcome.status → IsWhole whole_outcome part status
   whole_checked file files outcome are checked text told =
       let same = one_kinds old file checked.kinds kinds checked.are are in
-      whole_from outcome
-      (checked.is ∙ (λ i. check_outcome (same i) (walk_on (same i) limits (option_map (λ b. (end, b)) (at i))))) text told
+      whole_from whole_outcome outcome part status (checked_well kinds (trace_of (kinds_of kinds) limits end bytes) well)
+      (checked.is ∙ (λ i. check_outcome (same i) (walk_on (kinds_of (same i)) limits (option_map (λ b. (end, b)) (at i))))) text told
 
   whole_of : (file : Option (List ℕ)) (outcome : Outcome) → AreKinds old file kinds → IsCheckOutcome trace file limits false old new outcome
-      → part ≡ outcome.text → status ≡ outcome.status → IsWhole kinds limits bytes part status
+      → part ≡ outcome.text → status ≡ outcome.status → IsWhole whole_outcome part status
   whole_of None outcome are (inl faulted) text told = absurd (true≢false (sym faulted.risen))
   whole_of None outcome are (inr checked) text told = whole_checked None 1 outcome are checked text told
   whole_of (Some file) outcome are (inl faulted) text told = absurd (true≢false (sym faulted.risen))
@@ -114,6 +118,33 @@ whole_check trace file limits old new part status has other kinds bytes are at w
     elim (all_written (IsCheckOutcome trace file limits false old new) status part has other) [
       | inl none ↦ inl none
       | inr all ↦ inr (whole_of trace limits old new kinds bytes at well part status file all.outcome are all.is all.text all.told)
+    ]
+
+-- a replay
+whole_replay : (trace : List ℕ) (limits : Limits) (old new : Source) (part : List ℕ) (status : Status)
+    → HasOutcome (IsTraceOutcome (replay_outcome built_in_kinds) built_in_kinds trace limits false old new) status part → status ≢ OutputFault
+    → WritesAll (Some (replay trace)) limits old part status
+whole_replay trace limits old new part status has other bytes at well =
+    elim (all_written (IsTraceOutcome (replay_outcome built_in_kinds) built_in_kinds trace limits false old new) status part has other) [
+      | inl none ↦ inl none
+      | inr all ↦ inr (by all.outcome all.is all.text all.told)
+    ]
+  where
+    by : (outcome : Outcome) → IsTraceOutcome (replay_outcome built_in_kinds) built_in_kinds trace limits false old new outcome → part ≡ outcome.text → status ≡ outcome.status
+        → IsWhole (replay_outcome built_in_kinds (trace_of built_in_kinds limits end bytes)) part status
+    by outcome (inl faulted) text told = absurd (true≢false (sym faulted.risen))
+    by outcome (inr (opened, is)) text told =
+        whole_from (replay_outcome built_in_kinds (trace_of built_in_kinds limits end bytes)) outcome part status
+        (replayed_well built_in_kinds (trace_of built_in_kinds limits end bytes) well)
+        (is ∙ ap (λ o. replay_outcome built_in_kinds (walk_on built_in_kinds limits (option_map (λ b. (end, b)) o))) at) text told
+
+-- the text of a kind
+whole_kind : (built_in : SpecifiedKind) (limits : Limits) (old : Source) (part : List ℕ) (status : Status)
+    → HasOutcome (λ outcome. outcome ≡ kind_outcome built_in) status part → status ≢ OutputFault → WritesAll (Some (kind built_in)) limits old part status
+whole_kind built_in limits old part status has other =
+    elim (all_written (λ outcome. outcome ≡ kind_outcome built_in) status part has other) [
+      | inl none ↦ inl none
+      | inr all ↦ inr (all.text ∙ ap (λ o. o.text) all.is, all.told ∙ ap (λ o. o.status) all.is)
     ]
 
 -- what a specification says is printed
@@ -157,6 +188,11 @@ whole_run None limits rose old new part status before after runs calm other some
 whole_run (Some (check trace file)) limits rose old new part status before after runs calm other some =
     whole_check trace file limits old new part status
     (subst (λ r. HasOutcome (IsCheckOutcome trace file limits r old new) status part) calm runs.output) other
+whole_run (Some (replay trace)) limits rose old new part status before after runs calm other some =
+    whole_replay trace limits old new part status
+    (subst (λ r. HasOutcome (IsTraceOutcome (replay_outcome built_in_kinds) built_in_kinds trace limits r old new) status part) calm runs.output) other
+whole_run (Some (kind built_in)) limits rose old new part status before after runs calm other some =
+    whole_kind built_in limits old part status runs.output other
 whole_run (Some (spec file)) limits rose old new part status before after runs calm other some =
     whole_spec file limits old new part status
     (subst (λ r. HasOutcome (λ outcome. IsUnread r outcome ⊎ IsJudged file r old new outcome) status part) calm runs.output) other

@@ -4,6 +4,7 @@ pub mod Checking
 pub mod Commands
 pub mod Formulas
 pub mod Output
+pub mod Parts
 pub mod Progress
 pub mod Replaying
 pub mod Reports

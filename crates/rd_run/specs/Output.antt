@@ -5,14 +5,15 @@ use Rattle.rd_event.specs.declared.events.Call.{Call}
 use Rattle.rd_event.specs.declared.events.Event.{Event}
 use Rattle.rd_event.specs.declared.events.Event.TheVariants as event
 use Rattle.rd_wf.specs.Events.{events_of}
-use Rattle.rd_wf.specs.MayFollow.{is_event, threads_of}
+use Rattle.rd_wf.specs.MayFollow.{is_event, object_kinds, objects_of, threads_of}
 use Rattle.rd_detect.specs.Commuting.{commuting}
 use Rattle.rd_detect.specs.RaceTests.{latest_of}
-use Rattle.rd_ecl.specs.Kinds.{kinds_of}
+use Rattle.rd_ecl.specs.Kinds.{Kind, kinds_of}
 use Rattle.rd_ecl.specs.Specified.{SpecifiedKind}
 use Rattle.rd_hb.specs.ClockTests.{clock_at}
 use Rattle.rd_report.specs.Races.{Told, race_text}
-use Rattle.rd_report.specs.Texts.{Naming, ending_text, naming}
+use Rattle.rd_report.specs.States.{state_line}
+use Rattle.rd_report.specs.Texts.{Naming, ending_text, fault_line, name_of, naming, refused_line, replay_line}
 use Rattle.rd_run.specs.Walk.{Walked, Entry, entries_of, ending_of, items}
 use Rattle.rd_wf.specs.declared.causes.WfCause.{WfCause}
 use Rattle.rd_wf.specs.declared.causes.WfCause.TheVariants as wf
@@ -21,8 +22,10 @@ use Rattle.rd_report.specs.declared.endings.TraceCause.TheVariants as cause
 use Rattle.rd_report.specs.declared.endings.Ending.{Ending}
 use Rattle.rd_report.specs.declared.endings.Ending.TheVariants as report
 use Rattle.rd_object.specs.declared.shapes.ReplayEnd.{ReplayEnd}
-use Rattle.rd_object.specs.declared.shapes.ReplayEnd.TheVariants.{Differs}
-use Rattle.rd_run.specs.Replaying.{replay_of}
+use Rattle.rd_object.specs.declared.shapes.ReplayEnd.TheVariants.{Exact, Differs}
+use Rattle.rd_object.specs.declared.shapes.Shape.{Shape}
+use Rattle.rd_replay.specs.Replays.{Recorded, held}
+use Rattle.rd_run.specs.Replaying.{recorded_of, replay_of}
 use Rattle.rd_run.specs.declared.walk.WalkEnd.{WalkEnd}
 use Rattle.rd_run.specs.declared.walk.WalkEnd.TheVariants.{End, Refused, Fault}
 use Rattle.rd_run.specs.declared.status.Status.{Status}
@@ -155,6 +158,44 @@ check_outcome kinds walked =
       text = race_texts kinds entries ++ ending_text (thread_names entries) races ending;
       status = check_status races ending;
     }
+
+-- ---- replays
+
+-- the line that tells what an object with this name holds, where its calls lead it to a shape
+abbrev pub held_text : List ℕ → Option Shape → List ℕ
+held_text name None = []
+held_text name (Some shape) = state_line name shape
+
+-- those of the objects with the first numbers, in order of their numbers, by the names and the kinds of all objects and the calls on them
+unfoldable pub states_before : List (List ℕ) → List ℕ → List Recorded → ℕ → List ℕ
+states_before names kinds calls zero = []
+states_before names kinds calls (suc object) =
+    states_before names kinds calls object ++ held_text (name_of names object) (held kinds calls object)
+
+-- what each object holds behind the calls of the accepted lines
+abbrev pub states_text : List Kind → List Entry → List ℕ
+states_text kinds entries =
+    states_before (objects_of (items entries)) (object_kinds kinds (items entries)) (recorded_of kinds entries) (length (objects_of (items entries)))
+
+-- what `replay` writes: how the replay ended, and where it is exact what each object holds, or the line of a refusal or of a fault alone
+abbrev pub replayed_text : List (List ℕ) → List ℕ → Ending → List ℕ
+replayed_text names states (report.End Exact) = replay_line Exact ++ states
+replayed_text names states (report.End replay) = replay_line replay
+replayed_text names states (report.Refused number cause) = refused_line names number cause
+replayed_text names states report.Fault = fault_line
+
+-- `replay` on a trace with objects of these kinds. It answers as `check` does where no call is reported.
+abbrev pub replay_outcome : List Kind → Walked → Outcome
+replay_outcome kinds walked =
+    let entries = entries_of walked in
+    let ending = reported (replay_of kinds entries) (ending_of walked) in
+    record { text = replayed_text (thread_names entries) (states_text kinds entries) ending; status = check_status 0 ending }
+
+-- ---- how a trace is read
+
+-- the status says that a trace was read to its end
+abbrev pub IsWell : Status → Type 0
+IsWell status = (status ≡ Clean) ⊎ ((status ≡ Raced) ⊎ (status ≡ ReplayDiffers))
 
 -- ---- how far an outcome is written
 

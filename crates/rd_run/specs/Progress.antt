@@ -21,10 +21,11 @@ ending_for limits number LineTooLong = Refused number (Limit Line limits.line)
 ending_for limits number BytesLimit = Refused number (Limit Bytes limits.bytes)
 ending_for limits number NoLineFeed = Refused number NoFinalNewline
 
--- where these bytes were taken of an input and `held` is left of it: these lines of it are accepted, and it ends so
+-- Where these bytes were taken of an input and `held` is left of it: these lines of it are accepted, and it ends so. At its end nothing is
+-- left.
 abbrev pub WalksTo : List Kind → Limits → List ℕ → List ℕ → List Entry → WalkEnd → Type 0
 WalksTo kinds limits taken held entries Fault = trace_of kinds limits fault taken ≡ after entries (ends Fault)
-WalksTo kinds limits taken held entries End = trace_of kinds limits end (taken ++ held) ≡ after entries (ends End)
+WalksTo kinds limits taken held entries End = (held ≡ []) × (trace_of kinds limits end (taken ++ held) ≡ after entries (ends End))
 WalksTo kinds limits taken held entries (Refused number cause) =
     trace_of kinds limits end (taken ++ held) ≡ after entries (ends (Refused number cause))
 

@@ -1,5 +1,5 @@
 -- What a report says of the bytes of a trace, in the words of accepted lines and of races: this project's profile.
-use Rattle.std.specs.Prelude.{◌≡◌, ◌⊎◌, ℕ, zero, suc, ◌+◌, List, [], ◌∷◌, ◌++◌, length}
+use Rattle.std.specs.Prelude.{◌≡◌, ◌⊎◌, ℕ, zero, suc, ◌+◌, ◌<◌, List, [], ◌∷◌, ◌++◌, All, length}
 use Rattle.rd_base.specs.declared.limits.Limits.{Limits}
 use Rattle.rd_detect.specs.Commuting.{Commute}
 use Rattle.rd_detect.specs.Races.{Reported, IsLatest}
@@ -15,7 +15,9 @@ use Rattle.rd_wf.specs.Events.{roots_of}
 use Rattle.rd_ecl.specs.Kinds.{Kind, kinds_of}
 use Rattle.rd_ecl.specs.Specified.{SpecifiedKind}
 use Rattle.rd_report.specs.Texts.{ending_text}
-use Rattle.rd_wf.specs.MayFollow.{IsBrokenFirst, MayFollow}
+use Rattle.rd_replay.specs.Replays.{Recorded}
+use Rattle.rd_wf.specs.MayFollow.{IsBrokenFirst, MayFollow, object_kinds}
+use Rattle.rd_run.specs.Replaying.{recorded_of}
 use Rattle.rd_wf.specs.declared.causes.WfCause.{WfCause}
 use Rattle.rd_run.specs.Output.{Outcome, check_status, entries_ending, entries_race, entry_events, thread_names}
 use Rattle.rd_run.specs.Walk.{Entry, ended, items}
@@ -70,7 +72,8 @@ IsReport Commuting race es (suc place) text =
 -- ---- the whole
 
 -- What `check` writes and answers for the bytes of a trace whose objects are of these kinds, and whose reading ends so: the
--- texts of the races among the events of the accepted lines, how many calls are reported, and how the lines end.
+-- texts of the races among the events of the accepted lines, how many calls are reported, and how the lines end, with the replay of the calls
+-- at the end of the trace.
 pub record IsChecked (kinds : List SpecifiedKind) (limits : Limits) (stop : Stop) (bytes : List ℕ) (outcome : Outcome) : Type 0 where
   -- the accepted lines, and how they end
   pub entries : List Entry
@@ -84,6 +87,8 @@ pub record IsChecked (kinds : List SpecifiedKind) (limits : Limits) (stop : Stop
   -- how many calls are reported
   pub count : ℕ
   pub counted : Counts (Reported (Commute kinds) (entry_events kinds entries)) (length (entry_events kinds entries)) count
+  -- the calls are on declared objects, as the law of replays asks
+  pub declared : All (λ (recorded : Recorded). recorded.1.object < length (object_kinds (kinds_of kinds) (items entries))) (recorded_of (kinds_of kinds) entries)
   -- what is written, and the status
   pub text : outcome.text ≡ races ++ ending_text (thread_names entries) count (entries_ending kinds entries ending)
   pub status : outcome.status ≡ check_status count (entries_ending kinds entries ending)

@@ -50,8 +50,8 @@ pub fn law_of_reports()
 /// of it ends. The outcome that `run` is proved to write and answer is this: the accepted lines are those that say an item which may
 /// follow, up to the first line that doesn't; the text has, for each event of theirs with which an earlier call races, the text of the race
 /// with the latest that does, which tells both calls with their lines and clocks and the formula that they fail; then how many calls are
-/// reported, and then why a line was refused, where one was, or that a read failed; and the status is that of how the lines end and of
-/// whether a call is reported.
+/// reported, and then how the replay of the calls ends, which are on declared objects, or why a line was refused, or that a read failed; and
+/// the status is that of how the lines end, of whether a call is reported, and of the replay.
 pub fn law_of_checks()
     ensures { (kinds : List SpecifiedKind) (limits : Limits) → AreUsable limits → limits.threads < 2 ^ 32 → (stop : Stop) (bytes : List ℕ) →
         IsChecked kinds limits stop bytes (check_outcome kinds (trace_of (kinds_of kinds) limits stop bytes)) }

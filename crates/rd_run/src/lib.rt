@@ -1,14 +1,18 @@
-//! A run of the program: `check` over a trace, `spec` over a specification.
+//! A run of the program: `check` and `replay` over a trace, `spec` over a specification, `kind`.
 #![tactic(auto)]
 
 mod analysis;
 mod checking;
+mod endings;
 mod formulas;
 mod judging;
 mod laws;
+mod parts;
 mod replaying;
+mod reporting;
 mod spec_texts;
 mod specifications;
+mod states;
 mod status;
 mod top;
 mod walk;

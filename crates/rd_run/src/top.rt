@@ -1,39 +1,33 @@
 //! The call that the program makes.
-ghost use Rattle.std.specs.Prelude.{◌≡◌, ◌≢◌, ◌⊎◌, ◌↔◌, ℕ, ◌+◌, ◌<◌, ◌≤◌, ◌^◌, nat_lt, List, [], ◌++◌, Option, Some, None, length, AllPairs, IfOk};
+ghost use Rattle.std.specs.Prelude.{◌≡◌, ◌≢◌, ◌⊎◌, ℕ, ◌<◌, ◌≤◌, ◌^◌, nat_lt, List, ◌++◌, Option, Some, None, length, slice_get, AllPairs, IfOk, IfSome};
 ghost use Rattle.rd_base.specs.Limits.{AreUsable};
+ghost use Rattle.rd_base.specs.declared.limits.Limits.{Limits as LimitsOf};
 ghost use Rattle.rd_ecl.specs.Kinds.{kind_names, kinds_of};
-ghost use Rattle.rd_io.specs.Inputs.{Source, Goes, Takes, Rose};
-ghost use Rattle.rd_io.specs.LineReader.{fresh};
+ghost use Rattle.rd_ecl.specs.Specified.{SpecifiedKind};
+ghost use Rattle.rd_io.specs.Inputs.{Source, Rose};
 ghost use Rattle.rd_io.specs.Sinks.{Appends};
 ghost use Rattle.rd_kinds.specs.Shipped.{shipped_kinds};
-ghost use Rattle.rd_report.specs.Texts.{ending_text};
-ghost use Rattle.rd_run.specs.Checking.{Begins};
-ghost use Rattle.rd_run.specs.Commands.{asked, Checked};
-ghost use Rattle.rd_replay.specs.Replays.{Recorded, replay_end};
-ghost use Rattle.rd_replay.specs.Replayer.{StandsFor as Replays};
-ghost use Rattle.rd_run.specs.Output.{IsOutput, StatusTellsFault, check_status, is_limit, replay_status, reported};
-ghost use Rattle.rd_run.specs.Replaying.{AreNumbered, Replayed};
-ghost use Rattle.rd_run.specs.Progress.{IsRead};
-ghost use Rattle.rd_run.specs.Runs.{ChecksTrace, Command as CommandOf, Runs, WritesAll, command_of, specification_of, usage_outcome};
-ghost use Rattle.rd_run.specs.Runs.Command.{check};
-ghost use Rattle.rd_run.specs.Walk.{Entry, step_bound};
-ghost use Rattle.rd_wf.specs.Roster.{StandsFor, kinds_in, names_in};
+ghost use Rattle.rd_run.specs.Commands.{asked, named_number};
+ghost use Rattle.rd_run.specs.Output.{IsOutput, StatusTellsFault, check_outcome};
+ghost use Rattle.rd_run.specs.Replaying.{AreNumbered};
+ghost use Rattle.rd_run.specs.Runs.{ReportsTrace, Command as CommandOf, Runs, WritesAll, command_of, kind_outcome, specification_of, usage_outcome};
+ghost use Rattle.rd_run.specs.Runs.Command.{check, replay};
 
 use crate::checking::Check;
+use crate::parts::Part;
 use crate::replaying::Replaying;
-use crate::specifications::{read_spec, refuse_unread, spec, write_fault};
+use crate::reporting::report_trace;
+use crate::specifications::{read_spec, refuse_unread, spec};
 use crate::status::Status;
-use crate::walk::{WalkEnd, Walker, walk_lines};
+use crate::walk::Walker;
 use crate::writing::{status_of, write_line, write_lines};
 use rd_base::{Limits, NoMemory, Steps, Word};
 use rd_ecl::Spec;
 use rd_event::Line;
-use rd_io::{Inputs, LineReader, Sink};
+use rd_io::{Inputs, Sink};
 use rd_kinds::shipped;
-use rd_object::ReplayEnd;
-use rd_replay::Replayer;
-use rd_report::{Ending, TraceCause, ending_text};
-use rd_wf::{Roster, WfCause};
+use rd_print::print_kind;
+use rd_wf::Roster;
 use std::alloc::Global;
 use std::sync::ledger::Ledger;
 
@@ -43,168 +37,50 @@ pub enum Command<'a> {
     Check(&'a Word),
     /// `check TRACE SPEC`
     CheckWith(&'a Word, &'a Word),
+    /// `replay TRACE`
+    Replay(&'a Word),
     /// `spec SPEC`
     Spec(&'a Word),
+    /// `kind NAME`, where a kind that is built in has the name, by its number
+    Kind(u32),
+}
+
+/// The number of the kind that is built in with this name.
+fn shipped_number(name: &Word) -> Option<u32>
+    ensures named { result ≡ named_number name.now }
+    ensures known { IfSome result (λ number. number < 4) }
+{
+    if name.items() == b"register".as_slice() {
+        return Some(0);
+    }
+    if name.items() == b"counter".as_slice() {
+        return Some(1);
+    }
+    if name.items() == b"set".as_slice() {
+        return Some(2);
+    }
+    if name.items() == b"dictionary".as_slice() {
+        return Some(3);
+    }
+    None
 }
 
 fn command_of(words: &[Word]) -> Option<Command<'_>>
-    ensures { asked result ≡ command_of words.now }
+    ensures asked { asked result ≡ command_of words.now }
+    ensures known { IfSome result (λ command. (number : ℕ) → command ≡ Command.Kind number → number < 4) }
 {
     match words {
         [word, trace] if word.items() == b"check".as_slice() => Some(Command::Check(trace)),
+        [word, trace] if word.items() == b"replay".as_slice() => Some(Command::Replay(trace)),
         [word, file] if word.items() == b"spec".as_slice() => Some(Command::Spec(file)),
+        [word, name] if word.items() == b"kind".as_slice() => match shipped_number(name) {
+            Some(number) => Some(Command::Kind(number)),
+            None => None,
+        },
         [word, trace, file] if word.items() == b"check".as_slice() => {
             Some(Command::CheckWith(trace, file))
         }
         _ => None,
-    }
-}
-
-fn is_limit(cause: TraceCause) -> bool
-    ensures { result ≡ is_limit cause }
-{
-    matches!(
-        cause,
-        TraceCause::Limit(_, _) | TraceCause::Wf(WfCause::Limit(_, _))
-    )
-}
-
-/// The status of a replay that was written.
-fn replay_status(replay: &ReplayEnd) -> Status
-    ensures { result ≡ replay_status replay.now }
-{
-    match replay {
-        ReplayEnd::Differs { .. } => Status::ReplayDiffers,
-        ReplayEnd::Exact | ReplayEnd::NotShipped => Status::Clean,
-    }
-}
-
-/// How a report ends, by how the walk does and what the replayer was told.
-fn reported(replayer: &Replayer, ending: WalkEnd) -> Result<Ending, NoMemory>
-    ensures reported { IfOk result (λ report. (kinds : List ℕ) (calls : List Recorded) → Replays replayer.now kinds calls →
-        report ≡ reported (replay_end kinds calls) ending) }
-    ensures fault { IfOk result (λ report. (report ≡ Ending.Fault) ↔ (ending ≡ WalkEnd.Fault)) }
-{
-    Ok(match ending {
-        WalkEnd::End => Ending::End {
-            replay: replayer.end()?,
-        },
-        WalkEnd::Refused { line, cause } => Ending::Refused { line, cause },
-        WalkEnd::Fault => Ending::Fault,
-    })
-}
-
-/// The status of a check that wrote all.
-#[tactic(auto, unfolding(crate::specs::Output::check_status))]
-fn check_status(races: u64, ending: &Ending) -> Status
-    ensures { result ≡ check_status races ending.now }
-{
-    match ending {
-        Ending::End { replay } => {
-            if races == 0 {
-                replay_status(replay)
-            } else {
-                Status::Raced
-            }
-        }
-        Ending::Refused { line: _, cause } => {
-            if is_limit(*cause) {
-                Status::LimitReached
-            } else {
-                Status::TraceRefused
-            }
-        }
-        Ending::Fault => Status::InputFault,
-    }
-}
-
-/// Writes how a report ends, and gives the status of `check`. The roster has the names of the threads.
-fn write_ending<S: Sink>(
-    alloc: Global,
-    names: &Roster,
-    races: u64,
-    ending: &Ending,
-    out: &mut S,
-) -> Status
-    ensures output { (part : List ℕ) × Appends (S.written out.old) (S.written out.new) part
-        × IsOutput result part (record { text = ending_text (names_in names.now) races ending.now; status = check_status races ending.now }) }
-    ensures input { result ≡ Status.InputFault → ending.now ≡ Ending.Fault }
-    ensures calm { result ≢ Status.InputFault → result ≢ Status.OutputFault → result ≢ Status.NoMemory → ending.now ≢ Ending.Fault }
-    ensures fault { StatusTellsFault (S.faults out.old) (S.faults out.new) (S.at_fault out.new) (S.written out.new) result }
-    ensures no_usage { result ≢ Status.Usage }
-    ensures no_spec { result ≢ Status.SpecRefused }
-{
-    let Ok(text) = ending_text(alloc, races, ending, names) else {
-        return Status::NoMemory;
-    };
-    match write_lines(out, text.items()) {
-        Ok(()) => check_status(races, ending),
-        Err(halt) => status_of(halt),
-    }
-}
-
-/// Writes how `check` ends, and gives its status, by how the walk ended and what the replayer was told.
-fn report<S: Sink>(
-    alloc: Global,
-    names: &Roster,
-    races: u64,
-    replayer: &Replayer,
-    ending: WalkEnd,
-    out: &mut S,
-) -> Status
-    ensures output { (kinds : List ℕ) (calls : List Recorded) → Replays replayer.now kinds calls →
-        (part : List ℕ) × Appends (S.written out.old) (S.written out.new) part
-        × IsOutput result part (record {
-          text = ending_text (names_in names.now) races (reported (replay_end kinds calls) ending);
-          status = check_status races (reported (replay_end kinds calls) ending);
-        }) }
-    ensures input { result ≡ Status.InputFault → ending ≡ WalkEnd.Fault }
-    ensures calm { result ≢ Status.InputFault → result ≢ Status.OutputFault → result ≢ Status.NoMemory → ending ≢ WalkEnd.Fault }
-    ensures fault { StatusTellsFault (S.faults out.old) (S.faults out.new) (S.at_fault out.new) (S.written out.new) result }
-    ensures no_usage { result ≢ Status.Usage }
-    ensures no_spec { result ≢ Status.SpecRefused }
-{
-    match reported(replayer, ending) {
-        Ok(ending) => write_ending(alloc, names, races, &ending, out),
-        Err(_) => Status::NoMemory,
-    }
-}
-
-/// `check` on the current input, from its first byte on.
-fn check_opened<I: Inputs, S: Sink, L: Ledger>(
-    mut walker: Walker<Replaying<Check<'_>>>,
-    mut reader: LineReader,
-    inputs: &mut I,
-    out: &mut S,
-    steps: &mut Steps<L>,
-) -> Status
-    requires usable { AreUsable walker.limits }
-    requires fresh { reader ≡ fresh walker.limits }
-    requires none { StandsFor (kinds_in walker.roster) walker.roster [] }
-    requires begins { Begins (kinds_in walker.roster) walker.analysis.inner }
-    requires replays { Replayed (kinds_in walker.roster) [] walker.analysis.replayer }
-    ensures checked { (entries : List Entry) × (taken : List ℕ) × (part : List ℕ)
-        × Appends (S.written out.old) (S.written out.new) part
-        × (steps.new ≤ steps.old + step_bound entries)
-        × IsRead walker.entry.limits taken (length entries)
-        × Goes (I.told inputs.old) (I.told inputs.new) (λ old new. Takes old new taken
-        × Checked walker.entry.analysis.inner.spec.now walker.entry.limits taken new.held entries part result (I.faults inputs.old) (I.faults inputs.new)) }
-    ensures input_fault { result ≡ Status.InputFault → Rose (I.faults inputs.old) (I.faults inputs.new) }
-    ensures calm { result ≢ Status.InputFault → result ≢ Status.OutputFault → result ≢ Status.NoMemory → I.faults inputs.new ≡ I.faults inputs.old }
-    ensures fault { StatusTellsFault (S.faults out.old) (S.faults out.new) (S.at_fault out.new) (S.written out.new) result }
-    ensures no_usage { result ≢ Status.Usage }
-    ensures no_spec { result ≢ Status.SpecRefused }
-{
-    match walk_lines(&mut walker, &mut reader, inputs, out, steps) {
-        Ok(ending) => report(
-            walker.alloc,
-            &walker.roster,
-            walker.analysis.inner.races,
-            &walker.analysis.replayer,
-            ending,
-            out,
-        ),
-        Err(halt) => status_of(halt),
     }
 }
 
@@ -222,9 +98,9 @@ fn check<I: Inputs, S: Sink, L: Ledger>(
     requires few { length spec.now < 2 ^ 32 }
     requires different { AllPairs (λ x y. x ≢ y) (kind_names (kinds_of spec.now)) }
     requires numbered { AreNumbered (kinds_of spec.now) }
-    ensures checks { (old : Source) → I.told inputs.old ≡ Some old → I.faults inputs.old < 2 ^ 63 → old.opens ≤ 2 ^ 63 →
+    ensures reports { (old : Source) → I.told inputs.old ≡ Some old → I.faults inputs.old < 2 ^ 63 → old.opens ≤ 2 ^ 63 →
         (new : Source) × (part : List ℕ) × (I.told inputs.new ≡ Some new) × Appends (S.written out.old) (S.written out.new) part
-        × ChecksTrace spec.now trace.now limits.now (nat_lt (I.faults inputs.old) (I.faults inputs.new)) old new part result steps.old steps.new }
+        × ReportsTrace (check_outcome spec.now) (kinds_of spec.now) trace.now limits.now (nat_lt (I.faults inputs.old) (I.faults inputs.new)) old new part result steps.old steps.new }
     ensures input_fault { result ≡ Status.InputFault → Rose (I.faults inputs.old) (I.faults inputs.new) }
     ensures calm { result ≢ Status.InputFault → result ≢ Status.OutputFault → result ≢ Status.NoMemory → I.faults inputs.new ≡ I.faults inputs.old }
     ensures fault { StatusTellsFault (S.faults out.old) (S.faults out.new) (S.at_fault out.new) (S.written out.new) result }
@@ -234,25 +110,17 @@ fn check<I: Inputs, S: Sink, L: Ledger>(
     let Ok(roster) = Roster::new(alloc, spec) else {
         return Status::NoMemory;
     };
-    let Ok(reader) = LineReader::new(alloc, limits) else {
-        return Status::NoMemory;
-    };
     let Ok(analysis) = Check::new(alloc, spec) else {
         return Status::NoMemory;
     };
-    let Ok(()) = inputs.open(trace) else {
-        return write_fault(out);
-    };
-    // its type says that it fits 32 bits
-    let _threads = limits.threads;
     let walker = Walker {
         alloc,
         limits: *limits,
         roster,
-        analysis: Replaying::new(alloc, analysis),
+        analysis: Replaying::new(alloc, Part::Check(analysis)),
         line: Line::Skip,
     };
-    check_opened(walker, reader, inputs, out, steps)
+    report_trace(walker, trace, inputs, out, steps)
 }
 
 /// `check TRACE`
@@ -319,6 +187,61 @@ fn check_with<I: Inputs, S: Sink, L: Ledger>(
     }
 }
 
+/// `replay TRACE`
+fn replay<I: Inputs, S: Sink, L: Ledger>(
+    alloc: Global,
+    trace: &Word,
+    inputs: &mut I,
+    out: &mut S,
+    limits: &Limits,
+    steps: &mut Steps<L>,
+) -> Status
+    requires { AreUsable limits.now }
+    ensures runs { (old : Source) → I.told inputs.old ≡ Some old → I.faults inputs.old < 2 ^ 63 → old.opens < 2 ^ 63 →
+        (new : Source) × (part : List ℕ) × (I.told inputs.new ≡ Some new) × Appends (S.written out.old) (S.written out.new) part
+        × Runs (Some (replay trace.now)) limits.now (nat_lt (I.faults inputs.old) (I.faults inputs.new)) old new part result steps.old steps.new }
+    ensures input_fault { result ≡ Status.InputFault → Rose (I.faults inputs.old) (I.faults inputs.new) }
+    ensures calm { result ≢ Status.InputFault → result ≢ Status.OutputFault → result ≢ Status.NoMemory → I.faults inputs.new ≡ I.faults inputs.old }
+    ensures fault { StatusTellsFault (S.faults out.old) (S.faults out.new) (S.at_fault out.new) (S.written out.new) result }
+    ensures no_usage { result ≢ Status.Usage }
+    ensures no_spec { result ≢ Status.SpecRefused }
+{
+    let Ok(spec) = shipped(alloc) else {
+        return Status::NoMemory;
+    };
+    let Ok(roster) = Roster::new(alloc, &spec) else {
+        return Status::NoMemory;
+    };
+    let walker = Walker {
+        alloc,
+        limits: *limits,
+        roster,
+        analysis: Replaying::new(alloc, Part::Replay),
+        line: Line::Skip,
+    };
+    report_trace(walker, trace, inputs, out, steps)
+}
+
+/// `kind NAME`, by the number of a kind that is built in.
+fn kind<S: Sink>(alloc: Global, number: u32, out: &mut S) -> Status
+    requires { number < 4 }
+    ensures output { (built_in : SpecifiedKind) → slice_get shipped_kinds number ≡ Some built_in → (part : List ℕ)
+        × Appends (S.written out.old) (S.written out.new) part × IsOutput result part (kind_outcome built_in) }
+    ensures status { (result ≡ Status.Clean) ⊎ ((result ≡ Status.OutputFault) ⊎ (result ≡ Status.NoMemory)) }
+    ensures fault { StatusTellsFault (S.faults out.old) (S.faults out.new) (S.at_fault out.new) (S.written out.new) result }
+{
+    let Ok(spec) = shipped(alloc) else {
+        return Status::NoMemory;
+    };
+    let Ok(text) = print_kind(alloc, &spec.kinds()[number as usize]) else {
+        return Status::NoMemory;
+    };
+    match write_lines(out, text.items()) {
+        Ok(()) => Status::Clean,
+        Err(halt) => status_of(halt),
+    }
+}
+
 /// Says that the words match no command.
 fn refuse_usage<S: Sink>(out: &mut S) -> Status
     ensures output { (part : List ℕ) × Appends (S.written out.old) (S.written out.new) part × IsOutput result part usage_outcome }
@@ -332,14 +255,16 @@ fn refuse_usage<S: Sink>(out: &mut S) -> Status
 }
 
 /// Runs the command that the words of the command line ask for, without the program's own name: `check TRACE` and `check TRACE SPEC`,
-/// which report the races of a trace by the formulas of the shipped kinds, and of those of a specification, or `spec SPEC`, which writes the
-/// canonical text of a specification, or where and why it is refused. Any other words write `refused usage`. Each line is handed to the
-/// output by itself, with its line feed.
+/// which report the races of a trace by the formulas of the kinds that are built in, and of those of a specification, and say whether the
+/// recorded results are those of the objects; `replay TRACE`, which says this alone, and where it is so what the objects hold in the end;
+/// `spec SPEC`, which writes the canonical text of a specification, or where and why it is refused; or `kind NAME`, which writes that of a kind
+/// that is built in. Any other words write `refused usage`. Each line is handed to the output by itself, with its line feed.
 ///
 /// Whatever the inputs and the output tell: `Usage` comes exactly where the words match no command, unless writing failed;
 /// `InputFault` exactly where the inputs' count of faults rose in this call, unless writing failed or memory ran out; `OutputFault`
 /// exactly where the output's count rose, and then nothing was written behind the point where the write failed; `SpecRefused` only where the
-/// words name a specification. Where the inputs tell their bytes, what is written and the status are those of the files, or where a read
+/// words name a specification; `Clean`, `Raced` and `ReplayDiffers` come for a trace only where all of it was taken and no line of it is
+/// refused. Where the inputs tell their bytes, what is written and the status are those of the files, or where a read
 /// of the trace failed those of the bytes that were taken; `OutputFault` and `NoMemory` leave a front of it. A refused specification, and
 /// a file that can't be opened or a specification that can't be read, is told alone, and the trace isn't opened. No more is taken of a trace
 /// than the limits and the reader's buffer allow, and no more of a specification than one byte past what its text may have.
@@ -354,7 +279,7 @@ pub fn run<I: Inputs, S: Sink, L: Ledger>(
     requires { AreUsable limits.now }
 
     // what is written and the status are the defined ones, only the files of the words are opened, no more of them is taken than may be,
-    // and the steps are bounded
+    // the steps are bounded, and a trace was read to its end where the status says so
     ensures runs { (old : Source) → I.told inputs.old ≡ Some old → I.faults inputs.old < 2 ^ 63 → old.opens < 2 ^ 63 →
         (new : Source) × (part : List ℕ) × (I.told inputs.new ≡ Some new) × Appends (S.written out.old) (S.written out.new) part
         × Runs (command_of words.now) limits.now (nat_lt (I.faults inputs.old) (I.faults inputs.new)) old new part result steps.old steps.new }
@@ -384,6 +309,8 @@ pub fn run<I: Inputs, S: Sink, L: Ledger>(
         Some(Command::CheckWith(trace, file)) => {
             check_with(alloc, trace, file, inputs, out, limits, steps)
         }
+        Some(Command::Replay(trace)) => replay(alloc, trace, inputs, out, limits, steps),
         Some(Command::Spec(file)) => spec(alloc, file, inputs, out),
+        Some(Command::Kind(number)) => kind(alloc, number, out),
     }
 }

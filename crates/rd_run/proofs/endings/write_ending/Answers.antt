@@ -1,7 +1,7 @@
 use Rattle.std.proofs.Common.{◌∙◌, sym, subst}
 use Rattle.rd_run.specs.Output.{StatusTellsFault}
 use Rattle.rd_run.proofs.OutputLemmas.{only_fault, fault_status, no_spec, no_usage, quiet_status}
-use Rattle.rd_run.proofs.top.write_ending.Goals as goal
+use Rattle.rd_run.proofs.endings.write_ending.Goals as goal
 
 pub returns-in-Ok-write_lines-clause-fault : goal.returns-in-Ok-write_lines-clause-fault
 returns-in-Ok-write_lines-clause-fault g c =

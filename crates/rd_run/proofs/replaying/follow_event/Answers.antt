@@ -1,7 +1,5 @@
-use Rattle.std.proofs.Common.{◌≡◌, ◌≢◌, ℕ, List, [], ◌∷◌, ◌++◌, ap}
+use Rattle.std.proofs.Common.{ℕ, List, [], ◌∷◌, ◌++◌, ap}
 use Rattle.std.proofs.lemmas.Result.{on_ok_weaker}
-use Rattle.rd_event.specs.declared.events.Call.{Call as CallOf}
-use Rattle.rd_event.specs.declared.events.Event.TheVariants as numbered
 use Rattle.rd_wf.specs.MayFollow.{object_kinds}
 use Rattle.rd_wf.specs.declared.causes.Accepted.TheVariants as accepted
 use Rattle.rd_replay.specs.Replays.{Recorded}

@@ -1,85 +1,63 @@
-use Rattle.std.proofs.Common.{[], refl, ◌∙◌, subst, sym, ap, arith}
+use Rattle.std.specs.Prelude.{nat_lt}
+use Rattle.std.proofs.Common.{[], refl, ◌∙◌, subst, sym, ap}
 use Rattle.rd_io.proofs.SinkLemmas.{appends_none}
 use Rattle.rd_ecl.specs.Kinds.{kinds_of}
 use Rattle.rd_wf.specs.NoLines.{told_none}
 use Rattle.rd_wf.specs.Roster.{kinds_in}
-use Rattle.rd_run.specs.Checking.{Begins}
+use Rattle.rd_run.specs.Parts.{PartBegins, part_outcome}
+use Rattle.rd_run.specs.Output.{check_outcome}
 use Rattle.rd_run.specs.Replaying.{AreNumbered, recorded_of}
-use Rattle.rd_run.specs.Commands.{Checked}
-use Rattle.rd_run.proofs.TraceLemmas.{checks_before, checks_opened, checks_unopened}
+use Rattle.rd_run.specs.Runs.{ReportsTrace}
+use Rattle.rd_run.proofs.TraceLemmas.{reports_before}
 use Rattle.rd_run.proofs.top.check.Goals as goal
 
-pub returns-in_default-clause-checks : goal.returns-in_default-clause-checks
-returns-in_default-clause-checks g c = λ old told few few_opens.
-    let wrote = g.S.Sink.written c.args.out.now in (
+pub returns-in_default-clause-reports : goal.returns-in_default-clause-reports
+returns-in_default-clause-reports g c = λ old told few few_opens.
+    let wrote = g.S.Sink.written c.args.out.now in
+    let spec = c.args.spec.now in (
       old,
       [],
       told,
       appends_none wrote wrote refl,
-      checks_before c.args.spec.now c.args.trace.now c.args.limits.now (g.I.Inputs.faults c.args.inputs.now) old c.args.steps.now,
+      reports_before (check_outcome spec) (kinds_of spec) c.args.trace.now c.args.limits.now (g.I.Inputs.faults c.args.inputs.now) old c.args.steps.now,
     )
 
-pub returns-in_default-new-clause-checks : goal.returns-in_default-new-clause-checks
-returns-in_default-new-clause-checks g c = λ old told few few_opens.
-    let wrote = g.S.Sink.written c.args.out.now in (
+pub returns-in_default-new-clause-reports : goal.returns-in_default-new-clause-reports
+returns-in_default-new-clause-reports g c = λ old told few few_opens.
+    let wrote = g.S.Sink.written c.args.out.now in
+    let spec = c.args.spec.now in (
       old,
       [],
       told,
       appends_none wrote wrote refl,
-      checks_before c.args.spec.now c.args.trace.now c.args.limits.now (g.I.Inputs.faults c.args.inputs.now) old c.args.steps.now,
+      reports_before (check_outcome spec) (kinds_of spec) c.args.trace.now c.args.limits.now (g.I.Inputs.faults c.args.inputs.now) old c.args.steps.now,
     )
 
-pub returns-in_default-new-2-clause-checks : goal.returns-in_default-new-2-clause-checks
-returns-in_default-new-2-clause-checks g c = λ old told few few_opens.
-    let wrote = g.S.Sink.written c.args.out.now in (
-      old,
-      [],
-      told,
-      appends_none wrote wrote refl,
-      checks_before c.args.spec.now c.args.trace.now c.args.limits.now (g.I.Inputs.faults c.args.inputs.now) old c.args.steps.now,
-    )
-
-pub returns-in_default-open-clause-checks : goal.returns-in_default-open-clause-checks
-returns-in_default-open-clause-checks g c = λ old told few few_opens.
-    let (new, now, opened) = c.in_default-open.ensures.told old told in
-    let (part, writes, output) = c.write_fault.ensures.output in (
-      new,
-      part,
-      now,
-      writes,
-      checks_unopened c.args.spec.now c.args.trace.now c.args.limits.now (g.I.Inputs.faults c.args.inputs.now) (g.I.Inputs.faults c.open.new.self) old new part
-          c.write_fault.result c.args.steps.now few c.in_default-open.ensures.cause.failed opened output,
-    )
-
-pub check_opened-requires-clause-begins : goal.check_opened-requires-clause-begins
-check_opened-requires-clause-begins g c =
-    subst (Begins (kinds_in c.in-Ok.roster)) (sym c.new-4.ensures.inner) (record {
-      kinds_are = c.in-Ok.ensures.kind_entries ∙ ap kinds_of (sym c.in-Ok-new-2.ensures.spec);
-      new = c.in-Ok-new-2.ensures.new;
-    })
-
-pub check_opened-requires-clause-replays : goal.check_opened-requires-clause-replays
+pub report_trace-requires-clause-begins : goal.report_trace-requires-clause-begins
 unfolding recorded_of
-check_opened-requires-clause-replays g c = record {
-  numbered = subst AreNumbered (sym c.in-Ok.ensures.kind_entries) c.requires.numbered;
-  told = told_none (kinds_in c.in-Ok.roster);
-  stands = c.new-4.ensures.none;
-}
+report_trace-requires-clause-begins g c = (
+  subst (PartBegins (kinds_in c.in-Ok.roster)) (sym c.new-3.ensures.inner) (record {
+    kinds_are = c.in-Ok.ensures.kind_entries ∙ ap kinds_of (sym c.in-Ok-new.ensures.spec);
+    new = c.in-Ok-new.ensures.new;
+  }),
+  record {
+    numbered = subst AreNumbered (sym c.in-Ok.ensures.kind_entries) c.requires.numbered;
+    told = told_none (kinds_in c.in-Ok.roster);
+    stands = c.new-3.ensures.none;
+  },
+)
 
-pub returns-clause-checks : goal.returns-clause-checks
-returns-clause-checks g c = λ old told few few_opens.
-    let (mid, opened_now, opened) = c.in-Ok-open.ensures.told old told in
-    let (entries, taken, part, writes, cost, read, goes) = c.check_opened.ensures.checked in
-    let (new, now, (takes, checked)) = goes mid opened_now in
-    let before = g.I.Inputs.faults c.args.inputs.now in
-    let after = g.I.Inputs.faults c.check_opened.new.inputs in
-    let calm = c.in-Ok-open.ensures.cause.calm in (
+pub returns-clause-reports : goal.returns-clause-reports
+returns-clause-reports g c = λ old told few few_opens.
+    let (new, part, now, writes, reports) = c.report_trace.ensures.reports old told few few_opens in
+    let spec = c.in-Ok-new.ensures.spec in
+    let rose = nat_lt (g.I.Inputs.faults c.args.inputs.now) (g.I.Inputs.faults c.report_trace.new.inputs) in (
       new,
       part,
       now,
       writes,
-      checks_opened c.args.spec.now c.args.trace.now c.args.limits.now c.requires.usable (omega arith) before after old mid new entries taken part
-          c.check_opened.result c.args.steps.now c.check_opened.new.steps few few_opens opened takes cost read
-          (subst (λ faults. Checked c.args.spec.now c.args.limits.now taken new.held entries part c.check_opened.result faults after) calm
-          (subst (λ kinds. Checked kinds c.args.limits.now taken new.held entries part c.check_opened.result (g.I.Inputs.faults c.open.new.self) after) (ap (λ a. a.spec.now) c.new-4.ensures.inner ∙ c.in-Ok-new-2.ensures.spec) checked)),
+      subst (λ (T : Type 0). T) (λ i. ReportsTrace (check_outcome (spec i)) (c.in-Ok.ensures.kind_entries i) c.args.trace.now c.args.limits.now rose old new part c.report_trace.result
+          c.args.steps.now c.report_trace.new.steps)
+          (subst (λ inner. ReportsTrace (part_outcome (kinds_in c.in-Ok.roster) inner) (kinds_in c.in-Ok.roster) c.args.trace.now c.args.limits.now rose old new part c.report_trace.result
+          c.args.steps.now c.report_trace.new.steps) c.new-3.ensures.inner reports),
     )

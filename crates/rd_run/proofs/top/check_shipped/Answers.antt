@@ -4,9 +4,10 @@ use Rattle.rd_io.proofs.SinkLemmas.{appends_none}
 use Rattle.rd_ecl.specs.Kinds.{kind_names, kinds_of}
 use Rattle.rd_kinds.specs.Shipped.{shipped_kinds}
 use Rattle.rd_kinds.proofs.NameLemmas.{listed_differ}
-use Rattle.rd_run.specs.Runs.{ChecksTrace}
+use Rattle.rd_run.specs.Output.{check_outcome}
+use Rattle.rd_run.specs.Runs.{ReportsTrace, built_in_kinds}
 use Rattle.rd_run.proofs.CombinedLemmas.{runs_shipped}
-use Rattle.rd_run.proofs.TraceLemmas.{checks_before}
+use Rattle.rd_run.proofs.TraceLemmas.{reports_before}
 use Rattle.rd_run.proofs.top.check_shipped.Goals as goal
 
 pub check-requires-clause-few : goal.check-requires-clause-few
@@ -17,14 +18,14 @@ check-requires-clause-different g c = subst (λ kinds. AllPairs (λ x y. x ≢ y
 
 pub returns-in-Ok-clause-runs : goal.returns-in-Ok-clause-runs
 returns-in-Ok-clause-runs g c = λ old told few few_opens.
-    let (new, part, now, writes, checks) = c.check.ensures.checks old told few (omega (arith, few_opens)) in
+    let (new, part, now, writes, reports) = c.check.ensures.reports old told few (omega (arith, few_opens)) in
     let rose = nat_lt (g.I.Inputs.faults c.args.inputs.now) (g.I.Inputs.faults c.check.new.inputs) in (
       new,
       part,
       now,
       writes,
       runs_shipped c.args.trace.now c.args.limits.now rose old new part c.check.result c.args.steps.now c.check.new.steps
-          (subst (λ kinds. ChecksTrace kinds c.args.trace.now c.args.limits.now rose old new part c.check.result c.args.steps.now c.check.new.steps) c.in-Ok.ensures checks),
+          (subst (λ kinds. ReportsTrace (check_outcome kinds) (kinds_of kinds) c.args.trace.now c.args.limits.now rose old new part c.check.result c.args.steps.now c.check.new.steps) c.in-Ok.ensures reports),
     )
 
 pub returns-in-Err-clause-runs : goal.returns-in-Err-clause-runs
@@ -36,5 +37,5 @@ returns-in-Err-clause-runs g c = λ old told few few_opens.
       told,
       appends_none wrote wrote refl,
       runs_shipped c.args.trace.now c.args.limits.now (nat_lt faults faults) old old [] _ c.args.steps.now c.args.steps.now
-          (checks_before shipped_kinds c.args.trace.now c.args.limits.now faults old c.args.steps.now),
+          (reports_before (check_outcome shipped_kinds) built_in_kinds c.args.trace.now c.args.limits.now faults old c.args.steps.now),
     )

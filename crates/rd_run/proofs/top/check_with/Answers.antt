@@ -4,7 +4,8 @@ use Rattle.std.proofs.lemmas.Option.{same_Some}
 use Rattle.rd_io.proofs.SinkLemmas.{appends_none}
 use Rattle.rd_ecl.specs.Kinds.{kind_names, kinds_of}
 use Rattle.rd_kinds.specs.Shipped.{shipped_kinds}
-use Rattle.rd_run.specs.Runs.{ChecksTrace, ReadsSpec}
+use Rattle.rd_run.specs.Output.{check_outcome}
+use Rattle.rd_run.specs.Runs.{ReadsSpec, ReportsTrace}
 use Rattle.rd_run.specs.declared.status.Status.TheVariants.{NoMemory}
 use Rattle.rd_run.proofs.CombinedLemmas.{runs_said, unread_told, unread_without}
 use Rattle.rd_run.proofs.KindLemmas.{all_differ, few_kinds}
@@ -45,7 +46,7 @@ returns-in-Ok-with_shipped-clause-runs g c = λ old told few few_opens.
     let left = leaves few_opens in
     let was = subst (λ source. ReadsSpec c.args.file.now old source bytes) same read in
     let calm = c.in-Ok.ensures.calm (λ e. let is = c.in-Ok.is in cc) in
-    let (new, part, now, writes, checks) = c.check.ensures.checks mid now_mid (subst (λ n. n < 2 ^ 63) (sym calm) few) (omega (arith, was.opens, few_opens)) in
+    let (new, part, now, writes, reports) = c.check.ensures.reports mid now_mid (subst (λ n. n < 2 ^ 63) (sym calm) few) (omega (arith, was.opens, few_opens)) in
     let before = g.I.Inputs.faults c.args.inputs.now in
     let after = g.I.Inputs.faults c.check.new.inputs in (
       new,
@@ -54,9 +55,9 @@ returns-in-Ok-with_shipped-clause-runs g c = λ old told few few_opens.
       writes,
       runs_said c.args.trace.now c.args.file.now c.args.limits.now (nat_lt before after) old mid new part c.check.result c.args.steps.now c.check.new.steps
           left bytes c.in-Ok.said was says
-          (subst (λ faults. ChecksTrace (shipped_kinds ++ c.in-Ok.said) c.args.trace.now c.args.limits.now (nat_lt faults after) mid new part c.check.result c.args.steps.now c.check.new.steps) calm
-          (subst (λ kinds. ChecksTrace kinds c.args.trace.now c.args.limits.now (nat_lt (g.I.Inputs.faults c.read_spec.new.inputs) after) mid new part c.check.result c.args.steps.now c.check.new.steps)
-          c.in-Ok-with_shipped.ensures checks)),
+          (subst (λ faults. ReportsTrace (check_outcome (shipped_kinds ++ c.in-Ok.said)) (kinds_of (shipped_kinds ++ c.in-Ok.said)) c.args.trace.now c.args.limits.now (nat_lt faults after) mid new part c.check.result c.args.steps.now c.check.new.steps) calm
+          (subst (λ kinds. ReportsTrace (check_outcome kinds) (kinds_of kinds) c.args.trace.now c.args.limits.now (nat_lt (g.I.Inputs.faults c.read_spec.new.inputs) after) mid new part c.check.result c.args.steps.now c.check.new.steps)
+          c.in-Ok-with_shipped.ensures reports)),
     )
 
 pub returns-in-Err-with_shipped-clause-runs : goal.returns-in-Err-with_shipped-clause-runs

@@ -1,10 +1,10 @@
 use Rattle.std.proofs.Common.{None, Some, refl, sym, ap, ◌∙◌, subst}
-use Rattle.std.specs.Prelude.{nat_lt}
+use Rattle.std.specs.Prelude.{nat_lt, option_map}
 use Rattle.rd_run.specs.Commands.{asked}
 use Rattle.rd_run.specs.Runs.{Runs, WritesAll}
-use Rattle.rd_run.specs.Runs.Command.{check, spec}
+use Rattle.rd_run.specs.Runs.Command.{check, kind, replay, spec}
 use Rattle.rd_run.specs.declared.top.Command.{Command as Asked}
-use Rattle.rd_run.proofs.RunLemmas.{runs_usage}
+use Rattle.rd_run.proofs.RunLemmas.{runs_kind, runs_usage, shipped_at}
 use Rattle.rd_run.proofs.WholeLemmas.{none_failed, not_risen, some≢none, usage_or_fault, whole_run}
 use Rattle.rd_run.proofs.top.run.Goals as goal
 
@@ -16,7 +16,7 @@ returns-in-None-clause-runs g c = λ old told few few_opens.
       part,
       told,
       writes,
-      subst (λ command. Runs command c.args.limits.now (nat_lt faults faults) old old part c.refuse_usage.result c.args.steps.now c.args.steps.now) c.in-None.ensures
+      subst (λ command. Runs command c.args.limits.now (nat_lt faults faults) old old part c.refuse_usage.result c.args.steps.now c.args.steps.now) c.in-None.ensures.asked
           (runs_usage c.args.limits.now (nat_lt faults faults) old part c.refuse_usage.result c.args.steps.now output),
     )
 
@@ -24,7 +24,7 @@ pub returns-in-Some-Spec-clause-runs : goal.returns-in-Some-Spec-clause-runs
 returns-in-Some-Spec-clause-runs g c = λ old told few few_opens.
     let (new, part, now, writes, runs) = c.spec.ensures.runs c.args.limits.now c.args.steps.now old told few few_opens in
     let rose = nat_lt (g.I.Inputs.faults c.args.inputs.now) (g.I.Inputs.faults c.spec.new.inputs) in
-    let words = ap (λ (command : Asked). asked (Some command)) (sym c.in-Some-Spec.field-0-is) ∙ c.in-Some-Spec.ensures in (
+    let words = ap (λ (command : Asked). asked (Some command)) (sym c.in-Some-Spec.field-0-is) ∙ c.in-Some-Spec.ensures.asked in (
       new,
       part,
       now,
@@ -34,7 +34,7 @@ returns-in-Some-Spec-clause-runs g c = λ old told few few_opens.
 
 pub returns-in-Some-Spec-clause-spec_refused : goal.returns-in-Some-Spec-clause-spec_refused
 returns-in-Some-Spec-clause-spec_refused g c = λ refused.
-    let words = ap (λ (command : Asked). asked (Some command)) (sym c.in-Some-Spec.field-0-is) ∙ c.in-Some-Spec.ensures in
+    let words = ap (λ (command : Asked). asked (Some command)) (sym c.in-Some-Spec.field-0-is) ∙ c.in-Some-Spec.ensures.asked in
     (spec c.in-Some-Spec.file.now, c.in-Some-Spec.file.now, sym words, refl)
 
 pub returns-in-None-clause-whole : goal.returns-in-None-clause-whole
@@ -45,7 +45,7 @@ returns-in-None-clause-whole g c = λ old told few few_opens few_faults calm sil
     let runs = runs_usage c.args.limits.now (nat_lt faults faults) old part status c.args.steps.now output in (
       part,
       writes,
-      subst (λ command. WritesAll command c.args.limits.now old part status) c.in-None.ensures
+      subst (λ command. WritesAll command c.args.limits.now old part status) c.in-None.ensures.asked
           (whole_run None c.args.limits.now (nat_lt faults faults) old old part status c.args.steps.now c.args.steps.now runs (not_risen faults faults refl)
           (none_failed (g.S.Sink.faults c.args.out.now) (g.S.Sink.faults c.refuse_usage.new.out) _ _ status c.refuse_usage.ensures.fault few_faults silent)
           (λ _. usage_or_fault status c.refuse_usage.ensures.status)),
@@ -54,7 +54,7 @@ returns-in-None-clause-whole g c = λ old told few few_opens few_faults calm sil
 pub returns-in-Some-Check-clause-whole : goal.returns-in-Some-Check-clause-whole
 returns-in-Some-Check-clause-whole g c = λ old told few few_opens few_faults calm silent.
     let (new, part, now, writes, runs) = c.check_shipped.ensures.runs old told few few_opens in
-    let words = ap (λ (command : Asked). asked (Some command)) (sym c.in-Some-Check.field-0-is) ∙ c.in-Some-Check.ensures in (
+    let words = ap (λ (command : Asked). asked (Some command)) (sym c.in-Some-Check.field-0-is) ∙ c.in-Some-Check.ensures.asked in (
       part,
       writes,
       subst (λ command. WritesAll command c.args.limits.now old part c.check_shipped.result) words
@@ -65,7 +65,7 @@ returns-in-Some-Check-clause-whole g c = λ old told few few_opens few_faults ca
 pub returns-in-Some-CheckWith-clause-whole : goal.returns-in-Some-CheckWith-clause-whole
 returns-in-Some-CheckWith-clause-whole g c = λ old told few few_opens few_faults calm silent.
     let (new, part, now, writes, runs) = c.check_with.ensures.runs old told few few_opens in
-    let words = ap (λ (command : Asked). asked (Some command)) (sym c.in-Some-CheckWith.field-0-is) ∙ c.in-Some-CheckWith.ensures in (
+    let words = ap (λ (command : Asked). asked (Some command)) (sym c.in-Some-CheckWith.field-0-is) ∙ c.in-Some-CheckWith.ensures.asked in (
       part,
       writes,
       subst (λ command. WritesAll command c.args.limits.now old part c.check_with.result) words
@@ -76,10 +76,51 @@ returns-in-Some-CheckWith-clause-whole g c = λ old told few few_opens few_fault
 pub returns-in-Some-Spec-clause-whole : goal.returns-in-Some-Spec-clause-whole
 returns-in-Some-Spec-clause-whole g c = λ old told few few_opens few_faults calm silent.
     let (new, part, now, writes, runs) = c.spec.ensures.runs c.args.limits.now c.args.steps.now old told few few_opens in
-    let words = ap (λ (command : Asked). asked (Some command)) (sym c.in-Some-Spec.field-0-is) ∙ c.in-Some-Spec.ensures in (
+    let words = ap (λ (command : Asked). asked (Some command)) (sym c.in-Some-Spec.field-0-is) ∙ c.in-Some-Spec.ensures.asked in (
       part,
       writes,
       subst (λ command. WritesAll command c.args.limits.now old part c.spec.result) words
           (whole_run (Some (spec c.in-Some-Spec.file.now)) c.args.limits.now _ old new part c.spec.result _ _ runs (not_risen _ _ calm)
           (none_failed _ _ _ _ c.spec.result c.spec.ensures.fault few_faults silent) (λ none. absurd (some≢none none))),
+    )
+
+pub returns-in-Some-Replay-clause-whole : goal.returns-in-Some-Replay-clause-whole
+returns-in-Some-Replay-clause-whole g c = λ old told few few_opens few_faults calm silent.
+    let (new, part, now, writes, runs) = c.replay.ensures.runs old told few few_opens in
+    let words = ap (λ (command : Asked). asked (Some command)) (sym c.in-Some-Replay.field-0-is) ∙ c.in-Some-Replay.ensures.asked in (
+      part,
+      writes,
+      subst (λ command. WritesAll command c.args.limits.now old part c.replay.result) words
+          (whole_run (Some (replay c.in-Some-Replay.trace.now)) c.args.limits.now _ old new part c.replay.result _ _ runs (not_risen _ _ calm)
+          (none_failed _ _ _ _ c.replay.result c.replay.ensures.fault few_faults silent) (λ none. absurd (some≢none none))),
+    )
+
+pub returns-in-Some-Kind-clause-runs : goal.returns-in-Some-Kind-clause-runs
+returns-in-Some-Kind-clause-runs g c = λ old told few few_opens.
+    let number = c.in-Some-Kind.number in
+    let (built_in, at) = shipped_at number (c.in-Some-Kind.ensures.known number c.in-Some-Kind.field-0-is) in
+    let (part, writes, output) = c.kind.ensures.output built_in at in
+    let faults = g.I.Inputs.faults c.args.inputs.now in
+    let words = ap (option_map kind) (sym at) ∙ (ap (λ (command : Asked). asked (Some command)) (sym c.in-Some-Kind.field-0-is) ∙ c.in-Some-Kind.ensures.asked) in (
+      old,
+      part,
+      told,
+      writes,
+      subst (λ command. Runs command c.args.limits.now (nat_lt faults faults) old old part c.kind.result c.args.steps.now c.args.steps.now) words
+          (runs_kind built_in c.args.limits.now (nat_lt faults faults) old part c.kind.result c.args.steps.now output),
+    )
+
+pub returns-in-Some-Kind-clause-whole : goal.returns-in-Some-Kind-clause-whole
+returns-in-Some-Kind-clause-whole g c = λ old told few few_opens few_faults calm silent.
+    let number = c.in-Some-Kind.number in
+    let (built_in, at) = shipped_at number (c.in-Some-Kind.ensures.known number c.in-Some-Kind.field-0-is) in
+    let (part, writes, output) = c.kind.ensures.output built_in at in
+    let faults = g.I.Inputs.faults c.args.inputs.now in
+    let words = ap (option_map kind) (sym at) ∙ (ap (λ (command : Asked). asked (Some command)) (sym c.in-Some-Kind.field-0-is) ∙ c.in-Some-Kind.ensures.asked) in (
+      part,
+      writes,
+      subst (λ command. WritesAll command c.args.limits.now old part c.kind.result) words
+          (whole_run (Some (kind built_in)) c.args.limits.now (nat_lt faults faults) old old part c.kind.result c.args.steps.now c.args.steps.now
+          (runs_kind built_in c.args.limits.now (nat_lt faults faults) old part c.kind.result c.args.steps.now output) (not_risen faults faults refl)
+          (none_failed _ _ _ _ c.kind.result c.kind.ensures.fault few_faults silent) (λ none. absurd (some≢none none))),
     )

@@ -1,6 +1,5 @@
 use Rattle.std.proofs.Common.{[], ◌++◌, ap, sym, ◌∙◌}
 use Rattle.std.proofs.lemmas.List.{append-nil}
-use Rattle.rd_run.specs.Walk.{Entry}
 use Rattle.rd_run.proofs.CheckLemmas.{always_err}
 use Rattle.rd_run.proofs.replaying.ReplayingAnalysis.accept.Goals as goal
 

@@ -1,0 +1,39 @@
+-- What the part of each command keeps of the accepted lines, and writes.
+use Rattle.std.specs.Prelude.{◌≡◌, ⊤, ℕ, List, []}
+use Rattle.std.proofs.Common.{refl}
+use Rattle.rd_ecl.specs.Kinds.{Kind}
+use Rattle.rd_run.specs.CheckLaws.{leads_none, no_text}
+use Rattle.rd_run.specs.Checking.{Begins, Leads}
+use Rattle.rd_run.specs.Output.{Outcome, check_outcome, race_texts, replay_outcome}
+use Rattle.rd_run.specs.Walk.{Entry, Walked}
+use Rattle.rd_run.specs.declared.parts.Part.{Part}
+use Rattle.rd_run.specs.declared.parts.Part.TheVariants.{Check, Replay}
+
+-- it has taken no line
+abbrev pub PartBegins : List Kind → Part → Type 0
+PartBegins kinds (Check start) = Begins kinds start
+PartBegins kinds Replay = ⊤
+
+-- the lines lead from the first to the second, of which each is the same command's
+abbrev pub PartLeads : List Kind → Part → List Entry → Part → Type 0
+PartLeads kinds (Check start) entries (Check now) = Leads kinds start entries now
+PartLeads kinds Replay entries Replay = ⊤
+PartLeads kinds _ entries _ = ⊥
+
+-- what is written for the lines
+abbrev pub part_text : Part → List Entry → List ℕ
+part_text (Check start) entries = race_texts start.spec.now entries
+part_text Replay entries = []
+
+-- what is written in all, and the status
+abbrev pub part_outcome : List Kind → Part → Walked → Outcome
+part_outcome kinds (Check start) walked = check_outcome start.spec.now walked
+part_outcome kinds Replay walked = replay_outcome kinds walked
+
+pub part_starts : (kinds : List Kind) (start : Part) → PartBegins kinds start → PartLeads kinds start [] start
+part_starts kinds (Check start) begins = leads_none kinds start begins
+part_starts kinds Replay begins = tt
+
+pub part_silent : (start : Part) → part_text start [] ≡ []
+part_silent (Check start) = no_text start
+part_silent Replay = refl
