@@ -4,12 +4,6 @@
 #[cfg(test)]
 mod kinds;
 #[cfg(test)]
-mod random;
-#[cfg(test)]
-mod random_calls;
-#[cfg(test)]
-mod random_objects;
-#[cfg(test)]
 mod refusals;
 #[cfg(test)]
 mod replays;
@@ -21,3 +15,5 @@ mod single_calls;
 mod specifications;
 #[cfg(test)]
 mod specs;
+#[cfg(test)]
+mod states;

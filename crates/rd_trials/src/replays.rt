@@ -3,6 +3,7 @@ ghost use Rattle.std.specs.Prelude.{◌≤◌};
 
 use crate::kinds::{DONE_FIRST, DONE_FIRST_TEXT, FLAG, TWO_KEYS, answers};
 use crate::runs::Row;
+use rd_base::Bytes;
 use rd_run::Status;
 use std::test::Fail;
 
@@ -66,6 +67,151 @@ fn an_amount_that_is_no_integer(rt: HostRuntime) -> Result<(), Fail> {
     let trace = b"rdtrace 1\nthread main\nobject c counter\ncall main c add \"x\" -> nil\n";
     let text = b"races 0\nreplay differs line 4 argument 1\n";
     answers(&rt, rt.alloc(), trace, Status::ReplayDiffers, text)
+}
+
+/// One thread calls one new object, or two.
+#[test]
+fn results_of_each_method(rt: HostRuntime) -> Result<(), Fail> {
+    let rows = [
+        (
+            b"register".as_slice(),
+            b"call p x read -> nil\ncall p x write 7 -> nil\ncall p x swap \"a \\\" b\" -> 7\ncall p x read -> \"a \\\" b\"\ncall p x write nil -> nil\ncall p x read -> nil\n".as_slice(),
+            b"exact".as_slice(),
+        ),
+        (
+            b"register",
+            b"call p x read -> 0\n",
+            b"differs line 4 expected nil",
+        ),
+        (
+            b"register",
+            b"call p x write 7 -> 7\n",
+            b"differs line 4 expected nil",
+        ),
+        (
+            b"register",
+            b"call p x write 7 -> nil\ncall p x swap 8 -> nil\n",
+            b"differs line 5 expected 7",
+        ),
+        (
+            b"register",
+            b"call p x write true -> nil\ncall p x read -> false\n",
+            b"differs line 5 expected true",
+        ),
+        (
+            b"register",
+            b"call p x write \"a \\\" b\\x00\" -> nil\ncall p x read -> \"a b\"\n",
+            b"differs line 5 expected \"a \\\" b\\x00\"",
+        ),
+        (
+            b"register",
+            b"call p x write -1 -> nil\nobject y register\ncall p y read -> nil\ncall p x read -> -1\n",
+            b"exact",
+        ),
+        (
+            b"counter",
+            b"call p x get -> 0\ncall p x add -5 -> nil\ncall p x add 3 -> nil\ncall p x get -> -2\n",
+            b"exact",
+        ),
+        (
+            b"counter",
+            b"call p x add -9223372036854775808 -> nil\ncall p x add -1 -> nil\ncall p x get -> 9223372036854775807\n",
+            b"exact",
+        ),
+        (
+            b"counter",
+            b"call p x add 1 -> 1\n",
+            b"differs line 4 expected nil",
+        ),
+        (
+            b"counter",
+            b"call p x add 1 -> nil\ncall p x get -> \"1\"\n",
+            b"differs line 5 expected 1",
+        ),
+        (
+            b"counter",
+            b"call p x get -> 0\ncall p x add nil -> nil\n",
+            b"differs line 5 argument 1",
+        ),
+        (
+            b"counter",
+            b"call p x add true -> true\n",
+            b"differs line 4 argument 1",
+        ),
+        (
+            b"set",
+            b"call p x add 1 -> true\ncall p x add \"1\" -> true\ncall p x add 1 -> false\ncall p x contains 1 -> true\ncall p x size -> 2\ncall p x remove 1 -> true\ncall p x remove 1 -> false\ncall p x contains 1 -> false\ncall p x size -> 1\n",
+            b"exact",
+        ),
+        (
+            b"set",
+            b"call p x add nil -> true\ncall p x contains nil -> false\n",
+            b"differs line 5 expected true",
+        ),
+        (
+            b"set",
+            b"call p x add 1 -> true\ncall p x add true -> false\n",
+            b"differs line 5 expected true",
+        ),
+        (
+            b"set",
+            b"call p x add 1 -> 1\n",
+            b"differs line 4 expected true",
+        ),
+        (
+            b"set",
+            b"call p x remove 1 -> true\n",
+            b"differs line 4 expected false",
+        ),
+        (
+            b"set",
+            b"call p x add 1 -> true\ncall p x remove 1 -> true\ncall p x size -> 1\n",
+            b"differs line 6 expected 0",
+        ),
+        (
+            b"dictionary",
+            b"call p x put 1 \"a\" -> nil\ncall p x put \"1\" \"b\" -> nil\ncall p x put 1 \"c\" -> \"a\"\ncall p x get 1 -> \"c\"\ncall p x size -> 2\ncall p x put 1 nil -> \"c\"\ncall p x get 1 -> nil\ncall p x put 1 nil -> nil\ncall p x size -> 1\n",
+            b"exact",
+        ),
+        (
+            b"dictionary",
+            b"call p x put nil false -> nil\ncall p x get nil -> nil\n",
+            b"differs line 5 expected false",
+        ),
+        (
+            b"dictionary",
+            b"call p x put 1 nil -> nil\ncall p x size -> 1\n",
+            b"differs line 5 expected 0",
+        ),
+        (
+            b"dictionary",
+            b"call p x put 1 2 -> nil\ncall p x put 1 3 -> nil\n",
+            b"differs line 5 expected 2",
+        ),
+        (
+            b"dictionary",
+            b"call p x get 1 -> 2\ncall p x get 1 -> 3\ncall p x put 1 2 -> 2\n",
+            b"differs line 4 expected nil",
+        ),
+    ];
+    for (kind, calls, replay) in rows {
+        let mut trace = Bytes::new(rt.alloc());
+        trace.append(b"rdtrace 1\nthread p\nobject x ")?;
+        trace.append(kind)?;
+        trace.push(b'\n')?;
+        trace.append(calls)?;
+        let mut text = Bytes::new(rt.alloc());
+        text.append(b"races 0\nreplay ")?;
+        text.append(replay)?;
+        text.push(b'\n')?;
+        let status = if replay == b"exact".as_slice() {
+            Status::Clean
+        } else {
+            Status::ReplayDiffers
+        };
+        answers(&rt, rt.alloc(), trace.items(), status, text.items())?;
+    }
+    Ok(())
 }
 
 /// A specification is given. No call is replayed where an object of its kinds is declared.

@@ -7,11 +7,11 @@
 //! are refused, other values and longer traces are not covered here.
 ghost use Rattle.std.specs.Prelude.{◌<◌};
 
+use crate::checked::checked;
 use crate::random_calls::{
     Call, CounterCall, DictionaryCall, GATE, GateCall, Kind, RegisterCall, SetCall, Value, pair,
 };
 use crate::random_objects::Object;
-use crate::runs::Row;
 use rd_run::Status;
 use std::alloc::Global;
 use std::test::Fail;
@@ -504,7 +504,7 @@ fn random_traces(rt: HostRuntime) -> Result<(), Fail> {
         let steps = random.steps(alloc, kinds, are_given)?;
         let (status, text) = report(alloc, kinds, &steps)?;
         let trace = trace(alloc, kinds, &steps)?;
-        let (answer, out) = Row::check_with(trace.as_bytes(), GATE).run(alloc)?;
+        let (answer, out) = checked(alloc, trace.as_bytes(), GATE)?;
         assert_eq!(rt; out.written(), text.as_bytes(), "{trace}");
         assert_eq!(rt; answer, status, "{trace}");
         match status {

@@ -1,0 +1,4 @@
+use Rattle.rd_random_trials.proofs.checked.checked.Given as goal
+
+abbrev pub ghosts-run_counted : goal.ghosts-run_counted
+ghosts-run_counted a = record { name = a.blank.name; parts = a.blank.parts }
