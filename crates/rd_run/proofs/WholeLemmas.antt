@@ -1,5 +1,5 @@
 -- A check in which nothing failed and nothing is refused writes all.
-use Rattle.std.proofs.Common.{◌≡◌, ◌≢◌, ◌⊎◌, ◌<◌, ◌^◌, ℕ, Bool, true, false, arith, cond, eqb, List, ◌++◌, Option, Some, None, refl, sym, ap, ◌∙◌, subst, inl, inr, true≢false}
+use Rattle.std.proofs.Common.{◌≡◌, ◌≢◌, ◌⊎◌, ◌<◌, ◌^◌, ℕ, Bool, true, false, arith, cond, eqb, List, [], ◌∷◌, ◌++◌, Option, Some, None, refl, sym, ap, ◌∙◌, subst, inl, inr, true≢false}
 use Rattle.std.specs.Prelude.{nat_lt, option_map, take}
 use Rattle.std.proofs.lemmas.Bool.{le-ltb}
 use Rattle.std.proofs.lemmas.Option.{none-some, same_Some}
@@ -214,3 +214,7 @@ some≢none same = none-some _ (sym same)
 pub usage_or_fault : (status : Status) → (status ≡ Usage) ⊎ (status ≡ OutputFault) → status ≢ NoMemory
 usage_or_fault status (inl usage) none = let apart : Usage ≡ NoMemory = sym usage ∙ none in cc
 usage_or_fault status (inr fault) none = let apart : OutputFault ≡ NoMemory = sym fault ∙ none in cc
+
+-- a command that names a file names some
+pub some_file : (name : List ℕ) (names : List (List ℕ)) → name ∷ names ≡ [] → ⊥
+some_file name names same = cc

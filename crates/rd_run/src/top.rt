@@ -1,5 +1,5 @@
 //! The call that the program makes.
-ghost use Rattle.std.specs.Prelude.{◌≡◌, ◌≢◌, ◌⊎◌, ℕ, ◌<◌, ◌≤◌, ◌^◌, nat_lt, List, ◌++◌, Option, Some, None, length, slice_get, AllPairs, IfOk, IfSome};
+ghost use Rattle.std.specs.Prelude.{◌≡◌, ◌≢◌, ◌⊎◌, ℕ, ◌<◌, ◌≤◌, ◌^◌, nat_lt, List, [], ◌++◌, Option, Some, None, length, slice_get, AllPairs, IfOk, IfSome};
 ghost use Rattle.rd_base.specs.Limits.{AreUsable};
 ghost use Rattle.rd_base.specs.declared.limits.Limits.{Limits as LimitsOf};
 ghost use Rattle.rd_ecl.specs.Kinds.{kind_names, kinds_of};
@@ -10,7 +10,7 @@ ghost use Rattle.rd_kinds.specs.Shipped.{shipped_kinds};
 ghost use Rattle.rd_run.specs.Commands.{asked, named_number};
 ghost use Rattle.rd_run.specs.Output.{IsOutput, StatusTellsFault, check_outcome};
 ghost use Rattle.rd_run.specs.Replaying.{AreNumbered};
-ghost use Rattle.rd_run.specs.Runs.{ReportsTrace, Command as CommandOf, Runs, WritesAll, command_of, kind_outcome, specification_of, usage_outcome};
+ghost use Rattle.rd_run.specs.Runs.{ReportsTrace, Command as CommandOf, Runs, WritesAll, command_of, files_of, kind_outcome, specification_of, usage_outcome};
 ghost use Rattle.rd_run.specs.Runs.Command.{check, replay};
 
 use crate::checking::Check;
@@ -293,7 +293,7 @@ pub fn run<I: Inputs, S: Sink, L: Ledger>(
     // each of these statuses has its cause
     ensures usage { result ≡ Status.Usage → command_of words.now ≡ None }
     ensures no_command { command_of words.now ≡ None → (result ≡ Status.Usage) ⊎ (result ≡ Status.OutputFault) }
-    ensures untouched { command_of words.now ≡ None → (inputs.new ≡ inputs.old) × (steps.new ≡ steps.old) }
+    ensures untouched { files_of (command_of words.now) ≡ [] → (inputs.new ≡ inputs.old) × (steps.new ≡ steps.old) }
     ensures spec_refused { result ≡ Status.SpecRefused → (command : CommandOf) × (name : List ℕ) × (command_of words.now ≡ Some command)
         × (specification_of command ≡ Some name) }
     ensures input_fault { result ≡ Status.InputFault → Rose (I.faults inputs.old) (I.faults inputs.new) }

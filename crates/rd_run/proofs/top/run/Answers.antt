@@ -1,11 +1,11 @@
-use Rattle.std.proofs.Common.{None, Some, refl, sym, ap, ◌∙◌, subst}
+use Rattle.std.proofs.Common.{[], ◌∷◌, None, Some, refl, sym, ap, ◌∙◌, subst}
 use Rattle.std.specs.Prelude.{nat_lt, option_map}
 use Rattle.rd_run.specs.Commands.{asked}
-use Rattle.rd_run.specs.Runs.{Runs, WritesAll}
+use Rattle.rd_run.specs.Runs.{Runs, WritesAll, files_of}
 use Rattle.rd_run.specs.Runs.Command.{check, kind, replay, spec}
 use Rattle.rd_run.specs.declared.top.Command.{Command as Asked}
 use Rattle.rd_run.proofs.RunLemmas.{runs_kind, runs_usage, shipped_at}
-use Rattle.rd_run.proofs.WholeLemmas.{none_failed, not_risen, some≢none, usage_or_fault, whole_run}
+use Rattle.rd_run.proofs.WholeLemmas.{none_failed, not_risen, some_file, some≢none, usage_or_fault, whole_run}
 use Rattle.rd_run.proofs.top.run.Goals as goal
 
 pub returns-in-None-clause-runs : goal.returns-in-None-clause-runs
@@ -124,3 +124,23 @@ returns-in-Some-Kind-clause-whole g c = λ old told few few_opens few_faults cal
           (runs_kind built_in c.args.limits.now (nat_lt faults faults) old part c.kind.result c.args.steps.now output) (not_risen faults faults refl)
           (none_failed _ _ _ _ c.kind.result c.kind.ensures.fault few_faults silent) (λ none. absurd (some≢none none))),
     )
+
+pub returns-in-Some-Check-clause-untouched : goal.returns-in-Some-Check-clause-untouched
+returns-in-Some-Check-clause-untouched g c = λ none.
+    let words = ap (λ (command : Asked). asked (Some command)) (sym c.in-Some-Check.field-0-is) ∙ c.in-Some-Check.ensures.asked in
+    absurd (some_file c.in-Some-Check.trace.now [] (ap files_of words ∙ none))
+
+pub returns-in-Some-CheckWith-clause-untouched : goal.returns-in-Some-CheckWith-clause-untouched
+returns-in-Some-CheckWith-clause-untouched g c = λ none.
+    let words = ap (λ (command : Asked). asked (Some command)) (sym c.in-Some-CheckWith.field-0-is) ∙ c.in-Some-CheckWith.ensures.asked in
+    absurd (some_file c.in-Some-CheckWith.file.now (c.in-Some-CheckWith.trace.now ∷ []) (ap files_of words ∙ none))
+
+pub returns-in-Some-Replay-clause-untouched : goal.returns-in-Some-Replay-clause-untouched
+returns-in-Some-Replay-clause-untouched g c = λ none.
+    let words = ap (λ (command : Asked). asked (Some command)) (sym c.in-Some-Replay.field-0-is) ∙ c.in-Some-Replay.ensures.asked in
+    absurd (some_file c.in-Some-Replay.trace.now [] (ap files_of words ∙ none))
+
+pub returns-in-Some-Spec-clause-untouched : goal.returns-in-Some-Spec-clause-untouched
+returns-in-Some-Spec-clause-untouched g c = λ none.
+    let words = ap (λ (command : Asked). asked (Some command)) (sym c.in-Some-Spec.field-0-is) ∙ c.in-Some-Spec.ensures.asked in
+    absurd (some_file c.in-Some-Spec.file.now [] (ap files_of words ∙ none))
