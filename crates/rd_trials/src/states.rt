@@ -53,10 +53,7 @@ fn a_size_that_is_another(rt: HostRuntime) -> Result<(), Fail> {
 #[test]
 fn the_states_of_objects(rt: HostRuntime) -> Result<(), Fail> {
     let rows = [
-        (
-            b"rdtrace 1\n".as_slice(),
-            b"replay exact\n".as_slice(),
-        ),
+        (b"rdtrace 1\n".as_slice(), b"replay exact\n".as_slice()),
         (
             b"rdtrace 1\nobject s set\nobject d dictionary\nobject c counter\nobject r register\n",
             b"replay exact\nstate s items\nstate d map\nstate c number 0\nstate r one nil\n",
