@@ -1,4 +1,4 @@
--- A check in which nothing failed and nothing is refused writes all.
+-- A run in which nothing failed and nothing is refused writes all.
 use Rattle.std.proofs.Common.{◌≡◌, ◌≢◌, ◌⊎◌, ◌<◌, ◌^◌, ℕ, Bool, true, false, arith, cond, eqb, List, [], ◌∷◌, ◌++◌, Option, Some, None, refl, sym, ap, ◌∙◌, subst, inl, inr, true≢false}
 use Rattle.std.specs.Prelude.{nat_lt, option_map, take}
 use Rattle.std.proofs.lemmas.Bool.{le-ltb}

@@ -3,7 +3,7 @@
 /// How a run ended. The numbers are those that the program ends with.
 #[derive(Clone, Copy, Debug, PartialEq, Eq)]
 pub enum Status {
-    /// 0: the trace was read to its end, and no call is reported; or the specification was accepted
+    /// 0: the trace was read to its end, and no call is reported, or under `replay` none differs; or a specification was written
     Clean,
     /// 1: the trace was read to its end, and some call is reported
     Raced,
@@ -13,7 +13,7 @@ pub enum Status {
     SpecRefused,
     /// 4: the trace was refused at a line, for a cause other than a limit
     TraceRefused,
-    /// 5: the recorded results are not those of the objects
+    /// 5: the trace was read to its end, no call is reported, and the recorded results are not those of the objects
     ReplayDiffers,
     /// 6: opening or reading a file failed
     InputFault,
