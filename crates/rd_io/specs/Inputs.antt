@@ -1,5 +1,5 @@
 -- Sources of bytes: what they tell of themselves, and when they fail. This project's profile.
-use Rattle.std.specs.Prelude.{◌≡◌, ℕ, ◌+◌, ◌-◌, ◌^◌, ◌<◌, ◌≤◌, min, List, [], ◌∷◌, ◌++◌, take, length, Option, Some, None, is_some, if◌then◌else◌, Result, Ok, Err, OnOk, OnErr}
+use Rattle.std.specs.Prelude.{◌≡◌, ℕ, ◌+◌, ◌-◌, ◌^◌, ◌<◌, ◌≤◌, min, List, [], ◌∷◌, ◌++◌, codes, take, length, Option, Some, None, is_some, if◌then◌else◌, Result, Ok, Err, OnOk, OnErr}
 use Rattle.std.specs.Str.{bytes_eq}
 
 -- what inputs tell: the files with their names, what is left of the current input and what was taken of it,
@@ -68,3 +68,7 @@ pub record HasCause {T E : Type 0} (before now : ℕ) (result : Result T E) : Ty
   pub later : before ≤ now
   pub calm : OnOk result (now ≡ before)
   pub failed : OnErr result (Rose before now)
+
+-- what a program writes where a file could not be opened or read
+abbrev pub fault_line : List ℕ
+fault_line = codes "fault input\n"

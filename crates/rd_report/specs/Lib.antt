@@ -1,4 +1,5 @@
 pub mod Texts
+pub mod Formulas
 pub mod Races
 pub mod States
 pub mod Writing

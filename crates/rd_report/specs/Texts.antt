@@ -4,6 +4,7 @@ use Rattle.rd_base.specs.declared.limits.LimitName.{LimitName}
 use Rattle.rd_base.specs.declared.limits.LimitName.TheVariants.{Bytes, Line, Events, Threads, Locks, Objects, Depth, SpecText, Tokens, Kinds, Methods, Arguments, Nodes, FormulaDepth, Predicates}
 use Rattle.rd_base.specs.Spelling.{spelling}
 use Rattle.rd_event.specs.declared.items.Line.{Line as Item}
+use Rattle.rd_io.specs.Inputs.{fault_line}
 use Rattle.rd_object.specs.declared.shapes.Expected.{Expected}
 use Rattle.rd_object.specs.declared.shapes.Expected.TheVariants.{Value, BadArgument}
 use Rattle.rd_object.specs.declared.shapes.ReplayEnd.{ReplayEnd}
@@ -13,8 +14,8 @@ use Rattle.rd_wf.specs.Roster.{names_in, object_names_in}
 use Rattle.rd_wf.specs.declared.causes.WfCause.{WfCause}
 use Rattle.rd_wf.specs.declared.causes.WfCause.TheVariants as wf
 use Rattle.rd_wf.specs.declared.roster.Roster.{Roster}
-use Rattle.rd_report.specs.declared.endings.TraceCause.{TraceCause}
-use Rattle.rd_report.specs.declared.endings.TraceCause.TheVariants as cause
+use Rattle.rd_wf.specs.declared.causes.TraceCause.{TraceCause}
+use Rattle.rd_wf.specs.declared.causes.TraceCause.TheVariants as cause
 use Rattle.rd_report.specs.declared.endings.Ending.{Ending}
 use Rattle.rd_report.specs.declared.endings.Ending.TheVariants.{End, Refused, Fault}
 
@@ -104,10 +105,6 @@ races_line races = codes "races " ++ decimal races ++ codes "\n"
 -- the line of a refusal
 abbrev pub refused_line : List (List ℕ) → ℕ → TraceCause → List ℕ
 refused_line names number cause = codes "refused line " ++ decimal number ++ codes " " ++ cause_text names cause ++ codes "\n"
-
--- the line of a fault
-abbrev pub fault_line : List ℕ
-fault_line = codes "fault input\n"
 
 -- the text behind the races: how many calls are reported, and how the replay ended, or where the trace was refused, by the names of the
 -- threads, or that it could not be read on

@@ -3,11 +3,11 @@ ghost use Rattle.std.specs.Prelude.{◌≡◌, ◌++◌, codes, decimal, IfOk, O
 ghost use Rattle.rd_report.specs.Texts.{limit_text, cause_text, limit_cause_text, wf_text, races_line, refused_line, ending_text, name_of};
 ghost use Rattle.rd_wf.specs.Roster.{names_in};
 
-use crate::endings::{Ending, TraceCause};
+use crate::endings::Ending;
 use crate::numbers::append_number;
 use crate::replays::append_replay;
 use rd_base::{Bytes, LimitName, NoMemory};
-use rd_wf::{Roster, WfCause};
+use rd_wf::{Roster, TraceCause, WfCause};
 use std::alloc::Global;
 
 #[tactic(auto, unfolding(crate::specs::Texts::limit_text))]

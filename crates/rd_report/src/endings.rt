@@ -1,21 +1,7 @@
 //! How the lines of a trace end.
 
-use rd_base::LimitName;
 use rd_object::ReplayEnd;
-use rd_wf::WfCause;
-
-/// Why a line is refused.
-#[derive(Clone, Copy, Debug, PartialEq, Eq)]
-pub enum TraceCause {
-    /// the line says no item
-    BadLine,
-    /// the input ended inside the line
-    NoFinalNewline,
-    /// the line may not follow the accepted ones
-    Wf(WfCause),
-    /// the line is too long, or the bytes are too many
-    Limit(LimitName, u64),
-}
+use rd_wf::TraceCause;
 
 /// How the lines of a trace end.
 #[derive(Debug, Drop, PartialEq, Eq)]

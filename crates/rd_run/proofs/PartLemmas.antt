@@ -1,10 +1,10 @@
 -- The part of a command: which it is stays so.
 use Rattle.std.proofs.Common.{◌≡◌, List, refl, subst}
 use Rattle.rd_ecl.specs.Kinds.{Kind}
-use Rattle.rd_run.specs.Checking.{Leads}
+use Rattle.rd_check.specs.Checking.{Leads}
 use Rattle.rd_run.specs.Parts.{PartLeads}
-use Rattle.rd_run.specs.Walk.{Entry}
-use Rattle.rd_run.specs.declared.checking.Check.{Check as CheckOf}
+use Rattle.rd_walk.specs.Walk.{Entry}
+use Rattle.rd_check.specs.declared.checking.Check.{Check as CheckOf}
 use Rattle.rd_run.specs.declared.parts.Part.{Part}
 use Rattle.rd_run.specs.declared.parts.Part.TheVariants.{Check, Replay}
 

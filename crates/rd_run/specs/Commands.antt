@@ -1,23 +1,66 @@
 -- What the words of the command line ask for.
-use Rattle.std.specs.Prelude.{◌≡◌, ◌≢◌, ◌⊎◌, ℕ, List, ◌++◌, Option, Some, None, codes, option_map, slice_get, if◌then◌else◌}
-use Rattle.rd_base.specs.declared.limits.Limits.{Limits}
-use Rattle.rd_ecl.specs.Kinds.{Kind}
+use Rattle.rd_walk.specs.Meanings.{Meaning}
+use Rattle.rd_check.specs.Meanings.{check_meaning}
+use Rattle.rd_spec_commands.specs.Meanings.{kind_meaning, spec_meaning}
+use Rattle.rd_replaying.specs.Meanings.{replay_meaning}
+use Rattle.rd_ecl.specs.Specified.{SpecifiedKind}
 use Rattle.rd_kinds.specs.Shipped.{shipped_kinds}
-use Rattle.rd_io.specs.Inputs.{Rose}
-use Rattle.rd_wf.specs.MayFollow.{same_name}
-use Rattle.rd_run.specs.Output.{IsOutput, Outcome}
-use Rattle.rd_run.specs.Runs.{Command}
-use Rattle.rd_run.specs.Runs.Command.{check, replay, spec, kind}
-use Rattle.rd_run.specs.Walk.{Entry, Walked, after, ends}
-use Rattle.rd_run.specs.Progress.{WalksTo, WalksOn}
-use Rattle.rd_run.specs.declared.walk.WalkEnd.{WalkEnd}
-use Rattle.rd_run.specs.declared.walk.WalkEnd.TheVariants.{Fault}
-use Rattle.rd_run.specs.declared.analysis.Halt.{Halt}
-use Rattle.rd_run.specs.declared.analysis.Halt.TheVariants as halt
-use Rattle.rd_run.specs.declared.status.Status.{Status}
-use Rattle.rd_run.specs.declared.status.Status.TheVariants.{OutputFault, NoMemory}
-use Rattle.rd_run.specs.declared.top.Command.{Command as Asked}
+use Rattle.rd_walk.specs.Output.{Outcome}
+use Rattle.rd_walk.specs.declared.status.Status.TheVariants.{Usage}
 use Rattle.rd_run.specs.declared.top.Command.TheVariants.{Check, CheckWith, Replay, Spec, Kind as BuiltIn}
+use Rattle.rd_run.specs.declared.top.Command.{Command as Asked}
+use Rattle.rd_wf.specs.MayFollow.{same_name}
+use Rattle.std.specs.Prelude.{◌≡◌, ℕ, List, Option, Some, None, codes, option_map, slice_get, if◌then◌else◌, [], ◌∷◌, ⊤, find}
+
+-- what the words ask for
+pub data Command : Type 0 where
+  -- a trace, and a specification where one is named
+  check : List ℕ → Option (List ℕ) → Command
+  -- a trace
+  replay : List ℕ → Command
+  -- a specification
+  spec : List ℕ → Command
+  -- a kind that is built in
+  kind : SpecifiedKind → Command
+
+-- the kind that is built in with this name
+abbrev pub shipped_named : List ℕ → Option SpecifiedKind
+shipped_named name = find (λ kind. same_name name kind.name) shipped_kinds
+
+-- the words are exactly those of a command
+abbrev pub command_of : List (List ℕ) → Option Command
+command_of (word ∷ name ∷ []) =
+    if same_name word (codes "check") then Some (check name None)
+    else if same_name word (codes "replay") then Some (replay name)
+    else if same_name word (codes "spec") then Some (spec name)
+    else if same_name word (codes "kind") then option_map kind (shipped_named name) else None
+command_of (word ∷ trace ∷ file ∷ []) = if same_name word (codes "check") then Some (check trace (Some file)) else None
+command_of _ = None
+
+-- where the words match no command
+abbrev pub usage_outcome : Outcome
+usage_outcome = record { text = codes "refused usage\n"; status = Usage }
+
+-- words that match no command: no file is named
+abbrev pub usage_meaning : Meaning
+usage_meaning = record {
+  files = [];
+  specification = None;
+  outcome = λ limits rose old new outcome. outcome ≡ usage_outcome;
+  takes = λ limits rose old new before after. (new ≡ old) × (after ≡ before);
+  reads = λ limits old new. ⊤;
+  writes = λ limits old part status. (part ≡ usage_outcome.text) × (status ≡ Usage);
+}
+
+-- what a command means
+abbrev pub meaning_of : Option Command → Meaning
+meaning_of None = usage_meaning
+meaning_of (Some (check trace file)) = check_meaning trace file
+meaning_of (Some (replay trace)) = replay_meaning trace
+meaning_of (Some (spec file)) = spec_meaning file
+meaning_of (Some (kind built_in)) = kind_meaning built_in
+
+-- ---- as the program has them
 
 abbrev pub asked : Option Asked → Option Command
 asked None = None
@@ -34,18 +77,3 @@ named_number name =
     else if same_name name (codes "counter") then Some 1
     else if same_name name (codes "set") then Some 2
     else if same_name name (codes "dictionary") then Some 3 else None
-
--- the status of a run that was cut short
-abbrev pub halted_with : Halt → Status
-halted_with halt.OutputFault = OutputFault
-halted_with halt.NoMemory = NoMemory
-
--- What a report has done when it ends, which writes `text` for the lines and has this outcome: all was written, or it was cut short behind
--- the lines or in their text. These bytes were taken of the input and `held` is left of it, and the count of the inputs' faults rose where a
--- read failed.
-abbrev pub HasReported : (List Entry → List ℕ) → (Walked → Outcome) → List Kind → Limits → List ℕ → List ℕ → List Entry → List ℕ → Status → ℕ → ℕ → Type 0
-HasReported text outcome kinds limits taken held entries part status before now =
-    ((ending : WalkEnd) × WalksTo kinds limits taken held entries ending × IsOutput status part (outcome (after entries (ends ending)))
-    × (ending ≡ Fault → Rose before now) × (ending ≢ Fault → now ≡ before))
-    ⊎ ((halt : Halt) × (rest : List ℕ) × WalksOn kinds limits taken entries × (text entries ≡ part ++ rest)
-    × (status ≡ halted_with halt) × (now ≡ before))

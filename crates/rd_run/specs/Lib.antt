@@ -1,13 +1,2 @@
-pub mod Analysis
-pub mod CheckLaws
-pub mod Checking
 pub mod Commands
-pub mod Formulas
-pub mod Output
 pub mod Parts
-pub mod Progress
-pub mod Replaying
-pub mod Reports
-pub mod Runs
-pub mod Specifications
-pub mod Walk

@@ -2,10 +2,12 @@
 use Rattle.std.specs.Prelude.{◌≡◌, ⊤, ℕ, List, []}
 use Rattle.std.proofs.Common.{refl}
 use Rattle.rd_ecl.specs.Kinds.{Kind}
-use Rattle.rd_run.specs.CheckLaws.{leads_none, no_text}
-use Rattle.rd_run.specs.Checking.{Begins, Leads}
-use Rattle.rd_run.specs.Output.{Outcome, check_outcome, race_texts, replay_outcome}
-use Rattle.rd_run.specs.Walk.{Entry, Walked}
+use Rattle.rd_check.specs.CheckLaws.{leads_none, no_text}
+use Rattle.rd_check.specs.Checking.{Begins, Leads}
+use Rattle.rd_walk.specs.Output.{Outcome}
+use Rattle.rd_check.specs.Checked.{check_outcome, race_texts}
+use Rattle.rd_replaying.specs.States.{replay_outcome}
+use Rattle.rd_walk.specs.Walk.{Entry, Walked}
 use Rattle.rd_run.specs.declared.parts.Part.{Part}
 use Rattle.rd_run.specs.declared.parts.Part.TheVariants.{Check, Replay}
 

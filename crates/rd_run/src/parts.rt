@@ -1,17 +1,13 @@
 //! The part of each command that walks over a trace.
 ghost use Rattle.std.specs.Prelude.{◌≡◌, ◌+◌, ◌≤◌, List, [], ◌∷◌, ◌++◌};
 
-use crate::analysis::{Analysis, Halt};
-use crate::checking::Check;
-use crate::endings::{reported, write_ending};
 use crate::replaying::Replaying;
-use crate::reporting::Report;
-use crate::states::write_replay;
-use crate::status::Status;
-use crate::walk::WalkEnd;
 use rd_base::Steps;
+use rd_check::{Check, write_ending};
 use rd_event::Line;
 use rd_io::Sink;
+use rd_replaying::{reported, write_replay};
+use rd_walk::{Analysis, Halt, Report, Status, WalkEnd};
 use rd_wf::{Accepted, Roster};
 use std::alloc::Global;
 use std::sync::ledger::Ledger;

@@ -1,32 +1,30 @@
 //! The call that the program makes.
-ghost use Rattle.std.specs.Prelude.{◌≡◌, ◌≢◌, ◌⊎◌, ℕ, ◌<◌, ◌≤◌, ◌^◌, nat_lt, List, [], ◌++◌, Option, Some, None, length, slice_get, AllPairs, IfOk, IfSome};
+ghost use Rattle.rd_check.specs.Meanings.{check_meaning};
+ghost use Rattle.rd_replaying.specs.Meanings.{replay_meaning};
+ghost use Rattle.std.specs.Prelude.{◌≡◌, ◌≢◌, ◌⊎◌, ℕ, ◌<◌, ◌≤◌, ◌^◌, nat_lt, List, [], ◌++◌, Option, Some, None, length, AllPairs, IfOk, IfSome};
 ghost use Rattle.rd_base.specs.Limits.{AreUsable};
-ghost use Rattle.rd_base.specs.declared.limits.Limits.{Limits as LimitsOf};
 ghost use Rattle.rd_ecl.specs.Kinds.{kind_names, kinds_of};
-ghost use Rattle.rd_ecl.specs.Specified.{SpecifiedKind};
 ghost use Rattle.rd_io.specs.Inputs.{Source, Rose};
 ghost use Rattle.rd_io.specs.Sinks.{Appends};
 ghost use Rattle.rd_kinds.specs.Shipped.{shipped_kinds};
-ghost use Rattle.rd_run.specs.Commands.{asked, named_number};
-ghost use Rattle.rd_run.specs.Output.{IsOutput, StatusTellsFault, check_outcome};
-ghost use Rattle.rd_run.specs.Replaying.{AreNumbered};
-ghost use Rattle.rd_run.specs.Runs.{ReportsTrace, Command as CommandOf, Runs, WritesAll, command_of, files_of, kind_outcome, specification_of, usage_outcome};
-ghost use Rattle.rd_run.specs.Runs.Command.{check, replay};
+ghost use Rattle.rd_run.specs.Commands.{asked, named_number, command_of, meaning_of, usage_outcome};
+ghost use Rattle.rd_walk.specs.Output.{IsOutput, StatusTellsFault};
+ghost use Rattle.rd_check.specs.Checked.{check_outcome};
+ghost use Rattle.rd_replaying.specs.Replaying.{AreNumbered};
+ghost use Rattle.rd_walk.specs.Traces.{ReportsTrace};
+ghost use Rattle.rd_walk.specs.Meanings.{Runs, WritesAll};
+ghost use Rattle.rd_run.specs.Commands.Command.{check, replay};
 
-use crate::checking::Check;
 use crate::parts::Part;
 use crate::replaying::Replaying;
-use crate::reporting::report_trace;
-use crate::specifications::{read_spec, refuse_unread, spec};
-use crate::status::Status;
-use crate::walk::Walker;
-use crate::writing::{status_of, write_line, write_lines};
 use rd_base::{Limits, NoMemory, Steps, Word};
+use rd_check::Check;
 use rd_ecl::Spec;
 use rd_event::Line;
 use rd_io::{Inputs, Sink};
 use rd_kinds::shipped;
-use rd_print::print_kind;
+use rd_spec_commands::{kind, read_spec, refuse_unread, spec};
+use rd_walk::{Status, Walker, report_trace, status_of, write_line};
 use rd_wf::Roster;
 use std::alloc::Global;
 use std::sync::ledger::Ledger;
@@ -135,7 +133,7 @@ fn check_shipped<I: Inputs, S: Sink, L: Ledger>(
     requires { AreUsable limits.now }
     ensures runs { (old : Source) → I.told inputs.old ≡ Some old → I.faults inputs.old < 2 ^ 63 → old.opens < 2 ^ 63 →
         (new : Source) × (part : List ℕ) × (I.told inputs.new ≡ Some new) × Appends (S.written out.old) (S.written out.new) part
-        × Runs (Some (check trace.now None)) limits.now (nat_lt (I.faults inputs.old) (I.faults inputs.new)) old new part result steps.old steps.new }
+        × Runs (check_meaning trace.now None) limits.now (nat_lt (I.faults inputs.old) (I.faults inputs.new)) old new part result steps.old steps.new }
     ensures input_fault { result ≡ Status.InputFault → Rose (I.faults inputs.old) (I.faults inputs.new) }
     ensures calm { result ≢ Status.InputFault → result ≢ Status.OutputFault → result ≢ Status.NoMemory → I.faults inputs.new ≡ I.faults inputs.old }
     ensures fault { StatusTellsFault (S.faults out.old) (S.faults out.new) (S.at_fault out.new) (S.written out.new) result }
@@ -171,7 +169,7 @@ fn check_with<I: Inputs, S: Sink, L: Ledger>(
     requires { AreUsable limits.now }
     ensures runs { (old : Source) → I.told inputs.old ≡ Some old → I.faults inputs.old < 2 ^ 63 → old.opens < 2 ^ 63 →
         (new : Source) × (part : List ℕ) × (I.told inputs.new ≡ Some new) × Appends (S.written out.old) (S.written out.new) part
-        × Runs (Some (check trace.now (Some file.now))) limits.now (nat_lt (I.faults inputs.old) (I.faults inputs.new)) old new part result steps.old steps.new }
+        × Runs (check_meaning trace.now (Some file.now)) limits.now (nat_lt (I.faults inputs.old) (I.faults inputs.new)) old new part result steps.old steps.new }
     ensures input_fault { result ≡ Status.InputFault → Rose (I.faults inputs.old) (I.faults inputs.new) }
     ensures calm { result ≢ Status.InputFault → result ≢ Status.OutputFault → result ≢ Status.NoMemory → I.faults inputs.new ≡ I.faults inputs.old }
     ensures fault { StatusTellsFault (S.faults out.old) (S.faults out.new) (S.at_fault out.new) (S.written out.new) result }
@@ -199,7 +197,7 @@ fn replay<I: Inputs, S: Sink, L: Ledger>(
     requires { AreUsable limits.now }
     ensures runs { (old : Source) → I.told inputs.old ≡ Some old → I.faults inputs.old < 2 ^ 63 → old.opens < 2 ^ 63 →
         (new : Source) × (part : List ℕ) × (I.told inputs.new ≡ Some new) × Appends (S.written out.old) (S.written out.new) part
-        × Runs (Some (replay trace.now)) limits.now (nat_lt (I.faults inputs.old) (I.faults inputs.new)) old new part result steps.old steps.new }
+        × Runs (replay_meaning trace.now) limits.now (nat_lt (I.faults inputs.old) (I.faults inputs.new)) old new part result steps.old steps.new }
     ensures input_fault { result ≡ Status.InputFault → Rose (I.faults inputs.old) (I.faults inputs.new) }
     ensures calm { result ≢ Status.InputFault → result ≢ Status.OutputFault → result ≢ Status.NoMemory → I.faults inputs.new ≡ I.faults inputs.old }
     ensures fault { StatusTellsFault (S.faults out.old) (S.faults out.new) (S.at_fault out.new) (S.written out.new) result }
@@ -220,26 +218,6 @@ fn replay<I: Inputs, S: Sink, L: Ledger>(
         line: Line::Skip,
     };
     report_trace(walker, trace, inputs, out, steps)
-}
-
-/// `kind NAME`, by the number of a kind that is built in.
-fn kind<S: Sink>(alloc: Global, number: u32, out: &mut S) -> Status
-    requires { number < 4 }
-    ensures output { (built_in : SpecifiedKind) → slice_get shipped_kinds number ≡ Some built_in → (part : List ℕ)
-        × Appends (S.written out.old) (S.written out.new) part × IsOutput result part (kind_outcome built_in) }
-    ensures status { (result ≡ Status.Clean) ⊎ ((result ≡ Status.OutputFault) ⊎ (result ≡ Status.NoMemory)) }
-    ensures fault { StatusTellsFault (S.faults out.old) (S.faults out.new) (S.at_fault out.new) (S.written out.new) result }
-{
-    let Ok(spec) = shipped(alloc) else {
-        return Status::NoMemory;
-    };
-    let Ok(text) = print_kind(alloc, &spec.kinds()[number as usize]) else {
-        return Status::NoMemory;
-    };
-    match write_lines(out, text.items()) {
-        Ok(()) => Status::Clean,
-        Err(halt) => status_of(halt),
-    }
 }
 
 /// Says that the words match no command.
@@ -282,20 +260,19 @@ pub fn run<I: Inputs, S: Sink, L: Ledger>(
     // the steps are bounded, and a trace was read to its end where the status says so
     ensures runs { (old : Source) → I.told inputs.old ≡ Some old → I.faults inputs.old < 2 ^ 63 → old.opens < 2 ^ 63 →
         (new : Source) × (part : List ℕ) × (I.told inputs.new ≡ Some new) × Appends (S.written out.old) (S.written out.new) part
-        × Runs (command_of words.now) limits.now (nat_lt (I.faults inputs.old) (I.faults inputs.new)) old new part result steps.old steps.new }
+        × Runs (meaning_of (command_of words.now)) limits.now (nat_lt (I.faults inputs.old) (I.faults inputs.new)) old new part result steps.old steps.new }
 
     // nothing is left out: where no read and no write failed, all files are there and nothing is refused, the whole is written, unless
     // memory ran out
     ensures whole { (old : Source) → I.told inputs.old ≡ Some old → I.faults inputs.old < 2 ^ 63 → old.opens < 2 ^ 63 → S.faults out.old < 2 ^ 63 →
         I.faults inputs.new ≡ I.faults inputs.old → S.faults out.new ≡ S.faults out.old →
-        (part : List ℕ) × Appends (S.written out.old) (S.written out.new) part × WritesAll (command_of words.now) limits.now old part result }
+        (part : List ℕ) × Appends (S.written out.old) (S.written out.new) part × WritesAll (meaning_of (command_of words.now)) limits.now old part result }
 
     // each of these statuses has its cause
     ensures usage { result ≡ Status.Usage → command_of words.now ≡ None }
     ensures no_command { command_of words.now ≡ None → (result ≡ Status.Usage) ⊎ (result ≡ Status.OutputFault) }
-    ensures untouched { files_of (command_of words.now) ≡ [] → (inputs.new ≡ inputs.old) × (steps.new ≡ steps.old) }
-    ensures spec_refused { result ≡ Status.SpecRefused → (command : CommandOf) × (name : List ℕ) × (command_of words.now ≡ Some command)
-        × (specification_of command ≡ Some name) }
+    ensures untouched { (meaning_of (command_of words.now)).files ≡ [] → (inputs.new ≡ inputs.old) × (steps.new ≡ steps.old) }
+    ensures spec_refused { result ≡ Status.SpecRefused → (name : List ℕ) × ((meaning_of (command_of words.now)).specification ≡ Some name) }
     ensures input_fault { result ≡ Status.InputFault → Rose (I.faults inputs.old) (I.faults inputs.new) }
     ensures calm { result ≢ Status.InputFault → result ≢ Status.OutputFault → result ≢ Status.NoMemory →
         I.faults inputs.new ≡ I.faults inputs.old }

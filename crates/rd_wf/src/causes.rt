@@ -63,6 +63,19 @@ pub enum WfCause {
     Limit(LimitName, u32),
 }
 
+/// Why a line is refused.
+#[derive(Clone, Copy, Debug, PartialEq, Eq)]
+pub enum TraceCause {
+    /// the line says no item
+    BadLine,
+    /// the input ended inside the line
+    NoFinalNewline,
+    /// the line may not follow the accepted ones
+    Wf(WfCause),
+    /// the line is too long, or the bytes are too many
+    Limit(LimitName, u64),
+}
+
 /// Why a roster refuses a line.
 #[derive(Clone, Copy, Debug, PartialEq, Eq, Error)]
 pub enum WfRefused {

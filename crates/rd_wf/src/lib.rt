@@ -8,6 +8,6 @@ mod roster;
 #[cfg(test)]
 mod tests;
 
-pub use causes::{Accepted, WfCause, WfRefused};
+pub use causes::{Accepted, TraceCause, WfCause, WfRefused};
 pub use laws::{law_of_events, law_of_following};
 pub use roster::Roster;

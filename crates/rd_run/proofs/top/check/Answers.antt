@@ -5,10 +5,10 @@ use Rattle.rd_ecl.specs.Kinds.{kinds_of}
 use Rattle.rd_wf.specs.NoLines.{told_none}
 use Rattle.rd_wf.specs.Roster.{kinds_in}
 use Rattle.rd_run.specs.Parts.{PartBegins, part_outcome}
-use Rattle.rd_run.specs.Output.{check_outcome}
-use Rattle.rd_run.specs.Replaying.{AreNumbered, recorded_of}
-use Rattle.rd_run.specs.Runs.{ReportsTrace}
-use Rattle.rd_run.proofs.TraceLemmas.{reports_before}
+use Rattle.rd_check.specs.Checked.{check_outcome}
+use Rattle.rd_replaying.specs.Replaying.{AreNumbered, recorded_of}
+use Rattle.rd_walk.specs.Traces.{ReportsTrace}
+use Rattle.rd_walk.proofs.TraceLemmas.{reports_before}
 use Rattle.rd_run.proofs.top.check.Goals as goal
 
 pub returns-in_default-clause-reports : goal.returns-in_default-clause-reports

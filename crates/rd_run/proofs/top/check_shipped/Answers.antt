@@ -4,10 +4,11 @@ use Rattle.rd_io.proofs.SinkLemmas.{appends_none}
 use Rattle.rd_ecl.specs.Kinds.{kind_names, kinds_of}
 use Rattle.rd_kinds.specs.Shipped.{shipped_kinds}
 use Rattle.rd_kinds.proofs.NameLemmas.{listed_differ}
-use Rattle.rd_run.specs.Output.{check_outcome}
-use Rattle.rd_run.specs.Runs.{ReportsTrace, built_in_kinds}
-use Rattle.rd_run.proofs.CombinedLemmas.{runs_shipped}
-use Rattle.rd_run.proofs.TraceLemmas.{reports_before}
+use Rattle.rd_check.specs.Checked.{check_outcome}
+use Rattle.rd_walk.specs.Traces.{ReportsTrace}
+use Rattle.rd_replaying.specs.States.{built_in_kinds}
+use Rattle.rd_check.proofs.CombinedLemmas.{runs_shipped}
+use Rattle.rd_walk.proofs.TraceLemmas.{reports_before}
 use Rattle.rd_run.proofs.top.check_shipped.Goals as goal
 
 pub check-requires-clause-few : goal.check-requires-clause-few

@@ -4,10 +4,11 @@ use Rattle.std.proofs.lemmas.Option.{same_Some}
 use Rattle.rd_io.proofs.SinkLemmas.{appends_none}
 use Rattle.rd_ecl.specs.Kinds.{kind_names, kinds_of}
 use Rattle.rd_kinds.specs.Shipped.{shipped_kinds}
-use Rattle.rd_run.specs.Output.{check_outcome}
-use Rattle.rd_run.specs.Runs.{ReadsSpec, ReportsTrace}
-use Rattle.rd_run.specs.declared.status.Status.TheVariants.{NoMemory}
-use Rattle.rd_run.proofs.CombinedLemmas.{runs_said, unread_told, unread_without}
+use Rattle.rd_check.specs.Checked.{check_outcome}
+use Rattle.rd_spec_commands.specs.Meanings.{ReadsSpec}
+use Rattle.rd_walk.specs.Traces.{ReportsTrace}
+use Rattle.rd_walk.specs.declared.status.Status.TheVariants.{NoMemory}
+use Rattle.rd_check.proofs.CombinedLemmas.{runs_said, unread_told, unread_without}
 use Rattle.rd_run.proofs.KindLemmas.{all_differ, few_kinds}
 use Rattle.rd_run.proofs.top.check_with.Goals as goal
 

@@ -2,8 +2,8 @@ use Rattle.std.proofs.Common.{◌≡◌, rules, ap, ◌∙◌}
 use Rattle.std.specs.Prelude.{option_map, slice_get}
 use Rattle.std.specs.Option.{option_and_then}
 use Rattle.rd_kinds.specs.Shipped.{counter_kind, dictionary_kind, register_kind, set_kind, shipped_kinds}
-use Rattle.rd_run.specs.Runs.{command_of, shipped_named}
-use Rattle.rd_run.specs.Runs.Command.{kind}
+use Rattle.rd_run.specs.Commands.{command_of, shipped_named}
+use Rattle.rd_run.specs.Commands.Command.{kind}
 use Rattle.rd_run.proofs.RunLemmas.{named_kind}
 use Rattle.rd_run.proofs.top.command_of.Goals as goal
 

@@ -7,12 +7,12 @@ use Rattle.rd_kinds.specs.Shipped.{shipped_kinds}
 use Rattle.rd_kinds.proofs.NameLemmas.{listed_differ}
 use Rattle.rd_wf.specs.NoLines.{told_none}
 use Rattle.rd_wf.specs.Roster.{kinds_in}
-use Rattle.rd_run.specs.Output.{replay_outcome}
+use Rattle.rd_replaying.specs.States.{replay_outcome, built_in_kinds}
 use Rattle.rd_run.specs.Parts.{PartBegins, part_outcome}
-use Rattle.rd_run.specs.Replaying.{recorded_of}
-use Rattle.rd_run.specs.Runs.{ReportsTrace, built_in_kinds}
-use Rattle.rd_run.proofs.CombinedLemmas.{runs_replay}
-use Rattle.rd_run.proofs.TraceLemmas.{reports_before}
+use Rattle.rd_replaying.specs.Replaying.{recorded_of}
+use Rattle.rd_walk.specs.Traces.{ReportsTrace}
+use Rattle.rd_replaying.proofs.ReplayLemmas.{runs_replay}
+use Rattle.rd_walk.proofs.TraceLemmas.{reports_before}
 use Rattle.rd_run.proofs.top.replay.Goals as goal
 
 pub new-requires-clause-different : goal.new-requires-clause-different

@@ -1,11 +1,13 @@
 use Rattle.std.proofs.Common.{[], ◌∷◌, None, Some, refl, sym, ap, ◌∙◌, subst}
 use Rattle.std.specs.Prelude.{nat_lt, option_map}
-use Rattle.rd_run.specs.Commands.{asked}
-use Rattle.rd_run.specs.Runs.{Runs, WritesAll, files_of}
-use Rattle.rd_run.specs.Runs.Command.{check, kind, replay, spec}
+use Rattle.rd_run.specs.Commands.{asked, meaning_of}
+use Rattle.rd_walk.specs.Meanings.{Runs, WritesAll}
+use Rattle.rd_run.specs.Commands.Command.{check, kind, replay, spec}
 use Rattle.rd_run.specs.declared.top.Command.{Command as Asked}
-use Rattle.rd_run.proofs.RunLemmas.{runs_kind, runs_usage, shipped_at}
-use Rattle.rd_run.proofs.WholeLemmas.{none_failed, not_risen, some_file, some≢none, usage_or_fault, whole_run}
+use Rattle.rd_spec_commands.proofs.WholeLemmas.{runs_kind}
+use Rattle.rd_run.proofs.RunLemmas.{runs_usage, shipped_at}
+use Rattle.rd_walk.proofs.WholeLemmas.{none_failed, not_risen}
+use Rattle.rd_run.proofs.WholeLemmas.{some_file, some≢none, usage_or_fault, whole_run}
 use Rattle.rd_run.proofs.top.run.Goals as goal
 
 pub returns-in-None-clause-runs : goal.returns-in-None-clause-runs
@@ -16,7 +18,7 @@ returns-in-None-clause-runs g c = λ old told few few_opens.
       part,
       told,
       writes,
-      subst (λ command. Runs command c.args.limits.now (nat_lt faults faults) old old part c.refuse_usage.result c.args.steps.now c.args.steps.now) c.in-None.ensures.asked
+      subst (λ command. Runs (meaning_of command) c.args.limits.now (nat_lt faults faults) old old part c.refuse_usage.result c.args.steps.now c.args.steps.now) c.in-None.ensures.asked
           (runs_usage c.args.limits.now (nat_lt faults faults) old part c.refuse_usage.result c.args.steps.now output),
     )
 
@@ -29,13 +31,13 @@ returns-in-Some-Spec-clause-runs g c = λ old told few few_opens.
       part,
       now,
       writes,
-      subst (λ command. Runs command c.args.limits.now rose old new part c.spec.result c.args.steps.now c.args.steps.now) words runs,
+      subst (λ command. Runs (meaning_of command) c.args.limits.now rose old new part c.spec.result c.args.steps.now c.args.steps.now) words runs,
     )
 
 pub returns-in-Some-Spec-clause-spec_refused : goal.returns-in-Some-Spec-clause-spec_refused
 returns-in-Some-Spec-clause-spec_refused g c = λ refused.
     let words = ap (λ (command : Asked). asked (Some command)) (sym c.in-Some-Spec.field-0-is) ∙ c.in-Some-Spec.ensures.asked in
-    (spec c.in-Some-Spec.file.now, c.in-Some-Spec.file.now, sym words, refl)
+    (c.in-Some-Spec.file.now, ap (λ command. (meaning_of command).specification) (sym words))
 
 pub returns-in-None-clause-whole : goal.returns-in-None-clause-whole
 returns-in-None-clause-whole g c = λ old told few few_opens few_faults calm silent.
@@ -45,7 +47,7 @@ returns-in-None-clause-whole g c = λ old told few few_opens few_faults calm sil
     let runs = runs_usage c.args.limits.now (nat_lt faults faults) old part status c.args.steps.now output in (
       part,
       writes,
-      subst (λ command. WritesAll command c.args.limits.now old part status) c.in-None.ensures.asked
+      subst (λ command. WritesAll (meaning_of command) c.args.limits.now old part status) c.in-None.ensures.asked
           (whole_run None c.args.limits.now (nat_lt faults faults) old old part status c.args.steps.now c.args.steps.now runs (not_risen faults faults refl)
           (none_failed (g.S.Sink.faults c.args.out.now) (g.S.Sink.faults c.refuse_usage.new.out) _ _ status c.refuse_usage.ensures.fault few_faults silent)
           (λ _. usage_or_fault status c.refuse_usage.ensures.status)),
@@ -57,7 +59,7 @@ returns-in-Some-Check-clause-whole g c = λ old told few few_opens few_faults ca
     let words = ap (λ (command : Asked). asked (Some command)) (sym c.in-Some-Check.field-0-is) ∙ c.in-Some-Check.ensures.asked in (
       part,
       writes,
-      subst (λ command. WritesAll command c.args.limits.now old part c.check_shipped.result) words
+      subst (λ command. WritesAll (meaning_of command) c.args.limits.now old part c.check_shipped.result) words
           (whole_run (Some (check c.in-Some-Check.trace.now None)) c.args.limits.now _ old new part c.check_shipped.result _ _ runs (not_risen _ _ calm)
           (none_failed _ _ _ _ c.check_shipped.result c.check_shipped.ensures.fault few_faults silent) (λ none. absurd (some≢none none))),
     )
@@ -68,7 +70,7 @@ returns-in-Some-CheckWith-clause-whole g c = λ old told few few_opens few_fault
     let words = ap (λ (command : Asked). asked (Some command)) (sym c.in-Some-CheckWith.field-0-is) ∙ c.in-Some-CheckWith.ensures.asked in (
       part,
       writes,
-      subst (λ command. WritesAll command c.args.limits.now old part c.check_with.result) words
+      subst (λ command. WritesAll (meaning_of command) c.args.limits.now old part c.check_with.result) words
           (whole_run (Some (check c.in-Some-CheckWith.trace.now (Some c.in-Some-CheckWith.file.now))) c.args.limits.now _ old new part c.check_with.result _ _ runs
           (not_risen _ _ calm) (none_failed _ _ _ _ c.check_with.result c.check_with.ensures.fault few_faults silent) (λ none. absurd (some≢none none))),
     )
@@ -79,7 +81,7 @@ returns-in-Some-Spec-clause-whole g c = λ old told few few_opens few_faults cal
     let words = ap (λ (command : Asked). asked (Some command)) (sym c.in-Some-Spec.field-0-is) ∙ c.in-Some-Spec.ensures.asked in (
       part,
       writes,
-      subst (λ command. WritesAll command c.args.limits.now old part c.spec.result) words
+      subst (λ command. WritesAll (meaning_of command) c.args.limits.now old part c.spec.result) words
           (whole_run (Some (spec c.in-Some-Spec.file.now)) c.args.limits.now _ old new part c.spec.result _ _ runs (not_risen _ _ calm)
           (none_failed _ _ _ _ c.spec.result c.spec.ensures.fault few_faults silent) (λ none. absurd (some≢none none))),
     )
@@ -90,7 +92,7 @@ returns-in-Some-Replay-clause-whole g c = λ old told few few_opens few_faults c
     let words = ap (λ (command : Asked). asked (Some command)) (sym c.in-Some-Replay.field-0-is) ∙ c.in-Some-Replay.ensures.asked in (
       part,
       writes,
-      subst (λ command. WritesAll command c.args.limits.now old part c.replay.result) words
+      subst (λ command. WritesAll (meaning_of command) c.args.limits.now old part c.replay.result) words
           (whole_run (Some (replay c.in-Some-Replay.trace.now)) c.args.limits.now _ old new part c.replay.result _ _ runs (not_risen _ _ calm)
           (none_failed _ _ _ _ c.replay.result c.replay.ensures.fault few_faults silent) (λ none. absurd (some≢none none))),
     )
@@ -106,7 +108,7 @@ returns-in-Some-Kind-clause-runs g c = λ old told few few_opens.
       part,
       told,
       writes,
-      subst (λ command. Runs command c.args.limits.now (nat_lt faults faults) old old part c.kind.result c.args.steps.now c.args.steps.now) words
+      subst (λ command. Runs (meaning_of command) c.args.limits.now (nat_lt faults faults) old old part c.kind.result c.args.steps.now c.args.steps.now) words
           (runs_kind built_in c.args.limits.now (nat_lt faults faults) old part c.kind.result c.args.steps.now output),
     )
 
@@ -119,7 +121,7 @@ returns-in-Some-Kind-clause-whole g c = λ old told few few_opens few_faults cal
     let words = ap (option_map kind) (sym at) ∙ (ap (λ (command : Asked). asked (Some command)) (sym c.in-Some-Kind.field-0-is) ∙ c.in-Some-Kind.ensures.asked) in (
       part,
       writes,
-      subst (λ command. WritesAll command c.args.limits.now old part c.kind.result) words
+      subst (λ command. WritesAll (meaning_of command) c.args.limits.now old part c.kind.result) words
           (whole_run (Some (kind built_in)) c.args.limits.now (nat_lt faults faults) old old part c.kind.result c.args.steps.now c.args.steps.now
           (runs_kind built_in c.args.limits.now (nat_lt faults faults) old part c.kind.result c.args.steps.now output) (not_risen faults faults refl)
           (none_failed _ _ _ _ c.kind.result c.kind.ensures.fault few_faults silent) (λ none. absurd (some≢none none))),
@@ -128,19 +130,48 @@ returns-in-Some-Kind-clause-whole g c = λ old told few few_opens few_faults cal
 pub returns-in-Some-Check-clause-untouched : goal.returns-in-Some-Check-clause-untouched
 returns-in-Some-Check-clause-untouched g c = λ none.
     let words = ap (λ (command : Asked). asked (Some command)) (sym c.in-Some-Check.field-0-is) ∙ c.in-Some-Check.ensures.asked in
-    absurd (some_file c.in-Some-Check.trace.now [] (ap files_of words ∙ none))
+    absurd (some_file c.in-Some-Check.trace.now [] (ap (λ command. (meaning_of command).files) words ∙ none))
 
 pub returns-in-Some-CheckWith-clause-untouched : goal.returns-in-Some-CheckWith-clause-untouched
 returns-in-Some-CheckWith-clause-untouched g c = λ none.
     let words = ap (λ (command : Asked). asked (Some command)) (sym c.in-Some-CheckWith.field-0-is) ∙ c.in-Some-CheckWith.ensures.asked in
-    absurd (some_file c.in-Some-CheckWith.file.now (c.in-Some-CheckWith.trace.now ∷ []) (ap files_of words ∙ none))
+    absurd (some_file c.in-Some-CheckWith.file.now (c.in-Some-CheckWith.trace.now ∷ []) (ap (λ command. (meaning_of command).files) words ∙ none))
 
 pub returns-in-Some-Replay-clause-untouched : goal.returns-in-Some-Replay-clause-untouched
 returns-in-Some-Replay-clause-untouched g c = λ none.
     let words = ap (λ (command : Asked). asked (Some command)) (sym c.in-Some-Replay.field-0-is) ∙ c.in-Some-Replay.ensures.asked in
-    absurd (some_file c.in-Some-Replay.trace.now [] (ap files_of words ∙ none))
+    absurd (some_file c.in-Some-Replay.trace.now [] (ap (λ command. (meaning_of command).files) words ∙ none))
 
 pub returns-in-Some-Spec-clause-untouched : goal.returns-in-Some-Spec-clause-untouched
 returns-in-Some-Spec-clause-untouched g c = λ none.
     let words = ap (λ (command : Asked). asked (Some command)) (sym c.in-Some-Spec.field-0-is) ∙ c.in-Some-Spec.ensures.asked in
-    absurd (some_file c.in-Some-Spec.file.now [] (ap files_of words ∙ none))
+    absurd (some_file c.in-Some-Spec.file.now [] (ap (λ command. (meaning_of command).files) words ∙ none))
+
+pub returns-in-Some-Check-clause-runs : goal.returns-in-Some-Check-clause-runs
+returns-in-Some-Check-clause-runs g c = λ old told few few_opens.
+    let (new, part, now, writes, runs) = c.check_shipped.ensures.runs old told few few_opens in
+    let rose = nat_lt (g.I.Inputs.faults c.args.inputs.now) (g.I.Inputs.faults c.check_shipped.new.inputs) in
+    let words = ap (λ (command : Asked). asked (Some command)) (sym c.in-Some-Check.field-0-is) ∙ c.in-Some-Check.ensures.asked in (
+      new,
+      part,
+      now,
+      writes,
+      subst (λ command. Runs (meaning_of command) c.args.limits.now rose old new part c.check_shipped.result c.args.steps.now c.check_shipped.new.steps) words runs,
+    )
+
+pub returns-in-Some-CheckWith-clause-runs : goal.returns-in-Some-CheckWith-clause-runs
+returns-in-Some-CheckWith-clause-runs g c = λ old told few few_opens.
+    let (new, part, now, writes, runs) = c.check_with.ensures.runs old told few few_opens in
+    let rose = nat_lt (g.I.Inputs.faults c.args.inputs.now) (g.I.Inputs.faults c.check_with.new.inputs) in
+    let words = ap (λ (command : Asked). asked (Some command)) (sym c.in-Some-CheckWith.field-0-is) ∙ c.in-Some-CheckWith.ensures.asked in (
+      new,
+      part,
+      now,
+      writes,
+      subst (λ command. Runs (meaning_of command) c.args.limits.now rose old new part c.check_with.result c.args.steps.now c.check_with.new.steps) words runs,
+    )
+
+pub returns-in-Some-CheckWith-clause-spec_refused : goal.returns-in-Some-CheckWith-clause-spec_refused
+returns-in-Some-CheckWith-clause-spec_refused g c = λ refused.
+    let words = ap (λ (command : Asked). asked (Some command)) (sym c.in-Some-CheckWith.field-0-is) ∙ c.in-Some-CheckWith.ensures.asked in
+    (c.in-Some-CheckWith.file.now, ap (λ command. (meaning_of command).specification) (sym words))

@@ -1,12 +1,12 @@
 use Rattle.std.proofs.Common.{List, [], ◌∷◌, ◌++◌, sym, subst}
 use Rattle.std.proofs.lemmas.Result.{on_err_weaker, on_ok_weaker}
 use Rattle.rd_ecl.specs.Kinds.{Kind}
-use Rattle.rd_run.specs.Analysis.{IsNextEntry, WritesBetween, WritesFront}
-use Rattle.rd_run.specs.Checking.{Leads}
-use Rattle.rd_run.specs.Output.{race_texts}
+use Rattle.rd_walk.specs.Analysis.{IsNextEntry, WritesBetween, WritesFront}
+use Rattle.rd_check.specs.Checking.{Leads}
+use Rattle.rd_check.specs.Checked.{race_texts}
 use Rattle.rd_run.specs.Parts.{PartLeads, part_text}
-use Rattle.rd_run.specs.Walk.{Entry}
-use Rattle.rd_run.specs.declared.checking.Check.{Check as CheckOf}
+use Rattle.rd_walk.specs.Walk.{Entry}
+use Rattle.rd_check.specs.declared.checking.Check.{Check as CheckOf}
 use Rattle.rd_run.specs.declared.parts.Part.TheVariants.{Check}
 use Rattle.rd_run.proofs.PartLemmas.{check_from}
 use Rattle.rd_run.proofs.parts.PartAnalysis.accept.Goals as goal

@@ -4,11 +4,14 @@ use Rattle.rd_wf.specs.MayFollow.{object_kinds, objects_of}
 use Rattle.rd_wf.specs.Roster.{object_names_in}
 use Rattle.rd_wf.proofs.EventsLemmas.{kinds_placed}
 use Rattle.rd_wf.proofs.RosterLemmas.{object_keys, thread_keys}
-use Rattle.rd_run.specs.Output.{IsOutput, states_before}
+use Rattle.rd_walk.specs.Output.{IsOutput}
+use Rattle.rd_replaying.specs.States.{states_before}
 use Rattle.rd_run.specs.Parts.{part_outcome, part_text}
-use Rattle.rd_run.specs.Replaying.{recorded_of, replay_of}
-use Rattle.rd_run.specs.Walk.{after, ends, items}
-use Rattle.rd_run.proofs.ConcludeLemmas.{check_concluded, exact_end, part_front, replay_concluded}
+use Rattle.rd_replaying.specs.Replaying.{recorded_of, replay_of}
+use Rattle.rd_walk.specs.Walk.{after, ends, items}
+use Rattle.rd_check.proofs.OutcomeLemmas.{check_concluded}
+use Rattle.rd_replaying.proofs.ReplayLemmas.{exact_end, replay_concluded}
+use Rattle.rd_run.proofs.ConcludeLemmas.{part_front}
 use Rattle.rd_run.proofs.PartLemmas.{check_from, replay_from}
 use Rattle.rd_run.proofs.parts.ReplayingPartReport.conclude.Goals as goal
 

@@ -1,6 +1,6 @@
 use Rattle.std.proofs.Common.{[], ◌++◌, ap, sym, ◌∙◌}
 use Rattle.std.proofs.lemmas.List.{append-nil}
-use Rattle.rd_run.proofs.CheckLemmas.{always_err}
+use Rattle.rd_walk.proofs.OutputLemmas.{always_err}
 use Rattle.rd_run.proofs.replaying.ReplayingAnalysis.accept.Goals as goal
 
 pub returns-in-Ok-clause-halted : goal.returns-in-Ok-clause-halted

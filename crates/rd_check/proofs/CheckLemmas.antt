@@ -1,0 +1,477 @@
+-- What the tracker and the detector of a check hold of one line more.
+use Rattle.std.proofs.Common.{◌≡◌, ◌≢◌, ◌<◌, ◌≤◌, ◌⊎◌, inl, inr, ℕ, ◌+◌, ◌*◌, ◌==◌, ◌||◌, Bool, true, false, cond, ltb, List, [], ◌∷◌, ◌++◌, length, Option, Some, None, is_some, refl, sym, ap, subst, ◌∙◌, arith, true≢false}
+use Rattle.std.specs.List.{cons_option}
+use Rattle.std.proofs.lemmas.Bool.{cases_eq, cases_lt, eq-eqb, ne_eqb, lt-ltb, le-ltb}
+use Rattle.std.proofs.lemmas.List.{append-nil, length-append}
+use Rattle.std.proofs.lemmas.List.Sums.{sum_by_push}
+use Rattle.std.proofs.lemmas.Option.{none-some, same_Some}
+use Rattle.rd_base.specs.declared.limits.Limits.{Limits}
+use Rattle.rd_event.specs.declared.events.Call.{Call as CallOf}
+use Rattle.rd_event.specs.declared.events.Event.{Event as Numbered}
+use Rattle.rd_event.specs.declared.events.Event.TheVariants as numbered
+use Rattle.rd_event.specs.declared.items.Line.{Line}
+use Rattle.rd_event.specs.declared.items.Line.TheVariants.{Skip, Header, Thread, Object, Event}
+use Rattle.rd_event.specs.declared.items.LineEvent.{LineEvent}
+use Rattle.rd_event.specs.declared.items.LineEvent.TheVariants.{Fork, Join, Acquire, Release, Call}
+use Rattle.rd_order.specs.EventLists.{WellFormed, WellFormedWith, threads_after}
+use Rattle.rd_order.specs.Order.{forked_thread}
+use Rattle.rd_hb.specs.Tracker.{IsNextEvent, IsStamp, StandsFor, Tracking, event_bound}
+use Rattle.rd_clock.specs.declared.clock.Stamp.{Stamp}
+use Rattle.rd_detect.proofs.DetectLemmas.{stands_quiet}
+use Rattle.rd_wf.proofs.EventsLemmas.{all_roots, events_more, no_events, roots_more, threads_more, told_formed, told_more}
+use Rattle.rd_detect.proofs.RaceLemmas.{not_reported}
+use Rattle.rd_check.proofs.ReportLemmas.{answer_text, event_numbers_more, events_all, next_races_is, next_text_is, passing, quiet_events, quiet_numbers, quiet_races, quiet_texts, races_more, races_within, texts_more}
+use Rattle.rd_walk.proofs.WalkLemmas.{items_more}
+use Rattle.rd_check.specs.Checking.{AreNamed, Checks, IsNextEventLine, IsNextLine, Leads, Tracks, next_races, next_text}
+use Rattle.std.specs.Prelude.{max, min}
+use Rattle.rd_detect.specs.Commuting.{Commute, commuting}
+use Rattle.rd_detect.specs.Detect.{IsAnswer, IsNextCall, StandsFor as Detects}
+use Rattle.rd_report.specs.Races.{IsKnownRace, IsNamed}
+use Rattle.rd_report.specs.Texts.{Naming, naming}
+use Rattle.rd_store.specs.declared.Race.{Race}
+use Rattle.rd_check.proofs.NamingLemmas.{all_named}
+use Rattle.rd_wf.specs.Events.{AreTold, event_of, events_of, root_count, roots_of}
+use Rattle.rd_walk.specs.Analysis.{IsNextEntry}
+use Rattle.rd_ecl.specs.Kinds.{Kind, kinds_of}
+use Rattle.rd_ecl.specs.Specified.{SpecifiedKind}
+use Rattle.rd_wf.specs.MayFollow.{MayFollow, accepted_of, begun_name, call_count, events, is_call, is_event, is_root, is_skip, numbered_event, threads_of}
+use Rattle.rd_check.specs.Checked.{entry_events, event_numbers, race_at, race_texts, races_of, text_with}
+use Rattle.rd_detect.specs.RaceTests.{latest_of}
+use Rattle.rd_walk.specs.Walk.{Entry, items, line_bound}
+use Rattle.rd_check.specs.declared.checking.Check.{Check}
+use Rattle.rd_wf.specs.declared.roster.Roster.{Roster}
+use Rattle.rd_wf.specs.declared.causes.Accepted.{Accepted}
+use Rattle.rd_wf.specs.declared.causes.Accepted.TheVariants as accepted
+use Rattle.rd_wf.proofs.FollowLemmas.{met}
+
+module _ (kinds : List Kind) where
+  -- ---- the line that was accepted
+
+  -- it is a root
+  root_line : (before : List Line) (line : Line) (n : ℕ) → accepted.Root n ≡ accepted_of kinds before line → (name : List ℕ) × (line ≡ Thread name) × (n ≡ length (threads_of before))
+  unfolding accepted_of
+  root_line before Skip n e = cc
+  root_line before (Header version) n e = cc
+  root_line before (Thread name) n e = (name, refl, cc)
+  root_line before (Object name kind) n e = cc
+  root_line before (Event event) n e = cc
+
+  -- it is an event
+  pub event_line : (before : List Line) (line : Line) (e : Numbered) → accepted.Event e ≡ accepted_of kinds before line → (event : LineEvent) × (line ≡ Event event) × (e ≡ numbered_event kinds before event)
+  unfolding accepted_of
+  event_line before Skip e is = cc
+  event_line before (Header version) e is = cc
+  event_line before (Thread name) e is = cc
+  event_line before (Object name kind) e is = cc
+  event_line before (Event event) e is = (event, refl, cc)
+
+  module _ (tracker : Tracking) (before : List Line) (line : Line) where
+    pub told_next : (numbers : Accepted) → IsNextLine kinds tracker before line numbers → AreTold kinds (before ++ line ∷ [])
+    told_next numbers next = told_more kinds next.limits before line next.usable next.follows next.few next.tracks.told
+
+  -- ---- roots
+
+  -- a root comes before every event
+  early : (before : List Line) (name : List ℕ) (limits : Limits) → MayFollow kinds limits before (Thread name) → events before ≡ 0
+  early before name limits follows = (met kinds limits before (Thread name) (λ skip. true≢false (sym (ap is_skip skip))) follows).early_root refl
+
+  -- one number more is below
+  below_or_last : (t n : ℕ) → (ltb t n || (t == n)) ≡ ltb t (n + 1)
+  below_or_last t n =
+      elim (cases_lt t n) [
+        | inl before ↦ ap (λ b. b || (t == n)) (lt-ltb t n before) ∙ sym (lt-ltb t (n + 1) (omega arith))
+        | inr past ↦ elim (cases_eq t n) [
+          | inl same ↦ ap (λ b. b || (t == n)) (le-ltb t n past) ∙ eq-eqb t n same ∙ sym (lt-ltb t (n + 1) (omega arith))
+          | inr other ↦ ap (λ b. b || (t == n)) (le-ltb t n past) ∙ ne_eqb t n other ∙ sym (le-ltb t (n + 1) (omega arith))
+        ]
+      ]
+
+  module _ (tracker : Tracking) (before : List Line) (line : Line) (n : ℕ) (next : IsNextLine kinds tracker before line (accepted.Root n)) where
+    pub root_numbered : n ≡ length tracker.threads
+    root_numbered = (root_line before line n next.told_as).2 ∙ sym next.tracks.count
+
+    root_count_more : length (threads_of (before ++ line ∷ [])) ≡ n + 1
+    root_count_more =
+        let (name, is, number) = root_line before line n next.told_as in
+        ap length (threads_more before line ∙ ap (λ l. threads_of before ++ cons_option (begun_name l) []) is) ∙ length-append (threads_of before) (name ∷ []) ∙ ap (λ m. m + 1) (sym number)
+
+    pub root_below : n < 4294967295
+    root_below = omega (arith, next.few, root_count_more)
+
+    -- the tracker has one root more, and no event
+    pub root_tracks : (new : Tracking) → ((roots : ℕ → Bool) → StandsFor tracker roots [] → StandsFor new (λ t. roots t || (t == n)) []) → length new.threads ≡ length tracker.threads + 1
+        → Tracks kinds new (before ++ line ∷ [])
+    root_tracks new stands count =
+        let (name, is, number) = root_line before line n next.told_as in
+        let none : events before ≡ 0 = early before name next.limits (subst (MayFollow kinds next.limits before) is next.follows) in
+        let no_event : events_of kinds before ≡ [] = no_events kinds before next.tracks.told none in
+        let total : root_count before ≡ n = all_roots kinds before next.tracks.told none ∙ sym number in
+        let none_now : events_of kinds (before ++ line ∷ []) ≡ [] =
+        events_more kinds before line ∙ ap (λ l. events_of kinds before ++ cons_option (event_of kinds before l) []) is
+        ∙ append-nil (events_of kinds before) ∙ no_event in
+        let roots_now : root_count (before ++ line ∷ []) ≡ n + 1 = roots_more before line ∙ ap (λ l. root_count before + cond (is_root l) 1 0) is ∙ ap (λ m. m + 1) total in
+        let was : StandsFor tracker (λ t. ltb t n) [] = subst (λ es. StandsFor tracker (λ t. ltb t n) es) no_event (subst (λ m. StandsFor tracker (λ t. ltb t m) (events_of kinds before)) total next.tracks.stands) in
+        let now : StandsFor new (λ t. ltb t (n + 1)) [] = subst (λ roots. StandsFor new roots []) (λ i t. below_or_last t n i) (stands (λ t. ltb t n) was) in record {
+          told = told_next tracker before line (accepted.Root n) next;
+          stands = subst (λ es. StandsFor new (roots_of (before ++ line ∷ [])) es) (sym none_now) (subst (λ m. StandsFor new (λ t. ltb t m) []) (sym roots_now) now);
+          count = count ∙ ap (λ m. m + 1) (sym root_numbered) ∙ sym root_count_more;
+        }
+
+  -- ---- events
+
+  forked_next : (before : List Line) (event : LineEvent) (u : ℕ) → forked_thread (numbered_event kinds before event) ≡ Some u → u ≡ length (threads_of before)
+  forked_next before (Fork thread child) u e = sym (same_Some (length (threads_of before)) u e)
+  forked_next before (Join thread child) u e = absurd (none-some u e)
+  forked_next before (Acquire thread lock) u e = absurd (none-some u e)
+  forked_next before (Release thread lock) u e = absurd (none-some u e)
+  forked_next before (Call thread object method slots) u e = absurd (none-some u e)
+
+  threads_event : (before : List Line) (event : LineEvent) → length (threads_of (before ++ Event event ∷ [])) ≡ threads_after (numbered_event kinds before event) (length (threads_of before))
+  threads_event before (Fork thread child) = ap length (threads_more before (Event (Fork thread child))) ∙ length-append (threads_of before) (child ∷ [])
+  threads_event before (Join thread child) = ap length (threads_more before (Event (Join thread child)) ∙ append-nil (threads_of before))
+  threads_event before (Acquire thread lock) = ap length (threads_more before (Event (Acquire thread lock)) ∙ append-nil (threads_of before))
+  threads_event before (Release thread lock) = ap length (threads_more before (Event (Release thread lock)) ∙ append-nil (threads_of before))
+  threads_event before (Call thread object method slots) = ap length (threads_more before (Event (Call thread object method slots)) ∙ append-nil (threads_of before))
+
+  -- the bound on the tracker's steps for an event behind lines
+  bound_event : (before : List Line) (event : LineEvent)
+      → event_bound (numbered_event kinds before event) (length (threads_of (before ++ Event event ∷ []))) ≤ line_bound before (Event event)
+  bound_event before (Fork thread child) = omega arith
+  bound_event before (Join thread child) = omega arith
+  bound_event before (Acquire thread lock) = omega arith
+  bound_event before (Release thread lock) = omega arith
+  bound_event before (Call thread object method slots) = omega arith
+
+  module _ (tracker : Tracking) (before : List Line) (line : Line) (e : Numbered) (next : IsNextLine kinds tracker before line (accepted.Event e)) where
+    pub event_last : events_of kinds (before ++ line ∷ []) ≡ events_of kinds before ++ e ∷ []
+    event_last =
+        let (event, is, number) = event_line before line e next.told_as in
+        events_more kinds before line ∙ ap (λ l. events_of kinds before ++ cons_option (event_of kinds before l) []) is
+        ∙ ap (λ x. events_of kinds before ++ x ∷ []) (sym number)
+
+    same_roots : root_count (before ++ line ∷ []) ≡ root_count before
+    same_roots =
+        let (event, is, number) = event_line before line e next.told_as in
+        roots_more before line ∙ ap (λ l. root_count before + cond (is_root l) 1 0) is ∙ omega arith
+
+    pub event_threads : length (threads_of (before ++ line ∷ [])) ≡ threads_after e (length tracker.threads)
+    event_threads =
+        let (event, is, number) = event_line before line e next.told_as in
+        ap (λ l. length (threads_of (before ++ l ∷ []))) is ∙ threads_event before event ∙ ap (λ x. threads_after x (length (threads_of before))) (sym number)
+        ∙ ap (threads_after e) (sym next.tracks.count)
+
+    -- the event may be the next one
+    pub event_next : IsNextEvent tracker (roots_of before) (events_of kinds before) e
+    event_next =
+        let (event, is, number) = event_line before line e next.told_as in
+        let told : AreTold kinds (before ++ line ∷ []) = told_next tracker before line (accepted.Event e) next in
+        let formed = subst (λ m. WellFormed (λ t. ltb t m) (events_of kinds before ++ e ∷ [])) same_roots
+        (subst (WellFormed (roots_of (before ++ line ∷ []))) event_last told.told.formed) in record {
+          stands = next.tracks.stands;
+          formed = formed;
+          numbered = λ u begins. forked_next before event u (subst (λ x. forked_thread x ≡ Some u) number begins) ∙ sym next.tracks.count;
+        }
+
+    pub event_tracks : (new : Tracking) → ((roots : ℕ → Bool) (es : List Numbered) → IsNextEvent tracker roots es e → StandsFor new roots (es ++ e ∷ []))
+        → length new.threads ≡ threads_after e (length tracker.threads) → Tracks kinds new (before ++ line ∷ [])
+    event_tracks new stands count = record {
+      told = told_next tracker before line (accepted.Event e) next;
+      stands = subst (λ es. StandsFor new (roots_of (before ++ line ∷ [])) es) (sym event_last)
+          (subst (λ m. StandsFor new (λ t. ltb t m) (events_of kinds before ++ e ∷ [])) (sym same_roots) (stands (roots_of before) (events_of kinds before) event_next));
+      count = count ∙ sym event_threads;
+    }
+
+    -- its steps are no more than those of the line
+    pub event_cost : event_bound e (threads_after e (length tracker.threads)) ≤ line_bound before line
+    event_cost =
+        let (event, is, number) = event_line before line e next.told_as in
+        let same : event_bound e (threads_after e (length tracker.threads)) ≡ event_bound (numbered_event kinds before event) (length (threads_of (before ++ Event event ∷ []))) =
+        ap (event_bound e) (sym event_threads ∙ ap (λ l. length (threads_of (before ++ l ∷ []))) is)
+        ∙ ap (λ x. event_bound x (length (threads_of (before ++ Event event ∷ [])))) number in
+        subst (λ l. event_bound e (threads_after e (length tracker.threads)) ≤ line_bound before l) (sym is) (omega (arith, same, bound_event before event))
+
+  -- ---- other lines
+
+  -- what is kept of a line that is none of both
+  pub quiet_tracks : (tracker : Tracking) (before : List Line) (line : Line) (numbers : Accepted) → IsNextLine kinds tracker before line numbers
+      → (numbers ≡ accepted.Nothing) ⊎ ((object : ℕ) × (kind : ℕ) × (numbers ≡ accepted.Object object kind)) → Tracks kinds tracker (before ++ line ∷ [])
+  unfolding accepted_of
+  quiet_tracks tracker before line numbers next quiet = by line refl
+    where
+      kept : is_root line ≡ false → begun_name line ≡ None → event_of kinds before line ≡ None → Tracks kinds tracker (before ++ line ∷ [])
+      kept root begins event = record {
+        told = told_next tracker before line numbers next;
+        stands = subst (λ es. StandsFor tracker (roots_of (before ++ line ∷ [])) es) (sym (events_more kinds before line ∙ ap (λ o. events_of kinds before ++ cons_option o []) event ∙ append-nil (events_of kinds before)))
+            (subst (λ m. StandsFor tracker (λ t. ltb t m) (events_of kinds before)) (sym (roots_more before line ∙ ap (λ b. root_count before + cond b 1 0) root ∙ omega arith)) next.tracks.stands);
+        count = next.tracks.count ∙ sym (ap length (threads_more before line ∙ ap (λ o. threads_of before ++ cons_option o []) begins ∙ append-nil (threads_of before)));
+      }
+
+      by : (l : Line) → line ≡ l → Tracks kinds tracker (before ++ line ∷ [])
+      by Skip is = kept (ap is_root is) (ap begun_name is) (ap (event_of kinds before) is)
+      by (Header version) is = kept (ap is_root is) (ap begun_name is) (ap (event_of kinds before) is)
+      by (Object name kind) is = kept (ap is_root is) (ap begun_name is) (ap (event_of kinds before) is)
+      by (Thread name) is =
+          let root : numbers ≡ accepted.Root (length (threads_of before)) = next.told_as ∙ ap (accepted_of kinds before) is in
+          elim quiet [ inl nothing ↦ cc | inr object ↦ (let other = object.2 in cc) ]
+      by (Event event) is =
+          let told : numbers ≡ accepted.Event (numbered_event kinds before event) = next.told_as ∙ ap (accepted_of kinds before) is in
+          elim quiet [ inl nothing ↦ cc | inr object ↦ (let other = object.2 in cc) ]
+
+-- ---- the check
+
+-- the line that a check is handed is the next one for its tracker
+pub next_line : (kinds : List Kind) (start now : Check) (entries : List Entry) (roster : Roster) (line : Line) (numbers : Accepted)
+    → Leads kinds start entries now → IsNextEntry kinds roster entries line numbers
+    → IsNextLine (kinds_of start.spec.now) now.tracker (items entries) line numbers
+next_line kinds start now entries roster line numbers leads next =
+    let same = leads.kinds_are in
+    record {
+      tracks = leads.checks.tracks;
+      limits = next.limits;
+      usable = next.usable;
+      follows = subst (λ k. MayFollow k next.limits (items entries) line) same next.follows;
+      few = next.few;
+      told_as = next.numbers ∙ ap (λ k. accepted_of k (items entries) line) same;
+    }
+
+-- ---- a line that is no call
+
+module _ (start now : Check) (tracker : Tracking) (before : List Entry) (entry : Entry) (checks : Checks start before now)
+    (tracks : Tracks (kinds_of start.spec.now) tracker (items before ++ entry.item ∷ [])) where
+  abbrev spec : List SpecifiedKind
+  spec = start.spec.now
+
+  abbrev kinds : List Kind
+  kinds = kinds_of start.spec.now
+
+  abbrev new : Check
+  new = record now { tracker = tracker }
+
+  tracks_now : Tracks kinds tracker (items (before ++ entry ∷ []))
+  tracks_now = subst (Tracks kinds tracker) (sym (items_more before entry)) tracks
+
+  calls_more : is_call entry.item ≡ false → call_count (items (before ++ entry ∷ [])) ≡ call_count (items before)
+  calls_more quiet =
+      ap call_count (items_more before entry) ∙ sum_by_push (λ l. cond (is_call l) 1 0) (items before) entry.item
+      ∙ ap (λ b. call_count (items before) + cond b 1 0) quiet ∙ omega arith
+
+  checks_no_event : is_event entry.item ≡ false → is_call entry.item ≡ false → Checks start (before ++ entry ∷ []) new
+  checks_no_event quiet no_call = record {
+    starts = checks.starts;
+    spec = checks.spec;
+    formulas = checks.formulas;
+    asks = checks.asks;
+    tracks = tracks_now;
+    detects = subst (λ (T : Type 0). T) (λ i. Detects now.detector.calls (sym (quiet_numbers spec before entry quiet) i) (sym (quiet_events spec before entry quiet) i)) checks.detects;
+    held = checks.held ∙ sym (calls_more no_call);
+    races = checks.races ∙ sym (quiet_races spec before entry quiet);
+  }
+
+  checks_other_event : (event : LineEvent) → entry.item ≡ Event event → is_call entry.item ≡ false → ((call : CallOf) → numbered_event kinds (items before) event ≢ numbered.Call call)
+      → Checks start (before ++ entry ∷ []) new
+  checks_other_event event is no_call other =
+      let e : Numbered = numbered_event kinds (items before) event in
+      let none : latest_of (commuting spec) (entry_events spec before ++ e ∷ []) (length (entry_events spec before)) ≡ None
+      = not_reported (Commute spec) (commuting spec) (passing spec) (entry_events spec before) e other in record {
+        starts = checks.starts;
+        spec = checks.spec;
+        formulas = checks.formulas;
+        asks = checks.asks;
+        tracks = tracks_now;
+        detects = subst (λ (T : Type 0). T) (λ i. Detects now.detector.calls (sym (event_numbers_more spec before entry event is) i) (sym (events_all spec before entry event is) i))
+            (stands_quiet now.detector.calls (event_numbers before) (entry_events spec before) entry.number e other checks.detects);
+        held = checks.held ∙ sym (calls_more no_call);
+        races = checks.races ∙ sym (races_more spec before entry event is ∙ ap (λ o. races_of spec before + cond (is_some o) 1 0) none ∙ omega arith);
+      }
+
+  -- what is kept, where the line is no call
+  pub checks_quiet : (numbers : Accepted) → IsNextLine kinds now.tracker (items before) entry.item numbers → ((call : CallOf) → numbers ≢ accepted.Event (numbered.Call call))
+      → Checks start (before ++ entry ∷ []) new
+  unfolding accepted_of
+  checks_quiet numbers next other = by entry.item refl
+    where
+      by : (item : Line) → entry.item ≡ item → Checks start (before ++ entry ∷ []) new
+      by Skip is = checks_no_event (ap is_event is) (ap is_call is)
+      by (Header version) is = checks_no_event (ap is_event is) (ap is_call is)
+      by (Thread name) is = checks_no_event (ap is_event is) (ap is_call is)
+      by (Object name kind) is = checks_no_event (ap is_event is) (ap is_call is)
+      by (Event (Fork thread child)) is = checks_other_event (Fork thread child) is (ap is_call is) (λ call same. cc)
+      by (Event (Join thread child)) is = checks_other_event (Join thread child) is (ap is_call is) (λ call same. cc)
+      by (Event (Acquire thread lock)) is = checks_other_event (Acquire thread lock) is (ap is_call is) (λ call same. cc)
+      by (Event (Release thread lock)) is = checks_other_event (Release thread lock) is (ap is_call is) (λ call same. cc)
+      by (Event (Call thread object method slots)) is =
+          absurd (other _ (next.told_as ∙ ap (accepted_of kinds (items before)) is))
+
+-- and nothing is written
+pub texts_quiet : (kinds : List SpecifiedKind) (tracker : Tracking) (before : List Entry) (entry : Entry) (numbers : Accepted)
+    → IsNextLine (kinds_of kinds) tracker (items before) entry.item numbers
+    → ((call : CallOf) → numbers ≢ accepted.Event (numbered.Call call)) → race_texts kinds (before ++ entry ∷ []) ≡ race_texts kinds before
+unfolding accepted_of
+texts_quiet kinds tracker before entry numbers next other = by entry.item refl
+  where
+    told : AreTold (kinds_of kinds) (items before)
+    told = next.tracks.told
+
+    other_event : (event : LineEvent) → entry.item ≡ Event event → ((call : CallOf) → numbered_event (kinds_of kinds) (items before) event ≢ numbered.Call call)
+        → race_texts kinds (before ++ entry ∷ []) ≡ race_texts kinds before
+    other_event event is no_call =
+        texts_more kinds before entry event is told
+        ∙ ap (λ o. race_texts kinds before ++ text_with (race_at kinds (naming (items before ++ entry.item ∷ [])) (event_numbers before ++ entry.number ∷ [])
+        (entry_events kinds before ++ numbered_event (kinds_of kinds) (items before) event ∷ [])) (length (entry_events kinds before)) o)
+        (not_reported (Commute kinds) (commuting kinds) (passing kinds) (entry_events kinds before) (numbered_event (kinds_of kinds) (items before) event) no_call)
+        ∙ append-nil (race_texts kinds before)
+
+    by : (item : Line) → entry.item ≡ item → race_texts kinds (before ++ entry ∷ []) ≡ race_texts kinds before
+    by Skip is = quiet_texts kinds before entry (ap is_event is) told
+    by (Header version) is = quiet_texts kinds before entry (ap is_event is) told
+    by (Thread name) is = quiet_texts kinds before entry (ap is_event is) told
+    by (Object name kind) is = quiet_texts kinds before entry (ap is_event is) told
+    by (Event (Fork thread child)) is = other_event (Fork thread child) is (λ call same. cc)
+    by (Event (Join thread child)) is = other_event (Join thread child) is (λ call same. cc)
+    by (Event (Acquire thread lock)) is = other_event (Acquire thread lock) is (λ call same. cc)
+    by (Event (Release thread lock)) is = other_event (Release thread lock) is (λ call same. cc)
+    by (Event (Call thread object method slots)) is = absurd (other _ (next.told_as ∙ ap (accepted_of (kinds_of kinds) (items before)) is))
+
+-- ---- an event's place
+
+-- the place of an event that a check is handed, by the count of the events behind it
+pub event_place : (start now : Check) (before : List Entry) (item : Line) (e : Numbered) → Checks start before now
+    → IsNextLine (kinds_of start.spec.now) now.tracker (items before) item (accepted.Event e) → (count : ℕ) → count ≡ events (items before ++ item ∷ [])
+    → count ≡ length (entry_events start.spec.now before) + 1
+event_place start now before item e checks next count is =
+    let (event, line, number) = event_line (kinds_of start.spec.now) (items before) item e next.told_as in
+    is ∙ sum_by_push (λ l. cond (is_event l) 1 0) (items before) item ∙ ap (λ l. events (items before) + cond (is_event l) 1 0) line
+    ∙ ap (λ n. n + 1) (sym checks.tracks.told.told.counted)
+
+-- ---- an event that is a call
+
+module _ (start now : Check) (before : List Entry) (entry : Entry) (e : Numbered) (call : CallOf) (called : e ≡ numbered.Call call) (names : Naming) (place : ℕ)
+    (ready : IsNextEventLine start now before entry.item e names place) where
+  abbrev asked : List SpecifiedKind
+  asked = start.spec.now
+
+  abbrev known : List Kind
+  known = kinds_of start.spec.now
+
+  abbrev es : List Numbered
+  es = entry_events asked before
+
+  checks : Checks start before now
+  checks = ready.checks
+
+  next : IsNextLine known now.tracker (items before) entry.item (accepted.Event (numbered.Call call))
+  next = subst (λ x. IsNextLine known now.tracker (items before) entry.item (accepted.Event x)) called ready.next
+
+  event_is : (event : LineEvent) × (entry.item ≡ Event event) × (numbered.Call call ≡ numbered_event known (items before) event)
+  event_is = event_line known (items before) entry.item (numbered.Call call) next.told_as
+
+  is_called : is_call entry.item ≡ true
+  is_called = by event_is.0 event_is.1 event_is.2
+    where
+      by : (event : LineEvent) → entry.item ≡ Event event → numbered.Call call ≡ numbered_event known (items before) event → is_call entry.item ≡ true
+      by (Fork thread child) is e = cc
+      by (Join thread child) is e = cc
+      by (Acquire thread lock) is e = cc
+      by (Release thread lock) is e = cc
+      by (Call thread object method slots) is e = ap is_call is
+
+  is_event_line : is_event entry.item ≡ true
+  is_event_line = ap is_event event_is.1
+
+  -- the lines with the call are told of by their events
+  told_now : AreTold known (items before ++ entry.item ∷ [])
+  told_now = told_next known now.tracker (items before) entry.item (accepted.Event (numbered.Call call)) next
+
+  events_now : events_of known (items before ++ entry.item ∷ []) ≡ es ++ numbered.Call call ∷ []
+  events_now = event_last known now.tracker (items before) entry.item (numbered.Call call) next
+
+  -- the call is the next one for the detector
+  pub call_next : (stamp : Stamp) → ((roots : ℕ → Bool) (es : List Numbered) → IsNextEvent now.tracker roots es e → IsStamp (es ++ e ∷ []) (length es) stamp)
+      → IsNextCall now.detector.kinds now.detector.calls (event_numbers before) es place call stamp
+  call_next stamp stamped = record {
+    stands = checks.detects;
+    at_end = ready.at_end;
+    stamped = subst (λ x. IsStamp (es ++ x ∷ []) (length es) stamp) called
+        (stamped (roots_of (items before)) es (event_next known now.tracker (items before) entry.item e ready.next));
+    roots = roots_of (items before ++ entry.item ∷ []);
+    formed = subst (λ those. WellFormedWith (kinds_of those) (roots_of (items before ++ entry.item ∷ [])) (es ++ numbered.Call call ∷ [])) (sym checks.asks)
+        (subst (WellFormedWith known (roots_of (items before ++ entry.item ∷ []))) events_now (told_formed known (items before ++ entry.item ∷ []) told_now));
+  }
+
+  -- the count of reported calls stays small
+  pub call_races : now.races ≤ 4294967294
+  call_races = let few = checks.tracks.told.told.formed.bounded.few_events in omega (arith, checks.races, races_within asked before)
+
+  -- a race that the detector answers may be told of
+  pub race_known : (race : Race) → IsAnswer asked (event_numbers before ++ entry.number ∷ []) (es ++ numbered.Call call ∷ []) place (Some race)
+      → IsKnownRace asked names race
+  race_known race (i, latest, is) =
+      let named = subst (AreNamed asked (naming (items before ++ entry.item ∷ []))) events_now (all_named asked (items before ++ entry.item ∷ []) told_now) in
+      subst (λ n. IsKnownRace asked n race) (sym ready.naming_is)
+      (record {
+        later = subst (λ w. IsNamed asked (naming (items before ++ entry.item ∷ [])) w.call) (sym is.is.later_is) (named is.later.place is.later.call is.at_j.call);
+        earlier = subst (λ w. IsNamed asked (naming (items before ++ entry.item ∷ [])) w.call) (sym is.is.earlier_is) (named is.earlier.place is.earlier.call is.at_i.call);
+        kind = is.is.kind ∙ ap (λ w. w.call.kind) (sym is.is.later_is);
+        one_kind = ap (λ w. w.call.kind) is.is.earlier_is ∙ is.one_kind ∙ ap (λ w. w.call.kind) (sym is.is.later_is);
+        first = is.is.first ∙ (λ k. min (sym is.is.later_is k).call.method (sym is.is.earlier_is k).call.method);
+        second = is.is.second ∙ (λ k. max (sym is.is.later_is k).call.method (sym is.is.earlier_is k).call.method);
+      })
+
+  -- the steps of the tracker and of the detector keep together to the bound
+  pub call_cost : (steps middle after : ℕ) → middle ≤ steps + event_bound e (threads_after e (length now.tracker.threads))
+      → after ≤ middle + length now.detector.calls → after ≤ steps + line_bound (items before) entry.item
+  call_cost steps middle after track detect =
+      let threads : ℕ = length (threads_of (items before ++ entry.item ∷ [])) in
+      let known : threads ≡ length now.tracker.threads = event_threads known now.tracker (items before) entry.item (numbered.Call call) next in
+      let tracked : middle ≤ steps + event_bound (numbered.Call call) (threads_after (numbered.Call call) (length now.tracker.threads))
+      = subst (λ x. middle ≤ steps + event_bound x (threads_after x (length now.tracker.threads))) called track in
+      let bound : line_bound (items before) entry.item ≡ 2 * threads + call_count (items before)
+      = ap (λ b. cond b (2 * threads + call_count (items before)) (cond (is_event entry.item) (4 * threads) 0)) is_called in
+      omega (arith, checks.held, tracked, known, bound, detect)
+
+  -- what is kept, and what is written
+  pub checks_call : (new : Check) → new.spec.now ≡ now.spec.now → new.formulas ≡ now.formulas → new.detector.kinds ≡ now.detector.kinds → Tracks known new.tracker (items before ++ entry.item ∷ [])
+      → Detects new.detector.calls (event_numbers before ++ entry.number ∷ []) (es ++ numbered.Call call ∷ []) → length new.detector.calls ≡ length now.detector.calls + 1
+      → new.races ≡ now.races + next_races asked es (numbered.Call call) → Checks start (before ++ entry ∷ []) new
+  checks_call new one_spec one_formulas one_kinds tracks detects held races =
+      let (event, is, same) = event_is in record {
+        starts = checks.starts;
+        spec = one_spec ∙ checks.spec;
+        formulas = one_formulas ∙ checks.formulas;
+        asks = one_kinds ∙ checks.asks;
+        tracks = subst (Tracks known new.tracker) (sym (items_more before entry)) tracks;
+        detects = subst (λ (T : Type 0). T)
+            (λ i. Detects new.detector.calls (sym (event_numbers_more asked before entry event is) i) ((ap (λ e. es ++ e ∷ []) same ∙ sym (events_all asked before entry event is)) i)) detects;
+        held = held ∙ ap (λ n. n + 1) checks.held ∙ ap (λ b. call_count (items before) + cond b 1 0) (sym is_called)
+            ∙ sym (ap call_count (items_more before entry) ∙ sum_by_push (λ l. cond (is_call l) 1 0) (items before) entry.item);
+        races = races ∙ ap (λ n. n + next_races asked es (numbered.Call call)) checks.races ∙ ap (λ e. races_of asked before + next_races asked es e) same ∙ sym (races_more asked before entry event is);
+      }
+
+  pub texts_call : race_texts asked (before ++ entry ∷ []) ≡ race_texts asked before ++ next_text asked names (event_numbers before) entry.number es (numbered.Call call)
+  texts_call =
+      let (event, is, same) = event_is in
+      texts_more asked before entry event is checks.tracks.told
+      ∙ (λ k. race_texts asked before ++ next_text asked (sym ready.naming_is k) (event_numbers before) entry.number es (sym same k))
+
+  -- what the detector answers, by the kinds of the specification
+  abbrev Answered : Option Race → Type 0
+  Answered answer = IsAnswer now.detector.kinds (event_numbers before ++ entry.number ∷ []) (es ++ numbered.Call call ∷ []) place answer
+
+  answer_asked : (answer : Option Race) → Answered answer → IsAnswer asked (event_numbers before ++ entry.number ∷ []) (es ++ numbered.Call call ∷ []) place answer
+  answer_asked answer is = subst (λ those. IsAnswer those (event_numbers before ++ entry.number ∷ []) (es ++ numbered.Call call ∷ []) place answer) checks.asks is
+
+  pub known_race : (answer : Option Race) (race : Race) → Answered answer → answer ≡ Some race → (those : List SpecifiedKind) → those ≡ now.spec.now → IsKnownRace those names race
+  known_race answer race is some those same =
+      subst (λ these. IsKnownRace these names race) (sym (same ∙ checks.spec))
+      (race_known race (subst (IsAnswer asked (event_numbers before ++ entry.number ∷ []) (es ++ numbered.Call call ∷ []) place) some (answer_asked answer is)))
+
+  pub races_call : (answer : Option Race) → Answered answer → (races : ℕ) → races ≡ now.races + cond (is_some answer) 1 0
+      → races ≡ now.races + next_races asked es (numbered.Call call)
+  races_call answer is races counted =
+      counted ∙ ap (λ n. now.races + n) (sym (next_races_is asked names (event_numbers before) entry.number es call place ready.at_end answer (answer_asked answer is)))
+
+  pub text_call : (answer : Option Race) → Answered answer
+      → race_texts asked (before ++ entry ∷ []) ≡ race_texts asked before ++ answer_text asked names answer
+  text_call answer is =
+      texts_call ∙ ap (λ text. race_texts asked before ++ text)
+      (next_text_is asked names (event_numbers before) entry.number es call place ready.at_end answer (answer_asked answer is))

@@ -1,0 +1,88 @@
+-- The outcome of `check`.
+use Rattle.rd_ecl.specs.Kinds.{Kind, kinds_of}
+use Rattle.rd_ecl.specs.Specified.{SpecifiedKind}
+use Rattle.rd_report.specs.Texts.{ending_text}
+use Rattle.rd_report.specs.declared.endings.Ending.{Ending}
+use Rattle.rd_walk.proofs.OutputLemmas.{behind}
+use Rattle.rd_replaying.proofs.EndingLemmas.{well_end}
+use Rattle.rd_check.proofs.ReportLemmas.{texts_front}
+use Rattle.rd_walk.proofs.FileLemmas.{ending_at, entries_at}
+use Rattle.rd_walk.proofs.WalkLemmas.{entries_after}
+use Rattle.rd_check.specs.Checking.{Begins}
+use Rattle.rd_walk.specs.Output.{IsFront, IsOutput, IsWell, Outcome}
+use Rattle.rd_check.specs.Checked.{check_outcome, entries_ending, race_texts, races_of}
+use Rattle.rd_replaying.specs.Endings.{check_status, reported, thread_names}
+use Rattle.rd_replaying.specs.Replaying.{replay_of}
+use Rattle.rd_walk.specs.Walk.{Entry, Walked, after, ending_of, ends, entries_of, items}
+use Rattle.rd_check.specs.declared.checking.Check.{Check as CheckOf}
+use Rattle.rd_walk.specs.declared.status.Status.TheVariants.{NoMemory}
+use Rattle.rd_walk.specs.declared.status.Status.{Status}
+use Rattle.rd_walk.specs.declared.walk.WalkEnd.TheVariants.{End}
+use Rattle.rd_walk.specs.declared.walk.WalkEnd.{WalkEnd}
+use Rattle.rd_wf.proofs.EventsLemmas.{accepted_told}
+use Rattle.rd_wf.specs.Events.{AreAccepted, AreAcceptedFrom}
+use Rattle.std.proofs.Common.{◌≡◌, ℕ, List, [], ◌++◌, sym, ap, ◌∙◌, subst, ◌+◌, ◌∷◌}
+use Rattle.std.proofs.lemmas.List.{append-nil, append_assoc, map-append}
+
+-- of lines one after another, the first are accepted, and so are those behind them
+accepted_front : (kinds : _) (before xs ys : List _) → AreAcceptedFrom kinds before (xs ++ ys) → AreAcceptedFrom kinds before xs × AreAcceptedFrom kinds (before ++ xs) ys
+accepted_front kinds before [] ys accepted = (tt, subst (λ b. AreAcceptedFrom kinds b ys) (sym (append-nil before)) accepted)
+accepted_front kinds before (x ∷ xs) ys accepted =
+    let rest = accepted_front kinds (before ++ x ∷ []) xs ys accepted.1 in
+    ((accepted.0, rest.0), subst (λ b. AreAcceptedFrom kinds b ys) (append_assoc before (x ∷ []) xs) rest.1)
+
+module _ (kinds : List SpecifiedKind) where
+  pub outcome_at : (entries : List Entry) (ending : WalkEnd) → check_outcome kinds (after entries (ends ending))
+      ≡ record { text = race_texts kinds entries ++ ending_text (thread_names entries) (races_of kinds entries) (entries_ending kinds entries ending); status = check_status (races_of kinds entries) (entries_ending kinds entries ending) }
+  outcome_at entries ending =
+      ap (λ es. let o : Outcome = record {
+        text = race_texts kinds es ++ ending_text (thread_names es) (races_of kinds es) (entries_ending kinds es (ending_of (after entries (ends ending))));
+        status = check_status (races_of kinds es) (entries_ending kinds es (ending_of (after entries (ends ending))));
+      } in o) (entries_at entries ending)
+      ∙ ap (λ e. let o : Outcome = record {
+        text = race_texts kinds entries ++ ending_text (thread_names entries) (races_of kinds entries) (entries_ending kinds entries e);
+        status = check_status (races_of kinds entries) (entries_ending kinds entries e);
+      } in o) (ending_at entries ending)
+
+  -- the texts for the first lines are a front of what is written
+  pub front_outcome : (entries : List Entry) (walked : Walked) → AreAccepted (kinds_of kinds) (items (entries_of (after entries walked)))
+      → IsFront (race_texts kinds entries) (check_outcome kinds (after entries walked)).text
+  front_outcome entries walked accepted =
+      let all = entries_of (after entries walked) in
+      let behind = ending_text (thread_names all) (races_of kinds all) (entries_ending kinds all (ending_of (after entries walked))) in
+      let split = subst (AreAccepted (kinds_of kinds)) (ap items (entries_after entries walked) ∙ map-append (λ (entry : Entry). entry.item) entries (entries_of walked)) accepted in
+      let (first, later) = accepted_front (kinds_of kinds) [] (items entries) (items (entries_of walked)) split in
+      let (more, texts) = texts_front kinds entries (entries_of walked) later (accepted_told (kinds_of kinds) (items entries) first) in (
+        more ++ behind,
+        ap (λ t. t ++ behind) (ap (race_texts kinds) (entries_after entries walked) ∙ texts) ∙ append_assoc (race_texts kinds entries) more behind,
+      )
+
+-- what is written of a report's end, and its status
+abbrev ended_so : List (List ℕ) → ℕ → Ending → Outcome
+ended_so names races ending = record { text = ending_text names races ending; status = check_status races ending }
+
+-- of `check`
+pub check_concluded : (status : Status) (part : List ℕ) (spec : List SpecifiedKind) (kinds : List Kind) (entries : List Entry) (end : WalkEnd)
+    (names : List (List ℕ)) (races : ℕ) (ending : Ending) → kinds ≡ kinds_of spec → names ≡ thread_names entries → races ≡ races_of spec entries
+    → ending ≡ reported (replay_of kinds entries) end → IsOutput status part (ended_so names races ending)
+    → IsOutput status (race_texts spec entries ++ part) (check_outcome spec (after entries (ends end)))
+check_concluded status part spec kinds entries end names races ending are named counted ended output =
+    let so : ending ≡ entries_ending spec entries end = ended ∙ ap (λ k. reported (replay_of k entries) end) are in
+    let all = subst (IsOutput status part) (λ i. ended_so (named i) (counted i) (so i)) output in
+    subst (IsOutput status (race_texts spec entries ++ part)) (sym (outcome_at spec entries end))
+    (behind status (race_texts spec entries) part (ending_text (thread_names entries) (races_of spec entries) (entries_ending spec entries end))
+    (check_status (races_of spec entries) (entries_ending spec entries end)) all)
+
+-- where memory runs out before anything more is written
+pub check_front : (spec : List SpecifiedKind) (entries : List Entry) (end : WalkEnd) → IsOutput NoMemory (race_texts spec entries ++ []) (check_outcome spec (after entries (ends end)))
+check_front spec entries end =
+    let text = ending_text (thread_names entries) (races_of spec entries) (entries_ending spec entries end) in
+    (text, ap (λ o. o.text) (outcome_at spec entries end) ∙ ap (λ t. t ++ text) (sym (append-nil (race_texts spec entries))))
+
+pub check_fronts : (kinds : List Kind) (start : CheckOf) (entries : List Entry) (walked : Walked) → Begins kinds start
+    → AreAccepted kinds (items (entries_of (after entries walked))) → IsFront (race_texts start.spec.now entries) (check_outcome start.spec.now (after entries walked)).text
+check_fronts kinds start entries walked begins accepted =
+    front_outcome start.spec.now entries walked (subst (λ k. AreAccepted k (items (entries_of (after entries walked)))) begins.kinds_are accepted)
+
+pub check_well : (kinds : List SpecifiedKind) (walked : Walked) → IsWell (check_outcome kinds walked).status → ending_of walked ≡ End
+check_well kinds walked = well_end (races_of kinds (entries_of walked)) (replay_of (kinds_of kinds) (entries_of walked)) (ending_of walked)

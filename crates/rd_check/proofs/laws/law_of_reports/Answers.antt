@@ -1,0 +1,11 @@
+use Rattle.rd_check.proofs.ReportLemmas.{differs_where, none_reported, raced_where, texts_report}
+use Rattle.rd_walk.specs.Walk.{ending_of, entries_of}
+use Rattle.rd_check.proofs.laws.law_of_reports.Goals as goal
+
+pub returns : goal.returns
+returns c = record {
+  report = texts_report;
+  none = none_reported;
+  raced = λ kinds walked. raced_where kinds (entries_of walked) (ending_of walked);
+  differs = λ kinds walked. differs_where kinds (entries_of walked) (ending_of walked);
+}

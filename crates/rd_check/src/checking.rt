@@ -1,0 +1,229 @@
+//! What `check` does with each accepted line.
+ghost use Rattle.std.specs.Prelude.{◌≡◌, ◌+◌, ◌≤◌, List, ◌∷◌, [], ◌++◌};
+
+use rd_base::{Bytes, NoMemory, Steps};
+use rd_clock::Stamp;
+use rd_detect::Detector;
+use rd_ecl::Spec;
+use rd_event::{Call, Event, Line};
+use rd_hb::Tracker;
+use rd_io::Sink;
+use rd_report::{Formulas, append_race, formula_line};
+use rd_store::Race;
+use rd_walk::{Analysis, Halt, write_lines};
+use rd_wf::{Accepted, Roster};
+use std::alloc::Global;
+use std::sync::ledger::Ledger;
+
+/// Keeps the clocks of the threads and the calls, counts the calls that are reported, and writes each race.
+#[derive(Debug, Drop)]
+pub struct Check<'a> {
+    alloc: Global,
+    /// the kinds of the objects
+    spec: &'a Spec,
+    /// the lines of the formulas that races failed
+    formulas: Formulas<'a>,
+    /// the text of the last race, kept for its memory
+    text: Bytes,
+    tracker: Tracker,
+    detector: Detector<'a>,
+    pub races: u64,
+}
+
+impl<'a> Check<'a> {
+    ghost use Rattle.std.specs.Prelude.{◌≡◌, ◌+◌, ◌<◌, ◌≤◌, ◌^◌, ℕ, List, ◌∷◌, [], ◌++◌, Option, is_some, if◌then◌else◌, length, IfOk, IfErr, OnOk, OnErr};
+    ghost use Rattle.rd_io.specs.Sinks.{Appends};
+    ghost use Rattle.rd_event.specs.declared.events.Event.{Event as EventOf};
+    ghost use Rattle.rd_event.specs.declared.events.Event.TheVariants as event;
+    ghost use Rattle.rd_event.specs.declared.items.Line.{Line as LineOf};
+    ghost use Rattle.rd_detect.specs.Detect.{IsAnswer, IsNextCall, StandsFor};
+    ghost use Rattle.rd_report.specs.Races.{IsKnownRace, race_text, told_by};
+    ghost use Rattle.rd_report.specs.Texts.{naming_in};
+    ghost use Rattle.rd_walk.specs.Analysis.{TellsFault, WritesBetween, WritesFront};
+    ghost use Rattle.rd_check.specs.Checking.{Checks, IsNew, IsNextEventLine, IsNextLine};
+    ghost use Rattle.rd_check.specs.Checked.{entry_events, race_texts};
+    ghost use Rattle.rd_walk.specs.Walk.{Entry, items, line_bound};
+    ghost use Rattle.rd_ecl.specs.Kinds.{kinds_of};
+
+    /// A check of no lines.
+    pub fn new(alloc: Global, spec: &'a Spec) -> Result<Check<'a>, Halt>
+        ensures new { IfOk result IsNew }
+        ensures spec { IfOk result (λ check. check.spec.now ≡ spec.now) }
+        ensures memory { IfErr result (λ halt. halt ≡ Halt.NoMemory) }
+    {
+        let Ok(detector) = Detector::new(alloc, spec) else {
+            return Err(Halt::NoMemory);
+        };
+        Ok(Check {
+            alloc,
+            spec,
+            formulas: Formulas::new(alloc, spec),
+            text: Bytes::new(alloc),
+            tracker: Tracker::new(alloc),
+            detector,
+            races: 0,
+        })
+    }
+
+    /// Hands the call at this place, which is the next event, to the detector, and counts the race that it tells of.
+    fn detect<L: Ledger>(
+        &mut self,
+        line: u64,
+        place: u32,
+        call: &Call,
+        stamp: &Stamp,
+        steps: &mut Steps<L>,
+    ) -> Result<Option<Race>, Halt>
+        requires next { (numbers : List ℕ) × (es : List EventOf) × IsNextCall self.old.detector.kinds self.old.detector.calls numbers es place call.now stamp.now }
+        requires few { self.old.races + 1 < 2 ^ 64 }
+        ensures same { (self.new.spec.now ≡ self.old.spec.now) × (self.new.tracker ≡ self.old.tracker) × (self.new.detector.kinds ≡ self.old.detector.kinds)
+            × (self.new.formulas ≡ self.old.formulas) }
+        ensures answer { IfOk result (λ answer. (numbers : List ℕ) (es : List EventOf)
+            → IsNextCall self.old.detector.kinds self.old.detector.calls numbers es place call.now stamp.now
+            → IsAnswer self.old.detector.kinds (numbers ++ line ∷ []) (es ++ event.Call call.now ∷ []) place answer) }
+        ensures stands { OnOk result ((numbers : List ℕ) (es : List EventOf)
+            → IsNextCall self.old.detector.kinds self.old.detector.calls numbers es place call.now stamp.now
+            → StandsFor self.new.detector.calls (numbers ++ line ∷ []) (es ++ event.Call call.now ∷ [])) }
+        ensures held { OnOk result (length self.new.detector.calls ≡ length self.old.detector.calls + 1) }
+        ensures races { IfOk result (λ answer. self.new.races ≡ self.old.races + (if is_some answer then 1 else 0)) }
+        ensures memory { IfErr result (λ halt. halt ≡ Halt.NoMemory) }
+        ensures cost { steps.new ≤ steps.old + length self.old.detector.calls }
+    {
+        let Ok(answer) = self
+            .detector
+            .call(line, place, call, stamp, &self.tracker, steps)
+        else {
+            return Err(Halt::NoMemory);
+        };
+        self.races += u64::from(answer.is_some());
+        Ok(answer)
+    }
+
+    /// Makes the text that of a race. The numbers in it are known to the specification and the roster.
+    fn set_text(&mut self, race: &Race, names: &Roster) -> Result<(), NoMemory>
+        requires known { IsKnownRace self.old.spec.now (naming_in names.now) race.now }
+        requires formulas { self.old.formulas ≡ self.old.spec.now }
+        ensures same { (self.new.spec.now ≡ self.old.spec.now) × (self.new.tracker ≡ self.old.tracker) × (self.new.detector ≡ self.old.detector)
+            × (self.new.races ≡ self.old.races) × (self.new.formulas ≡ self.old.formulas) }
+        ensures text { OnOk result (self.new.text ≡ race_text self.old.spec.now (naming_in names.now) (told_by race.now.later.value) (told_by race.now.earlier.value)) }
+    {
+        self.text.clear();
+        if let Some(line) = self.formulas.find(race.kind, race.first, race.second) {
+            return append_race(&mut self.text, race, line, self.spec, names);
+        }
+        let kind = &self.spec.kinds()[race.kind as usize];
+        let line = formula_line(self.alloc, kind, race.first, race.second)?;
+        append_race(&mut self.text, race, line.items(), self.spec, names)?;
+        self.formulas.keep(race.kind, race.first, race.second, line)
+    }
+
+    /// Writes the text of a race. The numbers in it are known to the specification and the roster.
+    fn report<S: Sink>(&mut self, race: &Race, names: &Roster, out: &mut S) -> Result<(), Halt>
+        requires known { IsKnownRace self.old.spec.now (naming_in names.now) race.now }
+        requires formulas { self.old.formulas ≡ self.old.spec.now }
+        ensures same { (self.new.spec.now ≡ self.old.spec.now) × (self.new.tracker ≡ self.old.tracker) × (self.new.detector ≡ self.old.detector)
+            × (self.new.races ≡ self.old.races) × (self.new.formulas ≡ self.old.formulas) }
+        ensures ok { OnOk result (Appends (S.written out.old) (S.written out.new)
+            (race_text self.old.spec.now (naming_in names.now) (told_by race.now.later.value) (told_by race.now.earlier.value))) }
+        ensures front { OnErr result (WritesFront (S.written out.old) (S.written out.new) []
+            (race_text self.old.spec.now (naming_in names.now) (told_by race.now.later.value) (told_by race.now.earlier.value))) }
+        ensures fault { TellsFault (S.faults out.old) (S.faults out.new) (S.at_fault out.new) (S.written out.new) result }
+    {
+        match self.set_text(race, names) {
+            Ok(()) => write_lines(out, self.text.items()),
+            Err(_) => Err(Halt::NoMemory),
+        }
+    }
+
+    /// Hands the next root to the tracker.
+    fn root(&mut self, thread: u32) -> Result<(), Halt>
+        requires { (start : Check) × (before : List Entry) × (item : LineOf) × Checks start before self.old
+            × IsNextLine (kinds_of start.spec.now) self.old.tracker (items before) item (Accepted.Root thread) }
+        ensures checks { OnOk result ((start : Check) (before : List Entry) (entry : Entry) → Checks start before self.old →
+            IsNextLine (kinds_of start.spec.now) self.old.tracker (items before) entry.item (Accepted.Root thread) → Checks start (before ++ entry ∷ []) self.new) }
+        ensures memory { IfErr result (λ halt. halt ≡ Halt.NoMemory) }
+    {
+        match self.tracker.root(thread) {
+            Ok(()) => Ok(()),
+            Err(_) => Err(Halt::NoMemory),
+        }
+    }
+
+    /// Hands the event at this place, which is the next one, to the tracker, and a call to the detector, and writes the race that it tells
+    /// of.
+    fn event<S: Sink, L: Ledger>(
+        &mut self,
+        number: u64,
+        place: u32,
+        event: &Event,
+        names: &Roster,
+        out: &mut S,
+        steps: &mut Steps<L>,
+    ) -> Result<(), Halt>
+        requires { (start : Check) × (before : List Entry) × (item : LineOf)
+            × IsNextEventLine start self.old before item event.now (naming_in names.now) place }
+        ensures checks { OnOk result ((start : Check) (before : List Entry) (item : LineOf) →
+            IsNextEventLine start self.old before item event.now (naming_in names.now) place →
+            Checks start (before ++ record { number = number; item = item } ∷ []) self.new) }
+        ensures written { OnOk result ((start : Check) (before : List Entry) (item : LineOf) →
+            IsNextEventLine start self.old before item event.now (naming_in names.now) place →
+            WritesBetween (S.written out.old) (S.written out.new) (race_texts start.spec.now before)
+            (race_texts start.spec.now (before ++ record { number = number; item = item } ∷ []))) }
+        ensures halted { OnErr result ((start : Check) (before : List Entry) (item : LineOf) →
+            IsNextEventLine start self.old before item event.now (naming_in names.now) place →
+            WritesFront (S.written out.old) (S.written out.new) (race_texts start.spec.now before)
+            (race_texts start.spec.now (before ++ record { number = number; item = item } ∷ []))) }
+        ensures cost { (start : Check) (before : List Entry) (item : LineOf) →
+            IsNextEventLine start self.old before item event.now (naming_in names.now) place → steps.new ≤ steps.old + line_bound (items before) item }
+        ensures fault { TellsFault (S.faults out.old) (S.faults out.new) (S.at_fault out.new) (S.written out.new) result }
+    {
+        let Event::Call(call) = event else {
+            return match self.tracker.pass(event, steps) {
+                Ok(()) => Ok(()),
+                Err(_) => Err(Halt::NoMemory),
+            };
+        };
+        let Ok(stamp) = self.tracker.event(event, steps) else {
+            return Err(Halt::NoMemory);
+        };
+        match self.detect(number, place, call, &stamp, steps) {
+            Ok(None) => Ok(()),
+            Ok(Some(race)) => self.report(&race, names, out),
+            Err(halt) => Err(halt),
+        }
+    }
+}
+
+impl<'a> Analysis for Check<'a> {
+    ghost use Rattle.rd_check.specs.CheckLaws.{leads_none, no_text};
+    ghost use Rattle.rd_check.specs.Checking.{Begins, Leads};
+    ghost use Rattle.rd_check.specs.Checked.{race_texts};
+
+    ghost begins = { Begins };
+
+    ghost leads = { Leads };
+
+    ghost text = { λ _ start. race_texts start.spec.now };
+
+    ghost starts = { leads_none };
+
+    ghost silent = { λ _ start. no_text start };
+
+    fn accept<S: Sink, L: Ledger>(
+        &mut self,
+        number: u64,
+        _line: &Line,
+        accepted: &Accepted,
+        roster: &Roster,
+        out: &mut S,
+        steps: &mut Steps<L>,
+    ) -> Result<(), Halt> {
+        match accepted {
+            Accepted::Nothing | Accepted::Object { .. } => Ok(()),
+            Accepted::Root(thread) => self.root(*thread),
+            Accepted::Event(event) => {
+                self.event(number, roster.events() - 1, event, roster, out, steps)
+            }
+        }
+    }
+}

@@ -1,0 +1,4 @@
+pub mod EndingLemmas
+pub mod ReplayLemmas
+pub mod ReplayingLemmas
+pub mod StateLemmas

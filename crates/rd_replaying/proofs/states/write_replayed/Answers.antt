@@ -1,0 +1,43 @@
+use Rattle.std.proofs.Common.{◌≡◌, ℕ, List, [], ◌++◌, length, sym, ap, ◌∙◌, subst}
+use Rattle.std.proofs.lemmas.List.{append_assoc}
+use Rattle.std.proofs.lemmas.Result.{on_err_weaker}
+use Rattle.rd_io.proofs.SinkLemmas.{appends_on}
+use Rattle.rd_io.specs.Sinks.{Appends}
+use Rattle.rd_object.specs.declared.shapes.ReplayEnd.TheVariants.{Exact}
+use Rattle.rd_report.specs.declared.endings.Ending.TheVariants.{End}
+use Rattle.rd_replay.specs.Replays.{Recorded}
+use Rattle.rd_replay.specs.Replayer.{StandsFor}
+use Rattle.rd_walk.specs.Analysis.{WritesFront}
+use Rattle.rd_replaying.specs.States.{replayed_text, states_before}
+use Rattle.rd_wf.specs.Roster.{names_in, object_names_in}
+use Rattle.rd_replaying.proofs.StateLemmas.{replayed_exact, replayed_front}
+use Rattle.rd_replaying.proofs.states.write_replayed.Goals as goal
+
+pub returns-in-Err-clause-front : goal.returns-in-Err-clause-front
+returns-in-Err-clause-front g c = λ kinds calls stands same.
+    let objects = object_names_in c.args.names.now in
+    let (part, rest, is, writes) = c.in-Err.ensures.front in
+    let (more, whole) = replayed_front (names_in c.args.names.now) (states_before objects kinds calls (length objects)) c.args.ending.now in
+    (part, rest ++ more, whole ∙ ap (λ t. t ++ more) is ∙ append_assoc part rest more, writes)
+
+pub returns-then-is_exact-clause-front : goal.returns-then-is_exact-clause-front
+returns-then-is_exact-clause-front g c =
+    let names = names_in c.args.names.now in
+    let objects = object_names_in c.args.names.now in
+    let old = g.S.Sink.written c.args.out.now in
+    let now = g.S.Sink.written c.write_states.new.out in
+    let middle = g.S.Sink.written c.write_end.new.out in
+    let ended : c.args.ending.now ≡ End Exact = c.is_exact.ensures.0 c.if-is_exact.true in
+    on_err_weaker c.write_states.result
+    (λ (all : (kinds : List ℕ) (calls : List Recorded) → StandsFor c.args.replayer.now kinds calls → length kinds ≡ length objects
+    → WritesFront middle now [] (states_before objects kinds calls (length objects))) kinds calls stands same.
+    let states = states_before objects kinds calls (length objects) in
+    let line = replayed_text names [] (End Exact) in
+    let (part, rest, is, writes) = all kinds calls stands same in
+    subst (λ e. WritesFront old now [] (replayed_text names states e)) (sym ended) (
+      line ++ part,
+      rest,
+      replayed_exact names states ∙ ap (λ t. line ++ t) is ∙ sym (append_assoc line part rest),
+      appends_on _ _ _ line part (subst (λ e. Appends old middle (replayed_text names [] e)) ended c.in_default.ensures.ok) writes,
+    ))
+    c.write_states.ensures.front

@@ -1,0 +1,4 @@
+pub mod Endings
+pub mod Meanings
+pub mod Replaying
+pub mod States

@@ -1,0 +1,35 @@
+-- What `replay` means. This project's profile.
+use Rattle.std.specs.Prelude.{◌≡◌, ◌⊎◌, ℕ, ◌+◌, Bool, List, [], ◌∷◌, None, Some}
+use Rattle.rd_base.specs.declared.limits.Limits.{Limits}
+use Rattle.rd_io.specs.Inputs.{Source, file_of}
+use Rattle.rd_io.specs.Lines.Stop.{end}
+use Rattle.rd_replaying.specs.States.{replay_outcome, built_in_kinds}
+use Rattle.rd_walk.specs.Traces.{IsReadWhole, IsTraceOutcome, IsWhole, TakesTrace}
+use Rattle.rd_walk.specs.Meanings.{Meaning}
+use Rattle.rd_walk.specs.Walk.{ending_of, trace_of}
+use Rattle.rd_walk.specs.declared.status.Status.{Status}
+use Rattle.rd_walk.specs.declared.status.Status.TheVariants.{NoMemory}
+use Rattle.rd_walk.specs.declared.walk.WalkEnd.TheVariants.{End}
+
+-- what was taken of a trace, where it was opened, and the steps that were counted
+abbrev pub TakesReplayed : List ℕ → Limits → Bool → Source → Source → ℕ → ℕ → Type 0
+TakesReplayed trace limits rose old new before after =
+    (new.opens ≡ old.opens + 1 → TakesTrace built_in_kinds trace limits rose old new before after)
+    × (new.opens ≡ old.opens → after ≡ before)
+
+-- nothing is left out
+abbrev pub WritesReplayed : List ℕ → Limits → Source → List ℕ → Status → Type 0
+WritesReplayed trace limits old part status =
+    (bytes : List ℕ) → file_of old.files trace ≡ Some bytes → ending_of (trace_of built_in_kinds limits end bytes) ≡ End
+    → (status ≡ NoMemory) ⊎ IsWhole (replay_outcome built_in_kinds (trace_of built_in_kinds limits end bytes)) part status
+
+-- `replay TRACE`
+abbrev pub replay_meaning : List ℕ → Meaning
+replay_meaning trace = record {
+  files = trace ∷ [];
+  specification = None;
+  outcome = IsTraceOutcome (replay_outcome built_in_kinds) built_in_kinds trace;
+  takes = TakesReplayed trace;
+  reads = IsReadWhole built_in_kinds trace;
+  writes = WritesReplayed trace;
+}

@@ -1,0 +1,51 @@
+-- What `replay` writes. This project's profile.
+use Rattle.rd_replaying.specs.Endings.{thread_names, reported, check_status}
+use Rattle.rd_ecl.specs.Kinds.{Kind, kinds_of}
+use Rattle.rd_io.specs.Inputs.{fault_line}
+use Rattle.rd_kinds.specs.Shipped.{shipped_kinds}
+use Rattle.rd_object.specs.declared.shapes.ReplayEnd.TheVariants.{Exact}
+use Rattle.rd_object.specs.declared.shapes.Shape.{Shape}
+use Rattle.rd_replay.specs.Replays.{Recorded, held}
+use Rattle.rd_report.specs.States.{state_line}
+use Rattle.rd_report.specs.Texts.{name_of, refused_line, replay_line}
+use Rattle.rd_report.specs.declared.endings.Ending.TheVariants as report
+use Rattle.rd_report.specs.declared.endings.Ending.{Ending}
+use Rattle.rd_walk.specs.Output.{Outcome}
+use Rattle.rd_replaying.specs.Replaying.{recorded_of, replay_of}
+use Rattle.rd_walk.specs.Walk.{Entry, Walked, ending_of, entries_of, items}
+use Rattle.rd_wf.specs.MayFollow.{object_kinds, objects_of}
+use Rattle.std.specs.Prelude.{ℕ, zero, suc, ◌+◌, List, [], ◌++◌, length, Option, Some, None}
+
+-- the line that tells what an object with this name holds, where its calls lead it to a shape
+abbrev pub held_text : List ℕ → Option Shape → List ℕ
+held_text name None = []
+held_text name (Some shape) = state_line name shape
+
+-- those of the objects with the first numbers, in order of their numbers, by the names and the kinds of all objects and the calls on them
+unfoldable pub states_before : List (List ℕ) → List ℕ → List Recorded → ℕ → List ℕ
+states_before names kinds calls zero = []
+states_before names kinds calls (suc object) =
+    states_before names kinds calls object ++ held_text (name_of names object) (held kinds calls object)
+
+-- what each object holds behind the calls of the accepted lines
+abbrev pub states_text : List Kind → List Entry → List ℕ
+states_text kinds entries =
+    states_before (objects_of (items entries)) (object_kinds kinds (items entries)) (recorded_of kinds entries) (length (objects_of (items entries)))
+
+-- what `replay` writes: how the replay ended, and where it is exact what each object holds, or the line of a refusal or of a fault alone
+abbrev pub replayed_text : List (List ℕ) → List ℕ → Ending → List ℕ
+replayed_text names states (report.End Exact) = replay_line Exact ++ states
+replayed_text names states (report.End replay) = replay_line replay
+replayed_text names states (report.Refused number cause) = refused_line names number cause
+replayed_text names states report.Fault = fault_line
+
+-- `replay` on a trace with objects of these kinds. It answers as `check` does where no call is reported.
+abbrev pub replay_outcome : List Kind → Walked → Outcome
+replay_outcome kinds walked =
+    let entries = entries_of walked in
+    let ending = reported (replay_of kinds entries) (ending_of walked) in
+    record { text = replayed_text (thread_names entries) (states_text kinds entries) ending; status = check_status 0 ending }
+
+-- those of a trace that is replayed
+abbrev pub built_in_kinds : List Kind
+built_in_kinds = kinds_of shipped_kinds

@@ -1,0 +1,68 @@
+-- What a specification says, and the text of a kind, are written whole.
+use Rattle.rd_walk.proofs.WholeLemmas.{all_written}
+use Rattle.rd_spec_commands.specs.Meanings.{kind_meaning, spec_meaning, IsJudged, IsSpecText, IsUnread, kind_outcome}
+use Rattle.rd_base.specs.declared.limits.Limits.{Limits}
+use Rattle.rd_ecl.specs.Specified.{SpecifiedKind}
+use Rattle.rd_io.specs.Inputs.{Source}
+use Rattle.rd_kinds.specs.Shipped.{reserved_names}
+use Rattle.rd_print.specs.Printed.{spec_text}
+use Rattle.rd_walk.proofs.OutputLemmas.{has_outcome}
+use Rattle.rd_walk.specs.Output.{HasOutcome, Outcome, IsOutput}
+use Rattle.rd_walk.specs.Meanings.{Runs, WritesAll}
+use Rattle.rd_spec_commands.specs.Specifications.{IsSpecOutcome, most_bytes}
+use Rattle.rd_walk.specs.declared.status.Status.TheVariants.{Clean, OutputFault}
+use Rattle.rd_walk.specs.declared.status.Status.{Status}
+use Rattle.rd_spec.proofs.OneLemmas.{never_refused, one_said}
+use Rattle.rd_spec.specs.Texts.{SpecSays}
+use Rattle.std.proofs.Common.{◌≡◌, ℕ, Bool, false, List, refl, sym, ap, ◌∙◌, subst, arith, ◌≢◌, ◌⊎◌, inl, inr, true≢false}
+use Rattle.std.proofs.lemmas.Option.{same_Some}
+use Rattle.std.specs.Prelude.{take}
+
+pub runs_kind : (built_in : SpecifiedKind) (limits : Limits) (rose : Bool) (old : Source) (part : List ℕ) (status : Status) (steps : ℕ)
+    → IsOutput status part (kind_outcome built_in) → Runs (kind_meaning built_in) limits rose old old part status steps steps
+runs_kind built_in limits rose old part status steps output =
+    record {
+      output = has_outcome ((kind_meaning built_in).outcome limits rose old old) status part (kind_outcome built_in) refl output;
+      opened = record { files = refl; later = omega arith; opens = omega arith; misses = omega arith };
+      taken = (refl, refl);
+      read = λ well. tt;
+    }
+
+-- one text of a file is judged
+pub one_text : (old : Source) (file x y : List ℕ) → IsSpecText old file x → IsSpecText old file y → x ≡ y
+one_text old file x y one other =
+    one.front ∙ ap (take most_bytes) (same_Some one.whole other.whole (sym one.held ∙ other.held)) ∙ sym other.front
+
+-- the text of a kind
+pub whole_kind : (built_in : SpecifiedKind) (limits : Limits) (old : Source) (part : List ℕ) (status : Status)
+    → HasOutcome (λ outcome. outcome ≡ kind_outcome built_in) status part → status ≢ OutputFault → WritesAll (kind_meaning built_in) limits old part status
+whole_kind built_in limits old part status has other =
+    elim (all_written (λ outcome. outcome ≡ kind_outcome built_in) status part has other) [
+      | inl none ↦ inl none
+      | inr all ↦ inr (all.text ∙ ap (λ o. o.text) all.is, all.told ∙ ap (λ o. o.status) all.is)
+    ]
+
+-- what a specification says is printed
+said_whole : (bytes : List ℕ) (kinds : List SpecifiedKind) (outcome : Outcome) (part : List ℕ) (status : Status) → SpecSays bytes reserved_names kinds
+    → IsSpecOutcome bytes outcome → part ≡ outcome.text → status ≡ outcome.status → (part ≡ spec_text kinds) × (status ≡ Clean)
+said_whole bytes kinds outcome part status says (inl (others, also, is)) text told =
+    let same = one_said bytes reserved_names others kinds also says in
+    (text ∙ ap (λ o. o.text) is ∙ ap spec_text same, told ∙ ap (λ o. o.status) is)
+said_whole bytes kinds outcome part status says (inr (refused, refuses, is)) text told =
+    absurd (never_refused bytes reserved_names kinds refused says refuses)
+
+pub whole_spec : (file : List ℕ) (limits : Limits) (old new : Source) (part : List ℕ) (status : Status)
+    → HasOutcome (λ outcome. IsUnread false outcome ⊎ IsJudged file false old new outcome) status part → status ≢ OutputFault
+    → WritesAll (spec_meaning file) limits old part status
+whole_spec file limits old new part status has other kinds bytes is says =
+    elim (all_written (λ outcome. IsUnread false outcome ⊎ IsJudged file false old new outcome) status part has other) [
+      | inl none ↦ inl none
+      | inr all ↦ inr (by all.outcome all.is all.text all.told)
+    ]
+  where
+    by : (outcome : Outcome) → IsUnread false outcome ⊎ IsJudged file false old new outcome → part ≡ outcome.text → status ≡ outcome.status
+        → (part ≡ spec_text kinds) × (status ≡ Clean)
+    by outcome (inl unread) text told = absurd (true≢false (sym unread.risen))
+    by outcome (inr judged) text told =
+        said_whole judged.bytes kinds outcome part status
+        (subst (λ b. SpecSays b reserved_names kinds) (one_text old file bytes judged.bytes is judged.text) says) judged.is text told

@@ -1,0 +1,101 @@
+-- What `spec` and `kind` mean. This project's profile.
+use Rattle.rd_walk.specs.Traces.{OpensOnly}
+use Rattle.rd_walk.specs.Meanings.{Meaning}
+use Rattle.rd_base.specs.declared.limits.Limits.{Limits}
+use Rattle.rd_ecl.specs.Specified.{SpecifiedKind}
+use Rattle.rd_io.specs.Inputs.{Source, file_of}
+use Rattle.rd_kinds.specs.Shipped.{reserved_names}
+use Rattle.rd_print.specs.Printed.{spec_text}
+use Rattle.rd_walk.specs.Output.{Outcome, fault_outcome}
+use Rattle.rd_spec_commands.specs.Specifications.{IsSpecOutcome, most_bytes, refused_outcome}
+use Rattle.rd_walk.specs.declared.status.Status.TheVariants.{Clean, NoMemory}
+use Rattle.rd_walk.specs.declared.status.Status.{Status}
+use Rattle.rd_spec.specs.Texts.{IsSpecRefused, SpecSays}
+use Rattle.rd_spec.specs.declared.parsing.SpecRefused.{SpecRefused as Refusal}
+use Rattle.std.specs.Prelude.{◌≡◌, ◌⊎◌, ℕ, ◌+◌, ◌≤◌, Bool, true, false, List, [], ◌∷◌, ◌++◌, ⊤, length, take, Some, None}
+
+-- these are the bytes of a specification that are judged: the first of its file's
+pub record IsSpecText (old : Source) (file bytes : List ℕ) : Type 0 where
+  pub whole : List ℕ
+  pub held : file_of old.files file ≡ Some whole
+  pub front : bytes ≡ take most_bytes whole
+
+-- where the specification is refused: the trace isn't opened
+pub record IsRefused (file : List ℕ) (rose : Bool) (old new : Source) (outcome : Outcome) : Type 0 where
+  pub calm : rose ≡ false
+  pub one_opened : new.opens ≡ old.opens + 1
+  pub bytes : List ℕ
+  pub text : IsSpecText old file bytes
+  pub refused : Refusal
+  pub refuses : IsSpecRefused bytes reserved_names refused
+  pub is : outcome ≡ refused_outcome refused
+
+-- where the specification was read: it is judged
+pub record IsJudged (file : List ℕ) (rose : Bool) (old new : Source) (outcome : Outcome) : Type 0 where
+  pub calm : rose ≡ false
+  pub one_opened : new.opens ≡ old.opens + 1
+  pub bytes : List ℕ
+  pub text : IsSpecText old file bytes
+  pub is : IsSpecOutcome bytes outcome
+
+-- where it could not be opened, or not be read
+pub record IsUnread (rose : Bool) (outcome : Outcome) : Type 0 where
+  pub risen : rose ≡ true
+  pub is : outcome ≡ fault_outcome
+
+-- the canonical text of a kind that is built in
+abbrev pub kind_outcome : SpecifiedKind → Outcome
+kind_outcome built_in = record { text = spec_text (built_in ∷ []); status = Clean }
+
+-- What was taken of a specification that is the current input: what was taken and what is left are its file's bytes, and no more was
+-- taken than may be.
+pub record TakesSpec (file : List ℕ) (old new : Source) : Type 0 where
+  pub whole : file_of old.files file ≡ Some (new.taken ++ new.held)
+  pub few : length new.taken ≤ most_bytes
+
+-- what reading a specification leaves
+pub record LeavesSpec (file : List ℕ) (old new : Source) : Type 0 where
+  pub opened : OpensOnly (file ∷ []) old new
+  pub taken : new.opens ≡ old.opens + 1 → TakesSpec file old new
+
+-- and where these are the bytes that are judged
+pub record ReadsSpec (file : List ℕ) (old new : Source) (bytes : List ℕ) : Type 0 where
+  pub opens : new.opens ≡ old.opens + 1
+  pub misses : new.misses ≡ old.misses
+  pub text : IsSpecText old file bytes
+
+-- `spec SPEC`: what is written
+abbrev pub IsSaidOutcome : List ℕ → Limits → Bool → Source → Source → Outcome → Type 0
+IsSaidOutcome file limits rose old new outcome = IsUnread rose outcome ⊎ IsJudged file rose old new outcome
+
+-- what was taken of the specification, where it was opened; no step is counted
+abbrev pub TakesSaid : List ℕ → Limits → Bool → Source → Source → ℕ → ℕ → Type 0
+TakesSaid file limits rose old new before after = (new.opens ≡ old.opens + 1 → TakesSpec file old new) × (after ≡ before)
+
+-- nothing is left out
+abbrev pub WritesSaid : List ℕ → Limits → Source → List ℕ → Status → Type 0
+WritesSaid file limits old part status =
+    (kinds : List SpecifiedKind) (bytes : List ℕ) → IsSpecText old file bytes → SpecSays bytes reserved_names kinds
+    → (status ≡ NoMemory) ⊎ ((part ≡ spec_text kinds) × (status ≡ Clean))
+
+-- `spec SPEC`
+abbrev pub spec_meaning : List ℕ → Meaning
+spec_meaning file = record {
+  files = file ∷ [];
+  specification = Some file;
+  outcome = IsSaidOutcome file;
+  takes = TakesSaid file;
+  reads = λ limits old new. ⊤;
+  writes = WritesSaid file;
+}
+
+-- `kind NAME`, for the kind with that name: no file is named
+abbrev pub kind_meaning : SpecifiedKind → Meaning
+kind_meaning built_in = record {
+  files = [];
+  specification = None;
+  outcome = λ limits rose old new outcome. outcome ≡ kind_outcome built_in;
+  takes = λ limits rose old new before after. (new ≡ old) × (after ≡ before);
+  reads = λ limits old new. ⊤;
+  writes = λ limits old part status. (status ≡ NoMemory) ⊎ ((part ≡ (kind_outcome built_in).text) × (status ≡ Clean));
+}

@@ -1,0 +1,77 @@
+-- What `spec` writes for the bytes of a specification, and its status. This project's profile.
+use Rattle.std.specs.Prelude.{◌≡◌, ◌⊎◌, ℕ, List, [], ◌++◌, codes, decimal}
+use Rattle.rd_causes.specs.declared.causes.SpecCause.{SpecCause}
+use Rattle.rd_causes.specs.declared.causes.SpecCause.TheVariants.{Header, Syntax, UnknownMethod, UnknownVariable, NoVariable, OutsideFragment, Duplicate, MissingPair, KindTaken, Limit}
+use Rattle.rd_ecl.specs.Specified.{SpecifiedKind}
+use Rattle.rd_ecl.specs.declared.formulas.Reason.{Reason}
+use Rattle.rd_ecl.specs.declared.formulas.Reason.TheVariants.{CrossRelation, NotOverCross, OrOfCross}
+use Rattle.rd_kinds.specs.Shipped.{reserved_names}
+use Rattle.rd_print.specs.Printed.{spec_text}
+use Rattle.rd_spec.specs.Texts.{IsSpecRefused, SpecSays}
+use Rattle.rd_spec.specs.declared.parsing.SpecRefused.{SpecRefused as Refusal}
+use Rattle.rd_report.specs.Texts.{limit_cause_text}
+use Rattle.rd_walk.specs.Output.{IsOutput, Outcome, fault_outcome}
+use Rattle.rd_spec_commands.specs.declared.specifications.Unread.{Unread}
+use Rattle.rd_spec_commands.specs.declared.specifications.Unread.TheVariants.{Fault, Refused, NoMemory}
+use Rattle.rd_walk.specs.declared.status.Status.{Status}
+use Rattle.rd_walk.specs.declared.status.Status.TheVariants.{Clean, SpecRefused, InputFault, OutputFault, LimitReached, NoMemory as MemoryRanOut}
+
+-- ---- texts
+
+-- why a formula isn't in the fragment
+unfoldable pub reason_text : Reason → List ℕ
+reason_text CrossRelation = codes "cross-relation"
+reason_text NotOverCross = codes "not-over-cross"
+reason_text OrOfCross = codes "or-of-cross"
+
+-- the text of a cause
+unfoldable pub spec_cause_text : SpecCause → List ℕ
+spec_cause_text Header = codes "header"
+spec_cause_text Syntax = codes "syntax"
+spec_cause_text UnknownMethod = codes "unknown-method"
+spec_cause_text UnknownVariable = codes "unknown-variable"
+spec_cause_text NoVariable = codes "no-variable"
+spec_cause_text (OutsideFragment reason) = codes "outside-fragment " ++ reason_text reason
+spec_cause_text Duplicate = codes "duplicate"
+spec_cause_text (MissingPair first second) = codes "missing-pair " ++ first ++ codes " " ++ second
+spec_cause_text KindTaken = codes "kind-taken"
+spec_cause_text (Limit name number) = limit_cause_text name number
+
+-- the line of a refusal
+abbrev pub spec_refused_line : Refusal → List ℕ
+spec_refused_line refused =
+    codes "refused spec line " ++ decimal refused.line ++ codes " place " ++ decimal refused.place ++ codes " "
+    ++ spec_cause_text refused.cause ++ codes "\n"
+
+-- ---- the outcome
+
+-- the status of a refusal, by its cause
+abbrev pub spec_status : SpecCause → Status
+spec_status (Limit name number) = LimitReached
+spec_status _ = SpecRefused
+
+-- where these kinds are said
+abbrev pub accepted_outcome : List SpecifiedKind → Outcome
+accepted_outcome kinds = record { text = spec_text kinds; status = Clean }
+
+-- where a line is refused
+abbrev pub refused_outcome : Refusal → Outcome
+refused_outcome refused = record { text = spec_refused_line refused; status = spec_status refused.cause }
+
+-- the outcome for these bytes: they say kinds, or they are refused
+abbrev pub IsSpecOutcome : List ℕ → Outcome → Type 0
+IsSpecOutcome bytes outcome =
+    ((kinds : List SpecifiedKind) × SpecSays bytes reserved_names kinds × (outcome ≡ accepted_outcome kinds))
+    ⊎ ((refused : Refusal) × IsSpecRefused bytes reserved_names refused × (outcome ≡ refused_outcome refused))
+
+-- how many bytes of a file are read at most: one more than a text may have
+abbrev pub most_bytes : ℕ
+most_bytes = 1048577
+
+-- ---- a specification that isn't there
+
+-- what is written where a specification isn't there, and the status
+abbrev pub TellsUnread : Unread → Status → List ℕ → Type 0
+TellsUnread Fault status part = IsOutput status part fault_outcome × ((status ≡ InputFault) ⊎ (status ≡ OutputFault))
+TellsUnread (Refused refused) status part = IsOutput status part (refused_outcome refused)
+TellsUnread NoMemory status part = (status ≡ MemoryRanOut) × (part ≡ [])

@@ -1,0 +1,9 @@
+//! Reading a specification from a file, and the commands `spec` and `kind`.
+#![tactic(auto)]
+
+mod kinds;
+mod spec_texts;
+mod specifications;
+
+pub use kinds::kind;
+pub use specifications::{Unread, read_spec, refuse_unread, spec};

@@ -1,0 +1,121 @@
+-- What is written, and the status.
+use Rattle.rd_walk.specs.Analysis.{TellsFault}
+use Rattle.rd_walk.specs.Output.{halted_with, HasOutcome, IsOutput, IsWell, Outcome, StatusTellsFault}
+use Rattle.rd_walk.specs.declared.analysis.Halt.TheVariants as halt
+use Rattle.rd_walk.specs.declared.analysis.Halt.{Halt}
+use Rattle.rd_walk.specs.declared.status.Status.TheVariants.{Clean, Raced, Usage, SpecRefused, TraceRefused, ReplayDiffers, InputFault, OutputFault, NoMemory, LimitReached}
+use Rattle.rd_walk.specs.declared.status.Status.{Status}
+use Rattle.std.proofs.Common.{◌≡◌, ◌≢◌, ℕ, List, [], ◌++◌, Option, Result, Ok, Err, OnOk, OnErr, refl, sym, ap, subst, ◌∙◌, inl, inr}
+use Rattle.std.proofs.lemmas.List.{append_assoc, append-nil}
+
+-- all was written
+pub whole : (status : Status) (text : List ℕ) → IsOutput status text (record { text = text; status = status })
+whole Clean text = (refl, refl)
+whole Raced text = (refl, refl)
+whole Usage text = (refl, refl)
+whole SpecRefused text = (refl, refl)
+whole TraceRefused text = (refl, refl)
+whole ReplayDiffers text = (refl, refl)
+whole InputFault text = (refl, refl)
+whole OutputFault text = ([], sym (append-nil text))
+whole NoMemory text = ([], sym (append-nil text))
+whole LimitReached text = (refl, refl)
+
+-- a front was written, and then it was cut short
+pub front_only : (halt : Halt) (part rest : List ℕ) (outcome : Outcome) → outcome.text ≡ part ++ rest → IsOutput (halted_with halt) part outcome
+front_only halt.OutputFault part rest outcome is = (rest, is)
+front_only halt.NoMemory part rest outcome is = (rest, is)
+
+-- what is written of an outcome is written of one of these
+pub has_outcome : (Is : Outcome → Type 0) (status : Status) (part : List ℕ) (outcome : Outcome) → Is outcome → IsOutput status part outcome
+    → HasOutcome Is status part
+has_outcome Is Clean part outcome is output = (outcome, is, output)
+has_outcome Is Raced part outcome is output = (outcome, is, output)
+has_outcome Is Usage part outcome is output = (outcome, is, output)
+has_outcome Is SpecRefused part outcome is output = (outcome, is, output)
+has_outcome Is TraceRefused part outcome is output = (outcome, is, output)
+has_outcome Is ReplayDiffers part outcome is output = (outcome, is, output)
+has_outcome Is InputFault part outcome is output = (outcome, is, output)
+has_outcome Is OutputFault part outcome is output = (outcome, is, output)
+has_outcome Is NoMemory part outcome is output = inr (outcome, is, output)
+has_outcome Is LimitReached part outcome is output = (outcome, is, output)
+
+-- what is written of one of these is written of one of those
+pub outcome_of : (Is Also : Outcome → Type 0) → ((outcome : Outcome) → Is outcome → Also outcome) → (status : Status) (part : List ℕ)
+    → HasOutcome Is status part → HasOutcome Also status part
+outcome_of Is Also all Clean part has = (has.0, all has.0 has.1, has.2)
+outcome_of Is Also all Raced part has = (has.0, all has.0 has.1, has.2)
+outcome_of Is Also all Usage part has = (has.0, all has.0 has.1, has.2)
+outcome_of Is Also all SpecRefused part has = (has.0, all has.0 has.1, has.2)
+outcome_of Is Also all TraceRefused part has = (has.0, all has.0 has.1, has.2)
+outcome_of Is Also all ReplayDiffers part has = (has.0, all has.0 has.1, has.2)
+outcome_of Is Also all InputFault part has = (has.0, all has.0 has.1, has.2)
+outcome_of Is Also all OutputFault part has = (has.0, all has.0 has.1, has.2)
+outcome_of Is Also all NoMemory part (inl none) = inl none
+outcome_of Is Also all NoMemory part (inr has) = inr (has.0, all has.0 has.1, has.2)
+outcome_of Is Also all LimitReached part has = (has.0, all has.0 has.1, has.2)
+
+-- a text was written before
+pub behind : (status : Status) (front part text : List ℕ) (given : Status) → IsOutput status part (record { text = text; status = given })
+    → IsOutput status (front ++ part) (record { text = front ++ text; status = given })
+behind Clean front part text given is = (ap (λ t. front ++ t) is.0, is.1)
+behind Raced front part text given is = (ap (λ t. front ++ t) is.0, is.1)
+behind Usage front part text given is = (ap (λ t. front ++ t) is.0, is.1)
+behind SpecRefused front part text given is = (ap (λ t. front ++ t) is.0, is.1)
+behind TraceRefused front part text given is = (ap (λ t. front ++ t) is.0, is.1)
+behind ReplayDiffers front part text given is = (ap (λ t. front ++ t) is.0, is.1)
+behind InputFault front part text given is = (ap (λ t. front ++ t) is.0, is.1)
+behind OutputFault front part text given is = (is.0, ap (λ t. front ++ t) is.1 ∙ sym (append_assoc front part is.0))
+behind NoMemory front part text given is = (is.0, ap (λ t. front ++ t) is.1 ∙ sym (append_assoc front part is.0))
+behind LimitReached front part text given is = (ap (λ t. front ++ t) is.0, is.1)
+
+pub halted_no_usage : (halt : Halt) → halted_with halt ≢ Usage
+halted_no_usage halt.OutputFault = λ e. cc
+halted_no_usage halt.NoMemory = λ e. cc
+
+pub halted_no_input : (halt : Halt) → halted_with halt ≢ InputFault
+halted_no_input halt.OutputFault = λ e. cc
+halted_no_input halt.NoMemory = λ e. cc
+
+-- no fault is such a status, nor is want of memory
+pub well_written : (status : Status) (part : List ℕ) (outcome : Outcome) → IsWell status → IsOutput status part outcome → IsWell outcome.status
+well_written status part outcome (inl is) output = inl (sym (subst (λ s. IsOutput s part outcome) is output).1)
+well_written status part outcome (inr (inl is)) output = inr (inl (sym (subst (λ s. IsOutput s part outcome) is output).1))
+well_written status part outcome (inr (inr is)) output = inr (inr (sym (subst (λ s. IsOutput s part outcome) is output).1))
+
+pub halted_no_well : (halt : Halt) → ¬ (IsWell (halted_with halt))
+halted_no_well halt.OutputFault (inl e) = cc
+halted_no_well halt.OutputFault (inr (inl e)) = cc
+halted_no_well halt.OutputFault (inr (inr e)) = cc
+halted_no_well halt.NoMemory (inl e) = cc
+halted_no_well halt.NoMemory (inr (inl e)) = cc
+halted_no_well halt.NoMemory (inr (inr e)) = cc
+
+pub fault_no_well : ¬ (IsWell InputFault)
+fault_no_well (inl e) = cc
+fault_no_well (inr (inl e)) = cc
+fault_no_well (inr (inr e)) = cc
+
+-- and where it was cut short, it is told as the halt tells it
+pub halted_tells : (before now : ℕ) (point written : Option (List ℕ)) (T : Type 0) (halt : Halt) → TellsFault {T = T} before now point written (Err halt)
+    → StatusTellsFault before now point written (halted_with halt)
+halted_tells before now point written T halt.OutputFault tells = tells
+halted_tells before now point written T halt.NoMemory tells = tells
+
+-- a call behind others that told no fault
+pub tells_behind : {T : Type 0} (before middle now : ℕ) (point written : Option (List ℕ)) (result : Result T Halt) → middle ≡ before
+    → TellsFault middle now point written result → TellsFault before now point written result
+tells_behind before middle now point written result same tells = subst (λ n. TellsFault n now point written result) same tells
+
+pub status_behind : (before middle now : ℕ) (point written : Option (List ℕ)) (status : Status) → middle ≡ before
+    → StatusTellsFault middle now point written status → StatusTellsFault before now point written status
+status_behind before middle now point written status same tells = subst (λ n. StatusTellsFault n now point written status) same tells
+
+-- what holds whatever a function answers
+pub always_ok : {T E : Type 0} (P : Type 0) (r : Result T E) → P → OnOk r P
+always_ok P (Ok x) p = p
+always_ok P (Err e) p = tt
+
+pub always_err : {T E : Type 0} (P : Type 0) (r : Result T E) → P → OnErr r P
+always_err P (Ok x) p = tt
+always_err P (Err e) p = p

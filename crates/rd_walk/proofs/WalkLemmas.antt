@@ -1,0 +1,79 @@
+-- The walk over the lines of a trace, one line after another.
+use Rattle.std.proofs.Common.{◌≡◌, ℕ, ◌+◌, ◌≤◌, List, [], ◌∷◌, ◌++◌, Some, Ok, Err, ap, ◌∙◌, refl, arith}
+use Rattle.std.proofs.lemmas.List.{append_assoc, append-nil, map-append}
+use Rattle.rd_io.specs.Lines.{Reading, Ending as LinesEnding}
+use Rattle.rd_io.specs.Lines.Reading.{stops, line}
+use Rattle.rd_base.specs.declared.limits.Limits.{Limits}
+use Rattle.rd_event.specs.Reading.{item_of}
+use Rattle.rd_event.specs.declared.items.Line.{Line}
+use Rattle.rd_ecl.specs.Kinds.{Kind}
+use Rattle.rd_wf.specs.MayFollow.{first_broken}
+use Rattle.rd_walk.specs.Walk.{Entry, Walked, accepted_or, after, bound_from, ended, ending_of, ends, entries_of, goes, goes_or_ends, items, judged, judged_item, line_bound, walk}
+use Rattle.rd_wf.specs.declared.causes.WfCause.{WfCause}
+use Rattle.rd_wf.specs.declared.causes.TraceCause.{TraceCause}
+use Rattle.rd_wf.specs.declared.causes.TraceCause.TheVariants.{Wf}
+use Rattle.rd_walk.specs.declared.walk.WalkEnd.TheVariants.{Refused}
+
+pub judged_broken : (kinds : List Kind) (limits : Limits) (before : List Line) (bytes : List ℕ) (item : Line) (cause : WfCause)
+    → item_of bytes ≡ Some item → first_broken kinds limits before item ≡ Some cause → judged kinds limits before bytes ≡ Err (Wf cause)
+unfolding judged
+judged_broken kinds limits before bytes item cause says broken = ap (judged_item kinds limits before) says ∙ ap (accepted_or item) broken
+
+pub walk_stops : (kinds : List Kind) (limits : Limits) (before : List Line) (number : ℕ) (ending : LinesEnding)
+    → walk kinds limits before number (stops ending) ≡ ends (ended limits before number ending)
+unfolding walk
+walk_stops kinds limits before number ending = refl
+
+pub walk_accepts : (kinds : List Kind) (limits : Limits) (before : List Line) (number : ℕ) (bytes : List ℕ) (more : Reading) (item : Line)
+    → judged kinds limits before bytes ≡ Ok item
+    → walk kinds limits before number (line bytes more)
+    ≡ goes (record { number = number; item = item }) (walk kinds limits (before ++ item ∷ []) (number + 1) more)
+unfolding walk
+walk_accepts kinds limits before number bytes more item h =
+    ap (λ r. goes_or_ends number r (λ item'. walk kinds limits (before ++ item' ∷ []) (number + 1) more)) h
+
+pub walk_refuses : (kinds : List Kind) (limits : Limits) (before : List Line) (number : ℕ) (bytes : List ℕ) (more : Reading) (cause : TraceCause)
+    → judged kinds limits before bytes ≡ Err cause → walk kinds limits before number (line bytes more) ≡ ends (Refused number cause)
+unfolding walk
+walk_refuses kinds limits before number bytes more cause h =
+    ap (λ r. goes_or_ends number r (λ item. walk kinds limits (before ++ item ∷ []) (number + 1) more)) h
+
+pub items_more : (entries : List Entry) (entry : Entry) → items (entries ++ entry ∷ []) ≡ items entries ++ entry.item ∷ []
+items_more entries entry = map-append (λ (e : Entry). e.item) entries (entry ∷ [])
+
+pub after_none : (walked : Walked) → after [] walked ≡ walked
+unfolding after
+after_none walked = refl
+
+pub after_more : (entries : List Entry) (entry : Entry) (walked : Walked) → after entries (goes entry walked) ≡ after (entries ++ entry ∷ []) walked
+unfolding after
+after_more [] entry walked = refl
+after_more (e ∷ es) entry walked = ap (goes e) (after_more es entry walked)
+
+pub entries_after : (entries : List Entry) (walked : Walked) → entries_of (after entries walked) ≡ entries ++ entries_of walked
+unfolding after entries_of
+entries_after [] walked = refl
+entries_after (e ∷ es) walked = ap (λ xs. e ∷ xs) (entries_after es walked)
+
+pub ending_after : (entries : List Entry) (walked : Walked) → ending_of (after entries walked) ≡ ending_of walked
+unfolding after ending_of
+ending_after [] walked = refl
+ending_after (e ∷ es) walked = ending_after es walked
+
+pub bound_more : (before : List Line) (entries : List Entry) (entry : Entry)
+    → bound_from before (entries ++ entry ∷ []) ≡ bound_from before entries + line_bound (before ++ items entries) entry.item
+unfolding bound_from
+bound_more before [] entry =
+    let e : before ++ [] ≡ before = append-nil before in
+    rw e (omega arith)
+bound_more before (x ∷ xs) entry =
+    let step = bound_more (before ++ x.item ∷ []) xs entry in
+    let same : before ++ x.item ∷ [] ++ items xs ≡ before ++ x.item ∷ items xs = append_assoc before (x.item ∷ []) (items xs) in
+    let there = rw same at step in
+    omega arith
+
+-- the bound rises with further entries
+pub bound_front : (before : List Line) (entries more : List Entry) → bound_from before entries ≤ bound_from before (entries ++ more)
+unfolding bound_from
+bound_front before [] more = omega arith
+bound_front before (x ∷ xs) more = let step = bound_front (before ++ x.item ∷ []) xs more in omega arith

@@ -1,0 +1,13 @@
+use Rattle.std.proofs.Common.{◌≡◌, ◌∙◌, ap, Err}
+use Rattle.rd_wf.specs.declared.causes.TraceCause.TheVariants.{Wf}
+use Rattle.rd_walk.proofs.WalkLemmas.{judged_broken}
+use Rattle.rd_walk.proofs.judging.judge.Goals as goal
+
+pub returns-in-Err-Cause-clause-refused : goal.returns-in-Err-Cause-clause-refused
+returns-in-Err-Cause-clause-refused c = λ cause is kinds before stands.
+    let broken = (c.in-Err-Cause.ensures.refused kinds before stands c.in-Err-Cause.cause c.in-Err-Cause.field-0-is).0 in
+    let same : Wf c.in-Err-Cause.cause ≡ cause = cc in
+    judged_broken kinds c.args.limits.now before c.args.bytes.now c.read_into.new.line c.in-Err-Cause.cause c.in-Ok.ensures.item broken ∙ ap Err same
+
+pub returns-in-Ok-accept-clause-stands : goal.returns-in-Ok-accept-clause-stands
+returns-in-Ok-accept-clause-stands c = λ kinds before stands. (c.in-Ok-accept.ensures.ok kinds before stands).2

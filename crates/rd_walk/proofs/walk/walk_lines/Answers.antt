@@ -1,0 +1,182 @@
+use Rattle.std.proofs.Common.{◌≡◌, ◌+◌, [], ◌∷◌, ◌++◌, length, Ok, Err, refl, sym, ap, ◌∙◌, subst, inl, inr, arith}
+use Rattle.std.proofs.lemmas.List.{append_assoc, append-nil, length-append}
+use Rattle.rd_io.specs.Sinks.{Appends}
+use Rattle.rd_io.specs.Inputs.{Source}
+use Rattle.rd_io.specs.LineReader.{Reader, IsAtEnd}
+use Rattle.rd_io.specs.Lines.Ending.{at_end}
+use Rattle.rd_io.proofs.SinkLemmas.{appends_none, appends_on}
+use Rattle.rd_io.proofs.AdvanceLemmas.{takes_none, takes_on, takes_then}
+use Rattle.rd_wf.specs.Roster.{StandsFor, kinds_in}
+use Rattle.rd_walk.specs.Walk.{Entry, bound_from, ended, items}
+use Rattle.rd_walk.specs.Progress.{WalksTo, ending_for}
+use Rattle.rd_walk.specs.declared.walk.WalkEnd.TheVariants.{Refused}
+use Rattle.rd_walk.proofs.WalkLemmas.{bound_more, items_more}
+use Rattle.rd_walk.proofs.ContinueLemmas.{continues_fresh, continues_line, walks_end, walks_further, walks_on, walks_refused, walks_to_refusal}
+use Rattle.rd_walk.proofs.ProgressLemmas.{cut_line, cut_none, read_so_far}
+use Rattle.rd_walk.proofs.walk.walk_lines.Goals as goal
+
+pub lines-init : goal.lines-init
+unfolding bound_from
+lines-init g c =
+    let written = g.S.Sink.written c.args.out.now in
+    let limits = c.args.walker.now.limits in
+    let kinds = kinds_in c.args.walker.now.roster in (
+      [],
+      [],
+      [],
+      ap (λ (r : Reader). r.ended) c.requires.fresh,
+      rw c.requires.fresh (continues_fresh kinds limits),
+      c.requires.none,
+      g.met.A.Analysis.starts kinds c.args.walker.now.analysis c.requires.begins,
+      subst (Appends written written) (sym (g.met.A.Analysis.silent kinds c.args.walker.now.analysis)) (appends_none written written refl),
+      omega arith,
+      takes_none (g.I.Inputs.told c.args.inputs.now),
+      refl,
+      refl,
+      refl,
+      rw c.requires.fresh (cut_none limits),
+      refl,
+    )
+
+pub returns-in-Ok-End-clause-walked : goal.returns-in-Ok-End-clause-walked
+returns-in-Ok-End-clause-walked g c =
+    let (entries, taken, lines, going, so_far, stands, leads, text, cost, told, calm, faults, same, cut, counted) = c.lines.invariant in
+    let (bytes, answered, goes) = (rw c.in-Ok-End.field-0-is at c.in-Ok-End.ensures.tells) going in
+    let moves = (rw c.in-Ok-End.field-0-is at c.in-Ok-End.ensures.moves) going in
+    let limits = c.args.walker.now.limits in
+    let kinds = kinds_in c.args.walker.now.roster in
+    let ending = c.at_end.ensures.ending kinds (items entries) stands limits
+    ∙ ap (λ n. ended limits (items entries) (n + 1) at_end) c.number.ensures.value in (
+      entries,
+      taken ++ bytes,
+      leads,
+      stands,
+      text,
+      cost,
+      read_so_far limits taken bytes c.lines.reader lines cut (length entries) (omega arith) answered.past answered.fits,
+      takes_then _ _ _ taken bytes (λ (source : Source). Unit {0} → source.held ≡ [])
+          (λ (source : Source). WalksTo kinds limits (taken ++ bytes) source.held entries c.at_end.result)
+          (λ source none. subst (WalksTo kinds limits (taken ++ bytes) source.held entries) (sym ending)
+          (walks_end kinds limits taken bytes c.lines.reader c.next.new.self entries so_far source.held answered.tells moves.number (none tt)))
+          told goes,
+    )
+
+pub returns-in-Err-clause-walked : goal.returns-in-Err-clause-walked
+returns-in-Err-clause-walked g c =
+    let (entries, taken, lines, going, so_far, stands, leads, text, cost, told, calm, faults, same, cut, counted) = c.lines.invariant in
+    let (bytes, answered, goes) = c.in-Err.ensures.tells going in
+    let limits = c.args.walker.now.limits in
+    let kinds = kinds_in c.args.walker.now.roster in
+    let refused = c.in-Err.refused in
+    let ending = c.at_refusal.ensures ∙ ap (λ l. ending_for l c.number-in-Err.result refused) same ∙ ap (λ n. ending_for limits n refused) c.number-in-Err.ensures.value in (
+      entries,
+      taken ++ bytes,
+      leads,
+      stands,
+      text,
+      cost,
+      read_so_far limits taken bytes c.lines.reader lines cut (length entries) (omega arith) answered.past answered.fits,
+      takes_then _ _ _ taken bytes (λ (source : Source). IsAtEnd (Err refused) → source.held ≡ [])
+          (λ (source : Source). WalksTo kinds limits (taken ++ bytes) source.held entries c.at_refusal.result)
+          (λ source none. subst (WalksTo kinds limits (taken ++ bytes) source.held entries) (sym ending)
+          (walks_refused kinds limits taken bytes c.lines.reader c.next.new.self entries so_far source.held refused answered.tells (c.in-Err.ensures.moves going) none))
+          told goes,
+    )
+
+pub lines-preserved : goal.lines-preserved
+lines-preserved g c =
+    let (entries, taken, lines, going, so_far, stands, leads, text, cost, told, calm, faults, same, cut, counted) = c.lines.invariant in
+    let (bytes, answered, goes) = (rw c.in-Ok-Line.field-0-is at c.in-Ok-Line.ensures.tells) going in
+    let moves = (rw c.in-Ok-Line.field-0-is at c.in-Ok-Line.ensures.moves) going in
+    let limits = c.args.walker.now.limits in
+    let kinds = kinds_in c.args.walker.now.roster in
+    let start = c.args.walker.now.analysis in
+    let taking = c.in-Ok-None.ensures.taken c.in-Ok-None.field-0-is kinds start entries stands leads in
+    let (item, says, stands_now, leads_now, writes, cost_now) = rw (c.number-number.ensures.value, c.line.ensures, same) at taking in
+    let entry : Entry = record { number = c.next.new.self.number; item = item } in (
+      entries ++ entry ∷ [],
+      taken ++ bytes,
+      lines ++ c.next.new.self.line ∷ [],
+      moves.ended,
+      continues_line kinds limits taken bytes c.lines.reader c.next.new.self entries so_far answered.tells moves.number item says,
+      subst (StandsFor kinds c.take_line.new.walker.roster) (sym (items_more entries entry)) stands_now,
+      leads_now,
+      subst (Appends (g.S.Sink.written c.args.out.now) (g.S.Sink.written c.take_line.new.out)) (sym writes.1)
+          (appends_on _ _ _ (g.A.Analysis.text kinds start entries) writes.0 text writes.2),
+      omega (arith, cost, cost_now, bound_more [] entries entry),
+      takes_on _ _ _ taken bytes told (λ old is. let r = goes old is in (r.0, r.1, r.2.0)),
+      c.in-Ok-Line.ensures.calm (λ e. let fault = sym (ap Ok c.in-Ok-Line.field-0-is) ∙ e in cc) ∙ calm,
+      c.in-Ok-None.ensures.fault ∙ faults,
+      c.in-Ok-None.ensures.limits ∙ same,
+      cut_line limits taken bytes c.lines.reader lines cut c.next.new.self answered.leaves,
+      omega (arith, length-append lines (c.next.new.self.line ∷ []), length-append entries (entry ∷ []), counted),
+    )
+
+pub returns-in-Ok-Some-clause-walked : goal.returns-in-Ok-Some-clause-walked
+returns-in-Ok-Some-clause-walked g c =
+    let (entries, taken, lines, going, so_far, stands, leads, text, cost, told, calm, faults, same, cut, counted) = c.lines.invariant in
+    let (bytes, answered, goes) = (rw c.in-Ok-Line.field-0-is at c.in-Ok-Line.ensures.tells) going in
+    let moves = (rw c.in-Ok-Line.field-0-is at c.in-Ok-Line.ensures.moves) going in
+    let limits = c.args.walker.now.limits in
+    let kinds = kinds_in c.args.walker.now.roster in
+    let refusal = c.in-Ok-Some.ensures.refused c.in-Ok-Some.cause c.in-Ok-Some.field-0-is kinds entries stands in
+    let silent = c.in-Ok-Some.ensures.silent c.in-Ok-Some.cause c.in-Ok-Some.field-0-is in (
+      entries,
+      taken ++ bytes,
+      rw silent.1 leads,
+      refusal.1,
+      rw silent.0 text,
+      omega (arith, cost, silent.2),
+      read_so_far limits taken bytes c.lines.reader lines cut (length entries) (omega arith) answered.past answered.fits,
+      takes_then _ _ _ taken bytes (λ (source : Source). ⊥ → source.held ≡ [])
+          (λ (source : Source). WalksTo kinds limits (taken ++ bytes) source.held entries (Refused c.number-number.result c.in-Ok-Some.cause))
+          (λ source none. subst (λ n. WalksTo kinds limits (taken ++ bytes) source.held entries (Refused n c.in-Ok-Some.cause)) (sym c.number-number.ensures.value)
+          (walks_to_refusal kinds limits taken bytes c.lines.reader c.next.new.self entries so_far answered.tells moves.number source.held
+          c.in-Ok-Some.cause (rw (c.line.ensures, same) at refusal.0)))
+          told goes,
+    )
+
+pub returns-in-Err-take_line-clause-halted : goal.returns-in-Err-take_line-clause-halted
+returns-in-Err-take_line-clause-halted g c =
+    let (entries, taken, lines, going, so_far, stands, leads, text, cost, told, calm, faults, same, cut, counted) = c.lines.invariant in
+    let (bytes, answered, goes) = (rw c.in-Ok-Line.field-0-is at c.in-Ok-Line.ensures.tells) going in
+    let moves = (rw c.in-Ok-Line.field-0-is at c.in-Ok-Line.ensures.moves) going in
+    let limits = c.args.walker.now.limits in
+    let kinds = kinds_in c.args.walker.now.roster in
+    let start = c.args.walker.now.analysis in
+    let wrote = g.S.Sink.written c.args.out.now in
+    let goes_now = takes_on _ _ _ taken bytes told (λ old is. let r = goes old is in (r.0, r.1, r.2.0)) in
+    elim (c.in-Err-take_line.ensures.halted kinds start entries stands leads) [
+      | inl (quiet, steps) ↦ (
+        entries,
+        taken ++ bytes,
+        (
+          g.A.Analysis.text kinds start entries,
+          [],
+          sym (append-nil (g.A.Analysis.text kinds start entries)),
+          subst (λ now. Appends wrote now (g.A.Analysis.text kinds start entries)) (sym quiet) text,
+        ),
+        omega (arith, cost, steps),
+        read_so_far limits taken bytes c.lines.reader lines cut (length entries) (omega arith) answered.past answered.fits,
+        walks_further kinds limits taken bytes c.lines.reader entries so_far,
+        goes_now,
+      )
+      | inr (item, judged_so, front, cost_now) ↦
+          let entry : Entry = record { number = c.next.new.self.number; item = item } in
+          let says = rw (c.line.ensures, same) at judged_so in
+          let (part, rest, is, writes) = rw c.number-number.ensures.value at front in (
+            entries ++ entry ∷ [],
+            taken ++ bytes,
+            (
+              g.A.Analysis.text kinds start entries ++ part,
+              rest,
+              is ∙ sym (append_assoc (g.A.Analysis.text kinds start entries) part rest),
+              appends_on _ _ _ (g.A.Analysis.text kinds start entries) part text writes,
+            ),
+            omega (arith, cost, cost_now, bound_more [] entries entry),
+            read_so_far limits taken bytes c.lines.reader lines cut (length (entries ++ entry ∷ [])) (omega (arith, counted, length-append entries (entry ∷ []))) answered.past answered.fits,
+            walks_on kinds limits (taken ++ bytes) c.next.new.self (entries ++ entry ∷ [])
+                (continues_line kinds limits taken bytes c.lines.reader c.next.new.self entries so_far answered.tells moves.number item says),
+            goes_now,
+          )
+    ]

@@ -1,0 +1,39 @@
+-- What a command does with each accepted line, and what stands when it is cut short.
+use Rattle.std.specs.Prelude.{◌≡◌, ◌≤◌, ℕ, List, [], ◌∷◌, ◌++◌, length, Option, Result, Ok, Err}
+use Rattle.rd_base.specs.Limits.{AreUsable}
+use Rattle.rd_base.specs.declared.limits.Limits.{Limits}
+use Rattle.rd_event.specs.declared.items.Line.{Line}
+use Rattle.rd_io.specs.Inputs.{next_count}
+use Rattle.rd_io.specs.Sinks.{Appends}
+use Rattle.rd_ecl.specs.Kinds.{Kind}
+use Rattle.rd_wf.specs.MayFollow.{MayFollow, accepted_of, threads_of}
+use Rattle.rd_wf.specs.Roster.{StandsFor}
+use Rattle.rd_wf.specs.declared.causes.Accepted.{Accepted}
+use Rattle.rd_wf.specs.declared.roster.Roster.{Roster}
+use Rattle.rd_walk.specs.Walk.{Entry, items}
+use Rattle.rd_walk.specs.declared.analysis.Halt.{Halt}
+use Rattle.rd_walk.specs.declared.analysis.Halt.TheVariants as halt
+
+-- the line may follow the entries, it is this in numbers, the roster stands for them and it, and their threads fit 32 bits
+pub record IsNextEntry (kinds : List Kind) (roster : Roster) (before : List Entry) (item : Line) (accepted : Accepted) : Type 0 where
+  pub limits : Limits
+  pub usable : AreUsable limits
+  pub follows : MayFollow kinds limits (items before) item
+  pub numbers : accepted ≡ accepted_of kinds (items before) item
+  pub stands : StandsFor kinds roster (items before ++ item ∷ [])
+  pub few : length (threads_of (items before ++ item ∷ [])) ≤ 4294967295
+
+-- where the text was `before`, it is `now` with what was written between
+abbrev pub WritesBetween : Option (List ℕ) → Option (List ℕ) → List ℕ → List ℕ → Type 0
+WritesBetween old new before now = (part : List ℕ) × (now ≡ before ++ part) × Appends old new part
+
+-- the same, where writing stopped before all of it was written
+abbrev pub WritesFront : Option (List ℕ) → Option (List ℕ) → List ℕ → List ℕ → Type 0
+WritesFront old new before now = (part : List ℕ) × (rest : List ℕ) × (now ≡ before ++ (part ++ rest)) × Appends old new part
+
+-- A failed write is told as one: the count of faults rose by one exactly where it is told, and nothing was written behind the point where
+-- the write failed.
+abbrev pub TellsFault : {T : Type 0} → ℕ → ℕ → Option (List ℕ) → Option (List ℕ) → Result T Halt → Type 0
+TellsFault before now point written (Ok _) = now ≡ before
+TellsFault before now point written (Err halt.OutputFault) = (now ≡ next_count before) × (point ≡ written)
+TellsFault before now point written (Err halt.NoMemory) = now ≡ before

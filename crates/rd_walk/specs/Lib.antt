@@ -1,0 +1,6 @@
+pub mod Analysis
+pub mod Meanings
+pub mod Output
+pub mod Progress
+pub mod Traces
+pub mod Walk

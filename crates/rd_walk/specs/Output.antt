@@ -1,0 +1,60 @@
+-- What a command writes, and its status, and how far it is written. This project's profile.
+use Rattle.rd_io.specs.Inputs.{next_count, fault_line}
+use Rattle.rd_walk.specs.declared.analysis.Halt.TheVariants as halt
+use Rattle.rd_walk.specs.declared.analysis.Halt.{Halt}
+use Rattle.rd_walk.specs.declared.status.Status.TheVariants.{Clean, Raced, Usage, SpecRefused, TraceRefused, ReplayDiffers, InputFault, OutputFault, NoMemory, LimitReached}
+use Rattle.rd_walk.specs.declared.status.Status.{Status}
+use Rattle.std.specs.Prelude.{◌≡◌, ◌⊎◌, ℕ, List, ◌++◌, Option, ◌+◌, []}
+
+-- the number of a status
+abbrev pub code_of : Status → ℕ
+code_of Clean = 0
+code_of Raced = 1
+code_of Usage = 2
+code_of SpecRefused = 3
+code_of TraceRefused = 4
+code_of ReplayDiffers = 5
+code_of InputFault = 6
+code_of OutputFault = 7
+code_of NoMemory = 8
+code_of LimitReached = 9
+
+-- what is written, and the status
+pub record Outcome : Type 0 where
+  pub text : List ℕ
+  pub status : Status
+
+-- the status says that a trace was read to its end
+abbrev pub IsWell : Status → Type 0
+IsWell status = (status ≡ Clean) ⊎ ((status ≡ Raced) ⊎ (status ≡ ReplayDiffers))
+
+-- the bytes are a front of the whole
+abbrev pub IsFront : List ℕ → List ℕ → Type 0
+IsFront bytes whole = (rest : List ℕ) × (whole ≡ bytes ++ rest)
+
+-- a run that ends with this status and wrote these bytes has this outcome, or was cut short in it by a write fault or want of memory
+abbrev pub IsOutput : Status → List ℕ → Outcome → Type 0
+IsOutput OutputFault bytes outcome = IsFront bytes outcome.text
+IsOutput NoMemory bytes outcome = IsFront bytes outcome.text
+IsOutput status bytes outcome = (bytes ≡ outcome.text) × (status ≡ outcome.status)
+
+-- A run that ends with this status and wrote these bytes has such an outcome, or was cut short in it by a write fault or want of memory.
+-- Memory may run out before it is known which outcome it has; nothing is written then.
+abbrev pub HasOutcome : (Outcome → Type 0) → Status → List ℕ → Type 0
+HasOutcome Is NoMemory bytes = (bytes ≡ []) ⊎ ((outcome : Outcome) × Is outcome × IsOutput NoMemory bytes outcome)
+HasOutcome Is status bytes = (outcome : Outcome) × Is outcome × IsOutput status bytes outcome
+
+-- A failed write is told as one: the sink's count of faults rose by one exactly where the status says so, and nothing was written behind the
+-- point where the write failed.
+abbrev pub StatusTellsFault : ℕ → ℕ → Option (List ℕ) → Option (List ℕ) → Status → Type 0
+StatusTellsFault before now point written OutputFault = (now ≡ next_count before) × (point ≡ written)
+StatusTellsFault before now point written status = now ≡ before
+
+-- the status of a run that was cut short
+abbrev pub halted_with : Halt → Status
+halted_with halt.OutputFault = OutputFault
+halted_with halt.NoMemory = NoMemory
+
+-- where the file could not be opened, or not be read
+abbrev pub fault_outcome : Outcome
+fault_outcome = record { text = fault_line; status = InputFault }

@@ -1,0 +1,83 @@
+-- What a report leaves of a trace: what it walks over, opens and takes, and writes. This project's profile.
+use Rattle.rd_walk.specs.Output.{halted_with, HasOutcome, IsWell, Outcome, IsOutput, fault_outcome}
+use Rattle.rd_base.specs.declared.limits.Limits.{Limits}
+use Rattle.rd_ecl.specs.Kinds.{Kind}
+use Rattle.rd_io.specs.Inputs.{Rose, Source, file_of}
+use Rattle.rd_io.specs.Lines.Stop.{end, fault}
+use Rattle.rd_io.specs.Lines.{Stop}
+use Rattle.rd_walk.specs.Progress.{IsRead, WalksOn, WalksTo}
+use Rattle.rd_walk.specs.Walk.{Entry, Walked, after, ends, ending_of, entries_of, step_bound, trace_of}
+use Rattle.rd_walk.specs.declared.analysis.Halt.{Halt}
+use Rattle.rd_walk.specs.declared.status.Status.{Status}
+use Rattle.rd_walk.specs.declared.walk.WalkEnd.TheVariants.{End, Fault}
+use Rattle.rd_walk.specs.declared.walk.WalkEnd.{WalkEnd}
+use Rattle.std.specs.Prelude.{◌≡◌, ◌≢◌, ◌⊎◌, ℕ, List, ◌++◌, Option, Some, None, option_map, if◌then◌else◌, ◌+◌, ◌<◌, ◌≤◌, Bool, true, [], ◌∷◌, length, count_by, is_none}
+
+-- What a report has done when it ends, which writes `text` for the lines and has this outcome: all was written, or it was cut short behind
+-- the lines or in their text. These bytes were taken of the input and `held` is left of it, and the count of the inputs' faults rose where a
+-- read failed.
+abbrev pub HasReported : (List Entry → List ℕ) → (Walked → Outcome) → List Kind → Limits → List ℕ → List ℕ → List Entry → List ℕ → Status → ℕ → ℕ → Type 0
+HasReported text outcome kinds limits taken held entries part status before now =
+    ((ending : WalkEnd) × WalksTo kinds limits taken held entries ending × IsOutput status part (outcome (after entries (ends ending)))
+    × (ending ≡ Fault → Rose before now) × (ending ≢ Fault → now ≡ before))
+    ⊎ ((halt : Halt) × (rest : List ℕ) × WalksOn kinds limits taken entries × (text entries ≡ part ++ rest)
+    × (status ≡ halted_with halt) × (now ≡ before))
+
+-- what is walked over: where the count of the inputs' faults rose (`rose`) what was taken before a read failed, and else the whole file
+abbrev pub input_of : List ℕ → Bool → Source → Source → Option (Stop × List ℕ)
+input_of trace rose old new =
+    if rose then Some (fault, new.taken) else option_map (λ bytes. (end, bytes)) (file_of old.files trace)
+
+abbrev pub walk_on : List Kind → Limits → Option (Stop × List ℕ) → Walked
+walk_on kinds limits None = ends Fault
+walk_on kinds limits (Some input) = trace_of kinds limits input.0 input.1
+
+-- the walk over the lines of a trace whose objects are of these kinds
+abbrev pub walk_of : List Kind → List ℕ → Limits → Bool → Source → Source → Walked
+walk_of kinds trace limits rose old new = walk_on kinds limits (input_of trace rose old new)
+
+-- where a file could not be opened, or a specification not be read: not all of so many files were opened
+pub record IsFaulted (files : ℕ) (rose : Bool) (old new : Source) (outcome : Outcome) : Type 0 where
+  pub risen : rose ≡ true
+  pub some_unopened : new.opens < old.opens + files
+  pub is : outcome ≡ fault_outcome
+
+-- The outcome of a report on a trace whose objects are of these kinds: that of its walk, where it was opened.
+abbrev pub IsTraceOutcome : (Walked → Outcome) → List Kind → List ℕ → Limits → Bool → Source → Source → Outcome → Type 0
+IsTraceOutcome report kinds trace limits rose old new outcome =
+    IsFaulted 1 rose old new outcome
+    ⊎ ((new.opens ≡ old.opens + 1) × (outcome ≡ report (walk_of kinds trace limits rose old new)))
+
+-- of these files only these were opened, each at most once, and only a missing one of them was missed
+pub record OpensOnly (names : List (List ℕ)) (old new : Source) : Type 0 where
+  pub files : new.files ≡ old.files
+  pub later : old.opens ≤ new.opens
+  pub opens : new.opens ≤ old.opens + length names
+  pub misses : new.misses ≤ old.misses + count_by (λ name. is_none (file_of old.files name)) names
+
+-- What was taken of a trace that was opened, and the steps that were counted: what was taken and what is left are the file's bytes, and no
+-- more was taken than may be by how many of its lines are accepted; and the steps are those of these lines.
+pub record TakesTrace (kinds : List Kind) (trace : List ℕ) (limits : Limits) (rose : Bool) (old new : Source) (before after : ℕ) : Type 0 where
+  pub whole : file_of old.files trace ≡ Some (new.taken ++ new.held)
+  pub read : IsRead limits new.taken (length (entries_of (walk_of kinds trace limits rose old new)))
+  pub cost : after ≤ before + step_bound (entries_of (walk_of kinds trace limits rose old new))
+
+-- all of a trace was taken, and in the walk over it no line is refused
+pub record IsReadWhole (kinds : List Kind) (trace : List ℕ) (limits : Limits) (old new : Source) : Type 0 where
+  pub none_left : new.held ≡ []
+  pub whole : file_of old.files trace ≡ Some new.taken
+  pub well : ending_of (trace_of kinds limits end new.taken) ≡ End
+
+-- what was written and answered is the whole of an outcome over a trace that was read to its end
+pub record IsWhole (outcome : Outcome) (part : List ℕ) (status : Status) : Type 0 where
+  pub text : part ≡ outcome.text
+  pub told : status ≡ outcome.status
+  pub well : IsWell status
+
+-- what a report leaves of a trace whose objects are of these kinds, where inputs told `old` before the trace was opened
+pub record ReportsTrace (report : Walked → Outcome) (kinds : List Kind) (trace : List ℕ) (limits : Limits) (rose : Bool) (old new : Source) (part : List ℕ) (status : Status) (before after : ℕ) : Type 0 where
+  pub output : HasOutcome (IsTraceOutcome report kinds trace limits rose old new) status part
+  pub opened : OpensOnly (trace ∷ []) old new
+  pub taken : new.opens ≡ old.opens + 1 → TakesTrace kinds trace limits rose old new before after
+  pub unopened : new.opens ≡ old.opens → (after ≡ before) × (new.taken ≡ old.taken) × (new.held ≡ old.held)
+  pub read : IsWell status → IsReadWhole kinds trace limits old new

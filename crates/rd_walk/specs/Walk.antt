@@ -1,0 +1,94 @@
+-- The walk over the lines of a trace: which are accepted, and how they end. This project's profile.
+use Rattle.std.specs.Prelude.{ℕ, ◌+◌, ◌*◌, ◌==◌, List, [], ◌∷◌, ◌++◌, map, length, Option, Some, None, Result, Ok, Err, if◌then◌else◌}
+use Rattle.rd_io.specs.Lines.{Stop, Reading, reading, Ending as LinesEnding}
+use Rattle.rd_io.specs.Lines.Ending.{at_end, no_final_newline, line_too_long, bytes_limit, faulted}
+use Rattle.rd_io.specs.Lines.Reading.{stops, line}
+use Rattle.rd_base.specs.declared.limits.Limits.{Limits}
+use Rattle.rd_base.specs.declared.limits.LimitName.TheVariants.{Bytes, Line as LineBytes}
+use Rattle.rd_event.specs.Reading.{item_of}
+use Rattle.rd_event.specs.declared.items.Line.{Line}
+use Rattle.rd_ecl.specs.Kinds.{Kind}
+use Rattle.rd_wf.specs.MayFollow.{call_count, first_broken, is_call, headers, is_event, threads_of}
+use Rattle.rd_wf.specs.declared.causes.WfCause.{WfCause}
+use Rattle.rd_wf.specs.declared.causes.WfCause.TheVariants.{HeaderFirst}
+use Rattle.rd_wf.specs.declared.causes.TraceCause.{TraceCause}
+use Rattle.rd_wf.specs.declared.causes.TraceCause.TheVariants.{BadLine, NoFinalNewline, Wf, Limit}
+use Rattle.rd_walk.specs.declared.walk.WalkEnd.{WalkEnd}
+use Rattle.rd_walk.specs.declared.walk.WalkEnd.TheVariants.{End, Refused, Fault}
+
+-- an accepted line, and its number in the trace, from 1
+pub record Entry : Type 0 where
+  pub number : ℕ
+  pub item : Line
+
+abbrev pub items : List Entry → List Line
+items entries = map (λ entry. entry.item) entries
+
+-- the accepted lines one after another, and how they end
+pub data Walked : Type 0 where
+  ends : WalkEnd → Walked
+  goes : Entry → Walked → Walked
+
+unfoldable pub entries_of : Walked → List Entry
+entries_of (ends ending) = []
+entries_of (goes entry more) = entry ∷ entries_of more
+
+unfoldable pub ending_of : Walked → WalkEnd
+ending_of (ends ending) = ending
+ending_of (goes entry more) = ending_of more
+
+-- an item that breaks no rule is accepted; one that breaks the rule of a cause is refused for it
+abbrev pub accepted_or : Line → Option WfCause → Result Line TraceCause
+accepted_or item None = Ok item
+accepted_or item (Some cause) = Err (Wf cause)
+
+abbrev pub judged_item : List Kind → Limits → List Line → Option Line → Result Line TraceCause
+judged_item kinds limits before None = Err BadLine
+judged_item kinds limits before (Some item) = accepted_or item (first_broken kinds limits before item)
+
+-- what the bytes of a line behind the accepted ones say, or the first cause to refuse it: it says no item, or its item may not
+-- follow
+unfoldable pub judged : List Kind → Limits → List Line → List ℕ → Result Line TraceCause
+judged kinds limits before bytes = judged_item kinds limits before (item_of bytes)
+
+-- how a trace ends where its lines end so behind the accepted ones. The number is that of the next line
+abbrev pub ended : Limits → List Line → ℕ → LinesEnding → WalkEnd
+ended limits before number at_end = if headers before == 0 then Refused number (Wf HeaderFirst) else End
+ended limits before number no_final_newline = Refused number NoFinalNewline
+ended limits before number line_too_long = Refused number (Limit LineBytes limits.line)
+ended limits before number bytes_limit = Refused number (Limit Bytes limits.bytes)
+ended limits before number faulted = Fault
+
+abbrev pub goes_or_ends : ℕ → Result Line TraceCause → (Line → Walked) → Walked
+goes_or_ends number (Ok item) more = goes (record { number = number; item = item }) (more item)
+goes_or_ends number (Err cause) more = ends (Refused number cause)
+
+-- the walk over lines that come behind the accepted ones, the first of them with this number
+unfoldable pub walk : List Kind → Limits → List Line → ℕ → Reading → Walked
+walk kinds limits before number (stops ending) = ends (ended limits before number ending)
+walk kinds limits before number (line bytes more) =
+    goes_or_ends number (judged kinds limits before bytes) (λ item. walk kinds limits (before ++ item ∷ []) (number + 1) more)
+
+-- the walk over the lines of the bytes of a trace
+unfoldable pub trace_of : List Kind → Limits → Stop → List ℕ → Walked
+trace_of kinds limits stop bytes = walk kinds limits [] 1 (reading limits.line limits.bytes stop bytes)
+
+-- entries before a walk
+unfoldable pub after : List Entry → Walked → Walked
+after [] walked = walked
+after (entry ∷ entries) walked = goes entry (after entries walked)
+
+-- The bound on the steps of an accepted line behind others: for a call two for each thread that is known once it is done,
+-- and one for each call before it; for another event four for each such thread; and none for what is no event
+abbrev pub line_bound : List Line → Line → ℕ
+line_bound before item =
+    if is_call item then 2 * length (threads_of (before ++ item ∷ [])) + call_count before
+    else if is_event item then 4 * length (threads_of (before ++ item ∷ [])) else 0
+
+unfoldable pub bound_from : List Line → List Entry → ℕ
+bound_from before [] = 0
+bound_from before (entry ∷ entries) = line_bound before entry.item + bound_from (before ++ entry.item ∷ []) entries
+
+-- the bound on the steps of all accepted lines
+abbrev pub step_bound : List Entry → ℕ
+step_bound entries = bound_from [] entries

@@ -1,0 +1,65 @@
+//! What a command does with each accepted line of a trace.
+ghost use Rattle.std.specs.Prelude.{◌≡◌, ◌+◌, ◌≤◌, ℕ, List, [], ◌∷◌, ◌++◌, OnOk, OnErr};
+ghost use Rattle.rd_walk.specs.Analysis.{IsNextEntry, TellsFault, WritesBetween, WritesFront};
+ghost use Rattle.rd_walk.specs.Walk.{Entry, items, line_bound};
+ghost use Rattle.rd_ecl.specs.Kinds.{Kind};
+
+use rd_base::Steps;
+use rd_event::Line;
+use rd_io::Sink;
+use rd_wf::{Accepted, Roster};
+use std::sync::ledger::Ledger;
+
+/// Why a command stops before its end.
+#[derive(Clone, Copy, Debug, PartialEq, Eq)]
+pub enum Halt {
+    /// a write failed
+    OutputFault,
+    /// memory ran out
+    NoMemory,
+}
+
+/// What a command does with each accepted line of a trace, one after another. The kinds are those of the trace's objects.
+pub trait Analysis {
+    /// It has taken no line yet, of a trace whose objects are of these kinds.
+    ghost begins: { List Kind → Self → Type 0 };
+
+    /// From the first, these accepted lines lead to the second.
+    ghost leads: { List Kind → Self → List Entry → Self → Type 0 };
+
+    /// What is written for these accepted lines, from the first on.
+    ghost text: { List Kind → Self → List Entry → List ℕ };
+
+    /// Takes the next accepted line. After an `Err` the analysis is used no more.
+    fn accept<S: Sink, L: Ledger>(
+        &mut self,
+        number: u64,
+        line: &Line,
+        accepted: &Accepted,
+        roster: &Roster,
+        out: &mut S,
+        steps: &mut Steps<L>,
+    ) -> Result<(), Halt>
+        requires { (kinds : List Kind) × (start : Self) × (before : List Entry) × leads kinds start before self.old
+            × IsNextEntry kinds roster.now before line.now accepted.now }
+
+        // the lines lead on, and what is written for the line is written, or a front of it
+        ensures leads { OnOk result ((kinds : List Kind) (start : Self) (before : List Entry) → leads kinds start before self.old →
+            IsNextEntry kinds roster.now before line.now accepted.now → leads kinds start (before ++ record { number = number; item = line.now } ∷ []) self.new) }
+        ensures written { OnOk result ((kinds : List Kind) (start : Self) (before : List Entry) → leads kinds start before self.old →
+            IsNextEntry kinds roster.now before line.now accepted.now → WritesBetween (S.written out.old) (S.written out.new)
+            (text kinds start before) (text kinds start (before ++ record { number = number; item = line.now } ∷ []))) }
+        ensures halted { OnErr result ((kinds : List Kind) (start : Self) (before : List Entry) → leads kinds start before self.old →
+            IsNextEntry kinds roster.now before line.now accepted.now → WritesFront (S.written out.old) (S.written out.new)
+            (text kinds start before) (text kinds start (before ++ record { number = number; item = line.now } ∷ []))) }
+
+        // the steps are bounded, and a failed write is told as one
+        ensures cost { (kinds : List Kind) (start : Self) (before : List Entry) → leads kinds start before self.old →
+            IsNextEntry kinds roster.now before line.now accepted.now → steps.new ≤ steps.old + line_bound (items before) line.now }
+        ensures fault { TellsFault (S.faults out.old) (S.faults out.new) (S.at_fault out.new) (S.written out.new) result };
+
+    /// No line leads anywhere else, and nothing is written for none.
+    ghost starts: { (kinds : List Kind) (start : Self) → begins kinds start → leads kinds start [] start };
+
+    ghost silent: { (kinds : List Kind) (start : Self) → text kinds start [] ≡ [] };
+}

@@ -1,0 +1,20 @@
+//! The walk over the lines of a trace for any command: judging a line, what a command does with it, writing, reporting, the status of a run.
+#![tactic(auto)]
+
+mod analysis;
+mod faults;
+mod judging;
+mod laws;
+mod reporting;
+mod status;
+mod walk;
+mod writing;
+
+pub use analysis::{Analysis, Halt};
+pub use faults::write_fault;
+pub use judging::{Refusal, judge};
+pub use laws::law_of_walks;
+pub use reporting::{Report, report_trace};
+pub use status::Status;
+pub use walk::{WalkEnd, Walker, walk_lines};
+pub use writing::{status_of, write_line, write_lines};

@@ -1,0 +1,198 @@
+//! The walk over the lines of a trace.
+ghost use Rattle.std.specs.Prelude.{◌≡◌, ◌≢◌, ◌⊎◌, ℕ, ◌+◌, ◌-◌, ◌<◌, ◌≤◌, ◌^◌, List, [], ◌∷◌, ◌++◌, Ok, Err, Some, None, length, IfOk, IfErr, OnErr};
+ghost use Rattle.rd_base.specs.Limits.{AreUsable};
+ghost use Rattle.rd_event.specs.Reading.{item_of};
+ghost use Rattle.rd_event.specs.declared.items.Line.{Line as Item};
+ghost use Rattle.rd_io.specs.Inputs.{Goes, Takes, Rose};
+ghost use Rattle.rd_io.specs.LineReader.{fresh};
+ghost use Rattle.rd_io.specs.Lines.Ending.{at_end};
+ghost use Rattle.rd_io.specs.Sinks.{Appends};
+ghost use Rattle.rd_walk.specs.Analysis.{TellsFault, WritesBetween, WritesFront};
+ghost use Rattle.rd_walk.specs.Progress.{IsRead, WalksOn, WalksTo, ending_for};
+ghost use Rattle.rd_walk.specs.Walk.{Entry, ended, items, judged, line_bound, step_bound};
+ghost use Rattle.rd_ecl.specs.Kinds.{Kind};
+ghost use Rattle.rd_wf.specs.Roster.{StandsFor, kinds_in};
+
+use crate::analysis::{Analysis, Halt};
+use crate::judging::{Refusal, judge};
+use rd_base::{LimitName, Limits, Steps};
+use rd_event::Line;
+use rd_io::{Inputs, LineReader, Next, ReadEnd, Sink};
+use rd_wf::{Roster, TraceCause};
+use std::alloc::Global;
+use std::sync::ledger::Ledger;
+
+/// How the lines of a trace end.
+#[derive(Clone, Copy, Debug, PartialEq, Eq)]
+pub enum WalkEnd {
+    /// the trace was read to its end
+    End,
+    /// a line was refused
+    Refused { line: u64, cause: TraceCause },
+    /// a read of the input failed
+    Fault,
+}
+
+/// What goes over the lines of a trace: the roster of the accepted lines, and the analysis that is handed each of them.
+#[derive(Drop)]
+pub struct Walker<A> {
+    pub alloc: Global,
+    pub limits: Limits,
+    pub roster: Roster,
+    pub analysis: A,
+    /// the last line that was read
+    pub line: Line,
+}
+
+/// How a trace ends whose lines ended well. The number is that of its last line.
+fn at_end(roster: &Roster, number: u64) -> WalkEnd
+    requires { number < 2 ^ 64 - 1 }
+    ensures ending { (kinds : List Kind) (before : List Item) → StandsFor kinds roster.now before → (limits : _) → result ≡ ended limits before (number + 1) at_end }
+    ensures whole { result ≢ WalkEnd.Fault }
+{
+    match roster.finish() {
+        Ok(()) => WalkEnd::End,
+        Err(cause) => WalkEnd::Refused {
+            line: number + 1,
+            cause: TraceCause::Wf(cause),
+        },
+    }
+}
+
+/// How a trace ends whose lines the reader refused. The number is that of the line that was being read.
+fn at_refusal(refused: ReadEnd, number: u64, limits: &Limits) -> WalkEnd
+    ensures { result ≡ ending_for limits.now number refused }
+{
+    let cause = match refused {
+        ReadEnd::ReadFault => return WalkEnd::Fault,
+        ReadEnd::LineTooLong => TraceCause::Limit(LimitName::Line, u64::from(limits.line)),
+        ReadEnd::BytesLimit => TraceCause::Limit(LimitName::Bytes, limits.bytes),
+        ReadEnd::NoFinalNewline => TraceCause::NoFinalNewline,
+    };
+    WalkEnd::Refused {
+        line: number,
+        cause,
+    }
+}
+
+/// Takes a line: it is judged, and what it says is handed on. The answer is a cause where the line is refused.
+fn take_line<A: Analysis, S: Sink, L: Ledger>(
+    walker: &mut Walker<A>,
+    number: u64,
+    bytes: &[u8],
+    out: &mut S,
+    steps: &mut Steps<L>,
+) -> Result<Option<TraceCause>, Halt>
+    requires usable { AreUsable walker.old.limits }
+    requires stands { (kinds : List Kind) × (start : A) × (before : List Entry) × StandsFor kinds walker.old.roster (items before)
+        × A.leads kinds start before walker.old.analysis }
+    ensures limits { walker.new.limits ≡ walker.old.limits }
+
+    // a line is accepted and handed on
+    ensures taken { IfOk result (λ refused. refused ≡ None → (kinds : List Kind) (start : A) (before : List Entry) →
+        StandsFor kinds walker.old.roster (items before) → A.leads kinds start before walker.old.analysis →
+        (item : Item) × (judged kinds walker.old.limits (items before) bytes.now ≡ Ok item)
+        × StandsFor kinds walker.new.roster (items before ++ item ∷ [])
+        × A.leads kinds start (before ++ record { number = number; item = item } ∷ []) walker.new.analysis
+        × WritesBetween (S.written out.old) (S.written out.new)
+        (A.text kinds start before) (A.text kinds start (before ++ record { number = number; item = item } ∷ []))
+        × (steps.new ≤ steps.old + line_bound (items before) item)) }
+
+    // or refused, and all else is as before
+    ensures refused { IfOk result (λ refused. (cause : TraceCause) → refused ≡ Some cause → (kinds : List Kind) (before : List Entry) →
+        StandsFor kinds walker.old.roster (items before) →
+        (judged kinds walker.old.limits (items before) bytes.now ≡ Err cause) × StandsFor kinds walker.new.roster (items before)) }
+    ensures silent { IfOk result (λ refused. (cause : TraceCause) → refused ≡ Some cause →
+        (out.new ≡ out.old) × (walker.new.analysis ≡ walker.old.analysis) × (steps.new ≡ steps.old)) }
+
+    // or memory runs out in reading it, or in what is done with it, or a write fails; memory runs out only where the bytes say an item
+    ensures memory { IfErr result (λ halt. halt ≡ Halt.NoMemory → (item : Item) × (item_of bytes.now ≡ Some item)) }
+    ensures halted { OnErr result ((kinds : List Kind) (start : A) (before : List Entry) → StandsFor kinds walker.old.roster (items before) →
+        A.leads kinds start before walker.old.analysis → ((S.written out.new ≡ S.written out.old) × (steps.new ≡ steps.old))
+        ⊎ ((item : Item) × (judged kinds walker.old.limits (items before) bytes.now ≡ Ok item)
+        × WritesFront (S.written out.old) (S.written out.new)
+        (A.text kinds start before) (A.text kinds start (before ++ record { number = number; item = item } ∷ []))
+        × (steps.new ≤ steps.old + line_bound (items before) item))) }
+    ensures fault { TellsFault (S.faults out.old) (S.faults out.new) (S.at_fault out.new) (S.written out.new) result }
+{
+    match judge(
+        walker.alloc,
+        bytes,
+        &mut walker.line,
+        &mut walker.roster,
+        &walker.limits,
+    ) {
+        Ok(accepted) => {
+            let Err(halt) = walker.analysis.accept(
+                number,
+                &walker.line,
+                &accepted,
+                &walker.roster,
+                out,
+                steps,
+            )
+            else {
+                return Ok(None);
+            };
+            Err(halt)
+        }
+        Err(Refusal::Cause(cause)) => Ok(Some(cause)),
+        Err(Refusal::NoMemory) => Err(Halt::NoMemory),
+    }
+}
+
+/// Walks over the lines of the current input from its first byte on, and hands each accepted line to the analysis. The roster then has
+/// all of them. The answer says how the lines end, or why the walk stopped before that: a write failed, or memory ran out. A turn
+/// takes at least one byte of the input, and no more is taken than `IsRead` says.
+pub fn walk_lines<A: Analysis, I: Inputs, S: Sink, L: Ledger>(
+    walker: &mut Walker<A>,
+    reader: &mut LineReader,
+    inputs: &mut I,
+    out: &mut S,
+    steps: &mut Steps<L>,
+) -> Result<WalkEnd, Halt>
+    requires usable { AreUsable walker.old.limits }
+    requires fresh { reader.old ≡ fresh walker.old.limits }
+    requires none { StandsFor (kinds_in walker.old.roster) walker.old.roster [] }
+    requires begins { A.begins (kinds_in walker.old.roster) walker.old.analysis }
+
+    // all lines were walked over, as far as they go
+    ensures walked { IfOk result (λ ending. (entries : List Entry) × (taken : List ℕ)
+        × A.leads (kinds_in walker.old.roster) walker.old.analysis entries walker.new.analysis
+        × StandsFor (kinds_in walker.old.roster) walker.new.roster (items entries)
+        × Appends (S.written out.old) (S.written out.new) (A.text (kinds_in walker.old.roster) walker.old.analysis entries)
+        × (steps.new ≤ steps.old + step_bound entries)
+        × IsRead walker.old.limits taken (length entries)
+        × Goes (I.told inputs.old) (I.told inputs.new)
+        (λ old new. Takes old new taken × WalksTo (kinds_in walker.old.roster) walker.old.limits taken new.held entries ending)) }
+
+    // or some of them
+    ensures halted { OnErr result ((entries : List Entry) × (taken : List ℕ)
+        × WritesFront (S.written out.old) (S.written out.new) [] (A.text (kinds_in walker.old.roster) walker.old.analysis entries)
+        × (steps.new ≤ steps.old + step_bound entries)
+        × IsRead walker.old.limits taken (length entries)
+        × WalksOn (kinds_in walker.old.roster) walker.old.limits taken entries
+        × Goes (I.told inputs.old) (I.told inputs.new) (λ old new. Takes old new taken)) }
+
+    // each fault is told as one
+    ensures input_fault { result ≡ Ok WalkEnd.Fault → Rose (I.faults inputs.old) (I.faults inputs.new) }
+    ensures calm { result ≢ Ok WalkEnd.Fault → I.faults inputs.new ≡ I.faults inputs.old }
+    ensures fault { TellsFault (S.faults out.old) (S.faults out.new) (S.at_fault out.new) (S.written out.new) result }
+{
+    'lines: loop {
+        match reader.next(inputs) {
+            Ok(Next::Line) => {}
+            Ok(Next::End) => return Ok(at_end(&walker.roster, reader.number())),
+            Err(refused) => return Ok(at_refusal(refused, reader.number(), &walker.limits)),
+        }
+        let number = reader.number();
+        match take_line(walker, number, reader.line(), out, steps) {
+            Ok(None) => {}
+            Ok(Some(cause)) => return Ok(WalkEnd::Refused {
+                line: number,
+                cause,
+            }),
+            Err(halt) => return Err(halt),
+        }
+    }
+}
