@@ -1,5 +1,5 @@
 //! The kind `counter`, which holds a number.
-ghost use Rattle.std.specs.Prelude.{◌≡◌, codes, IfOk};
+ghost use Rattle.std.specs.Prelude.{◌≡◌, codes, IfOk, OnOk};
 ghost use Rattle.rd_ecl.specs.Formulas.{tree_of};
 ghost use Rattle.rd_kinds.specs.Shipped.{adds_nothing, counter_kind, counter_methods, no_pairs};
 
@@ -27,12 +27,21 @@ fn adds_nothing() -> Formula
     equals(Side::First, 0, Term::Const(Value::Int(0)))
 }
 
+// Its pairs, behind its methods.
+fn set_pairs(kind: &mut KindDraft) -> Result<(), NoMemory>
+    requires { kind.old ≡ no_pairs (codes "counter") counter_methods }
+    ensures { OnOk result (kind.new ≡ counter_kind) }
+{
+    kind.pair(0, 0, Formula::True)?;
+    kind.pair(0, 1, adds_nothing())?;
+    kind.pair(1, 1, Formula::True)?;
+    Ok(())
+}
+
 pub(crate) fn counter(alloc: Global) -> Result<KindSpec, NoMemory>
     ensures { IfOk result (λ kind. kind ≡ counter_kind) }
 {
     let mut kind = methods(alloc)?;
-    kind.pair(0, 0, Formula::True)?;
-    kind.pair(0, 1, adds_nothing())?;
-    kind.pair(1, 1, Formula::True)?;
+    set_pairs(&mut kind)?;
     Ok(kind.finish())
 }

@@ -1,5 +1,5 @@
 //! The kind `dictionary`, which holds a value for each key.
-ghost use Rattle.std.specs.Prelude.{◌≡◌, codes, IfOk};
+ghost use Rattle.std.specs.Prelude.{◌≡◌, codes, IfOk, OnOk};
 ghost use Rattle.rd_ecl.specs.declared.formulas.Side.TheVariants.{First, Second};
 ghost use Rattle.rd_ecl.specs.Formulas.{tree_of, both, either};
 ghost use Rattle.rd_kinds.specs.Shipped.{dictionary_kind, dictionary_methods, firsts_differ, is_nil, no_pairs, puts_the_same, stays_in, stays_out};
@@ -58,18 +58,31 @@ fn put_size(alloc: Global) -> Result<Formula, NoMemory>
     or(alloc, out, and(alloc, put, had)?)
 }
 
-pub(crate) fn dictionary(alloc: Global) -> Result<KindSpec, NoMemory>
-    ensures { IfOk result (λ kind. kind ≡ dictionary_kind) }
+// Of `put` and `get`: the keys differ, or the `put` leaves the value as it is.
+fn put_get(alloc: Global) -> Result<Formula, NoMemory>
+    ensures { IfOk result (λ formula. tree_of formula ≡ either firsts_differ (puts_the_same First)) }
 {
-    let put_put = put_put(alloc)?;
-    let put_get = or(alloc, firsts_differ(), puts_the_same(Side::First))?;
-    let put_size = put_size(alloc)?;
-    let mut kind = methods(alloc)?;
-    kind.pair(0, 0, put_put)?;
-    kind.pair(0, 1, put_get)?;
-    kind.pair(0, 2, put_size)?;
+    or(alloc, firsts_differ(), puts_the_same(Side::First))
+}
+
+// Its pairs, behind its methods.
+fn set_pairs(alloc: Global, kind: &mut KindDraft) -> Result<(), NoMemory>
+    requires { kind.old ≡ no_pairs (codes "dictionary") dictionary_methods }
+    ensures { OnOk result (kind.new ≡ dictionary_kind) }
+{
+    kind.pair(0, 0, put_put(alloc)?)?;
+    kind.pair(0, 1, put_get(alloc)?)?;
+    kind.pair(0, 2, put_size(alloc)?)?;
     kind.pair(1, 1, Formula::True)?;
     kind.pair(1, 2, Formula::True)?;
     kind.pair(2, 2, Formula::True)?;
+    Ok(())
+}
+
+pub(crate) fn dictionary(alloc: Global) -> Result<KindSpec, NoMemory>
+    ensures { IfOk result (λ kind. kind ≡ dictionary_kind) }
+{
+    let mut kind = methods(alloc)?;
+    set_pairs(alloc, &mut kind)?;
     Ok(kind.finish())
 }

@@ -1,6 +1,7 @@
 //! The kind `register`, which holds a value.
-ghost use Rattle.std.specs.Prelude.{◌≡◌, codes, IfOk};
-ghost use Rattle.rd_ecl.specs.Formulas.{tree_of};
+ghost use Rattle.std.specs.Prelude.{◌≡◌, codes, IfOk, OnOk};
+ghost use Rattle.rd_ecl.specs.declared.formulas.Side.TheVariants.{First, Second};
+ghost use Rattle.rd_ecl.specs.Formulas.{tree_of, both};
 ghost use Rattle.rd_kinds.specs.Shipped.{keeps, no_pairs, register_kind, register_methods};
 
 use crate::formulas::{and, equals};
@@ -28,16 +29,31 @@ fn keeps(side: Side) -> Formula
     equals(side, 0, Term::Slot(1))
 }
 
-pub(crate) fn register(alloc: Global) -> Result<KindSpec, NoMemory>
-    ensures { IfOk result (λ kind. kind ≡ register_kind) }
+// Both calls of `swap` leave the value as it is.
+fn both_keep(alloc: Global) -> Result<Formula, NoMemory>
+    ensures { IfOk result (λ formula. tree_of formula ≡ both (keeps First) (keeps Second)) }
 {
-    let swaps = and(alloc, keeps(Side::First), keeps(Side::Second))?;
-    let mut kind = methods(alloc)?;
+    and(alloc, keeps(Side::First), keeps(Side::Second))
+}
+
+// Its pairs, behind its methods.
+fn set_pairs(alloc: Global, kind: &mut KindDraft) -> Result<(), NoMemory>
+    requires { kind.old ≡ no_pairs (codes "register") register_methods }
+    ensures { OnOk result (kind.new ≡ register_kind) }
+{
     kind.pair(0, 0, Formula::True)?;
     kind.pair(0, 1, Formula::False)?;
     kind.pair(0, 2, keeps(Side::Second))?;
     kind.pair(1, 1, Formula::False)?;
     kind.pair(1, 2, Formula::False)?;
-    kind.pair(2, 2, swaps)?;
+    kind.pair(2, 2, both_keep(alloc)?)?;
+    Ok(())
+}
+
+pub(crate) fn register(alloc: Global) -> Result<KindSpec, NoMemory>
+    ensures { IfOk result (λ kind. kind ≡ register_kind) }
+{
+    let mut kind = methods(alloc)?;
+    set_pairs(alloc, &mut kind)?;
     Ok(kind.finish())
 }

@@ -1,5 +1,5 @@
 //! The kind `set`, which holds items.
-ghost use Rattle.std.specs.Prelude.{◌≡◌, codes, take, IfOk};
+ghost use Rattle.std.specs.Prelude.{◌≡◌, codes, take, IfOk, OnOk};
 ghost use Rattle.rd_ecl.specs.Formulas.{tree_of};
 ghost use Rattle.rd_kinds.specs.Shipped.{idle, no_pairs, other_or_first_idle, other_or_idle, set_kind, set_methods, set_pairs, with_pairs};
 
@@ -44,32 +44,37 @@ fn other_or_first_idle(alloc: Global) -> Result<Formula, NoMemory>
     or(alloc, firsts_differ(), idle(Side::First))
 }
 
-// Its methods, and the pairs of `add` with each.
-fn adds(alloc: Global) -> Result<KindDraft, NoMemory>
-    ensures { IfOk result (λ draft. draft ≡ with_pairs (no_pairs (codes "set") set_methods) (take 4 set_pairs)) }
+// The pairs of `add` with each, behind its methods.
+fn set_adds(alloc: Global, kind: &mut KindDraft) -> Result<(), NoMemory>
+    requires { kind.old ≡ no_pairs (codes "set") set_methods }
+    ensures { OnOk result (kind.new ≡ with_pairs (no_pairs (codes "set") set_methods) (take 4 set_pairs)) }
 {
-    let add = other_or_idle(alloc)?;
-    let remove = other_or_idle(alloc)?;
-    let contains = other_or_first_idle(alloc)?;
-    let mut kind = methods(alloc)?;
-    kind.pair(0, 0, add)?;
-    kind.pair(0, 1, remove)?;
-    kind.pair(0, 2, contains)?;
+    kind.pair(0, 0, other_or_idle(alloc)?)?;
+    kind.pair(0, 1, other_or_idle(alloc)?)?;
+    kind.pair(0, 2, other_or_first_idle(alloc)?)?;
     kind.pair(0, 3, idle(Side::First))?;
-    Ok(kind)
+    Ok(())
+}
+
+// The other pairs, behind those of `add`.
+fn set_others(alloc: Global, kind: &mut KindDraft) -> Result<(), NoMemory>
+    requires { kind.old ≡ with_pairs (no_pairs (codes "set") set_methods) (take 4 set_pairs) }
+    ensures { OnOk result (kind.new ≡ set_kind) }
+{
+    kind.pair(1, 1, other_or_idle(alloc)?)?;
+    kind.pair(1, 2, other_or_first_idle(alloc)?)?;
+    kind.pair(1, 3, idle(Side::First))?;
+    kind.pair(2, 2, Formula::True)?;
+    kind.pair(2, 3, Formula::True)?;
+    kind.pair(3, 3, Formula::True)?;
+    Ok(())
 }
 
 pub(crate) fn set(alloc: Global) -> Result<KindSpec, NoMemory>
     ensures { IfOk result (λ kind. kind ≡ set_kind) }
 {
-    let remove = other_or_idle(alloc)?;
-    let contains = other_or_first_idle(alloc)?;
-    let mut kind = adds(alloc)?;
-    kind.pair(1, 1, remove)?;
-    kind.pair(1, 2, contains)?;
-    kind.pair(1, 3, idle(Side::First))?;
-    kind.pair(2, 2, Formula::True)?;
-    kind.pair(2, 3, Formula::True)?;
-    kind.pair(3, 3, Formula::True)?;
+    let mut kind = methods(alloc)?;
+    set_adds(alloc, &mut kind)?;
+    set_others(alloc, &mut kind)?;
     Ok(kind.finish())
 }

@@ -1,0 +1,23 @@
+use Rattle.std.proofs.Common.{refl}
+use Rattle.rd_ecl.specs.Specified.{all_pairs}
+use Rattle.rd_ecl.proofs.TestLemmas.{may_by}
+use Rattle.rd_kinds.proofs.set.set_adds.Goals as goal
+
+pub pair-requires : goal.pair-requires
+unfolding all_pairs
+pair-requires c = simp (c.requires, c.in_ok-other_or_idle.ensures) (may_by _ 0 0 _ refl)
+
+pub pair-requires-2 : goal.pair-requires-2
+unfolding all_pairs
+pair-requires-2 c = simp (c.pair.ensures.value, c.requires, c.in_ok-other_or_idle.ensures, c.in_ok-other_or_idle-2.ensures) (may_by _ 0 1 _ refl)
+
+pub pair-requires-3 : goal.pair-requires-3
+unfolding all_pairs
+pair-requires-3 c = simp (c.pair-2.ensures.value, c.pair.ensures.value, c.requires, c.in_ok-other_or_idle.ensures, c.in_ok-other_or_idle-2.ensures, c.in_ok-other_or_first_idle.ensures) (may_by _ 0 2 _ refl)
+
+pub pair-requires-4 : goal.pair-requires-4
+unfolding all_pairs
+pair-requires-4 c = simp (c.pair-3.ensures.value, c.pair-2.ensures.value, c.pair.ensures.value, c.requires, c.in_ok-other_or_idle.ensures, c.in_ok-other_or_idle-2.ensures, c.in_ok-other_or_first_idle.ensures, c.idle.ensures) (may_by _ 0 3 _ refl)
+
+pub returns : goal.returns
+returns c = simp (c.pair-4.ensures.value, c.pair-3.ensures.value, c.pair-2.ensures.value, c.pair.ensures.value, c.requires, c.in_ok-other_or_idle.ensures, c.in_ok-other_or_idle-2.ensures, c.in_ok-other_or_first_idle.ensures, c.idle.ensures) refl
