@@ -8,8 +8,6 @@ mod memory;
 mod names;
 mod slots;
 mod spelling;
-#[cfg(test)]
-mod tests;
 mod values;
 
 pub use byte_lists::{Bytes, Word};

@@ -17,9 +17,6 @@ use std::alloc::Global;
 use std::str;
 use thiserror::Error;
 
-#[cfg(test)]
-mod tests;
-
 /// Why bytes give no value.
 #[derive(Clone, Copy, Debug, PartialEq, Eq, Error)]
 pub enum ValueRefused {

@@ -157,6 +157,3 @@ pub struct Stamp {
     pub number: u32,
     pub clock: Clock,
 }
-
-#[cfg(test)]
-mod tests;

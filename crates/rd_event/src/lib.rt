@@ -6,8 +6,6 @@ mod items;
 mod reading;
 mod slots;
 mod spelling;
-#[cfg(test)]
-mod tests;
 
 pub use events::{Call, Event};
 pub use items::{Line, LineEvent};

@@ -2,7 +2,5 @@
 #![tactic(auto)]
 
 mod fronts;
-#[cfg(test)]
-mod tests;
 
 pub use fronts::{FrontRefused, read_front};

@@ -3,8 +3,6 @@ pub mod ClockLemmas
 pub mod ClockTestLemmas
 pub mod KeptLemmas
 pub mod KnowsLemmas
-pub mod LockTestLemmas
 pub mod NewsLemmas
 pub mod TrackLemmas
 pub mod TrackerLemmas
-pub mod TrackerTestLemmas

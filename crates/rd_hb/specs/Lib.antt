@@ -1,6 +1,5 @@
 pub mod ClockTests
 pub mod EventClocks
 pub mod Knows
-pub mod TestTraces
 pub mod Tracker
 pub mod TrackerParts

@@ -526,6 +526,3 @@ fn forget<T: Drop>(list: &mut Vec<Option<T>>, place: usize)
         list[place] = None;
     }
 }
-
-#[cfg(test)]
-mod tests;

@@ -8,8 +8,6 @@ mod lines;
 mod memory_inputs;
 mod memory_sink;
 mod sinks;
-#[cfg(test)]
-mod tests;
 
 pub use inputs::{Failed, Inputs};
 pub use laws::law_of_lines;

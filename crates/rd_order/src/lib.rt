@@ -4,8 +4,6 @@
 mod edges;
 mod laws;
 mod paths;
-#[cfg(test)]
-mod tests;
 
 pub use edges::edge;
 pub use laws::{examples_of_order, law_of_lists, law_of_locks, law_of_reaching};

@@ -1,7 +1,0 @@
-use Rattle.std.proofs.Common.{ℕ, Bool, take, drop}
-use Rattle.rd_hb.specs.TestTraces.{MayTakeAll}
-use Rattle.rd_hb.proofs.TrackerTestLemmas.{Took}
-use Rattle.rd_hb.proofs.tracker.tests.has_rows.Given as goal
-
-abbrev pub invariant-loop-i : goal.invariant-loop-i
-invariant-loop-i g l = (roots : ℕ → Bool) → MayTakeAll l.initial.tracker roots l.events → Took l.tracker roots (take l.i l.events) (drop l.i l.events)

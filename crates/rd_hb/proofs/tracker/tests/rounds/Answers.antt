@@ -1,6 +1,0 @@
-use Rattle.rd_order.specs.TestLists.{two_roots}
-use Rattle.rd_hb.proofs.LockTestLemmas.{rounds_may}
-use Rattle.rd_hb.proofs.tracker.tests.rounds.Goals as goal
-
-pub has_rows-requires : goal.has_rows-requires
-has_rows-requires g c = (two_roots, rounds_may c.in_ok-tracker.tracker c.in_ok-tracker.ensures.stands c.in_ok-tracker.ensures.count)

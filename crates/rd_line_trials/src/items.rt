@@ -1,0 +1,270 @@
+//! Lines with what they say, and events by numbers.
+
+use crate::rows::{Act, Wanted, are, event};
+use rd_event::{Call, Event, Line, LineEvent, LineRefused, read_into, read_line, spell};
+use std::alloc::Global;
+use std::process::Abort;
+
+// A line that the text spells.
+fn read(rt: &impl Abort, alloc: Global, text: &str) -> Line {
+    read_line(alloc, text.as_bytes()).expect(rt, "a line")
+}
+
+// The keyword of a line that is no call, and its words.
+fn words(line: &Line) -> (&str, &[u8], &[u8]) {
+    match line {
+        Line::Header { version: 1 } => ("rdtrace", b"1", b""),
+        Line::Thread(name) => ("thread", name.items(), b""),
+        Line::Object { name, kind } => ("object", name.items(), kind.items()),
+        Line::Event(LineEvent::Fork { thread, child }) => ("fork", thread.items(), child.items()),
+        Line::Event(LineEvent::Join { thread, child }) => ("join", thread.items(), child.items()),
+        Line::Event(LineEvent::Acquire { thread, lock }) => {
+            ("acquire", thread.items(), lock.items())
+        }
+        Line::Event(LineEvent::Release { thread, lock }) => {
+            ("release", thread.items(), lock.items())
+        }
+        _ => ("", b"", b""),
+    }
+}
+
+// Is the text read as what its words say?
+fn says_its_words(rt: &impl Abort, alloc: Global, text: &str) -> bool {
+    let line = read(rt, alloc, text);
+    let (keyword, first, second) = words(&line);
+    let (wanted, rest) = text.split_once(' ').unwrap_or((text, ""));
+    let (wanted_first, wanted_second) = rest.split_once(' ').unwrap_or((rest, ""));
+    keyword == wanted && first == wanted_first.as_bytes() && second == wanted_second.as_bytes()
+}
+
+// Lines that are a keyword and one word or two, with `|` between them. The last name has 64 bytes.
+const ITEMS: &str = "\
+    rdtrace 1|thread p|thread java.util.HashMap@1f2|object o register|fork a b|join a b|\
+    acquire p l|release p l|\
+    thread aaaaaaaaaaaaaaaaaaaaaaaaaaaaaaaaaaaaaaaaaaaaaaaaaaaaaaaaaaaaaaaa";
+
+#[test]
+fn reads_each_item(rt: HostRuntime) {
+    for text in ITEMS.split('|') {
+        assert!(rt; says_its_words(&rt, rt.alloc(), text), "at {text}");
+    }
+}
+
+#[test]
+fn reads_lines_without_an_item(rt: HostRuntime) {
+    for text in ["", "#", "#anything", "# fork a b"] {
+        assert!(rt;
+            matches!(read(&rt, rt.alloc(), text), Line::Skip),
+            "at {text}"
+        );
+    }
+}
+
+// Is the text read into the line as it is read anew?
+fn is_read_into(rt: &impl Abort, alloc: Global, text: &str, line: &mut Line) -> bool {
+    read_into(alloc, text.as_bytes(), line).expect(rt, "a line");
+    *line == read(rt, alloc, text)
+}
+
+// The lines that are read one after another.
+const KEPT: &str = "\
+    thread p|call p x put \"a\" -> nil|fork p q|# a comment|object o register|rdtrace 1|\
+    call p x read -> \"b\"|join p q|acquire p l|release p l";
+
+#[test]
+fn reads_into_a_line_that_is_kept(rt: HostRuntime) {
+    let mut line = Line::Skip;
+    for text in KEPT.split('|') {
+        assert!(rt; is_read_into(&rt, rt.alloc(), text, &mut line), "at {text}");
+    }
+    let refused = read_into(rt.alloc(), b"fork p", &mut line);
+    assert!(rt; refused == Err(LineRefused::BadLine));
+}
+
+// Is the text no line?
+fn is_refused(alloc: Global, text: &str) -> bool {
+    matches!(read_line(alloc, text.as_bytes()), Err(LineRefused::BadLine))
+}
+
+// Texts that are no line, with `|` between them. The last name has 65 bytes.
+const NO_ITEMS: &str = "\
+    rdtrace 2|rdtrace 01|rdtrace  1|rdtrace 1 |rdtrace| thread p|thread p |thread|thread |\
+    thread  p|thread a/b|thread a\0|thread p\n|Thread p|threads p|object o|objectx y|fork a|\
+    fork a b c|fork a  b|fork a b\r|join  b|acquire|acquire p|acquire p l m|acquire  p l|\
+    acquire p  l|acquire p l |acquires p l|Acquire p l|release|release p|release p l m|\
+    release  p l|release p l |release p \"l\"|release p l/|releases p l|Release p l| # x| |\
+    thread aaaaaaaaaaaaaaaaaaaaaaaaaaaaaaaaaaaaaaaaaaaaaaaaaaaaaaaaaaaaaaaaa";
+
+#[test]
+fn refuses_what_is_no_item(rt: HostRuntime) {
+    for text in NO_ITEMS.split('|') {
+        assert!(rt; is_refused(rt.alloc(), text), "at {text:?}");
+    }
+}
+
+// Is the text read as a call with these names and slots?
+fn is_call(
+    rt: &impl Abort,
+    alloc: Global,
+    text: &str,
+    names: [&str; 3],
+    wanted: &[Wanted],
+) -> bool {
+    let Line::Event(
+        LineEvent::Call {
+            thread,
+            object,
+            method,
+            slots,
+        },
+    ) = read(rt, alloc, text)
+    else {
+        return false;
+    };
+    thread.items() == names[0].as_bytes()
+        && object.items() == names[1].as_bytes()
+        && method.items() == names[2].as_bytes()
+        && are(wanted, slots.items())
+}
+
+#[test]
+fn reads_each_call(rt: HostRuntime) {
+    let rows = [
+        (
+            "call a x write 7 -> nil",
+            ["a", "x", "write"],
+            [Wanted::Int(7), Wanted::Nil].as_slice(),
+        ),
+        (
+            "call main x read -> 7",
+            ["main", "x", "read"],
+            &[Wanted::Int(7)],
+        ),
+        (
+            "call a d put \"k -> \\\"x\" 1 -> nil",
+            ["a", "d", "put"],
+            &[Wanted::Text(b"k -> \"x"), Wanted::Int(1), Wanted::Nil],
+        ),
+        (
+            "call a d get \"\\\\\" -> \" \\x0a -> \"",
+            ["a", "d", "get"],
+            &[Wanted::Text(b"\\"), Wanted::Text(b" \n -> ")],
+        ),
+        (
+            "call - - - nil true false 0 -1 \"\" -> \"->\"",
+            ["-", "-", "-"],
+            &[
+                Wanted::Nil,
+                Wanted::Bool(true),
+                Wanted::Bool(false),
+                Wanted::Int(0),
+                Wanted::Int(-1),
+                Wanted::Text(b""),
+                Wanted::Text(b"->"),
+            ],
+        ),
+    ];
+    for (text, names, wanted) in rows {
+        assert!(rt; is_call(&rt, rt.alloc(), text, names, wanted), "at {text}");
+    }
+}
+
+// Texts that are no call.
+const NO_CALLS: &str = "\
+    call|call |call p|call p x|call p x read|call p x read |call p x write 07 -> nil|\
+    call p x  read -> nil|call p  x read -> nil|call  p x read -> nil|call p x read  -> nil|\
+    call p x read ->  nil|call p x read ->|call p x read -> |call p x -> nil|\
+    call p x read nil|call p x read nil->nil|call p x read - > nil|call p x read -> nil |\
+    call p x read -> nil\n|call p x read -> nil nil|call p x read -> -> nil|\
+    call p x read 1 -> 2 -> 3|call p x put 1 2 3 4 5 6 7 -> nil|call p x write -0 -> nil|\
+    call p x write +1 -> nil|call p x write 9223372036854775808 -> nil|\
+    call p x write \"a -> nil|call p x write a\" -> nil|call p x write \"a\"b -> nil|\
+    call p x write \"a\" \" -> nil|call p x write \"\\x41\" -> nil|\
+    call p x write \"\\\" -> nil|call p/ x read -> nil|call p x/ read -> nil|\
+    call p x read/ -> nil|Call p x read -> nil|calls p x read -> nil";
+
+#[test]
+fn refuses_what_is_no_call(rt: HostRuntime) {
+    for text in NO_CALLS.split('|') {
+        assert!(rt; is_refused(rt.alloc(), text), "at {text:?}");
+    }
+}
+
+// Is the line of the first text spelled as the second?
+fn is_spelled(rt: &impl Abort, alloc: Global, text: &str, wanted: &str) -> bool {
+    let line = read_line(alloc, text.as_bytes()).expect(rt, "a line");
+    let spelled = spell(alloc, &line).expect(rt, "memory");
+    spelled.items() == wanted.as_bytes()
+}
+
+// Lines as they are spelled.
+const SPELLED: &str = "\
+    |rdtrace 1|thread java.util.HashMap@1f2|object o register|fork a b|join a b|acquire p l|\
+    release p l|call a x write 7 -> nil|call main x read -> 7|\
+    call a d put \"k -> \\\"x\" 1 -> nil|\
+    call a d put -9223372036854775808 -> 9223372036854775807|\
+    call a d put \"\\x00\\xff \\\\\" -> \"\"|call a d put 1 2 3 4 5 6 -> true|thread main|\
+    object d dictionary|fork main a|fork main b|acquire a l|call a d put \"x\" 1 -> nil|\
+    release a l|call b d put \"y\" 2 -> nil|join main a|join main b|call main d size -> 2|\
+    call p x write 1 -> nil";
+
+#[test]
+fn spells_each_line_as_it_was(rt: HostRuntime) {
+    for text in SPELLED.split('|') {
+        assert!(rt; is_spelled(&rt, rt.alloc(), text, text), "at {text}");
+    }
+}
+
+#[test]
+fn spells_a_skipped_line_as_the_empty_line(rt: HostRuntime) {
+    assert!(rt; is_spelled(&rt, rt.alloc(), "# a comment", ""));
+}
+
+// Is a copy of the call equal, with these slots?
+fn is_call_copied(rt: &impl Abort, alloc: Global, call: &Call, wanted: &[Wanted]) -> bool {
+    let copy = call.copy(alloc).expect(rt, "memory");
+    copy == *call && are(wanted, copy.slots.items())
+}
+
+// Is a copy of the event equal, and that of its call?
+fn is_copied(rt: &impl Abort, alloc: Global, thread: u32, act: Act) -> bool {
+    let event = event(rt, alloc, thread, act);
+    if let (Event::Call(call), Act::Call(_, _, _, wanted)) = (&event, act) {
+        assert!(rt; is_call_copied(rt, alloc, call, wanted));
+    }
+    let copy = event.copy(alloc).expect(rt, "memory");
+    copy == event
+}
+
+#[test]
+fn copies_are_equal(rt: HostRuntime) {
+    let rows = [
+        (
+            1,
+            Act::Call(2, 3, 4, &[Wanted::Text(b"k"), Wanted::Int(-5), Wanted::Nil]),
+        ),
+        (0, Act::Fork(1)),
+        (1, Act::Acquire(0)),
+        (
+            1,
+            Act::Call(0, 0, 0, &[Wanted::Text(b"x"), Wanted::Int(1), Wanted::Nil]),
+        ),
+        (1, Act::Release(0)),
+        (
+            2,
+            Act::Call(0, 0, 0, &[Wanted::Text(b"y"), Wanted::Int(2), Wanted::Nil]),
+        ),
+        (0, Act::Join(1)),
+        (0, Act::Call(0, 0, 3, &[Wanted::Int(2)])),
+    ];
+    for (index, (thread, act)) in rows.iter().enumerate() {
+        assert!(rt; is_copied(&rt, rt.alloc(), *thread, *act), "at row {index}");
+    }
+}
+
+#[test]
+fn an_acquire_is_no_release(rt: HostRuntime) {
+    let acquire = event(&rt, rt.alloc(), 1, Act::Acquire(0));
+    let release = event(&rt, rt.alloc(), 1, Act::Release(0));
+    assert!(rt; acquire != release);
+}

@@ -1,0 +1,15 @@
+//! Trials of values, inputs, the items of traces, their order and their clocks.
+#![tactic(auto)]
+
+#[cfg(test)]
+mod clocks;
+#[cfg(test)]
+mod inputs;
+#[cfg(test)]
+mod items;
+#[cfg(test)]
+mod order;
+#[cfg(test)]
+mod rows;
+#[cfg(test)]
+mod values;

@@ -1,0 +1,119 @@
+//! Edges and paths of lists of events.
+
+use crate::rows::{Act, events};
+use rd_event::Event;
+use rd_order::{Places, edge, path};
+use std::alloc::Global;
+use std::process::Abort;
+
+// Are these the places of the path? None where there is no path.
+fn has_path(
+    rt: &impl Abort,
+    alloc: Global,
+    events: &[Event],
+    i: u32,
+    j: u32,
+    expected: &[u32],
+) -> bool {
+    if events.len() <= i as usize || events.len() <= j as usize {
+        return false;
+    }
+    match path(alloc, events, i, j).expect(rt, "memory") {
+        None => expected.is_empty(),
+        Some(places) => places.items() == expected,
+    }
+}
+
+// Is there an edge?
+fn has_edge(events: &[Event], i: u32, j: u32) -> bool {
+    (i as usize) < events.len() && (j as usize) < events.len() && edge(events, i, j)
+}
+
+// The events have these edges, and these paths.
+fn are_ordered(
+    rt: &impl Abort,
+    alloc: Global,
+    events: &[Event],
+    edges: &[(u32, u32, bool)],
+    paths: &[(u32, u32, &[u32])],
+) {
+    for (i, j, expected) in edges {
+        assert!(rt; has_edge(events, *i, *j) == *expected, "{i} {j}");
+    }
+    for (i, j, expected) in paths {
+        assert!(rt; has_path(rt, alloc, events, *i, *j, expected), "{i} {j}");
+    }
+}
+
+const CALL: Act = Act::Call(0, 0, 0, &[]);
+
+/// main forks a and b, each calls, main joins both and calls
+#[test]
+fn forks_and_joins_have_edges(rt: HostRuntime) {
+    let acts = [
+        (0, Act::Fork(1)),
+        (0, Act::Fork(2)),
+        (1, CALL),
+        (2, CALL),
+        (0, Act::Join(1)),
+        (0, Act::Join(2)),
+        (0, CALL),
+    ];
+    let edges = [
+        (0, 1, true),
+        (0, 2, true),
+        (0, 3, false),
+        (0, 4, true),
+        (1, 0, false),
+        (1, 1, false),
+        (1, 3, true),
+        (2, 3, false),
+        (2, 4, true),
+        (2, 5, false),
+        (2, 6, false),
+        (4, 6, true),
+    ];
+    let paths = [
+        (2, 4, [2, 4].as_slice()),
+        (2, 3, &[]),
+        (0, 2, &[0, 2]),
+        (2, 6, &[2, 4, 6]),
+        (6, 2, &[]),
+        (3, 3, &[]),
+    ];
+    let events = events(&rt, rt.alloc(), &acts);
+    are_ordered(&rt, rt.alloc(), &events, &edges, &paths);
+}
+
+/// p writes while it has the lock, releases an inner hold and the lock, and q acquires it; r another one
+#[test]
+fn a_release_comes_before_each_later_acquire(rt: HostRuntime) {
+    let acts = [
+        (0, Act::Acquire(0)),
+        (0, Act::Acquire(0)),
+        (0, CALL),
+        (0, Act::Release(0)),
+        (0, Act::Release(0)),
+        (2, Act::Acquire(1)),
+        (1, Act::Acquire(0)),
+        (1, CALL),
+    ];
+    let edges = [
+        (0, 6, false),
+        (3, 6, true),
+        (4, 6, true),
+        (4, 5, false),
+        (2, 7, false),
+    ];
+    let paths = [(2, 7, [2, 4, 6, 7].as_slice()), (2, 5, &[]), (5, 7, &[])];
+    let events = events(&rt, rt.alloc(), &acts);
+    are_ordered(&rt, rt.alloc(), &events, &edges, &paths);
+}
+
+#[test]
+fn places_are_kept_in_order(rt: HostRuntime) {
+    let mut places = Places::new(rt.alloc());
+    assert!(rt; places.items().is_empty());
+    assert!(rt; places.push(4) == Ok(()) && places.push(2) == Ok(()));
+    assert!(rt; places.items() == [4, 2].as_slice());
+}

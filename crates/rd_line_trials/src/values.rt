@@ -1,0 +1,194 @@
+//! Names, words, limits, the counter of steps, and values with their spellings.
+ghost use Rattle.std.specs.Prelude.{◌≡◌, ◌<◌};
+
+use crate::rows::Wanted;
+use rd_base::{
+    BadName, Bytes, Limits, Name, NoMemory, Steps, ValueRefused, Word, is_value, name_length,
+    read_value, spell_value,
+};
+use std::alloc::Global;
+use std::marker::Brand;
+use std::mem::size_of;
+use std::process::Abort;
+use std::sync::ledger::{Blank, Ledger};
+
+#[test]
+fn names(rt: HostRuntime) {
+    let letters = [b'x'; 65];
+    let rows = [
+        (b"".as_slice(), false),
+        (b"a", true),
+        (b"a b", false),
+        (b"Az09_.:$#@-", true),
+        (b"a/b", false),
+        (&letters[..64], true),
+        (&letters, false),
+    ];
+    for (bytes, is_name) in rows {
+        match Name::from_bytes(bytes) {
+            Ok(name) => assert!(rt; is_name && name.items() == bytes && name.copy() == name),
+            Err(BadName) => assert!(rt; !is_name),
+        }
+    }
+}
+
+#[test]
+fn ends_of_names(rt: HostRuntime) {
+    for (text, length) in [("", 0), ("a-b c", 3), (" a", 0), ("a/b", 1), ("ab", 2)] {
+        assert!(rt; name_length(text.as_bytes()) == length, "at {text}");
+    }
+}
+
+// `check`, of a word and a byte more.
+fn check_word(alloc: Global) -> Result<Word, NoMemory> {
+    let mut word = Word::from_bytes(alloc, b"chec")?;
+    word.push(b'k')?;
+    Ok(word)
+}
+
+// A line of an answer, of two texts with a byte between them.
+fn races_line(alloc: Global) -> Result<Bytes, NoMemory> {
+    let mut bytes = Bytes::new(alloc);
+    bytes.append(b"races 1")?;
+    bytes.push(b'0')?;
+    bytes.append(b"\n")?;
+    Ok(bytes)
+}
+
+#[test]
+fn words_and_bytes(rt: HostRuntime) {
+    let word = check_word(rt.alloc()).expect(&rt, "memory");
+    let bytes = races_line(rt.alloc()).expect(&rt, "memory");
+    assert!(rt; word.items() == b"check".as_slice());
+    assert!(rt; Word::new(rt.alloc()).items().is_empty());
+    assert!(rt; bytes.items() == b"races 10\n".as_slice());
+}
+
+#[test]
+fn standard_limits(rt: HostRuntime) {
+    let limits = Limits::standard();
+    assert!(rt; limits.line == 8192 && limits.bytes == 1 << 40 && limits.events == u32::MAX - 1);
+}
+
+fn ticked<L: Ledger>(blank: Blank, times: u32) -> u32
+    requires name { blank.name ≡ L.name }
+    requires parts { blank.parts ≡ L.parts }
+    requires some { 0 < blank.parts }
+{
+    let mut steps = Steps::<L>::new(blank);
+    for _ in 0..times {
+        steps.tick();
+    }
+    times
+}
+
+#[test]
+fn steps_take_no_bytes(rt: HostRuntime) {
+    assert!(rt; size_of::<Steps<Brand>>() == 0);
+    assert!(rt; ticked::<Brand>(Blank::new(1), 3) == 3);
+}
+
+// Do the bytes spell the value, and are a copy and the value alike?
+fn has_spelling(rt: &impl Abort, alloc: Global, bytes: &[u8], wanted: Wanted) -> bool {
+    let value = wanted.value(rt, alloc);
+    let read = read_value(alloc, bytes).expect(rt, "a value");
+    let spelled = spell_value(alloc, &value).expect(rt, "memory");
+    let copy = value.copy(alloc).expect(rt, "memory");
+    wanted.is(&read) && read == value && spelled.items() == bytes && copy == value
+}
+
+#[test]
+fn reads_and_spells_each_value(rt: HostRuntime) {
+    let rows = [
+        ("nil", Wanted::Nil),
+        ("true", Wanted::Bool(true)),
+        ("false", Wanted::Bool(false)),
+        ("0", Wanted::Int(0)),
+        ("7", Wanted::Int(7)),
+        ("-1", Wanted::Int(-1)),
+        ("10", Wanted::Int(10)),
+        ("999999999999999999", Wanted::Int(999_999_999_999_999_999)),
+        (
+            "1000000000000000000",
+            Wanted::Int(1_000_000_000_000_000_000),
+        ),
+        ("9223372036854775807", Wanted::Int(i64::MAX)),
+        ("-9223372036854775808", Wanted::Int(i64::MIN)),
+        ("\"\"", Wanted::Text(b"")),
+        ("\"a b\"", Wanted::Text(b"a b")),
+        ("\"nil\"", Wanted::Text(b"nil")),
+        ("\" ~\"", Wanted::Text(b" ~")),
+        ("\"\\x0a\\x00\\x7f\\x80\"", Wanted::Text(b"\n\x00\x7f\x80")),
+        ("\"\\\"\\\\\\xff\"", Wanted::Text(b"\x22\x5C\xFF")),
+    ];
+    for (text, wanted) in rows {
+        let bytes = text.as_bytes();
+        assert!(rt; is_value(bytes), "at {text}");
+        assert!(rt; has_spelling(&rt, rt.alloc(), bytes, wanted), "at {text}");
+    }
+}
+
+// Do the bytes spell no value?
+fn is_refused(alloc: Global, bytes: &[u8]) -> bool {
+    !is_value(bytes) && matches!(read_value(alloc, bytes), Err(ValueRefused::NotAValue))
+}
+
+// Texts that spell no value, with `|` between them.
+const NO_VALUES: &str = "\
+    | |nill|ni|Nil|nil | nil|True|-|-0|00|007|-07|+7|--7|7 |0x7|7a|1e3|9223372036854775808|\
+    -9223372036854775809|99999999999999999999999999999999999999999|\"|\"a|a\"|\"a\\\"|\
+    \"\"\"|\"\\x41\"|\"\\x0A\"|\"\\x0\"|\"\\n\"|\"\n\"";
+
+#[test]
+fn refuses_what_spells_no_value(rt: HostRuntime) {
+    for text in NO_VALUES.split('|') {
+        assert!(rt; is_refused(rt.alloc(), text.as_bytes()), "at {text}");
+    }
+    assert!(rt; is_refused(rt.alloc(), b"\"\xff\""));
+    assert!(rt; is_refused(rt.alloc(), b"\xff"));
+}
+
+// The spelling of a text of 255 bytes, each 255, with what stands behind them.
+fn long_spelling(rt: &impl Abort, alloc: Global, last: &[u8]) -> Bytes {
+    let mut bytes = Bytes::new(alloc);
+    bytes.append(b"\"").expect(rt, "memory");
+    for _ in 0..255 {
+        bytes.append(b"\\xff").expect(rt, "memory");
+    }
+    bytes.append(last).expect(rt, "memory");
+    bytes
+}
+
+#[test]
+fn reads_texts_of_at_most_255_bytes(rt: HostRuntime) {
+    let longest = long_spelling(&rt, rt.alloc(), b"\"");
+    let wanted = Wanted::Text(&[255; 255]);
+    assert!(rt; has_spelling(&rt, rt.alloc(), longest.items(), wanted));
+    let longer = long_spelling(&rt, rt.alloc(), b"a\"");
+    assert!(rt; is_refused(rt.alloc(), longer.items()));
+}
+
+// Is the one value below the other?
+fn is_below(rt: &impl Abort, alloc: Global, one: Wanted, other: Wanted) -> bool {
+    one.value(rt, alloc) < other.value(rt, alloc)
+}
+
+#[test]
+fn orders_values(rt: HostRuntime) {
+    let rising = [
+        Wanted::Nil,
+        Wanted::Bool(false),
+        Wanted::Bool(true),
+        Wanted::Int(i64::MIN),
+        Wanted::Int(-1),
+        Wanted::Int(0),
+        Wanted::Int(i64::MAX),
+        Wanted::Text(b""),
+        Wanted::Text(b"a"),
+        Wanted::Text(b"aa"),
+        Wanted::Text(b"b"),
+    ];
+    for pair in rising.windows(2) {
+        assert!(rt; is_below(&rt, rt.alloc(), pair[0], pair[1]));
+    }
+}
