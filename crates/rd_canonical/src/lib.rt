@@ -11,8 +11,6 @@ mod items;
 mod laws;
 mod relations;
 mod terms;
-#[cfg(test)]
-mod tests;
 mod writing;
 
 pub use items::{Word, Words};

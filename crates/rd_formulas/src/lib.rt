@@ -7,8 +7,6 @@ mod places;
 mod reading;
 mod scope;
 mod terms;
-#[cfg(test)]
-mod tests;
 
 pub use building::build;
 pub use finding::{first_bare, first_unknown};

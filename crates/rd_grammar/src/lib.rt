@@ -5,8 +5,6 @@ mod laws;
 mod marks;
 mod parsed;
 mod reader;
-#[cfg(test)]
-mod tests;
 
 pub use laws::{law_of_grammar, law_of_numbers};
 pub use marks::{Mark, Sign, Symbol};

@@ -9,8 +9,6 @@ mod missing;
 mod places;
 mod refused;
 mod repeated;
-#[cfg(test)]
-mod tests;
 
 pub use lines::{finish, read_line};
 pub use refused::LineRefused;

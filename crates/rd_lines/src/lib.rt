@@ -12,8 +12,6 @@ mod lines;
 mod methods;
 mod order;
 mod pairs;
-#[cfg(test)]
-mod tests;
 mod words;
 
 pub use forms::{Form, FormRefused, Stage};

@@ -7,8 +7,6 @@ mod limits;
 mod methods;
 mod numbers;
 mod pairs;
-#[cfg(test)]
-mod tests;
 
 pub use items::{Pair, PairRefused};
 pub use pairs::judge_pair;

@@ -9,8 +9,6 @@ mod laws;
 mod lines;
 mod pairs;
 mod printing;
-#[cfg(test)]
-mod tests;
 
 pub use laws::law_of_printed_texts;
 pub use pairs::formula_text;

@@ -7,8 +7,6 @@
 mod cutting;
 mod laws;
 mod parsing;
-#[cfg(test)]
-mod tests;
 
 pub use laws::law_of_specifications;
 pub use parsing::{ParseRefused, SpecRefused, parse};

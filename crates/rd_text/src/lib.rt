@@ -6,8 +6,6 @@
 #![tactic(auto)]
 
 mod laws;
-#[cfg(test)]
-mod tests;
 mod text;
 
 pub use laws::law_of_texts;

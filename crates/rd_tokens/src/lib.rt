@@ -12,8 +12,6 @@
 
 mod cutting;
 mod items;
-#[cfg(test)]
-mod tests;
 
 pub use cutting::{law_of_tokens, tokens};
 pub use items::{Sort, Token, Tokens};

@@ -14,8 +14,6 @@ mod items;
 mod laws;
 mod lines;
 mod terms;
-#[cfg(test)]
-mod tests;
 mod words;
 
 pub use items::Marks;
