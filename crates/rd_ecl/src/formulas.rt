@@ -9,9 +9,6 @@ ghost use Rattle.rd_ecl.specs.Formulas.{tree_of, holds, Fits, post_order, first_
 
 use rd_base::Value;
 
-#[cfg(test)]
-mod tests;
-
 /// The two sides of a formula: the calls that it speaks of.
 #[derive(Clone, Copy, Debug, PartialEq, Eq)]
 pub enum Side {

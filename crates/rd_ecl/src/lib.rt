@@ -6,8 +6,6 @@ mod kinds;
 mod names;
 mod relations;
 mod specifications;
-#[cfg(test)]
-mod tests;
 
 pub use formulas::{Formula, Outside, Predicate, Reason, Rel, Side, Term, law_of_formulas};
 pub use kinds::{KindDraft, KindSpec, Method, law_of_commuting, law_of_pairs, law_of_variables};

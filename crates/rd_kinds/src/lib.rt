@@ -12,8 +12,6 @@ mod register;
 mod set;
 mod shipping;
 mod tables;
-#[cfg(test)]
-mod tests;
 
 pub use laws::{law_of_machines, law_of_shipped_kinds};
 pub use names::reserved;

@@ -1,6 +1,5 @@
 pub mod Replays
 pub mod Replayer
-pub mod TestReplays
 pub use Rattle.rd_kinds.specs.Machines
 pub use Rattle.rd_kinds.specs.Objects
 pub use Rattle.rd_object.specs.Machines as ObjectMachines

@@ -3,8 +3,6 @@
 
 mod laws;
 mod replayer;
-#[cfg(test)]
-mod tests;
 
 pub use laws::law_of_replays;
 pub use replayer::{Match, Replayer};

@@ -3,4 +3,3 @@ pub mod Formulas
 pub mod Races
 pub mod States
 pub mod Writing
-pub mod TestRaces

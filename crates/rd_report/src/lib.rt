@@ -10,8 +10,6 @@ mod numbers;
 mod races;
 mod replays;
 mod states;
-#[cfg(test)]
-mod tests;
 
 pub use causes::{append_limit, ending_text, refused_text};
 pub use endings::Ending;

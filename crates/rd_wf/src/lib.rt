@@ -5,8 +5,6 @@ mod causes;
 mod laws;
 mod methods;
 mod roster;
-#[cfg(test)]
-mod tests;
 
 pub use causes::{Accepted, TraceCause, WfCause, WfRefused};
 pub use laws::{law_of_events, law_of_following};

@@ -1,4 +1,4 @@
--- Replays of calls on one object, for the tests.
+-- Replays of calls on one object.
 use Rattle.std.specs.Prelude.{◌≡◌, ℕ, ◌<◌, List, [], ◌∷◌, length, Option, Some, None, ⊤}
 use Rattle.rd_base.specs.declared.values.Value.{Value}
 use Rattle.rd_ecl.specs.Specified.{slots_at}

@@ -1,0 +1,424 @@
+//! Texts of reports, written by hand.
+ghost use Rattle.std.specs.Prelude.{◌≡◌, ◌<◌, IfOk, length};
+ghost use Rattle.rd_report.specs.Races.{IsKnownRace};
+ghost use Rattle.rd_report.specs.Texts.{naming_in};
+ghost use Rattle.rd_kind_trials.specs.Reports.{HasOneMethod, IsOfOne};
+
+use crate::samples::{built_in, is_text, kind_at, line, name, slots, spec_of, value};
+use rd_base::{Bytes, LimitName, Limits, Slots, Steps, Value};
+use rd_clock::{Clock, Stamp};
+use rd_ecl::Spec;
+use rd_event::Call;
+use rd_object::{Expected, ReplayEnd, Shape, ValueCounts, ValuePairs};
+use rd_print::{formula_text, print};
+use rd_report::{
+    Ending, TraceCause, append_race, append_state, ending_text, formula_line, race_text,
+    refused_text, replay_text,
+};
+use rd_store::{Race, Witness};
+use rd_wf::{Roster, WfCause};
+use std::alloc::Global;
+use std::marker::Brand;
+use std::process::Abort;
+use std::rc::Rc;
+use std::sync::ledger::{Blank, Ledger};
+
+// Flags: two calls of `set` commute where both are done.
+const FLAGS: &str = "rdspec 1\nkind flag\nmethod set -> done\ncommute set set when done@1 = true\n";
+
+// The roster of these lines, with a semicolon between two.
+fn roster_of(rt: &impl Abort, alloc: Global, lines: &str) -> Roster {
+    let spec = spec_of(rt, alloc, FLAGS);
+    let mut roster = Roster::new(alloc, &spec).expect(rt, "memory");
+    for text in lines.split(';') {
+        let answer = roster.accept(&line(rt, alloc, text), &Limits::standard());
+        assert!(rt; answer.is_ok(), "{text}");
+    }
+    roster
+}
+
+// The clock that counts so many events of the first three threads.
+fn clock_of<L: Ledger>(
+    rt: &impl Abort,
+    alloc: Global,
+    counts: [u32; 3],
+    steps: &mut Steps<L>,
+) -> Clock {
+    let mut clock = Clock::new(alloc);
+    clock.reserve(3).expect(rt, "memory");
+    clock.raise(0, counts[0], steps);
+    clock.raise(1, counts[1], steps);
+    clock.raise(2, counts[2], steps);
+    clock
+}
+
+// What is told of a call of the first flag: the number of its line, its thread, its result, and how many events of three threads its
+// clock counts.
+type Told = (u64, u32, bool, [u32; 3]);
+
+// A call of the first flag.
+fn call_of<L: Ledger>(
+    rt: &impl Abort,
+    alloc: Global,
+    told: Told,
+    steps: &mut Steps<L>,
+) -> Rc<Witness>
+    ensures { IsOfOne result.value.call }
+{
+    let (line, thread, done, counts) = told;
+    let call = Call {
+        thread,
+        object: 0,
+        kind: 0,
+        method: 0,
+        slots: slots(rt, alloc, if done { "true" } else { "false" }),
+    };
+    let stamp = Stamp {
+        thread,
+        number: 1,
+        clock: clock_of(rt, alloc, counts, steps),
+    };
+    let witness = Witness {
+        line,
+        place: 0,
+        call,
+        stamp,
+    };
+    Rc::new(alloc, witness).expect(rt, "memory")
+}
+
+// The specification has one kind with one method.
+fn has_one_method(rt: &impl Abort, spec: &Spec)
+    ensures { HasOneMethod spec.now }
+{
+    assert!(rt; spec.kinds().len() == 1);
+    assert!(rt; spec.kinds()[0].methods().len() == 1);
+}
+
+// The race of two calls of the first flag.
+fn race_of(
+    rt: &impl Abort,
+    spec: &Spec,
+    names: &Roster,
+    later: Rc<Witness>,
+    earlier: Rc<Witness>,
+) -> Race
+    requires spec { HasOneMethod spec.now }
+    requires later { IsOfOne later.value.call }
+    requires earlier { IsOfOne earlier.value.call }
+    ensures { IsKnownRace spec.now (naming_in names.now) result }
+{
+    assert!(rt; later.call.thread < names.threads());
+    assert!(rt; earlier.call.thread < names.threads());
+    assert!(rt; 0 < names.objects());
+    Race {
+        later,
+        earlier,
+        kind: 0,
+        first: 0,
+        second: 0,
+    }
+}
+
+// The race has this text, and the same is put behind another text.
+fn is_told(rt: &impl Abort, alloc: Global, spec: &Spec, names: &Roster, race: &Race, wanted: &str)
+    requires spec { HasOneMethod spec.now }
+    requires race { IsKnownRace spec.now (naming_in names.now) race.now }
+{
+    let text = race_text(alloc, race, spec, names).expect(rt, "memory");
+    is_text(rt, text.items(), wanted);
+    let kind = &spec.kinds()[race.kind as usize];
+    let formula = formula_line(alloc, kind, race.first, race.second).expect(rt, "memory");
+    let mut text = Bytes::new(alloc);
+    text.append(b"before\n").expect(rt, "memory");
+    append_race(&mut text, race, formula.items(), spec, names).expect(rt, "memory");
+    let told = text
+        .items()
+        .strip_prefix(b"before\n")
+        .expect(rt, "the text before");
+    is_text(rt, told, wanted);
+}
+
+// Two calls of the first flag, with one counter for their clocks.
+fn both_calls<L: Ledger>(
+    rt: &impl Abort,
+    alloc: Global,
+    blank: Blank,
+    first: Told,
+    second: Told,
+) -> (Rc<Witness>, Rc<Witness>)
+    requires name { blank.name ≡ L.name }
+    requires parts { blank.parts ≡ L.parts }
+    requires some { 0 < blank.parts }
+    ensures first { IsOfOne result.0.value.call }
+    ensures second { IsOfOne result.1.value.call }
+{
+    let mut steps = Steps::<L>::new(blank);
+    let first = call_of(rt, alloc, first, &mut steps);
+    (first, call_of(rt, alloc, second, &mut steps))
+}
+
+// Two threads set a flag, on these lines of a trace. The text of the race is this.
+fn is_race(rt: &impl Abort, alloc: Global, lines: &str, calls: [Told; 2], wanted: &str) {
+    let (later, earlier) = both_calls::<Brand>(rt, alloc, Blank::new(1), calls[0], calls[1]);
+    let spec = spec_of(rt, alloc, FLAGS);
+    has_one_method(rt, &spec);
+    let names = roster_of(rt, alloc, lines);
+    let race = race_of(rt, &spec, &names, later, earlier);
+    is_told(rt, alloc, &spec, &names, &race, wanted);
+}
+
+#[test]
+fn a_race_of_two_calls(rt: HostRuntime) {
+    let rows = [
+        (
+            "rdtrace 1;thread p;thread q;object f flag",
+            [(6, 1, false, [0, 1, 0]), (5, 0, true, [1, 0, 0])],
+            "race line 6 q f set -> false clock q:1\nwith line 5 p f set -> true clock p:1\nformula flag set set when done@1 = true\n",
+        ),
+        // the first and the last of three threads
+        (
+            "rdtrace 1;thread main;thread a;thread b;object g.1 flag",
+            [(4294967296, 2, true, [2, 0, 1]), (40, 0, true, [12, 7, 0])],
+            "race line 4294967296 b g.1 set -> true clock main:2,b:1\nwith line 40 main g.1 set -> true clock main:12,a:7\nformula flag set set when done@1 = true\n",
+        ),
+    ];
+    for (lines, calls, wanted) in rows {
+        is_race(&rt, rt.alloc(), lines, calls, wanted);
+    }
+}
+
+// How the lines of a trace end, without values.
+#[derive(Clone, Copy)]
+enum Closing {
+    Exact,
+    Refused(u64, TraceCause),
+    Fault,
+}
+
+fn ending(closing: Closing) -> Ending {
+    match closing {
+        Closing::Exact => Ending::End {
+            replay: ReplayEnd::Exact,
+        },
+        Closing::Refused(line, cause) => Ending::Refused { line, cause },
+        Closing::Fault => Ending::Fault,
+    }
+}
+
+#[test]
+fn endings(rt: HostRuntime) {
+    let rows = [
+        (0, Closing::Exact, "races 0\nreplay exact\n"),
+        (
+            1,
+            Closing::Refused(10, TraceCause::Wf(WfCause::LockHeld(0))),
+            "races 1\nrefused line 10 lock-held p\n",
+        ),
+        (
+            0,
+            Closing::Refused(2, TraceCause::BadLine),
+            "races 0\nrefused line 2 bad-line\n",
+        ),
+        (
+            3,
+            Closing::Refused(7, TraceCause::NoFinalNewline),
+            "races 3\nrefused line 7 no-final-newline\n",
+        ),
+        (
+            0,
+            Closing::Refused(2, TraceCause::Limit(LimitName::Line, 8192)),
+            "races 0\nrefused line 2 limit line 8192\n",
+        ),
+        (0, Closing::Fault, "races 0\nfault input\n"),
+    ];
+    let names = roster_of(&rt, rt.alloc(), "rdtrace 1;thread p;thread q");
+    for (races, closing, wanted) in rows {
+        let text = ending_text(rt.alloc(), races, &ending(closing), &names);
+        is_text(&rt, text.expect(&rt, "memory").items(), wanted);
+    }
+}
+
+#[test]
+fn a_refusal(rt: HostRuntime) {
+    let names = roster_of(&rt, rt.alloc(), "rdtrace 1;thread p;thread q");
+    let cause = TraceCause::Wf(WfCause::LockHeld(1));
+    let text = refused_text(rt.alloc(), 4, cause, &names).expect(&rt, "memory");
+    is_text(&rt, text.items(), "refused line 4 lock-held q\n");
+}
+
+// How a replay ends, without values.
+#[derive(Clone, Copy)]
+enum Replayed<'a> {
+    Exact,
+    Value(u64, &'a str),
+    BadArgument(u64, u8),
+    NotShipped,
+}
+
+fn replay_end(rt: &impl Abort, alloc: Global, replayed: Replayed<'_>) -> ReplayEnd {
+    match replayed {
+        Replayed::Exact => ReplayEnd::Exact,
+        Replayed::Value(line, spelling) => ReplayEnd::Differs {
+            line,
+            expected: Expected::Value(value(rt, alloc, spelling)),
+        },
+        Replayed::BadArgument(line, slot) => ReplayEnd::Differs {
+            line,
+            expected: Expected::BadArgument(slot),
+        },
+        Replayed::NotShipped => ReplayEnd::NotShipped,
+    }
+}
+
+#[test]
+fn replays(rt: HostRuntime) {
+    let rows = [
+        (Replayed::Exact, "replay exact\n"),
+        (
+            Replayed::Value(12, "nil"),
+            "replay differs line 12 expected nil\n",
+        ),
+        (
+            Replayed::BadArgument(7, 0),
+            "replay differs line 7 argument 1\n",
+        ),
+        (Replayed::NotShipped, "replay not shipped\n"),
+    ];
+    for (replayed, wanted) in rows {
+        let end = replay_end(&rt, rt.alloc(), replayed);
+        let text = replay_text(rt.alloc(), &end).expect(&rt, "memory");
+        is_text(&rt, text.items(), wanted);
+    }
+}
+
+// What an object holds, without values. These stand with a blank between two.
+#[derive(Clone, Copy)]
+enum Held<'a> {
+    One(&'a str),
+    Number(i64),
+    Items(&'a str),
+    // the keys, and their values
+    Map(&'a str, &'a str),
+    // the items, and how often each is there
+    Counts(&'a str, [u64; 2]),
+    Row(&'a str),
+}
+
+fn pairs(rt: &impl Abort, alloc: Global, keys: &str, values: &str) -> ValuePairs {
+    let mut made = Vec::new(alloc);
+    for (key, held) in keys.split(' ').zip(values.split(' ')) {
+        let pair = (value(rt, alloc, key), value(rt, alloc, held));
+        made.push(pair).expect(rt, "memory");
+    }
+    ValuePairs::from_pairs(made)
+}
+
+fn counts(rt: &impl Abort, alloc: Global, items: &str, counts: [u64; 2]) -> ValueCounts {
+    let mut made = Vec::new(alloc);
+    for (item, count) in items.split(' ').zip(counts) {
+        made.push((value(rt, alloc, item), count))
+            .expect(rt, "memory");
+    }
+    ValueCounts::from_counts(made)
+}
+
+fn shape(rt: &impl Abort, alloc: Global, held: Held<'_>) -> Shape {
+    match held {
+        Held::One(spelling) => Shape::One(value(rt, alloc, spelling)),
+        Held::Number(number) => Shape::Number(number),
+        Held::Items(spellings) => Shape::Items(slots(rt, alloc, spellings)),
+        Held::Map(keys, values) => Shape::Map(pairs(rt, alloc, keys, values)),
+        Held::Counts(items, numbers) => Shape::Counts(counts(rt, alloc, items, numbers)),
+        Held::Row(spellings) => Shape::Row(slots(rt, alloc, spellings)),
+    }
+}
+
+#[test]
+fn states(rt: HostRuntime) {
+    let rows = [
+        (Held::One("nil"), "state o one nil\n"),
+        (Held::Number(-5), "state o number -5\n"),
+        (Held::Items("-1 10"), "state o items -1 10\n"),
+        (
+            Held::Map("\"a\" \"b\"", "1 true"),
+            "state o map \"a\" 1 \"b\" true\n",
+        ),
+        (
+            Held::Counts("nil \"\\\"\"", [3, 1]),
+            "state o counts nil 3 \"\\\"\" 1\n",
+        ),
+        (Held::Row("-3 -4"), "state o row -3 -4\n"),
+        (Held::Items(""), "state o items\n"),
+    ];
+    // each is put behind those before
+    let (mut text, mut length) = (Bytes::new(rt.alloc()), 0);
+    for (held, wanted) in rows {
+        let shape = shape(&rt, rt.alloc(), held);
+        append_state(&mut text, &name(&rt, "o"), &shape).expect(&rt, "memory");
+        is_text(
+            &rt,
+            text.items().get(length..).expect(&rt, "the text before"),
+            wanted,
+        );
+        length = text.items().len();
+    }
+}
+
+#[test]
+fn the_text_of_all(rt: HostRuntime) {
+    let spec = built_in(&rt, rt.alloc());
+    let text = "rdspec 1\n\
+        kind register\n\
+        method read -> value\n\
+        method write value -> done\n\
+        method swap value -> prev\n\
+        commute read read when true\n\
+        commute read write when false\n\
+        commute read swap when value@2 = prev@2\n\
+        commute write write when false\n\
+        commute write swap when false\n\
+        commute swap swap when value@1 = prev@1 and value@2 = prev@2\n\
+        kind counter\n\
+        method add amount -> done\n\
+        method get -> total\n\
+        commute add add when true\n\
+        commute add get when amount@1 = 0\n\
+        commute get get when true\n\
+        kind set\n\
+        method add item -> done\n\
+        method remove item -> done\n\
+        method contains item -> found\n\
+        method size -> n\n\
+        commute add add when item@1 != item@2 or done@1 = false and done@2 = false\n\
+        commute add remove when item@1 != item@2 or done@1 = false and done@2 = false\n\
+        commute add contains when item@1 != item@2 or done@1 = false\n\
+        commute add size when done@1 = false\n\
+        commute remove remove when item@1 != item@2 or done@1 = false and done@2 = false\n\
+        commute remove contains when item@1 != item@2 or done@1 = false\n\
+        commute remove size when done@1 = false\n\
+        commute contains contains when true\n\
+        commute contains size when true\n\
+        commute size size when true\n\
+        kind dictionary\n\
+        method put key value -> prev\n\
+        method get key -> value\n\
+        method size -> n\n\
+        commute put put when key@1 != key@2 or value@1 = prev@1 and value@2 = prev@2\n\
+        commute put get when key@1 != key@2 or value@1 = prev@1\n\
+        commute put size when value@1 = nil and prev@1 = nil or value@1 != nil and prev@1 != nil\n\
+        commute get get when true\n\
+        commute get size when true\n\
+        commute size size when true\n";
+    let printed = print(rt.alloc(), &spec).expect(&rt, "memory");
+    is_text(&rt, printed.items(), text);
+}
+
+#[test]
+fn a_formula_of_counters(rt: HostRuntime) {
+    let spec = built_in(&rt, rt.alloc());
+    let counter = kind_at(&rt, &spec, 1);
+    assert!(rt; counter.methods().len() == 2);
+    let text = formula_text(rt.alloc(), counter, 0, 1).expect(&rt, "memory");
+    is_text(&rt, text.items(), "add get when amount@1 = 0");
+}

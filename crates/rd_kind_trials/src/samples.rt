@@ -1,0 +1,130 @@
+//! Values, formulas, kinds and lines that are made from texts.
+ghost use Rattle.std.specs.Prelude.{◌≡◌, ◌≢◌, ◌<◌, ◌^◌, AllPairs, IsTrue, Some, length, slice_get};
+ghost use Rattle.rd_ecl.specs.Kinds.{kind_names, kinds_of};
+ghost use Rattle.rd_ecl.specs.Specified.{slots_at};
+ghost use Rattle.rd_kinds.specs.Shipped.{shipped_kinds};
+
+use rd_base::{Bytes, Name, Slots, Value, read_value, spell_value};
+use rd_causes::Known;
+use rd_ecl::{KindDraft, KindSpec, Method, Spec};
+use rd_event::{Line, read_line};
+use rd_kinds::shipped;
+use rd_spec::parse;
+use std::alloc::Global;
+use std::process::Abort;
+
+/// The value with this spelling.
+pub fn value(rt: &impl Abort, alloc: Global, spelling: &str) -> Value {
+    read_value(alloc, spelling.as_bytes()).expect(rt, "a value")
+}
+
+/// The values with these spellings, with a blank between two.
+pub fn slots(rt: &impl Abort, alloc: Global, spellings: &str) -> Slots {
+    let mut slots = Slots::new(alloc);
+    if spellings.is_empty() {
+        return slots;
+    }
+    for spelling in spellings.split(' ') {
+        slots.push(value(rt, alloc, spelling)).expect(rt, "memory");
+    }
+    slots
+}
+
+/// The name with these letters.
+pub fn name(rt: &impl Abort, text: &str) -> Name {
+    Name::from_bytes(text.as_bytes()).expect(rt, "a name")
+}
+
+/// The bytes are this text.
+pub fn is_text(rt: &impl Abort, found: &[u8], wanted: &str) {
+    assert!(rt; found == wanted.as_bytes(), "{wanted}");
+}
+
+/// Is this the spelling of the value?
+pub fn is_spelled(rt: &impl Abort, alloc: Global, value: &Value, spelling: &str) -> bool {
+    let spelled = spell_value(alloc, value).expect(rt, "memory");
+    spelled.items() == spelling.as_bytes()
+}
+
+/// The kinds that a text says.
+#[tactic(auto, using(crate::proofs::NameLemmas::few_kinds, crate::proofs::NameLemmas::names_differ))]
+pub fn spec_of(rt: &impl Abort, alloc: Global, text: &str) -> Spec
+    ensures few { length result < 2 ^ 32 }
+    ensures different { AllPairs (λ x y. x ≢ y) (kind_names (kinds_of result)) }
+{
+    parse(alloc, text.as_bytes(), &[]).expect(rt, "a specification")
+}
+
+/// The kinds that are built in.
+pub fn built_in(rt: &impl Abort, alloc: Global) -> Spec
+    ensures { result ≡ shipped_kinds }
+{
+    shipped(alloc).expect(rt, "memory")
+}
+
+/// The kind that these lines of a specification begin.
+pub fn draft_of(rt: &impl Abort, alloc: Global, lines: &str) -> KindDraft {
+    let mut known = Known::new(alloc);
+    for line in lines.split('\n') {
+        assert!(rt; line.len() <= 1_048_576);
+        let read = rd_judging::read_line(alloc, &[], &mut known, line.as_bytes());
+        assert!(rt; read.is_ok(), "{line}");
+    }
+    known.block.expect(rt, "a kind").draft
+}
+
+/// The kind with this number.
+pub fn kind_at<'a>(rt: &impl Abort, kinds: &'a Spec, number: u32) -> &'a KindSpec
+    ensures { slice_get kinds.now number ≡ Some result.now }
+{
+    kinds.kinds().get(number as usize).expect(rt, "a kind")
+}
+
+/// Does the kind have this method, with so many slots?
+pub fn has_slots(kind: &KindSpec, method: u8, count: usize) -> bool
+    ensures { IsTrue result → (method < length kind.now.methods) × (slots_at kind.now.methods method ≡ count) }
+{
+    match kind.methods().get(usize::from(method)) {
+        Some(method) => method.variables.items().len() == count,
+        None => false,
+    }
+}
+
+/// Do the two calls commute, each a method and its slots?
+pub fn commute(
+    rt: &impl Abort,
+    alloc: Global,
+    kind: &KindSpec,
+    first: (u8, &str),
+    second: (u8, &str),
+) -> bool {
+    let a = slots(rt, alloc, first.1);
+    let b = slots(rt, alloc, second.1);
+    assert!(rt; has_slots(kind, first.0, a.items().len()));
+    assert!(rt; has_slots(kind, second.0, b.items().len()));
+    kind.commute(first.0, a.items(), second.0, b.items())
+}
+
+/// The line of a trace.
+pub fn line(rt: &impl Abort, alloc: Global, text: &str) -> Line {
+    read_line(alloc, text.as_bytes()).expect(rt, "a line")
+}
+
+// Puts a name behind the text, behind this separator.
+fn append_name(rt: &impl Abort, text: &mut Bytes, separator: &[u8], name: &Name) {
+    text.append(separator).expect(rt, "memory");
+    text.append(name.items()).expect(rt, "memory");
+}
+
+/// A name, and behind it each method with its variables.
+pub fn outline(rt: &impl Abort, alloc: Global, name: &Name, methods: &[Method]) -> Bytes {
+    let mut text = Bytes::new(alloc);
+    append_name(rt, &mut text, b"", name);
+    for method in methods {
+        append_name(rt, &mut text, b"; ", &method.name);
+        for variable in method.variables.items() {
+            append_name(rt, &mut text, b" ", variable);
+        }
+    }
+    text
+}
