@@ -3,6 +3,7 @@
 use crate::files::read_counted;
 use crate::output::OutputSink;
 use rd_io::{Failed, Sink, WriteFault, write_all};
+use rd_run::Status;
 use std::cell::{Cell, RefCell};
 use std::fmt::Display;
 use std::io;
@@ -138,4 +139,23 @@ fn a_read_error_is_a_fault(rt: HostRuntime) -> Result<(), Fail> {
     );
     assert_eq!(rt; last, u64::MAX);
     Ok(())
+}
+
+#[test]
+fn the_numbers_of_statuses(rt: HostRuntime) {
+    let statuses = [
+        Status::Clean,
+        Status::Raced,
+        Status::Usage,
+        Status::SpecRefused,
+        Status::TraceRefused,
+        Status::ReplayDiffers,
+        Status::InputFault,
+        Status::OutputFault,
+        Status::NoMemory,
+        Status::LimitReached,
+    ];
+    for (number, status) in statuses.iter().enumerate() {
+        assert!(rt; usize::from(status.code()) == number, "{number}");
+    }
 }

@@ -17,3 +17,5 @@ mod reports;
 mod roster;
 #[cfg(test)]
 mod samples;
+#[cfg(test)]
+mod single_calls;

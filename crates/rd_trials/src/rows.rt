@@ -1,0 +1,116 @@
+//! A row, and its runs.
+ghost use Rattle.std.specs.Prelude.{◌≡◌, ◌<◌, ◌≤◌};
+ghost use Rattle.rd_base.specs.Limits.{AreUsable};
+
+use rd_base::{Limits, NoMemory, Steps, Word};
+use rd_io::{MemoryInputs, MemorySink};
+use rd_run::{Status, run};
+use std::alloc::Global;
+use std::marker::Brand;
+use std::sync::ledger::{Blank, Ledger};
+
+/// The words of a command, two files, what may fail, the limits, and what the run should answer and write.
+#[derive(Drop)]
+pub struct Row {
+    pub alloc: Global,
+    pub words: Vec<Word>,
+    pub trace: Vec<u8>,
+    pub specification: Vec<u8>,
+    /// how many bytes a read gives at most, one run for each
+    pub pieces: Vec<u32>,
+    pub failing_reads: Vec<u32>,
+    pub failing_writes: Vec<u32>,
+    pub limits: Limits,
+    pub status: u64,
+    pub writes: Vec<u8>,
+}
+
+fn run_with<L: Ledger>(
+    alloc: Global,
+    words: &[Word],
+    inputs: &mut MemoryInputs,
+    out: &mut MemorySink,
+    limits: &Limits,
+    blank: Blank,
+) -> Status
+    requires usable { AreUsable limits.now }
+    requires name { blank.name ≡ L.name }
+    requires parts { blank.parts ≡ L.parts }
+    requires some { 0 < blank.parts }
+{
+    let mut steps = Steps::<L>::new(blank);
+    run(alloc, words, inputs, out, limits, &mut steps)
+}
+
+impl Row {
+    /// A row without words, over empty files.
+    pub fn new(alloc: Global) -> Row {
+        Row {
+            alloc,
+            words: Vec::new(alloc),
+            trace: Vec::new(alloc),
+            specification: Vec::new(alloc),
+            pieces: Vec::new(alloc),
+            failing_reads: Vec::new(alloc),
+            failing_writes: Vec::new(alloc),
+            limits: Limits::standard(),
+            status: 0,
+            writes: Vec::new(alloc),
+        }
+    }
+
+    /// Makes it a row without words over the same files.
+    pub fn begin(&mut self) {
+        self.words.clear();
+        self.pieces.clear();
+        self.failing_reads.clear();
+        self.failing_writes.clear();
+        self.limits = Limits::standard();
+        self.status = 0;
+        self.writes.clear();
+    }
+
+    /// The two files, read in pieces of so many bytes.
+    fn inputs(&self, piece: u32) -> Result<MemoryInputs, NoMemory>
+        requires { 1 ≤ piece }
+    {
+        let mut inputs = MemoryInputs::new(self.alloc, &self.failing_reads)?;
+        let trace = Word::from_bytes(self.alloc, b"t.trace")?;
+        inputs.add(&trace, &self.trace, piece)?;
+        let specification = Word::from_bytes(self.alloc, b"s")?;
+        inputs.add(&specification, &self.specification, piece)?;
+        Ok(inputs)
+    }
+
+    /// Does the run in such pieces answer and write what it should? None where memory runs out, or the row can't be run.
+    fn is_met_by(&self, piece: u32) -> Option<bool> {
+        let limits = self.limits;
+        if piece < 1 || limits.line < 1 {
+            return None;
+        }
+        if limits.bytes >= u64::MAX || limits.events > 4_294_967_294 {
+            return None;
+        }
+        let mut inputs = self.inputs(piece).ok()?;
+        let mut out = MemorySink::new(self.alloc, 16_384, &self.failing_writes).ok()?;
+        let status = run_with::<Brand>(
+            self.alloc,
+            &self.words,
+            &mut inputs,
+            &mut out,
+            &limits,
+            Blank::new(1),
+        );
+        Some(u64::from(status.code()) == self.status && out.written() == self.writes.as_slice())
+    }
+
+    /// Do all runs of the row answer and write what they should? None where memory runs out, or the row can't be run.
+    pub fn is_met(&self) -> Option<bool> {
+        let mut met = true;
+        for piece in &self.pieces {
+            let is_met = self.is_met_by(*piece)?;
+            met = met && is_met;
+        }
+        Some(met)
+    }
+}
