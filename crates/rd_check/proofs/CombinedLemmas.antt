@@ -19,8 +19,8 @@ use Rattle.rd_spec_commands.specs.declared.specifications.Unread.TheVariants.{Fa
 use Rattle.rd_spec_commands.specs.declared.specifications.Unread.{Unread}
 use Rattle.rd_walk.specs.declared.status.Status.TheVariants.{NoMemory}
 use Rattle.rd_walk.specs.declared.status.Status.{Status}
-use Rattle.rd_spec.specs.Texts.{IsSpecRefused, SpecSays}
-use Rattle.rd_spec.specs.declared.parsing.SpecRefused.{SpecRefused as Refusal}
+use Rattle.rd_reading.specs.Texts.{IsSpecRefused, SpecSays}
+use Rattle.rd_reading.specs.declared.parsing.SpecRefused.{SpecRefused as Refusal}
 use Rattle.std.proofs.Common.{◌≡◌, ◌≢◌, ℕ, ◌+◌, ◌^◌, ◌<◌, ◌≤◌, Bool, true, false, cond, ltb, List, [], ◌∷◌, ◌++◌, length, Some, None, refl, sym, ◌∙◌, subst, arith, inl, inr}
 use Rattle.std.proofs.lemmas.Bool.Decides.{nat_tests}
 use Rattle.std.specs.Prelude.{is_none}

@@ -20,8 +20,8 @@ use Rattle.rd_walk.specs.Walk.{Walked, ending_of, entries_of, trace_of}
 use Rattle.rd_walk.specs.declared.status.Status.TheVariants.{OutputFault}
 use Rattle.rd_walk.specs.declared.status.Status.{Status}
 use Rattle.rd_walk.specs.declared.walk.WalkEnd.TheVariants.{End}
-use Rattle.rd_spec.proofs.OneLemmas.{never_refused, one_said}
-use Rattle.rd_spec.specs.Texts.{IsSpecRefused, SpecSays}
+use Rattle.rd_reading.proofs.OneLemmas.{never_refused, one_said}
+use Rattle.rd_reading.specs.Texts.{IsSpecRefused, SpecSays}
 use Rattle.std.proofs.Common.{◌≡◌, ◌≢◌, ℕ, false, List, ◌++◌, Option, Some, None, sym, ap, ◌∙◌, subst, inl, inr, true≢false}
 use Rattle.std.specs.Prelude.{option_map}
 

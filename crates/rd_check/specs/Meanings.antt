@@ -14,7 +14,7 @@ use Rattle.rd_walk.specs.Walk.{ending_of, trace_of}
 use Rattle.rd_walk.specs.declared.status.Status.TheVariants.{NoMemory}
 use Rattle.rd_walk.specs.declared.status.Status.{Status}
 use Rattle.rd_walk.specs.declared.walk.WalkEnd.TheVariants.{End}
-use Rattle.rd_spec.specs.Texts.{SpecSays}
+use Rattle.rd_reading.specs.Texts.{SpecSays}
 use Rattle.std.specs.Prelude.{◌≡◌, ◌⊎◌, ℕ, ◌+◌, Bool, List, [], ◌∷◌, ◌++◌, Option, Some, None}
 
 -- the kinds of a trace's objects: the shipped ones, then those of the specification, where one is named

@@ -17,9 +17,9 @@ use Rattle.rd_formulas.proofs.FindingLemmas.{none_left, none_right}
 use Rattle.rd_grammar.specs.declared.marks.Sign.{Sign}
 use Rattle.rd_grammar.specs.declared.marks.Sign.TheVariants.{Equal, Different, Less, AtMost}
 use Rattle.rd_grammar.specs.Grammar.{Tree as Read, truth as read_truth, relation, negation as read_not, both as read_and, either as read_or}
-use Rattle.rd_words.specs.declared.terms.Said.TheVariants.{Variable, Value as ValueSaid}
-use Rattle.rd_words.specs.Words.{SaysTerm}
-use Rattle.rd_words.proofs.TermLemmas.{one_term}
+use Rattle.rd_tokens.specs.declared.words.terms.Said.TheVariants.{Variable, Value as ValueSaid}
+use Rattle.rd_tokens.specs.Words.{SaysTerm}
+use Rattle.rd_tokens.proofs.TermLemmas.{one_term}
 use Rattle.std.proofs.lemmas.Bool.{and_from}
 
 pub ready : (scope : Scope) (read : Read) → NoneOf (IsUnknown scope) (terms_in read) → NoneOf (IsBare scope) (relations_in read) → IsReady scope read

@@ -19,11 +19,11 @@ use Rattle.rd_grammar.specs.declared.marks.Sign.{Sign}
 use Rattle.rd_grammar.specs.Grammar.{Tree as Read, Says, disj, truth as read_truth, relation, negation as read_not, both as read_and, either as read_or, is_term}
 use Rattle.rd_grammar.specs.Numbers.{NamesMarks, TermAt, is_parenthesis, named_by, numbers_of}
 use Rattle.rd_grammar.proofs.NumberLemmas.{names_marks, in_order}
-use Rattle.rd_tokens.specs.declared.items.Token.{Token}
+use Rattle.rd_tokens.specs.declared.sorts.Token.{Token}
 use Rattle.rd_tokens.specs.Tokens.{IsTokenOf, bytes_behind, bytes_of}
-use Rattle.rd_words.specs.Words.{AreMarks}
-use Rattle.rd_words.proofs.MarkLemmas.{numbered}
-use Rattle.rd_words.proofs.WordLemmas.{token_said}
+use Rattle.rd_tokens.specs.Words.{AreMarks}
+use Rattle.rd_tokens.proofs.MarkLemmas.{numbered}
+use Rattle.rd_tokens.proofs.WordLemmas.{token_said}
 
 -- the first node that offends is one of the nodes
 later_within : (number : ℕ) (x : Option Reason) (later : Option Outside) (count : ℕ) (o : Outside) → or_later number x later ≡ Some o

@@ -9,7 +9,7 @@ use Rattle.rd_formulas.specs.Scope.{IsBare, IsUnknown, MeansAt, place_at}
 use Rattle.rd_grammar.specs.declared.marks.Mark.{Mark}
 use Rattle.rd_grammar.specs.FirstWrong.{WrongAt}
 use Rattle.rd_grammar.specs.Grammar.{Tree as Read, Says, disj}
-use Rattle.rd_words.specs.Words.{AreMarks}
+use Rattle.rd_tokens.specs.Words.{AreMarks}
 
 -- what the tokens say by the grammar alone
 abbrev pub Reads : Scope → Read → Type 0

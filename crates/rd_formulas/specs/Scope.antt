@@ -8,8 +8,8 @@ use Rattle.rd_formulas.specs.declared.terms.Meant.TheVariants.{Slot, Value as Va
 use Rattle.rd_formulas.specs.Meaning.{Related}
 use Rattle.rd_grammar.specs.Grammar.{Tree as Read, truth, relation, negation, both, either}
 use Rattle.rd_tokens.specs.Tokens.{IsTokenOf, LiesIn, bytes_of}
-use Rattle.rd_words.specs.declared.terms.Said.TheVariants.{Variable, Value as ValueSaid}
-use Rattle.rd_words.specs.Words.{IsTerm, SaysTerm}
+use Rattle.rd_tokens.specs.declared.words.terms.Said.TheVariants.{Variable, Value as ValueSaid}
+use Rattle.rd_tokens.specs.Words.{IsTerm, SaysTerm}
 
 -- the tokens are tokens of the line, and the methods have at most 7 variables
 pub record IsScope (scope : Scope) : Type 0 where

@@ -15,7 +15,7 @@ use crate::scope::Scope;
 use rd_base::NoMemory;
 use rd_ecl::{Formula, Outside, Reason};
 use rd_grammar::{ParseRefused, Parsed, parse_formula};
-use rd_words::marks;
+use rd_tokens::marks;
 use std::alloc::Global;
 use thiserror::Error;
 

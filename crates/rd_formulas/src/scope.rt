@@ -5,8 +5,7 @@ ghost use Rattle.rd_formulas.specs.Scope.{IsBare, IsScope, IsTermAt, IsUnknown, 
 
 use rd_base::Name;
 use rd_ecl::Side;
-use rd_tokens::Token;
-use rd_words::read_variable;
+use rd_tokens::{Token, read_variable};
 
 /// The tokens of a formula in their line, and the variables of the methods on both sides.
 #[derive(Clone, Copy)]

@@ -9,7 +9,7 @@ use crate::scope::Scope;
 use rd_base::{NoMemory, Value};
 use rd_ecl::{Formula, Rel, Side, Term};
 use rd_grammar::Sign;
-use rd_words::{Said, read_term};
+use rd_tokens::{Said, read_term};
 use std::alloc::Global;
 
 /// What a term stands for.

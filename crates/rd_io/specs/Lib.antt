@@ -1,4 +1,5 @@
 pub mod Calls
+pub mod Fronts
 pub mod Inputs
 pub mod LineReader
 pub mod Lines

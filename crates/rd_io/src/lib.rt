@@ -2,6 +2,7 @@
 #![tactic(auto)]
 
 mod calls;
+mod fronts;
 mod inputs;
 mod laws;
 mod lines;
@@ -9,6 +10,7 @@ mod memory_inputs;
 mod memory_sink;
 mod sinks;
 
+pub use fronts::{FrontRefused, read_front};
 pub use inputs::{Failed, Inputs};
 pub use laws::law_of_lines;
 pub use lines::{LineReader, Next, ReadEnd};

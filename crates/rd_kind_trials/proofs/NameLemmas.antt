@@ -3,8 +3,8 @@ use Rattle.std.proofs.Common.{◌≡◌, ◌≢◌, ℕ, List, [], ◌∷◌, le
 use Rattle.std.specs.Prelude.{AllPairs, map}
 use Rattle.rd_ecl.specs.Kinds.{kind_names, kinds_of}
 use Rattle.rd_ecl.specs.Specified.{SpecifiedKind}
-use Rattle.rd_spec.specs.Texts.{SpecSays}
-use Rattle.rd_spec.proofs.NameLemmas.{read_names}
+use Rattle.rd_reading.specs.Texts.{SpecSays}
+use Rattle.rd_reading.proofs.NameLemmas.{read_names}
 
 names_kept : (kinds : List SpecifiedKind) → kind_names (kinds_of kinds) ≡ map (λ kind. kind.name) kinds
 names_kept [] = refl

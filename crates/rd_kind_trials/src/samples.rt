@@ -5,10 +5,10 @@ ghost use Rattle.rd_ecl.specs.Specified.{slots_at};
 ghost use Rattle.rd_kinds.specs.Shipped.{shipped_kinds};
 
 use rd_base::{Bytes, Name, Slots, Value, read_value, spell_value};
-use rd_causes::Known;
 use rd_ecl::{KindDraft, KindSpec, Method, Spec};
 use rd_event::{Line, read_line};
 use rd_kinds::shipped;
+use rd_reading::Known;
 use rd_spec::parse;
 use std::alloc::Global;
 use std::process::Abort;
@@ -67,7 +67,7 @@ pub fn draft_of(rt: &impl Abort, alloc: Global, lines: &str) -> KindDraft {
     let mut known = Known::new(alloc);
     for line in lines.split('\n') {
         assert!(rt; line.len() <= 1_048_576);
-        let read = rd_judging::read_line(alloc, &[], &mut known, line.as_bytes());
+        let read = rd_reading::read_line(alloc, &[], &mut known, line.as_bytes());
         assert!(rt; read.is_ok(), "{line}");
     }
     known.block.expect(rt, "a kind").draft

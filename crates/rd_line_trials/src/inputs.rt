@@ -3,10 +3,9 @@ ghost use Rattle.std.specs.Prelude.{◌≡◌, ◌≤◌, None};
 ghost use Rattle.rd_base.specs.Limits.{AreUsable};
 
 use rd_base::{Bytes, Limits, Word};
-use rd_files::{FrontRefused, read_front};
 use rd_io::{
-    Failed, Inputs, LineReader, MemoryInputs, MemorySink, Next, ReadEnd, Sink, WriteFault,
-    write_all,
+    Failed, FrontRefused, Inputs, LineReader, MemoryInputs, MemorySink, Next, ReadEnd, Sink,
+    WriteFault, read_front, write_all,
 };
 use std::alloc::Global;
 use std::process::Abort;

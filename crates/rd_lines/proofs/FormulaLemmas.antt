@@ -2,14 +2,14 @@
 use Rattle.std.proofs.Common.{◌≡◌, ◌≢◌, ◌≤◌, ℕ, zero, suc, ◌+◌, true, List, [], ◌∷◌, ◌++◌, length, take, drop, codes, Some, refl, sym, ◌∙◌, ap, subst, arith, length-drop}
 use Rattle.std.specs.Prelude.{slice_get}
 use Rattle.std.specs.List.{AllByRecursion}
-use Rattle.rd_tokens.specs.declared.items.Sort.TheVariants.{Open as OpenToken, Close as CloseToken, Text}
-use Rattle.rd_tokens.specs.declared.items.Token.{Token}
+use Rattle.rd_tokens.specs.declared.sorts.Sort.TheVariants.{Open as OpenToken, Close as CloseToken, Text}
+use Rattle.rd_tokens.specs.declared.sorts.Token.{Token}
 use Rattle.rd_grammar.specs.FirstWrong.{Begins, WrongAt}
 use Rattle.rd_grammar.specs.Grammar.{Tree, both, either, is_term, Level, disj, conj, prim, Says, disj_one, disj_or, conj_one, conj_and, neg_one, neg_not, prim_truth, prim_in, prim_relation}
 use Rattle.rd_grammar.specs.declared.marks.Mark.{Mark}
 use Rattle.rd_grammar.specs.declared.marks.Symbol.{Symbol}
 use Rattle.rd_grammar.specs.declared.marks.Symbol.TheVariants.{Open, Close, Not, And, Or, Truth, Sign as SignOf, Term, Other}
-use Rattle.rd_words.specs.Words.{IsSymbol, IsMark, AreMarks, sign_word, truth_word}
+use Rattle.rd_tokens.specs.Words.{IsSymbol, IsMark, AreMarks, sign_word, truth_word}
 use Rattle.rd_lines.specs.Lines.{Word, plain, word_at, words_of, AreMarksFrom, IsWrongBehind}
 use Rattle.rd_lines.specs.Reading.{SaysFormula, IsFormulaRefused, count_of}
 use Rattle.std.proofs.Common.{Result, Ok, Err, IfOk}

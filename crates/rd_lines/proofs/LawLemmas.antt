@@ -9,7 +9,7 @@ use Rattle.rd_grammar.specs.declared.marks.Mark.{Mark}
 use Rattle.rd_grammar.specs.declared.marks.Symbol.{Symbol}
 use Rattle.rd_grammar.proofs.FirstWrong.{one_place, right_nowhere}
 use Rattle.rd_grammar.proofs.ReadLemmas.{one_tree}
-use Rattle.rd_words.proofs.WordLemmas.{one_symbol}
+use Rattle.rd_tokens.proofs.WordLemmas.{one_symbol}
 use Rattle.rd_lines.specs.declared.forms.Stage.{Stage}
 use Rattle.rd_lines.specs.Lines.{Word, plain, SaidForm, kind, method, commute, AreMarksFrom, RightLine}
 

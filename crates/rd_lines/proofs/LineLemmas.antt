@@ -6,7 +6,7 @@ use Rattle.rd_lines.specs.declared.forms.Stage.{Stage}
 use Rattle.rd_lines.specs.declared.forms.Stage.TheVariants.{Outside, Methods}
 use Rattle.std.proofs.Common.{◌≤◌, length, ap, arith}
 use Rattle.std.proofs.lemmas.List.{length-map}
-use Rattle.rd_tokens.specs.declared.items.Token.{Token}
+use Rattle.rd_tokens.specs.declared.sorts.Token.{Token}
 use Rattle.rd_lines.specs.Lines.{Word, plain, word_at, words_of, IsShort, BeginsKind, RightLine, said_of}
 use Rattle.rd_lines.specs.declared.forms.FormRefused.TheVariants.{NoMemory}
 use Rattle.std.specs.Prelude.{IfErr}

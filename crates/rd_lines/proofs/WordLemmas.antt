@@ -3,13 +3,13 @@ use Rattle.std.proofs.Common.{◌≡◌, ℕ, List, [], ◌∷◌, length, ◌�
 use Rattle.std.specs.Prelude.{◌==◌, All}
 use Rattle.std.specs.List.{AllByRecursion}
 use Rattle.rd_base.proofs.FoundLemmas.{each_by_recursion, each_from_recursion}
-use Rattle.rd_tokens.specs.declared.items.Token.{Token}
+use Rattle.rd_tokens.specs.declared.sorts.Token.{Token}
 use Rattle.rd_lines.specs.Lines.{Word, word_at, words_of}
 use Rattle.std.proofs.lemmas.Bool.Decides.{nat_tests}
 use Rattle.rd_base.specs.Names.{IsName}
 use Rattle.rd_ecl.specs.Variables.{IsVariable, is_variable as variable_test}
 use Rattle.rd_ecl.proofs.VariableLemmas.{variable_decides}
-use Rattle.rd_words.proofs.TermLemmas.{variable_named as named_of_test}
+use Rattle.rd_tokens.proofs.TermLemmas.{variable_named as named_of_test}
 
 pub variable_named : (bytes : List ℕ) → variable_test bytes ≡ true → IsName bytes
 variable_named bytes test = named_of_test bytes test

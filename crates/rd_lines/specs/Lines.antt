@@ -12,11 +12,11 @@ use Rattle.rd_lines.specs.declared.forms.FormRefused.{FormRefused}
 use Rattle.rd_lines.specs.declared.forms.FormRefused.TheVariants.{Syntax, NoMemory}
 use Rattle.rd_lines.specs.declared.forms.Stage.{Stage}
 use Rattle.rd_lines.specs.declared.forms.Stage.TheVariants.{Outside, Methods}
-use Rattle.rd_tokens.specs.declared.items.Sort.{Sort}
-use Rattle.rd_tokens.specs.declared.items.Sort.TheVariants.{Word as PlainWord}
-use Rattle.rd_tokens.specs.declared.items.Token.{Token}
+use Rattle.rd_tokens.specs.declared.sorts.Sort.{Sort}
+use Rattle.rd_tokens.specs.declared.sorts.Sort.TheVariants.{Word as PlainWord}
+use Rattle.rd_tokens.specs.declared.sorts.Token.{Token}
 use Rattle.rd_tokens.specs.Tokens.{bytes_of}
-use Rattle.rd_words.specs.Words.{IsSymbol}
+use Rattle.rd_tokens.specs.Words.{IsSymbol}
 
 -- a token of a line without its place
 pub record Word : Type 0 where

@@ -15,7 +15,7 @@ use Rattle.rd_lines.specs.declared.forms.Stage.TheVariants.{Outside, Methods}
 use Rattle.rd_lines.specs.declared.lines.Head.{Head}
 use Rattle.rd_lines.specs.declared.lines.Head.TheVariants.{Kind, Method, Commute}
 use Rattle.rd_lines.specs.Lines.{Word, plain, words_of, AreMarksFrom, IsOutOfOrder, IsWrongBehind}
-use Rattle.rd_tokens.specs.declared.items.Token.{Token}
+use Rattle.rd_tokens.specs.declared.sorts.Token.{Token}
 
 -- the word begins no right line
 pub record BeginsNothing (stage : Stage) (word : Word) : Type 0 where

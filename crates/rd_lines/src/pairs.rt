@@ -14,8 +14,7 @@ use crate::words::{is, name_of};
 use rd_base::Name;
 use rd_ecl::Method;
 use rd_grammar::{ParseRefused, Parsed, parse_formula};
-use rd_tokens::Token;
-use rd_words::marks;
+use rd_tokens::{Token, marks};
 use std::alloc::Global;
 
 // The names of the two methods in front, and the tokens behind `when`.

@@ -6,8 +6,7 @@ ghost use Rattle.rd_tokens.specs.Tokens.{LiesIn};
 ghost use Rattle.rd_lines.specs.Lines.{plain, word_at};
 
 use rd_base::Name;
-use rd_tokens::{Sort, Token};
-use rd_words::is_variable;
+use rd_tokens::{Sort, Token, is_variable};
 
 // The bytes of a token that is a run of visible bytes.
 fn plain_bytes<'a>(line: &'a [u8], token: &Token) -> Option<&'a [u8]>

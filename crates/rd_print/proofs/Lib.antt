@@ -2,3 +2,12 @@ pub mod JoinLemmas
 pub mod LineLemmas
 pub mod PairLemmas
 pub mod SoundLemmas
+pub mod TextAgainLemmas
+pub mod TextFormulaLemmas
+pub mod TextJoinLemmas
+pub mod TextPlainLemmas
+pub mod TextSoundLemmas
+pub mod WordAgainLemmas
+pub mod WordFewLemmas
+pub mod WordOneLemmas
+pub mod WordStandLemmas

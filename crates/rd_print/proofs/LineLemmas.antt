@@ -3,10 +3,10 @@ use Rattle.std.proofs.Common.{◌≡◌, ℕ, ◌-◌, List, [], ◌∷◌, ◌+
 use Rattle.std.specs.List.{range_with_len}
 use Rattle.std.proofs.lemmas.Grind.{flat_map-append}
 use Rattle.std.proofs.lemmas.List.Folds.{flat_map-map}
-use Rattle.rd_canonical.specs.Canonical.{plain}
+use Rattle.rd_print.specs.Canonical.{plain}
 use Rattle.rd_ecl.specs.declared.kinds.Method.{Method}
 use Rattle.rd_ecl.specs.Specified.{SpecifiedKind}
-use Rattle.rd_text.specs.Text.{text_of}
+use Rattle.rd_print.specs.Text.{text_of}
 use Rattle.rd_print.specs.Printed.{block_lines, block_text, commute_words, kind_words, line_text, method_words, pairs_of, slot_words, spec_text}
 use Rattle.rd_print.specs.Writing.{methods_text, pairs_text, spaced}
 use Rattle.rd_print.proofs.JoinLemmas.{flat_of_flat, flat_same}

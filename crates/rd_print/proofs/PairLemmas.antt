@@ -3,8 +3,8 @@ use Rattle.std.proofs.Common.{◌≡◌, ℕ, Bool, true, false, List, [], ◌�
 use Rattle.std.specs.Prelude.{option_map, slice_get, unwrap_or}
 use Rattle.rd_base.specs.declared.values.Value.{Value}
 use Rattle.rd_base.specs.declared.values.Value.TheVariants.{Nil, Bool as Truth, Int, Text}
-use Rattle.rd_canonical.specs.declared.items.Word.{Word}
-use Rattle.rd_canonical.specs.Canonical.{AreValues, is_or, not_words, part_words, plain, sided_words, sign_of, sort_of_value, term_word, words_of}
+use Rattle.rd_print.specs.declared.canonical.word_list.Word.{Word}
+use Rattle.rd_print.specs.Canonical.{AreValues, is_or, not_words, part_words, plain, sided_words, sign_of, sort_of_value, term_word, words_of}
 use Rattle.rd_ecl.specs.declared.formulas.Rel.TheVariants.{Eq, Lt, Le}
 use Rattle.rd_ecl.specs.declared.formulas.Side.{Side}
 use Rattle.rd_ecl.specs.declared.formulas.Side.TheVariants.{First, Second}
@@ -15,8 +15,8 @@ use Rattle.rd_ecl.specs.Formulas.{Tree, truth, atom, cross, mixed, negation, bot
 use Rattle.rd_ecl.specs.Specified.{SpecifiedKind, formula_at}
 use Rattle.rd_grammar.specs.declared.marks.Sign.{Sign}
 use Rattle.rd_grammar.specs.declared.marks.Sign.TheVariants.{Different}
-use Rattle.rd_tokens.specs.declared.items.Sort.TheVariants.{Word as Plain}
-use Rattle.rd_text.specs.Text.{gap, text_of}
+use Rattle.rd_tokens.specs.declared.sorts.Sort.TheVariants.{Word as Plain}
+use Rattle.rd_print.specs.Text.{gap, text_of}
 use Rattle.rd_print.specs.Printed.{PairHasValues, name_at, pair_text, variables_at}
 
 -- a space stands before the words, behind a word

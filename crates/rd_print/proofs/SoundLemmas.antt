@@ -8,15 +8,15 @@ use Rattle.std.proofs.lemmas.List.Sums.{AllPass-from_list_all}
 use Rattle.std.proofs.lemmas.Option.{slice_get-get_or}
 use Rattle.rd_base.specs.Names.{IsName, is_name_byte}
 use Rattle.rd_base.proofs.FoundLemmas.{each_by_recursion, each_from_recursion}
-use Rattle.rd_canonical.specs.declared.items.Word.{Word}
-use Rattle.rd_canonical.specs.Canonical.{AreValues, plain, words_of}
+use Rattle.rd_print.specs.declared.canonical.word_list.Word.{Word}
+use Rattle.rd_print.specs.Canonical.{AreValues, plain, words_of}
 use Rattle.rd_ecl.specs.declared.kinds.Method.{Method}
 use Rattle.rd_ecl.specs.Formulas.{Tree, Fits}
 use Rattle.rd_ecl.specs.Specified.{IsKind, IsMethod, SpecifiedKind, formula_at, slots_at}
 use Rattle.rd_ecl.specs.Variables.{IsVariable, is_variable_byte}
 use Rattle.rd_tokens.specs.Tokens.{is_word_byte}
-use Rattle.rd_text.specs.Text.{IsSound}
-use Rattle.rd_text.proofs.SoundLemmas.{AreSound, formula_sound}
+use Rattle.rd_print.specs.Text.{IsSound}
+use Rattle.rd_print.proofs.TextSoundLemmas.{AreSound, formula_sound}
 use Rattle.rd_print.specs.Printed.{AreNames, HasNames, HasValues, HaveValues, block_lines, commute_words, formula_words, header_words, kind_words, method_words, name_at, pairs_of, slot_words, spec_lines, variables_at}
 
 -- names and variables

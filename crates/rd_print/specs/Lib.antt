@@ -1,7 +1,5 @@
+pub mod Canonical
 pub mod Printed
+pub mod Text
+pub mod WordWriting
 pub mod Writing
-pub use Rattle.rd_base.specs.Names
-pub use Rattle.rd_ecl.specs.Formulas
-pub use Rattle.rd_ecl.specs.Specified
-pub use Rattle.rd_canonical.specs.Canonical
-pub use Rattle.rd_text.specs.Text

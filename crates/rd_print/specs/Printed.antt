@@ -5,9 +5,9 @@ use Rattle.rd_base.specs.Names.{IsName}
 use Rattle.rd_ecl.specs.declared.kinds.Method.{Method}
 use Rattle.rd_ecl.specs.Formulas.{Tree}
 use Rattle.rd_ecl.specs.Specified.{SpecifiedKind, formula_at}
-use Rattle.rd_canonical.specs.declared.items.Word.{Word}
-use Rattle.rd_canonical.specs.Canonical.{AreValues, plain, words_of}
-use Rattle.rd_text.specs.Text.{text_of}
+use Rattle.rd_print.specs.declared.canonical.word_list.Word.{Word}
+use Rattle.rd_print.specs.Canonical.{AreValues, plain, words_of}
+use Rattle.rd_print.specs.Text.{text_of}
 
 -- the name and the variables of the method with this number; none where no method has it
 abbrev pub name_at : List Method → ℕ → List ℕ

@@ -3,7 +3,7 @@ use Rattle.std.specs.Prelude.{ℕ, ◌-◌, ◌<◌, ◌≤◌, List, ◌++◌, 
 use Rattle.std.specs.List.{range_with_len}
 use Rattle.rd_ecl.specs.declared.kinds.Method.{Method}
 use Rattle.rd_ecl.specs.Specified.{SpecifiedKind}
-use Rattle.rd_canonical.specs.declared.items.Word.{Word}
+use Rattle.rd_print.specs.declared.canonical.word_list.Word.{Word}
 use Rattle.rd_print.specs.Printed.{PairHasValues, commute_words, line_text, method_words}
 
 -- words, each behind a space

@@ -1,10 +1,10 @@
 //! The law of printed texts.
 ghost use Rattle.std.specs.Prelude.{◌≡◌, ℕ, List, ◌++◌, All, Some, codes, flat_map};
-ghost use Rattle.rd_canonical.specs.Canonical.{words_of};
+ghost use Rattle.rd_print.specs.Canonical.{words_of};
 ghost use Rattle.rd_ecl.specs.Formulas.{Tree};
 ghost use Rattle.rd_ecl.specs.Specified.{IsKind, SpecifiedKind, formula_at};
 ghost use Rattle.rd_print.specs.Printed.{AreNames, HaveValues, block_text, commute_words, name_at, pair_text, spec_lines, spec_text, variables_at};
-ghost use Rattle.rd_text.specs.Text.{IsSound, text_of};
+ghost use Rattle.rd_print.specs.Text.{IsSound, text_of};
 
 /// The law of printed texts: a specification's text is the header, then the text of each kind. The line of a pair is `commute`
 /// and the text of the pair, which is the names of its methods and behind `when` the text of its formula. The words of each

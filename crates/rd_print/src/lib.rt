@@ -5,11 +5,15 @@
 //! `commute M N when FORMULA`. Tokens stand one space apart, but none inside a parenthesis at its edges.
 #![tactic(auto)]
 
+mod canonical;
 mod laws;
 mod lines;
 mod pairs;
 mod printing;
+mod texts;
 
+pub use canonical::{Word, Words, law_of_canonical_words, words};
 pub use laws::law_of_printed_texts;
 pub use pairs::formula_text;
 pub use printing::{print, print_kind};
+pub use texts::{append_text, law_of_texts};

@@ -3,10 +3,9 @@ ghost use Rattle.std.specs.Prelude.{◌≡◌, ◌≤◌, ◌<◌, ◌++◌, IfO
 ghost use Rattle.rd_print.specs.Printed.{HasValues, PairHasValues, commute_words, line_text, pair_text};
 ghost use Rattle.rd_print.specs.Writing.{RowHasValues, pairs_text, row_text};
 
+use crate::{append_text, words};
 use rd_base::{Bytes, NoMemory};
-use rd_canonical::words;
 use rd_ecl::{KindSpec, Method};
-use rd_text::append_text;
 use std::alloc::Global;
 
 // The method with this number.

@@ -8,7 +8,7 @@ use Rattle.rd_ecl.specs.Kinds.{kind_names, kinds_of}
 use Rattle.rd_ecl.specs.Specified.{SpecifiedKind}
 use Rattle.rd_kinds.specs.Shipped.{reserved_names, shipped_kinds}
 use Rattle.rd_kinds.proofs.NameLemmas.{names_differ, names_reserved}
-use Rattle.rd_spec.specs.Texts.{HasNewNames}
+use Rattle.rd_reading.specs.Texts.{HasNewNames}
 
 abbrev names : List SpecifiedKind → List (List ℕ)
 names kinds = map (λ kind. kind.name) kinds

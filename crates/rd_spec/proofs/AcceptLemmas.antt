@@ -4,17 +4,17 @@ use Rattle.std.specs.Prelude.{Contains, slice_index, is_some}
 use Rattle.std.proofs.lemmas.List.{take-append-drop}
 use Rattle.rd_base.specs.declared.limits.LimitName.{LimitName}
 use Rattle.rd_base.specs.declared.limits.LimitName.TheVariants.{Bytes, Line, Events, Threads, Locks, Objects, Depth, SpecText, Tokens, Kinds, Methods as MethodLimit, Arguments, Nodes, FormulaDepth, Predicates}
-use Rattle.rd_causes.specs.Adding.{Accepts, FormAdds, adds_form, adds_header, with_header}
-use Rattle.rd_causes.specs.Causes.{FormHas, Has, HasManyTokens, HasNone, IsFirstRepeated, KindHas, LacksPair, LineHas, MethodHas, form_has, header_words, line_has}
-use Rattle.rd_causes.specs.Known.{kind_in, kind_names, kinds_so_far, methods_of, nothing, stage_of}
-use Rattle.rd_causes.specs.declared.causes.SpecCause.{SpecCause}
-use Rattle.rd_causes.specs.declared.causes.SpecCause.TheVariants.{Header, Syntax, UnknownMethod, UnknownVariable, NoVariable, OutsideFragment, Duplicate, MissingPair, KindTaken, Limit}
-use Rattle.rd_causes.specs.declared.known.Known.{Known}
+use Rattle.rd_reading.specs.Adding.{Accepts, FormAdds, adds_form, adds_header, with_header}
+use Rattle.rd_reading.specs.Causes.{FormHas, Has, HasManyTokens, HasNone, IsFirstRepeated, KindHas, LacksPair, LineHas, MethodHas, form_has, header_words, line_has}
+use Rattle.rd_reading.specs.Known.{kind_in, kind_names, kinds_so_far, methods_of, nothing, stage_of}
+use Rattle.rd_reading.specs.declared.causes.SpecCause.{SpecCause}
+use Rattle.rd_reading.specs.declared.causes.SpecCause.TheVariants.{Header, Syntax, UnknownMethod, UnknownVariable, NoVariable, OutsideFragment, Duplicate, MissingPair, KindTaken, Limit}
+use Rattle.rd_reading.specs.declared.known.Known.{Known}
 use Rattle.rd_ecl.specs.Specified.{IsWhole, SpecifiedKind, formula_at, names_of}
 use Rattle.rd_lines.specs.Lines.{RightLine, SaidForm, Word, plain, words_of, kind as kind_said, method as method_said, commute as commute_said}
 use Rattle.rd_lines.proofs.LawLemmas.{one_form, right_line, same_bytes}
 use Rattle.rd_lines.specs.declared.forms.Stage.{Stage}
-use Rattle.rd_tokens.specs.declared.items.Token.{Token}
+use Rattle.rd_tokens.specs.declared.sorts.Token.{Token}
 use Rattle.rd_tokens.specs.Tokens.{AreTokens}
 
 module _ (taken : List (List ℕ)) (known : Known) (line : List ℕ) (tokens : List Token) where

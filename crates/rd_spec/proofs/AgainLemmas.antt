@@ -6,24 +6,24 @@ use Rattle.std.proofs.lemmas.List.{append_assoc, append-nil, map-append, get_or_
 use Rattle.rd_base.specs.Names.{IsName}
 use Rattle.rd_base.proofs.FoundLemmas.{each_by_recursion}
 use Rattle.std.proofs.lemmas.List.Elements.{Contains-append_right}
-use Rattle.rd_canonical.specs.Canonical.{plain as printed}
-use Rattle.rd_causes.specs.Adding.{with_header, with_kind}
-use Rattle.rd_causes.specs.Causes.{EndHas, HasNone}
-use Rattle.rd_causes.specs.Known.{kind_in, kind_names, kind_without, kinds_so_far, nothing, variables_at}
-use Rattle.rd_causes.specs.declared.causes.SpecCause.TheVariants.{Header, Syntax, UnknownMethod, UnknownVariable, NoVariable, OutsideFragment, Duplicate, MissingPair, KindTaken, Limit}
-use Rattle.rd_causes.specs.declared.known.Known.{Known}
+use Rattle.rd_print.specs.Canonical.{plain as printed}
+use Rattle.rd_reading.specs.Adding.{with_header, with_kind}
+use Rattle.rd_reading.specs.Causes.{EndHas, HasNone}
+use Rattle.rd_reading.specs.Known.{kind_in, kind_names, kind_without, kinds_so_far, nothing, variables_at}
+use Rattle.rd_reading.specs.declared.causes.SpecCause.TheVariants.{Header, Syntax, UnknownMethod, UnknownVariable, NoVariable, OutsideFragment, Duplicate, MissingPair, KindTaken, Limit}
+use Rattle.rd_reading.specs.declared.known.Known.{Known}
 use Rattle.rd_ecl.specs.declared.kinds.Method.{Method}
 use Rattle.rd_ecl.specs.Formulas.{Tree}
 use Rattle.rd_ecl.specs.Specified.{IsKind, IsWhole, SpecifiedKind, formula_at}
 use Rattle.rd_ecl.specs.Variables.{AreVariables, IsVariable}
-use Rattle.rd_pairs.proofs.NumberLemmas.{AreDifferent}
+use Rattle.rd_reading.proofs.NumberLemmas.{AreDifferent}
 use Rattle.rd_print.specs.Printed.{HasNames, HasValues, block_lines, commute_words, header_words, kind_words, method_words, pairs_of, spec_lines, spec_text}
 use Rattle.rd_print.proofs.SoundLemmas.{commute_sound, kind_sound, lines_sound, method_sound, name_at_is}
-use Rattle.rd_text.specs.Text.{IsSound, text_of}
+use Rattle.rd_print.specs.Text.{IsSound, text_of}
 use Rattle.rd_spec.specs.Again.{AreSame, IsSame, MayBeRead}
-use Rattle.rd_spec.specs.Texts.{Reads, SpecSays, no_more}
+use Rattle.rd_reading.specs.Texts.{Reads, SpecSays, no_more}
 use Rattle.rd_spec.proofs.AcceptLemmas.{header_accepted, lacks_none}
-use Rattle.rd_spec.proofs.LineLemmas.{reads_on}
+use Rattle.rd_reading.proofs.ParsingLemmas.{reads_on}
 use Rattle.rd_spec.proofs.MethodLines.{IsUnset, IsWritten, at, kind_read, fresh_behind, line_read, methods_more, methods_read, methods_unset, name_kept, with_methods}
 use Rattle.rd_spec.proofs.PairLines.{IsPrinted}
 use Rattle.rd_spec.proofs.RowLines.{IsBefore, IsPart, IsSource, RowRead, pairs_read, unset_at}

@@ -1,11 +1,7 @@
 pub mod AcceptLemmas
 pub mod AgainLemmas
-pub mod CuttingLemmas
 pub mod FewLemmas
-pub mod LineLemmas
 pub mod MethodLines
-pub mod NameLemmas
-pub mod OneLemmas
 pub mod PairLines
 pub mod RowLines
 pub mod TextLemmas

@@ -7,25 +7,25 @@ use Rattle.std.proofs.Math.Seq.{get_or-append_seam}
 use Rattle.std.proofs.lemmas.List.{append_assoc, append-nil, get_or-take, length-take}
 use Rattle.std.proofs.lemmas.Option.{slice_get_within, get_or_from_slice_get}
 use Rattle.rd_base.specs.Names.{IsName}
-use Rattle.rd_canonical.specs.declared.items.Word.{Word as PrintedWord}
-use Rattle.rd_canonical.specs.Canonical.{plain as printed}
-use Rattle.rd_causes.specs.Adding.{Accepts, with_kind}
-use Rattle.rd_causes.specs.Causes.{HasManyTokens, IsFirstRepeated}
-use Rattle.rd_causes.specs.Known.{kind_in, kind_names, kinds_so_far}
-use Rattle.rd_causes.specs.declared.known.Known.{Known}
+use Rattle.rd_print.specs.declared.canonical.word_list.Word.{Word as PrintedWord}
+use Rattle.rd_print.specs.Canonical.{plain as printed}
+use Rattle.rd_reading.specs.Adding.{Accepts, with_kind}
+use Rattle.rd_reading.specs.Causes.{HasManyTokens, IsFirstRepeated}
+use Rattle.rd_reading.specs.Known.{kind_in, kind_names, kinds_so_far}
+use Rattle.rd_reading.specs.declared.known.Known.{Known}
 use Rattle.rd_ecl.specs.declared.kinds.Method.{Method}
 use Rattle.rd_ecl.specs.Specified.{IsWhole, SpecifiedKind, names_of, with_method}
 use Rattle.rd_ecl.specs.Formulas.{Tree}
 use Rattle.rd_ecl.specs.Variables.{AreVariables, IsVariable}
 use Rattle.rd_lines.specs.Lines.{Word, plain, words_of, kind as kind_said, method as method_said}
 use Rattle.rd_print.specs.Printed.{kind_words, method_words, slot_words}
-use Rattle.rd_text.specs.Text.{IsSound, text_of}
-use Rattle.rd_tokens.specs.declared.items.Token.{Token}
+use Rattle.rd_print.specs.Text.{IsSound, text_of}
+use Rattle.rd_tokens.specs.declared.sorts.Token.{Token}
 use Rattle.rd_tokens.specs.Tokens.{AreTokens}
 use Rattle.rd_tokens.proofs.CutLemmas.{some_tokens}
-use Rattle.rd_spec.specs.Texts.{IsSkipped, Reads, no_more, takes}
+use Rattle.rd_reading.specs.Texts.{IsSkipped, Reads, no_more, takes}
 use Rattle.rd_spec.proofs.AcceptLemmas.{accepted, kind_clean, method_clean, other_first}
-use Rattle.rd_spec.proofs.LineLemmas.{reads_on}
+use Rattle.rd_reading.proofs.ParsingLemmas.{reads_on}
 use Rattle.rd_spec.proofs.TextLemmas.{kept_line, lift, words_read}
 
 -- behind the header, where these kinds are closed and this one is open

@@ -8,13 +8,13 @@ use Rattle.rd_base.specs.Names.{IsName}
 use Rattle.rd_base.specs.declared.limits.LimitName.{LimitName}
 use Rattle.rd_base.specs.declared.limits.LimitName.TheVariants.{Bytes, Line, Events, Threads, Locks, Objects, Depth, SpecText, Tokens, Kinds, Methods as MethodLimit, Arguments, Nodes, FormulaDepth, Predicates}
 use Rattle.rd_base.proofs.FoundLemmas.{each_by_recursion, each_from_recursion}
-use Rattle.rd_canonical.specs.declared.items.Word.{Word as PrintedWord}
-use Rattle.rd_canonical.specs.Canonical.{AreValues, plain as printed, words_of as formula_of}
-use Rattle.rd_canonical.proofs.FewLemmas.{few_words}
-use Rattle.rd_causes.specs.Adding.{Accepts}
-use Rattle.rd_causes.specs.Causes.{AreNumbers, HasManyPredicates, HasManyTokens, HasNone, PairHas, SaysPair, scope_of}
-use Rattle.rd_causes.specs.Known.{stage_of, variables_at}
-use Rattle.rd_causes.specs.declared.causes.SpecCause.TheVariants.{Header, Syntax, UnknownMethod, UnknownVariable, NoVariable, OutsideFragment, Duplicate, MissingPair, KindTaken, Limit}
+use Rattle.rd_print.specs.declared.canonical.word_list.Word.{Word as PrintedWord}
+use Rattle.rd_print.specs.Canonical.{AreValues, plain as printed, words_of as formula_of}
+use Rattle.rd_print.proofs.WordFewLemmas.{few_words}
+use Rattle.rd_reading.specs.Adding.{Accepts}
+use Rattle.rd_reading.specs.Causes.{AreNumbers, HasManyPredicates, HasManyTokens, HasNone, PairHas, SaysPair, scope_of}
+use Rattle.rd_reading.specs.Known.{stage_of, variables_at}
+use Rattle.rd_reading.specs.declared.causes.SpecCause.TheVariants.{Header, Syntax, UnknownMethod, UnknownVariable, NoVariable, OutsideFragment, Duplicate, MissingPair, KindTaken, Limit}
 use Rattle.rd_ecl.specs.declared.kinds.Method.{Method}
 use Rattle.rd_ecl.specs.Formulas.{Tree, Fits, InFragment, first_offence, levels, nodes, post_order}
 use Rattle.rd_ecl.specs.Specified.{AreMethods, IsPair, SpecifiedKind, formula_at, names_of, slots_at, with_pair}
@@ -29,15 +29,15 @@ use Rattle.rd_grammar.specs.Grammar.{Tree as Read}
 use Rattle.rd_lines.specs.Lines.{AreMarksFrom, IsOutOfOrder, Word, plain, word_at, words_of, commute as commute_said}
 use Rattle.rd_lines.proofs.FormulaLemmas.{words_marked}
 use Rattle.rd_lines.specs.declared.forms.Stage.TheVariants.{Outside}
-use Rattle.rd_pairs.proofs.ScopeLemmas.{slots_are}
-use Rattle.rd_pairs.proofs.NumberLemmas.{AreDifferent, contained, one_pair, one_place}
-use Rattle.rd_pairs.proofs.MeaningLemmas.{known_relations, known_terms, no_first, no_first_sign, one_formula}
+use Rattle.rd_reading.proofs.ScopeLemmas.{slots_are}
+use Rattle.rd_reading.proofs.NumberLemmas.{AreDifferent, contained, one_pair, one_place}
+use Rattle.rd_reading.proofs.MeaningLemmas.{known_relations, known_terms, no_first, no_first_sign, one_formula}
 use Rattle.rd_print.specs.Printed.{commute_words, formula_words, name_at}
-use Rattle.rd_text.specs.Text.{IsSound, text_of}
-use Rattle.rd_text.proofs.FormulaLemmas.{says_formula}
-use Rattle.rd_tokens.specs.declared.items.Token.{Token}
+use Rattle.rd_print.specs.Text.{IsSound, text_of}
+use Rattle.rd_print.proofs.TextFormulaLemmas.{says_formula}
+use Rattle.rd_tokens.specs.declared.sorts.Token.{Token}
 use Rattle.rd_tokens.specs.Tokens.{AreTokens}
-use Rattle.rd_spec.specs.Texts.{Reads}
+use Rattle.rd_reading.specs.Texts.{Reads}
 use Rattle.rd_spec.proofs.AcceptLemmas.{accepted}
 use Rattle.rd_spec.proofs.MethodLines.{at, line_read}
 use Rattle.rd_spec.proofs.TextLemmas.{kept_line, lift}

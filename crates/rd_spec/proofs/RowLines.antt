@@ -8,14 +8,14 @@ use Rattle.rd_ecl.specs.declared.kinds.Method.{Method}
 use Rattle.rd_ecl.specs.Formulas.{Tree}
 use Rattle.rd_ecl.specs.Specified.{IsPair, SpecifiedKind, formula_at, method_predicates, names_of, slots_at, with_pair}
 use Rattle.rd_ecl.proofs.PairLemmas.{at_other, at_set}
-use Rattle.rd_causes.specs.Causes.{HasManyPredicates}
-use Rattle.rd_causes.specs.Known.{variables_at}
-use Rattle.rd_pairs.proofs.NumberLemmas.{AreDifferent}
+use Rattle.rd_reading.specs.Causes.{HasManyPredicates}
+use Rattle.rd_reading.specs.Known.{variables_at}
+use Rattle.rd_reading.proofs.NumberLemmas.{AreDifferent}
 use Rattle.rd_print.specs.Printed.{commute_words, pairs_of}
-use Rattle.rd_text.specs.Text.{text_of}
-use Rattle.rd_spec.specs.Texts.{Reads, no_more}
+use Rattle.rd_print.specs.Text.{text_of}
+use Rattle.rd_reading.specs.Texts.{Reads, no_more}
 use Rattle.rd_spec.proofs.FewLemmas.{few_parts}
-use Rattle.rd_spec.proofs.LineLemmas.{reads_on}
+use Rattle.rd_reading.proofs.ParsingLemmas.{reads_on}
 use Rattle.rd_spec.proofs.MethodLines.{at}
 use Rattle.rd_spec.proofs.PairLines.{IsPrinted, IsReady, pair_read}
 

@@ -6,16 +6,16 @@ use Rattle.std.specs.List.{AllPass, AllByRecursion}
 use Rattle.std.proofs.lemmas.List.{append_assoc, append-nil}
 use Rattle.std.proofs.lemmas.Simd.{map-map}
 use Rattle.rd_base.specs.Spelling.{is_plain}
-use Rattle.rd_canonical.specs.declared.items.Word.{Word as PrintedWord}
-use Rattle.rd_canonical.specs.Canonical.{plain as printed}
+use Rattle.rd_print.specs.declared.canonical.word_list.Word.{Word as PrintedWord}
+use Rattle.rd_print.specs.Canonical.{plain as printed}
 use Rattle.rd_lines.specs.Lines.{Word, words_of}
 use Rattle.rd_print.specs.Printed.{line_text}
-use Rattle.rd_text.proofs.AgainLemmas.{words_again}
-use Rattle.rd_text.proofs.PlainLemmas.{words_plain}
-use Rattle.rd_text.specs.Text.{IsSound, gap, text_of}
-use Rattle.rd_tokens.specs.declared.items.Token.{Token}
+use Rattle.rd_print.proofs.TextAgainLemmas.{words_again}
+use Rattle.rd_print.proofs.TextPlainLemmas.{words_plain}
+use Rattle.rd_print.specs.Text.{IsSound, gap, text_of}
+use Rattle.rd_tokens.specs.declared.sorts.Token.{Token}
 use Rattle.rd_tokens.specs.Tokens.{AreTokens, bytes_of}
-use Rattle.rd_spec.specs.Texts.{AreLines, IsLine, IsSkipped, is_space, line_first, no_line}
+use Rattle.rd_reading.specs.Texts.{AreLines, IsLine, IsSkipped, is_space, line_first, no_line}
 
 -- a word that is written, as one that is read
 abbrev pub lift : PrintedWord → Word

@@ -1,6 +1,6 @@
 -- What is read of a text that was printed: this project's profile.
 use Rattle.std.specs.Prelude.{◌≡◌, ◌≢◌, ◌<◌, ◌≤◌, ℕ, List, [], ◌∷◌, length, All, AllPairs, Contains}
-use Rattle.rd_causes.specs.Known.{kind_names}
+use Rattle.rd_reading.specs.Known.{kind_names}
 use Rattle.rd_ecl.specs.Specified.{IsKind, SpecifiedKind, formula_at}
 use Rattle.rd_print.specs.Printed.{AreNames, HaveValues, spec_text}
 

@@ -3,8 +3,8 @@ ghost use Rattle.std.specs.Prelude.{◌≡◌, ℕ, List};
 ghost use Rattle.rd_ecl.specs.Specified.{SpecifiedKind};
 ghost use Rattle.rd_print.specs.Printed.{spec_text};
 ghost use Rattle.rd_spec.specs.Again.{AreSame, MayBeRead};
-ghost use Rattle.rd_spec.specs.Texts.{HasNewNames, IsSpecRefused, SpecSays};
-ghost use Rattle.rd_spec.specs.declared.parsing.SpecRefused.{SpecRefused};
+ghost use Rattle.rd_reading.specs.Texts.{HasNewNames, IsSpecRefused, SpecSays};
+ghost use Rattle.rd_reading.specs.declared.parsing.SpecRefused.{SpecRefused};
 
 /// The law of specifications: a text says one specification at most, and is refused nowhere if it says one. The canonical text of
 /// at most 32 kinds of different names, none of them taken, says the same kinds again, where it isn't too long. What a text says

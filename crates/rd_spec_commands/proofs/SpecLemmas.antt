@@ -4,11 +4,11 @@ use Rattle.std.proofs.Common.{◌≡◌, ◌≢◌, ℕ, ◌^◌, ◌<◌, ◌�
 use Rattle.std.proofs.lemmas.Bool.Decides.{nat_tests}
 use Rattle.rd_base.specs.declared.limits.Limits.{Limits}
 use Rattle.rd_ecl.specs.Specified.{SpecifiedKind}
-use Rattle.rd_files.specs.Fronts.{TakesFront}
+use Rattle.rd_io.specs.Fronts.{TakesFront}
 use Rattle.rd_io.specs.Inputs.{Source, Takes, IsOpened, IsNotOpened, Rose}
 use Rattle.rd_kinds.specs.Shipped.{reserved_names}
-use Rattle.rd_spec.specs.Texts.{IsSpecRefused, SpecSays}
-use Rattle.rd_spec.specs.declared.parsing.SpecRefused.{SpecRefused as Refusal}
+use Rattle.rd_reading.specs.Texts.{IsSpecRefused, SpecSays}
+use Rattle.rd_reading.specs.declared.parsing.SpecRefused.{SpecRefused as Refusal}
 use Rattle.rd_walk.specs.Output.{IsOutput, fault_outcome}
 use Rattle.rd_walk.specs.Meanings.{Runs}
 use Rattle.rd_spec_commands.specs.Specifications.{TellsUnread, accepted_outcome, most_bytes, refused_outcome}

@@ -12,8 +12,8 @@ use Rattle.rd_walk.specs.Meanings.{Runs, WritesAll}
 use Rattle.rd_spec_commands.specs.Specifications.{IsSpecOutcome, most_bytes}
 use Rattle.rd_walk.specs.declared.status.Status.TheVariants.{Clean, OutputFault}
 use Rattle.rd_walk.specs.declared.status.Status.{Status}
-use Rattle.rd_spec.proofs.OneLemmas.{never_refused, one_said}
-use Rattle.rd_spec.specs.Texts.{SpecSays}
+use Rattle.rd_reading.proofs.OneLemmas.{never_refused, one_said}
+use Rattle.rd_reading.specs.Texts.{SpecSays}
 use Rattle.std.proofs.Common.{◌≡◌, ℕ, Bool, false, List, refl, sym, ap, ◌∙◌, subst, arith, ◌≢◌, ◌⊎◌, inl, inr, true≢false}
 use Rattle.std.proofs.lemmas.Option.{same_Some}
 use Rattle.std.specs.Prelude.{take}

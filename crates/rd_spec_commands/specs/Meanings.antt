@@ -10,8 +10,8 @@ use Rattle.rd_walk.specs.Output.{Outcome, fault_outcome}
 use Rattle.rd_spec_commands.specs.Specifications.{IsSpecOutcome, most_bytes, refused_outcome}
 use Rattle.rd_walk.specs.declared.status.Status.TheVariants.{Clean, NoMemory}
 use Rattle.rd_walk.specs.declared.status.Status.{Status}
-use Rattle.rd_spec.specs.Texts.{IsSpecRefused, SpecSays}
-use Rattle.rd_spec.specs.declared.parsing.SpecRefused.{SpecRefused as Refusal}
+use Rattle.rd_reading.specs.Texts.{IsSpecRefused, SpecSays}
+use Rattle.rd_reading.specs.declared.parsing.SpecRefused.{SpecRefused as Refusal}
 use Rattle.std.specs.Prelude.{◌≡◌, ◌⊎◌, ℕ, ◌+◌, ◌≤◌, Bool, true, false, List, [], ◌∷◌, ◌++◌, ⊤, length, take, Some, None}
 
 -- these are the bytes of a specification that are judged: the first of its file's

@@ -1,14 +1,14 @@
 -- What `spec` writes for the bytes of a specification, and its status. This project's profile.
 use Rattle.std.specs.Prelude.{◌≡◌, ◌⊎◌, ℕ, List, [], ◌++◌, codes, decimal}
-use Rattle.rd_causes.specs.declared.causes.SpecCause.{SpecCause}
-use Rattle.rd_causes.specs.declared.causes.SpecCause.TheVariants.{Header, Syntax, UnknownMethod, UnknownVariable, NoVariable, OutsideFragment, Duplicate, MissingPair, KindTaken, Limit}
+use Rattle.rd_reading.specs.declared.causes.SpecCause.{SpecCause}
+use Rattle.rd_reading.specs.declared.causes.SpecCause.TheVariants.{Header, Syntax, UnknownMethod, UnknownVariable, NoVariable, OutsideFragment, Duplicate, MissingPair, KindTaken, Limit}
 use Rattle.rd_ecl.specs.Specified.{SpecifiedKind}
 use Rattle.rd_ecl.specs.declared.formulas.Reason.{Reason}
 use Rattle.rd_ecl.specs.declared.formulas.Reason.TheVariants.{CrossRelation, NotOverCross, OrOfCross}
 use Rattle.rd_kinds.specs.Shipped.{reserved_names}
 use Rattle.rd_print.specs.Printed.{spec_text}
-use Rattle.rd_spec.specs.Texts.{IsSpecRefused, SpecSays}
-use Rattle.rd_spec.specs.declared.parsing.SpecRefused.{SpecRefused as Refusal}
+use Rattle.rd_reading.specs.Texts.{IsSpecRefused, SpecSays}
+use Rattle.rd_reading.specs.declared.parsing.SpecRefused.{SpecRefused as Refusal}
 use Rattle.rd_report.specs.Texts.{limit_cause_text}
 use Rattle.rd_walk.specs.Output.{IsOutput, Outcome, fault_outcome}
 use Rattle.rd_spec_commands.specs.declared.specifications.Unread.{Unread}

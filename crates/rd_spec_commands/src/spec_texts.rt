@@ -4,8 +4,8 @@ ghost use Rattle.rd_spec_commands.specs.Specifications.{reason_text, spec_cause_
 
 use rd_base::{Bytes, Name, NoMemory};
 use rd_ecl::Reason;
+use rd_reading::{SpecCause, SpecRefused};
 use rd_report::{append_limit, append_number};
-use rd_spec::{SpecCause, SpecRefused};
 use std::alloc::Global;
 
 #[tactic(auto, unfolding(crate::specs::Specifications::reason_text))]

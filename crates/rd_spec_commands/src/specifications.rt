@@ -5,8 +5,8 @@ ghost use Rattle.rd_base.specs.declared.limits.Limits.{Limits};
 ghost use Rattle.rd_io.specs.Inputs.{Source, Goes, Rose};
 ghost use Rattle.rd_io.specs.Sinks.{Appends};
 ghost use Rattle.rd_kinds.specs.Shipped.{reserved_names};
-ghost use Rattle.rd_spec.specs.Texts.{HasNewNames, IsSpecRefused, SpecSays};
-ghost use Rattle.rd_spec.specs.declared.parsing.SpecRefused.{SpecRefused as Refusal};
+ghost use Rattle.rd_reading.specs.Texts.{HasNewNames, IsSpecRefused, SpecSays};
+ghost use Rattle.rd_reading.specs.declared.parsing.SpecRefused.{SpecRefused as Refusal};
 ghost use Rattle.rd_walk.specs.Output.{IsOutput, StatusTellsFault};
 ghost use Rattle.rd_walk.specs.Meanings.{Runs};
 ghost use Rattle.rd_spec_commands.specs.Specifications.{TellsUnread, accepted_outcome, refused_outcome, spec_status};
@@ -14,11 +14,10 @@ ghost use Rattle.rd_spec_commands.specs.Specifications.{TellsUnread, accepted_ou
 use crate::spec_texts::spec_refused_line;
 use rd_base::Word;
 use rd_ecl::Spec;
-use rd_files::{FrontRefused, read_front};
-use rd_io::{Inputs, Sink};
+use rd_io::{FrontRefused, Inputs, Sink, read_front};
 use rd_kinds::reserved;
 use rd_print::print;
-use rd_spec::{ParseRefused, SpecCause, SpecRefused, parse};
+use rd_reading::{ParseRefused, SpecCause, SpecRefused, parse};
 use rd_walk::{Status, status_of, write_fault, write_line, write_lines};
 use std::alloc::Global;
 

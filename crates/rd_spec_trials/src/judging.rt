@@ -2,8 +2,7 @@
 
 use crate::rows::{gives, push_cause, repeated};
 use rd_base::{Name, NoMemory};
-use rd_causes::Known;
-use rd_judging::{LineRefused, finish, read_line};
+use rd_reading::{Known, LineRefused, finish, read_line};
 use std::alloc::Global;
 use std::process::Abort;
 

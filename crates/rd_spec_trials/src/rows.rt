@@ -1,7 +1,7 @@
 //! What the rows of the tests share.
 
 use rd_base::NoMemory;
-use rd_causes::SpecCause;
+use rd_reading::SpecCause;
 use std::alloc::Global;
 use std::process::Abort;
 

@@ -3,8 +3,7 @@
 use crate::rows::{gives, push_comma, push_number, read_bytes};
 use rd_base::{NoMemory, Value};
 use rd_grammar::{Mark, Sign, Symbol};
-use rd_tokens::{Sort, tokens};
-use rd_words::{Marks, Said, marks, read_term, symbol};
+use rd_tokens::{Marks, Said, Sort, marks, read_term, symbol, tokens};
 use std::alloc::Global;
 use std::process::Abort;
 

@@ -6,8 +6,8 @@ use Rattle.std.proofs.lemmas.Bool.{cases_lt}
 use Rattle.std.proofs.lemmas.Bool.Decides.{eqb_tells}
 use Rattle.std.specs.Prelude.{◌==◌, if◌then◌else◌}
 use Rattle.std.proofs.lemmas.List.{at_drop_all, drop_more, drop-drop}
-use Rattle.rd_tokens.specs.declared.items.Sort.{Sort}
-use Rattle.rd_tokens.specs.declared.items.Token.{Token}
+use Rattle.rd_tokens.specs.declared.sorts.Sort.{Sort}
+use Rattle.rd_tokens.specs.declared.sorts.Token.{Token}
 use Rattle.rd_tokens.specs.Tokens.{IsToken, Cuts, AreTokens, LiesIn, HasByte, ComesAfter, bytes_of, bytes_behind}
 use Rattle.rd_tokens.specs.Tokens.Cuts.{nothing_left, space_first, token_first}
 use Rattle.rd_tokens.specs.ReadingTokens.{first_length, sort_of, token_of}

@@ -8,8 +8,8 @@ use Rattle.std.proofs.lemmas.List.Sums.{prefix_len-le-length, prefix_len_passes,
 use Rattle.rd_base.specs.Spelling.{is_plain, bytes_spelling}
 use Rattle.rd_base.specs.ReadingValues.{value_of}
 use Rattle.rd_base.proofs.FoundLemmas.{each_by_recursion}
-use Rattle.rd_tokens.specs.declared.items.Sort.{Sort}
-use Rattle.rd_tokens.specs.declared.items.Sort.TheVariants.{Open, Close, Word, Text, Wrong}
+use Rattle.rd_tokens.specs.declared.sorts.Sort.{Sort}
+use Rattle.rd_tokens.specs.declared.sorts.Sort.TheVariants.{Open, Close, Word, Text, Wrong}
 use Rattle.rd_tokens.specs.Tokens.{is_word_byte, EndsWord, IsInside, quoted, HasNoEnd, SpellsText, IsWrong, IsToken}
 use Rattle.rd_tokens.specs.Tokens.IsWrong.{wrong_byte, wrong_text, no_end}
 use Rattle.rd_tokens.specs.ReadingTokens.{inside_length, first_length, sort_of}

@@ -1,5 +1,8 @@
-pub mod LoopLemmas
-pub mod InsideLemmas
-pub mod TextLemmas
-pub mod FirstLemmas
 pub mod CutLemmas
+pub mod FirstLemmas
+pub mod InsideLemmas
+pub mod LoopLemmas
+pub mod MarkLemmas
+pub mod TermLemmas
+pub mod TextLemmas
+pub mod WordLemmas

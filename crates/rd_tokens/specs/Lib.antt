@@ -1,3 +1,4 @@
 pub mod ReadingTokens
+pub mod ReadingWords
 pub mod Tokens
-pub use Rattle.rd_base.specs.Spelling
+pub mod Words

@@ -2,9 +2,9 @@
 use Rattle.std.specs.Prelude.{ℕ, suc, ◌+◌, ◌==◌, ◌&&◌, Bool, false, not, min, if◌then◌else◌, List, [], ◌∷◌, length, take, drop, slice_index, is_some}
 use Rattle.std.specs.List.{prefix_len}
 use Rattle.rd_base.specs.ReadingValues.{value_of}
-use Rattle.rd_tokens.specs.declared.items.Sort.{Sort}
-use Rattle.rd_tokens.specs.declared.items.Sort.TheVariants.{Open, Close, Word, Text, Wrong}
-use Rattle.rd_tokens.specs.declared.items.Token.{Token}
+use Rattle.rd_tokens.specs.declared.sorts.Sort.{Sort}
+use Rattle.rd_tokens.specs.declared.sorts.Sort.TheVariants.{Open, Close, Word, Text, Wrong}
+use Rattle.rd_tokens.specs.declared.sorts.Token.{Token}
 use Rattle.rd_tokens.specs.Tokens.{is_word_byte}
 
 -- a quote that no `\` took with it

@@ -3,9 +3,9 @@ use Rattle.std.specs.Prelude.{◌≡◌, ◌≢◌, ℕ, ◌+◌, ◌-◌, ◌<�
 use Rattle.std.specs.List.{AllPass}
 use Rattle.rd_base.specs.declared.values.Value.TheVariants.{Text as TextValue}
 use Rattle.rd_base.specs.Spelling.{is_plain, spelling, IsText}
-use Rattle.rd_tokens.specs.declared.items.Sort.{Sort}
-use Rattle.rd_tokens.specs.declared.items.Sort.TheVariants.{Open, Close, Word, Text, Wrong}
-use Rattle.rd_tokens.specs.declared.items.Token.{Token}
+use Rattle.rd_tokens.specs.declared.sorts.Sort.{Sort}
+use Rattle.rd_tokens.specs.declared.sorts.Sort.TheVariants.{Open, Close, Word, Text, Wrong}
+use Rattle.rd_tokens.specs.declared.sorts.Token.{Token}
 
 -- a byte from 0x21 to 0x7E, but no parenthesis and no quote
 abbrev pub is_word_byte : ℕ → Bool

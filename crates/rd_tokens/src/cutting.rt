@@ -2,12 +2,12 @@
 ghost use Rattle.std.specs.Prelude.{◌≡◌, ◌≢◌, ◌==◌, ℕ, ◌+◌, ◌-◌, ◌<◌, ◌≤◌, ◌^◌, List, false, not, length, take, drop, slice_index, All, AllPairs, Any, IfOk, is_some, if◌then◌else◌};
 ghost use Rattle.std.specs.List.{position, prefix_len};
 ghost use Rattle.rd_base.specs.ReadingValues.{value_of};
-ghost use Rattle.rd_tokens.specs.declared.items.Sort.TheVariants.{Text, Wrong, Word};
-ghost use Rattle.rd_tokens.specs.declared.items.Token.{Token};
+ghost use Rattle.rd_tokens.specs.declared.sorts.Sort.TheVariants.{Text, Wrong, Word};
+ghost use Rattle.rd_tokens.specs.declared.sorts.Token.{Token};
 ghost use Rattle.rd_tokens.specs.Tokens.{is_word_byte, IsToken, IsTokenOf, AreTokens, LiesIn, HasByte, ComesAfter, bytes_of, bytes_behind};
 ghost use Rattle.rd_tokens.specs.ReadingTokens.{is_end, takes_next, inside_length, first_length, sort_of, token_of};
 
-use crate::items::{Sort, Token, Tokens};
+use crate::sorts::{Sort, Token, Tokens};
 use rd_base::{NoMemory, is_value};
 use std::alloc::Global;
 

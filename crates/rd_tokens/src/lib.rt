@@ -11,7 +11,9 @@
 #![tactic(auto)]
 
 mod cutting;
-mod items;
+mod sorts;
+mod words;
 
 pub use cutting::{law_of_tokens, tokens};
-pub use items::{Sort, Token, Tokens};
+pub use sorts::{Sort, Token, Tokens};
+pub use words::{Marks, Said, is_variable, law_of_words, marks, read_term, read_variable, symbol};

@@ -1,7 +1,7 @@
 use Rattle.std.proofs.Common.{◌∙◌, ap}
 use Rattle.std.specs.Prelude.{Some}
-use Rattle.rd_words.specs.Words.{SaysTerm}
-use Rattle.rd_words.specs.declared.terms.Said.TheVariants.{Variable}
+use Rattle.rd_tokens.specs.Words.{SaysTerm}
+use Rattle.rd_tokens.specs.declared.words.terms.Said.TheVariants.{Variable}
 use Rattle.rd_formulas.specs.Scope.{word_at}
 use Rattle.rd_formulas.proofs.FindingLemmas.{given_at, there_unless}
 use Rattle.rd_formulas.proofs.terms.meaning.Goals as goal

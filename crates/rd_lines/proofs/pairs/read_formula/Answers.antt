@@ -1,6 +1,6 @@
 use Rattle.std.proofs.Common.{List, subst, sym}
 use Rattle.rd_grammar.specs.declared.marks.Mark.{Mark}
-use Rattle.rd_words.specs.Words.{AreMarks}
+use Rattle.rd_tokens.specs.Words.{AreMarks}
 use Rattle.rd_lines.proofs.FormulaLemmas.{words_say, words_refused, count_bound}
 use Rattle.rd_lines.proofs.pairs.read_formula.Goals as goal
 

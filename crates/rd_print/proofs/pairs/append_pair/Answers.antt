@@ -1,7 +1,7 @@
 use Rattle.std.proofs.Common.{◌≡◌, ◌++◌, ◌∙◌, codes}
-use Rattle.rd_canonical.specs.Canonical.{words_of}
+use Rattle.rd_print.specs.Canonical.{words_of}
 use Rattle.rd_ecl.specs.Formulas.{tree_of}
-use Rattle.rd_text.specs.Text.{text_of}
+use Rattle.rd_print.specs.Text.{text_of}
 use Rattle.rd_print.proofs.JoinLemmas.{ok_then}
 use Rattle.rd_print.proofs.PairLemmas.{pair_by}
 use Rattle.rd_print.proofs.pairs.append_pair.Goals as goal

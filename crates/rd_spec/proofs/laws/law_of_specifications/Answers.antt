@@ -1,6 +1,6 @@
 use Rattle.rd_spec.proofs.AgainLemmas.{read_again}
-use Rattle.rd_spec.proofs.NameLemmas.{read_names}
-use Rattle.rd_spec.proofs.OneLemmas.{one_said, never_refused}
+use Rattle.rd_reading.proofs.NameLemmas.{read_names}
+use Rattle.rd_reading.proofs.OneLemmas.{one_said, never_refused}
 use Rattle.rd_spec.proofs.laws.law_of_specifications.Goals as goal
 
 pub returns-clause-one : goal.returns-clause-one

@@ -1,7 +1,7 @@
 use Rattle.std.proofs.Common.{subst}
 use Rattle.rd_kinds.specs.Shipped.{reserved_names}
-use Rattle.rd_spec.specs.Texts.{SpecSays}
-use Rattle.rd_spec.proofs.NameLemmas.{read_names}
+use Rattle.rd_reading.specs.Texts.{SpecSays}
+use Rattle.rd_reading.proofs.NameLemmas.{read_names}
 use Rattle.rd_spec_commands.proofs.specifications.read_spec.Goals as goal
 
 pub returns-in-Ok-parse-clause-names : goal.returns-in-Ok-parse-clause-names

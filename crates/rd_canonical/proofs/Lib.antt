@@ -1,4 +1,0 @@
-pub mod FewLemmas
-pub mod OneLemmas
-pub mod StandLemmas
-pub mod AgainLemmas

@@ -1,2 +1,0 @@
-pub mod Fronts
-pub use Rattle.rd_io.specs.Inputs

@@ -1,5 +1,0 @@
-use Rattle.rd_judging.proofs.RepeatLemmas.{AreSeen}
-use Rattle.rd_judging.proofs.repeated.first_repeated.Given as goal
-
-abbrev pub invariant-loop-number : goal.invariant-loop-number
-invariant-loop-number l = AreSeen l.names l.seen.keys l.number

@@ -1,0 +1,35 @@
+-- The text of words, which stand one space apart but for those inside a parenthesis at its edges: this project's profile.
+use Rattle.std.specs.Prelude.{◌≡◌, ℕ, ◌<◌, List, [], ◌∷◌, ◌++◌, length, codes}
+use Rattle.std.specs.List.{AllPass}
+use Rattle.rd_print.specs.declared.canonical.word_list.Word.{Word}
+use Rattle.rd_tokens.specs.declared.sorts.Sort.{Sort}
+use Rattle.rd_tokens.specs.declared.sorts.Sort.TheVariants.{Open, Close, Word as Plain, Text, Wrong}
+use Rattle.rd_tokens.specs.Tokens.{SpellsText, is_word_byte}
+
+-- what stands between two words of these sorts: nothing behind `(` or before `)`, else a space
+abbrev pub gap : Sort → Sort → List ℕ
+gap Open second = []
+gap first Close = []
+gap first second = codes " "
+
+-- the text of words
+abbrev pub text_of : List Word → List ℕ
+text_of [] = []
+text_of (w ∷ []) = w.bytes
+text_of (w ∷ v ∷ words) = w.bytes ++ gap w.sort v.sort ++ text_of (v ∷ words)
+
+-- the bytes are the first of the whole
+abbrev pub IsFrontOf : List ℕ → List ℕ → Type 0
+IsFrontOf front whole = (rest : List ℕ) × (whole ≡ front ++ rest)
+
+-- the bytes alone are a token of the sort, one that is right
+abbrev pub IsRightToken : Sort → List ℕ → Type 0
+IsRightToken Open bytes = bytes ≡ codes "("
+IsRightToken Close bytes = bytes ≡ codes ")"
+IsRightToken Plain bytes = (0 < length bytes) × AllPass is_word_byte bytes
+IsRightToken Text bytes = SpellsText bytes
+IsRightToken Wrong bytes = ⊥
+
+-- the word alone is a token of its sort
+abbrev pub IsSound : Word → Type 0
+IsSound word = IsRightToken word.sort word.bytes

@@ -1,0 +1,123 @@
+-- The kinds that a text says are few, and each has a name of its own.
+use Rattle.std.proofs.Common.{◌≡◌, ◌≢◌, ℕ, ◌<◌, ◌≤◌, Bool, true, false, List, [], ◌∷◌, ◌++◌, length, Option, Some, None, refl, sym, ap, subst, arith, ◌∙◌, length-append}
+use Rattle.std.specs.Prelude.{All, Contains}
+use Rattle.std.proofs.lemmas.List.{get_or-map, length-map, map-append}
+use Rattle.std.proofs.lemmas.List.Elements.{All-push}
+use Rattle.rd_reading.specs.Adding.{Accepts, Adds, FormAdds, adds_form, adds_header, with_kind, with_open}
+use Rattle.rd_reading.specs.Causes.{FormHas, HasNone, KindHas, form_has}
+use Rattle.rd_reading.specs.Known.{kind_in, kind_names, kind_without, kinds_so_far, methods_of, nothing, opened, stage_in, stage_of}
+use Rattle.rd_reading.specs.declared.causes.SpecCause.TheVariants.{Duplicate, KindTaken, Limit}
+use Rattle.rd_reading.specs.declared.known.Block.{Block}
+use Rattle.rd_reading.specs.declared.known.Known.{Known}
+use Rattle.rd_base.specs.declared.limits.LimitName.TheVariants.{Kinds}
+use Rattle.rd_ecl.specs.Specified.{SpecifiedKind, with_method, with_pair}
+use Rattle.rd_lines.specs.Lines.{RightLine, SaidForm, words_of}
+use Rattle.rd_lines.specs.Lines.{kind as kind_said, method as method_said, commute as commute_said}
+use Rattle.rd_lines.specs.declared.forms.Stage.TheVariants.{Outside, Methods}
+use Rattle.rd_reading.proofs.NumberLemmas.{AreDifferent}
+use Rattle.rd_tokens.specs.declared.sorts.Token.{Token}
+use Rattle.rd_reading.specs.Texts.{HasNewNames, Reads, SpecSays, no_more, skips, takes}
+use Rattle.rd_reading.proofs.OneLemmas.{name_more}
+
+-- at most 32 names, no two the same, and none that is taken
+record AreNew (taken : List (List ℕ)) (names : List (List ℕ)) : Type 0 where
+  few : length names ≤ 32
+  different : AreDifferent names
+  free : All (λ name. ¬ (Contains taken name)) names
+
+abbrev names_so_far : Known → List (List ℕ)
+names_so_far known = kind_names (kinds_so_far known)
+
+none_new : (taken : List (List ℕ)) → AreNew taken []
+none_new taken = record {
+  few = omega arith;
+  different = λ i j d less within. absurd (omega (arith, within));
+  free = λ k d within. absurd (omega (arith, within));
+}
+
+-- a name more
+new_more : (taken names : List (List ℕ)) (name : List ℕ) → AreNew taken names → length names < 32 → ¬ (Contains names name) → ¬ (Contains taken name)
+    → AreNew taken (names ++ name ∷ [])
+new_more taken names name new room fresh free = record {
+  few = let count = length-append names (name ∷ []) in omega (arith, count, room);
+  different = name_more names name new.different fresh;
+  free = All-push (λ (other : List ℕ). ¬ (Contains taken other)) names name new.free free;
+}
+
+-- the last kind's name stands last
+names_last : (closed : List SpecifiedKind) (kind : SpecifiedKind) → kind_names (closed ++ kind ∷ []) ≡ kind_names closed ++ kind.name ∷ []
+names_last closed kind = map-append (λ (one : SpecifiedKind). one.name) closed (kind ∷ [])
+
+count_names : (kinds : List SpecifiedKind) → length (kind_names kinds) ≡ length kinds
+count_names kinds = length-map kinds (λ (kind : SpecifiedKind). kind.name)
+
+-- where a kind is open, another one of its name leaves the names
+names_kept : (known : Known) (kind : SpecifiedKind) (paired : Bool) → stage_of known ≢ Outside → kind.name ≡ (kind_in known.block).name
+    → names_so_far (with_open known kind paired) ≡ names_so_far known
+names_kept known kind paired stands named = names_last known.closed kind ∙ by known.block stands named where
+  by : (block : Option Block) → stage_in block ≢ Outside → kind.name ≡ (kind_in block).name
+      → kind_names known.closed ++ kind.name ∷ [] ≡ kind_names (known.closed ++ opened block)
+  by None inside same = absurd (inside refl)
+  by (Some block) inside same =
+      ap (λ (name : List ℕ). kind_names known.closed ++ name ∷ []) same ∙ sym (names_last known.closed block.draft)
+
+not_outside : Methods ≢ Outside
+not_outside e = cc
+
+-- a clean line of a kind brings a new name
+kind_new : (taken : List (List ℕ)) (known : Known) (line : List ℕ) (tokens : List Token) (name : List ℕ) → AreNew taken (names_so_far known)
+    → HasNone (KindHas taken known line tokens name) → AreNew taken (names_so_far (with_kind known name))
+kind_new taken known line tokens name new clean =
+    subst (AreNew taken) (sym (names_last (kinds_so_far known) (kind_without name)))
+    (new_more taken (names_so_far known) name new room (λ among. clean Duplicate _ (among, refl)) (λ reserved. clean KindTaken _ (reserved, refl))) where
+      room : length (names_so_far known) < 32
+      room =
+          let count = count_names (kinds_so_far known) in
+          let never : ¬ (32 ≤ length (kinds_so_far known)) = λ full. clean (Limit Kinds 32) _ (full, refl, refl) in
+          omega (arith, count, never)
+
+-- an accepted line keeps the names new
+form_new : (taken : List (List ℕ)) (known next : Known) (line : List ℕ) (tokens : List Token) (form : SaidForm) → AreNew taken (names_so_far known)
+    → RightLine (stage_of known) (methods_of known) (words_of line tokens) form → HasNone (FormHas taken known line tokens form)
+    → FormAdds known line tokens form next → AreNew taken (names_so_far next)
+form_new taken known next line tokens (kind_said name) new right clean adds =
+    subst (λ (k : Known). AreNew taken (names_so_far k)) (sym adds) (kind_new taken known line tokens name new clean)
+form_new taken known next line tokens (method_said name arguments result) new right clean adds =
+    let longer : SpecifiedKind = with_method (kind_in known.block) (record { name = name; variables = arguments ++ result ∷ [] }) in
+    let inside : stage_of known ≢ Outside = λ outside. not_outside (sym right.stands ∙ outside) in
+    subst (AreNew taken) (sym (ap names_so_far adds ∙ names_kept known longer false inside refl)) new
+form_new taken known next line tokens (commute_said first second read) new right clean (m, n, f, says, same) =
+    let fuller : SpecifiedKind = with_pair (kind_in known.block) m n f in
+    subst (AreNew taken) (sym (ap names_so_far same ∙ names_kept known fuller true right.stands refl)) new
+
+accepted_new : (taken : List (List ℕ)) (known next : Known) (line : List ℕ) → AreNew taken (names_so_far known) → Accepts taken known line next
+    → AreNew taken (names_so_far next)
+accepted_new taken known next line new accepts = by accepts.adds where
+  by : Adds known line accepts.tokens next → AreNew taken (names_so_far next)
+  by (adds_header fresh header same) = subst (λ (k : Known). AreNew taken (names_so_far k)) (sym same) new
+  by (adds_form begun form right adds) =
+      form_new taken known next line accepts.tokens form new right (λ cause place has. accepts.clean cause place (form_has form right has)) adds
+
+-- so do lines, one after another
+reads_new : (taken : List (List ℕ)) (known last : Known) (lines : List (List ℕ)) → AreNew taken (names_so_far known) → Reads taken known lines last
+    → AreNew taken (names_so_far last)
+reads_new taken known last lines new no_more = new
+reads_new taken known last lines new (skips {lines = rest} skipped more) = reads_new taken known last rest new more
+reads_new taken known last lines new (takes {mid = mid} {line = line} {lines = rest} kept accepts more) =
+    reads_new taken mid last rest (accepted_new taken known mid line new accepts) more
+
+-- kinds whose names are new
+has_new : (taken : List (List ℕ)) (kinds : List SpecifiedKind) → AreNew taken (kind_names kinds) → HasNewNames taken kinds
+has_new taken kinds new = record {
+  few = let count = count_names kinds in let few = new.few in omega (arith, count, few);
+  different = new.different;
+  free = λ k d within.
+      let count = count_names kinds in
+      subst (λ (name : List ℕ). ¬ (Contains taken name)) (get_or-map (λ (kind : SpecifiedKind). kind.name) kinds k d d.name within)
+      (new.free k d.name (omega (arith, count, within)));
+}
+
+pub read_names : (text : List ℕ) (taken : List (List ℕ)) (kinds : List SpecifiedKind) → SpecSays text taken kinds → HasNewNames taken kinds
+read_names text taken kinds says =
+    subst (HasNewNames taken) (sym says.said)
+    (has_new taken (kinds_so_far says.known) (reads_new taken nothing says.known says.lines (none_new taken) says.reads))

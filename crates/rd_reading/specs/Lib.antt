@@ -1,0 +1,9 @@
+pub mod Adding
+pub mod Causes
+pub mod Judging
+pub mod Known
+pub mod PairJudging
+pub mod Pairs
+pub mod Parts
+pub mod Reading
+pub mod Texts

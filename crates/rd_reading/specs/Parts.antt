@@ -1,0 +1,19 @@
+-- The parts of a judgement. Nobody has to believe them: the contracts of the public functions speak of causes alone.
+use Rattle.std.specs.Prelude.{◌≡◌, ◌≤◌, ◌<◌, ◌⊎◌, ℕ, List, length}
+use Rattle.rd_base.specs.declared.limits.LimitName.TheVariants.{Methods, Arguments}
+use Rattle.rd_reading.specs.declared.causes.Fault.{Fault}
+use Rattle.rd_reading.specs.declared.causes.SpecCause.{SpecCause}
+use Rattle.rd_reading.specs.declared.causes.SpecCause.TheVariants.{Limit, MissingPair}
+use Rattle.rd_reading.specs.Causes.{LacksPair, place_at}
+use Rattle.rd_ecl.specs.Specified.{SpecifiedKind}
+use Rattle.rd_tokens.specs.declared.sorts.Token.{Token}
+
+-- the kind has a pair missing, and the cause names the first
+abbrev pub IsMissing : SpecifiedKind → SpecCause → Type 0
+IsMissing kind cause = (first : List ℕ) × (second : List ℕ) × (cause ≡ MissingPair first second) × LacksPair kind first second
+
+-- the line of a method with these arguments passes a limit, that of the methods first
+abbrev pub IsPassed : SpecifiedKind → List ℕ → List Token → List (List ℕ) → Fault → Type 0
+IsPassed kind line tokens arguments fault =
+    ((16 ≤ length kind.methods) × (fault ≡ record { place = place_at line tokens 1; cause = Limit Methods 16 }))
+    ⊎ ((length kind.methods < 16) × (6 < length arguments) × (fault ≡ record { place = place_at line tokens 8; cause = Limit Arguments 6 }))

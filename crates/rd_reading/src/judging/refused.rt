@@ -1,0 +1,26 @@
+//! Why a line is refused.
+ghost use Rattle.std.specs.Prelude.{◌≡◌};
+ghost use Rattle.rd_reading.specs.declared.judging.refused.LineRefused.TheVariants.{NoMemory as MemoryRefused};
+
+use crate::Fault;
+use rd_base::NoMemory;
+use thiserror::Error;
+
+/// Why a line, or the end of a text, is refused.
+#[derive(Debug, Drop, PartialEq, Eq, Error)]
+pub enum LineRefused {
+    /// the first thing that is wrong with it
+    #[error("wrong at byte {}", .0.place)]
+    Fault(Fault),
+    /// memory ran out
+    #[error("out of memory")]
+    NoMemory,
+}
+
+impl From<NoMemory> for LineRefused {
+    ghost from_gives = { λ _ e. e ≡ MemoryRefused };
+
+    fn from(_error: NoMemory) -> LineRefused {
+        LineRefused::NoMemory
+    }
+}

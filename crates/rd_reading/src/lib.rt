@@ -1,0 +1,18 @@
+//! Reading the text of a specification: which kinds it says, or the first line that is wrong, its place and its cause.
+//!
+//! A text has a header and blocks. A block is a kind, its methods, and for each pair of them the formula by which their calls
+//! commute. `docs/specifications.md` has the format and each cause.
+#![tactic(auto)]
+
+mod causes;
+mod cutting;
+mod judging;
+mod known;
+mod pairs;
+mod parsing;
+
+pub use causes::{Fault, SpecCause};
+pub use judging::{LineRefused, finish, read_line};
+pub use known::{Block, Known};
+pub use pairs::{Pair, PairRefused, judge_pair};
+pub use parsing::{ParseRefused, SpecRefused, parse};

@@ -1,0 +1,60 @@
+//! Judging the line of a pair.
+ghost use Rattle.std.specs.Prelude.{◌<◌, ◌-◌, ◌^◌, length, All, IfOk, IfErr};
+ghost use Rattle.rd_tokens.specs.Tokens.{IsTokenOf, LiesIn};
+ghost use Rattle.rd_reading.specs.Causes.{HasNone, PairHas, SaysPair};
+ghost use Rattle.rd_ecl.specs.Formulas.{tree_of as formula_of};
+ghost use Rattle.rd_ecl.specs.Specified.{MayPair, names_of};
+ghost use Rattle.rd_grammar.specs.Grammar.{tree_of};
+ghost use Rattle.rd_lines.specs.declared.forms.Stage.{Stage};
+ghost use Rattle.rd_lines.specs.Lines.{IsCommuteLine, IsShort, words_of};
+ghost use Rattle.rd_reading.specs.Pairs.{IsRefused};
+
+use crate::pairs::answers::{Pair, PairRefused};
+use crate::pairs::formulas::{formula_of, refusal_of};
+use crate::pairs::limits::judge_right;
+use crate::pairs::methods::numbers_of;
+use rd_base::Name;
+use rd_ecl::KindDraft;
+use rd_grammar::Parsed;
+use rd_tokens::Token;
+use std::alloc::Global;
+
+/// The pair that a line of these two methods and this formula says of a kind, ready for `KindDraft::pair`; else the first thing
+/// that is wrong with the line. It is right by its form, with at most 512 tokens behind `when`. Only the formula takes memory.
+pub fn judge_pair(
+    alloc: Global,
+    kind: &KindDraft,
+    line: &[u8],
+    tokens: &[Token],
+    first: &Name,
+    second: &Name,
+    parsed: &Parsed,
+) -> Result<Pair, PairRefused>
+    requires within { All (LiesIn line.now) tokens.now }
+    requires sorts { All (IsTokenOf line.now) tokens.now }
+    requires short { length line.now < 2 ^ 32 - 1 }
+    requires few { IsShort (words_of line.now tokens.now) }
+    requires right { (stage : Stage) × IsCommuteLine stage (names_of kind.now.methods) (words_of line.now tokens.now) first.now second.now (tree_of parsed.now) }
+    ensures clean { IfOk result (λ pair. HasNone (PairHas kind.now line.now tokens.now first.now second.now (tree_of parsed.now))) }
+    ensures says { IfOk result (λ pair. SaysPair kind.now line.now tokens.now first.now second.now (tree_of parsed.now) pair.first pair.second (formula_of pair.formula)) }
+    ensures may { IfOk result (λ pair. MayPair kind.now pair.first pair.second (formula_of pair.formula)) }
+    ensures refused { IfErr result (IsRefused (PairHas kind.now line.now tokens.now first.now second.now (tree_of parsed.now))) }
+{
+    let methods = kind.methods();
+    let (one, other) = match numbers_of(methods, line, tokens, first, second) {
+        Ok(numbers) => numbers,
+        Err(fault) => return Err(PairRefused::Fault(fault)),
+    };
+    let formula = match formula_of(alloc, methods, line, tokens, one, other, parsed) {
+        Ok(formula) => formula,
+        Err(refused) => return Err(refusal_of(refused)),
+    };
+    match judge_right(kind, line, tokens, one, other, &formula) {
+        Some(fault) => Err(PairRefused::Fault(fault)),
+        None => Ok(Pair {
+            first: one,
+            second: other,
+            formula,
+        }),
+    }
+}

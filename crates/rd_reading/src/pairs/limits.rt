@@ -1,0 +1,79 @@
+//! What may be wrong with a pair whose formula is right.
+ghost use Rattle.std.specs.Prelude.{◌≡◌, ◌<◌, ◌≤◌, ◌-◌, ◌^◌, ◌↔◌, length, IsTrue, IfSome, IfNone, None, is_some};
+ghost use Rattle.rd_reading.specs.declared.causes.SpecCause.{SpecCause};
+ghost use Rattle.rd_reading.specs.Causes.{HasManyPredicates, Judged};
+ghost use Rattle.rd_ecl.specs.Formulas.{nodes, tree_of};
+ghost use Rattle.rd_ecl.specs.Specified.{formula_at};
+ghost use Rattle.rd_reading.specs.PairJudging.{IsFirstPassed, LateHas, Passes};
+
+use crate::pairs::numbers::place_at;
+use crate::{Fault, SpecCause};
+use rd_base::LimitName;
+use rd_ecl::{Formula, KindDraft};
+use rd_tokens::Token;
+
+// Has a pair its formula already?
+fn is_set(kind: &KindDraft, first: u8, second: u8) -> bool
+    requires { (first ≤ second) × (second < length kind.now.methods) }
+    ensures { result ≡ is_some (formula_at kind.now first second) }
+{
+    kind.formula(first, second).is_some()
+}
+
+// With this formula, has each method of a pair that isn't set few relations?
+fn has_room(kind: &KindDraft, first: u8, second: u8, formula: &Formula) -> bool
+    requires known { (first ≤ second) × (second < length kind.now.methods) }
+    requires unset { formula_at kind.now first second ≡ None }
+    ensures { IsTrue result ↔ ¬ (HasManyPredicates kind.now first second (tree_of formula.now)) }
+{
+    kind.has_room(first, second, formula, first) && kind.has_room(first, second, formula, second)
+}
+
+// The first limit that the formula of a pair that isn't set passes.
+fn passed(kind: &KindDraft, first: u8, second: u8, formula: &Formula) -> Option<SpecCause>
+    requires known { (first ≤ second) × (second < length kind.now.methods) }
+    requires unset { formula_at kind.now first second ≡ None }
+    requires few { nodes (tree_of formula.now) ≤ 512 }
+    ensures first { IfSome result (IsFirstPassed kind.now first second (tree_of formula.now)) }
+    ensures none { IfNone result ((cause : SpecCause) → ¬ (Passes kind.now first second (tree_of formula.now) cause)) }
+{
+    if formula.nodes() > 64 {
+        return Some(SpecCause::Limit(LimitName::Nodes, 64));
+    }
+    if formula.levels() > 32 {
+        return Some(SpecCause::Limit(LimitName::FormulaDepth, 32));
+    }
+    if !has_room(kind, first, second, formula) {
+        return Some(SpecCause::Limit(LimitName::Predicates, 5));
+    }
+    None
+}
+
+// The first thing that is wrong with a pair whose formula is right.
+pub(crate) fn judge_right(
+    kind: &KindDraft,
+    line: &[u8],
+    tokens: &[Token],
+    first: u8,
+    second: u8,
+    formula: &Formula,
+) -> Option<Fault>
+    requires known { (first ≤ second) × (second < length kind.now.methods) }
+    requires few { nodes (tree_of formula.now) ≤ 512 }
+    requires short { length line.now < 2 ^ 32 - 1 }
+    ensures { Judged (LateHas kind.now line.now tokens.now first second (tree_of formula.now)) result }
+{
+    if is_set(kind, first, second) {
+        return Some(Fault {
+            place: place_at(line, tokens, 1),
+            cause: SpecCause::Duplicate,
+        });
+    }
+    match passed(kind, first, second, formula) {
+        Some(cause) => Some(Fault {
+            place: place_at(line, tokens, 3),
+            cause,
+        }),
+        None => None,
+    }
+}

@@ -1,0 +1,33 @@
+//! The numbers of methods, and the places of tokens.
+ghost use Rattle.std.specs.Prelude.{◌≡◌, ◌<◌, ◌≤◌, ◌-◌, ◌^◌, length, IfSome, IfNone, Contains, Some, slice_get};
+ghost use Rattle.rd_reading.specs.Causes.{place_at};
+ghost use Rattle.rd_ecl.specs.Specified.{names_of};
+
+use rd_base::Name;
+use rd_ecl::Method;
+use rd_tokens::Token;
+
+// The number of the method with this name.
+pub(crate) fn number_of(methods: &[Method], name: &Name) -> Option<u8>
+    requires { length methods.now ≤ 16 }
+    ensures some { IfSome result (λ number. slice_get (names_of methods.now) number ≡ Some name.now) }
+    ensures none { IfNone result (¬ (Contains (names_of methods.now) name.now)) }
+{
+    for (number, method) in methods.iter().enumerate() {
+        if method.name.items() == name.items() {
+            return Some(number as u8);
+        }
+    }
+    None
+}
+
+// Where the token with this number begins; behind the line where there is no such token.
+pub(crate) fn place_at(line: &[u8], tokens: &[Token], number: usize) -> u32
+    requires { length line.now < 2 ^ 32 - 1 }
+    ensures { result ≡ place_at line.now tokens.now number }
+{
+    match tokens.get(number) {
+        Some(token) => token.place,
+        None => line.len() as u32 + 1,
+    }
+}

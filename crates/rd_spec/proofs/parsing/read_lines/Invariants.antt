@@ -1,9 +1,0 @@
-use Rattle.std.proofs.Common.{length}
-use Rattle.rd_spec.specs.Reading.{IsHalfRead}
-use Rattle.rd_spec.proofs.parsing.read_lines.Given as goal
-
-abbrev pub invariant-loop-rest : goal.invariant-loop-rest
-invariant-loop-rest l = IsHalfRead l.taken l.text l.rest l.number l.known
-
-abbrev pub decreases-loop-rest : goal.decreases-loop-rest
-decreases-loop-rest l = length l.rest

@@ -1,7 +1,0 @@
-use Rattle.std.proofs.Common.{◌≡◌, ◌++◌, drop}
-use Rattle.rd_text.specs.Text.{text_of}
-use Rattle.rd_text.proofs.JoinLemmas.{text_behind}
-use Rattle.rd_text.proofs.text.append_text.Given as goal
-
-abbrev pub invariant-loop-word : goal.invariant-loop-word
-invariant-loop-word l = l.initial.text ++ text_of l.words ≡ l.text ++ text_behind l.before (drop l.word-index l.words)

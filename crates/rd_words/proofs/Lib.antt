@@ -1,3 +1,0 @@
-pub mod TermLemmas
-pub mod WordLemmas
-pub mod MarkLemmas

@@ -1,5 +1,0 @@
-use Rattle.rd_words.proofs.MarkLemmas.{SoFar}
-use Rattle.rd_words.proofs.lines.marks.Given as goal
-
-abbrev pub invariant-loop-number : goal.invariant-loop-number
-invariant-loop-number l = SoFar l.line l.tokens l.number l.marks
