@@ -3,7 +3,7 @@
 
 ghost use Rattle.std.specs.Prelude.{◌≡◌, ◌<◌};
 ghost use Rattle.std.specs.Process.{exit_status};
-ghost use Rattle.rd_run.specs.Output.{code_of};
+ghost use Rattle.rd_walk.specs.Output.{code_of};
 
 mod files;
 mod output;
