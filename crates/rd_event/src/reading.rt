@@ -233,6 +233,16 @@ fn read_other(keyword: &[u8], rest: &[u8], line: &mut Line) -> Result<(), LineRe
     Err(LineRefused::BadLine)
 }
 
+// Makes the line a skipped one. One that is stays as it is, so that a comment behind a comment writes nothing.
+fn skip(line: &mut Line)
+    ensures { line.new ≡ Line.Skip }
+{
+    match line {
+        Line::Skip => {}
+        _ => *line = Line::Skip,
+    }
+}
+
 // Reads a line. The most frequent keywords are asked for with their space, before the space is looked for.
 #[tactic(auto, using(crate::proofs::ReadingLemmas::call_item), unfolding(crate::specs::Reading::item_of))]
 fn read_item(alloc: Global, bytes: &[u8], line: &mut Line) -> Result<(), LineRefused>
@@ -242,7 +252,7 @@ fn read_item(alloc: Global, bytes: &[u8], line: &mut Line) -> Result<(), LineRef
     ensures call { IfErr result (λ e. e ≡ LineRefused.NoMemory → IsTrue (is_call_keyword (before_first is_space bytes.now))) }
 {
     if is_skipped(bytes) {
-        *line = Line::Skip;
+        skip(line);
         return Ok(());
     }
     if let Some(rest) = behind(bytes, b"call ") {
