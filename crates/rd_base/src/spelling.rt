@@ -240,7 +240,9 @@ fn text_value(alloc: Global, bytes: &[u8]) -> Result<Value, ValueRefused>
     requires long { 2 ≤ length bytes.now }
     ensures found { IfOk result (λ value. text_of bytes.now ≡ Some value) }
     ensures none { IfErr result (λ e. e ≡ ValueRefused.NotAValue → text_of bytes.now ≡ None) }
-    ensures memory { IfErr result (λ e. e ≡ ValueRefused.NoMemory → (text : List ℕ) × (text_of bytes.now ≡ Some (Value.Text text))) }
+    ensures memory { IfErr result
+        (λ e. e ≡ ValueRefused.NoMemory → (text : List ℕ)
+        × (text_of bytes.now ≡ Some (Value.Text text))) }
 {
     let Some(inside) = read_inside(&bytes[1..bytes.len() - 1]) else {
         return Err(ValueRefused::NotAValue);
@@ -285,7 +287,9 @@ pub fn is_value(bytes: &[u8]) -> bool
 fn value(alloc: Global, bytes: &[u8]) -> Result<Value, ValueRefused>
     ensures found { IfOk result (λ value. value_of bytes.now ≡ Some value) }
     ensures none { IfErr result (λ e. e ≡ ValueRefused.NotAValue → value_of bytes.now ≡ None) }
-    ensures memory { IfErr result (λ e. e ≡ ValueRefused.NoMemory → (text : List ℕ) × (value_of bytes.now ≡ Some (Value.Text text))) }
+    ensures memory { IfErr result
+        (λ e. e ≡ ValueRefused.NoMemory → (text : List ℕ)
+        × (value_of bytes.now ≡ Some (Value.Text text))) }
 {
     if let Some(number) = short_number(bytes) {
         return Ok(Value::Int(number as i64));
@@ -313,10 +317,14 @@ fn value(alloc: Global, bytes: &[u8]) -> Result<Value, ValueRefused>
 pub fn read_value(alloc: Global, bytes: &[u8]) -> Result<Value, ValueRefused>
     ensures value { IfOk result (λ value. bytes.now ≡ spelling value) }
     ensures range { IfOk result IsValue }
-    ensures only { IfErr result (λ e. e ≡ ValueRefused.NotAValue → (value : Value) → IsValue value → ¬ (bytes.now ≡ spelling value)) }
+    ensures only { IfErr result
+        (λ e. e ≡ ValueRefused.NotAValue → (value : Value) → IsValue value →
+        ¬ (bytes.now ≡ spelling value)) }
     ensures found { IfOk result (λ value. value_of bytes.now ≡ Some value) }
     ensures none { IfErr result (λ e. e ≡ ValueRefused.NotAValue → value_of bytes.now ≡ None) }
-    ensures memory { IfErr result (λ e. e ≡ ValueRefused.NoMemory → (text : List ℕ) × (value_of bytes.now ≡ Some (Value.Text text))) }
+    ensures memory { IfErr result
+        (λ e. e ≡ ValueRefused.NoMemory → (text : List ℕ)
+        × (value_of bytes.now ≡ Some (Value.Text text))) }
 {
     value(alloc, bytes)
 }
@@ -365,6 +373,7 @@ pub fn spell_value(alloc: Global, value: &Value) -> Result<Bytes, NoMemory>
 /// bytes spell, and what it finds is in its range.
 pub fn law_of_values()
     ensures one_spelling { (v w : Value) → IsValue v → IsValue w → spelling v ≡ spelling w → v ≡ w }
-    ensures test { (bytes : List ℕ) (value : Value) → IsValue value → (value_of bytes ≡ Some value ↔ (bytes ≡ spelling value)) }
+    ensures test { (bytes : List ℕ) (value : Value) → IsValue value →
+        (value_of bytes ≡ Some value ↔ (bytes ≡ spelling value)) }
     ensures range { (bytes : List ℕ) (value : Value) → value_of bytes ≡ Some value → IsValue value }
 {}

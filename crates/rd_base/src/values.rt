@@ -185,12 +185,17 @@ impl Value {
 /// the equal ones alike, and so does the order; equal ones are hashed alike.
 #[tactic(auto, using(crate::proofs::OrderLemmas::tied_values, crate::proofs::OrderLemmas::tied_bytes))]
 pub fn law_of_order()
+    // values
     ensures values { (a b : Value) → ⟦<Value as Ord>⟧.cmp a b ≡ value_cmp a b }
     ensures tied_values { (a b : Value) → (value_cmp a b ≡ Equal) ↔ (a ≡ b) }
     ensures equal_values { (a b : Value) → IsTrue (⟦<Value as PartialEq>⟧.eq a b) ↔ (a ≡ b) }
-    ensures hashed_values { (a b : Value) → IsTrue (⟦<Value as PartialEq>⟧.eq a b) → ⟦<Value as Hash>⟧.hash_input a ≡ ⟦<Value as Hash>⟧.hash_input b }
+    ensures hashed_values { (a b : Value) → IsTrue (⟦<Value as PartialEq>⟧.eq a b) →
+        ⟦<Value as Hash>⟧.hash_input a ≡ ⟦<Value as Hash>⟧.hash_input b }
+
+    // names
     ensures names { (a b : List ℕ) → ⟦<Name as Ord>⟧.cmp a b ≡ bytes_cmp a b }
     ensures tied_names { (a b : List ℕ) → (bytes_cmp a b ≡ Equal) ↔ (a ≡ b) }
     ensures equal_names { (a b : List ℕ) → IsTrue (⟦<Name as PartialEq>⟧.eq a b) ↔ (a ≡ b) }
-    ensures hashed_names { (a b : List ℕ) → IsTrue (⟦<Name as PartialEq>⟧.eq a b) → ⟦<Name as Hash>⟧.hash_input a ≡ ⟦<Name as Hash>⟧.hash_input b }
+    ensures hashed_names { (a b : List ℕ) → IsTrue (⟦<Name as PartialEq>⟧.eq a b) →
+        ⟦<Name as Hash>⟧.hash_input a ≡ ⟦<Name as Hash>⟧.hash_input b }
 {}

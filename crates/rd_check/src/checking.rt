@@ -74,18 +74,29 @@ impl<'a> Check<'a> {
         stamp: &Stamp,
         steps: &mut Steps<L>,
     ) -> Result<Option<Race>, Halt>
-        requires next { (numbers : List ℕ) × (es : List EventOf) × IsNextCall self.old.detector.kinds self.old.detector.calls numbers es place call.now stamp.now }
+        requires next { (numbers : List ℕ) × (es : List EventOf)
+            × IsNextCall self.old.detector.kinds self.old.detector.calls numbers es place call.now stamp.now }
         requires few { self.old.races + 1 < 2 ^ 64 }
-        ensures same { (self.new.spec.now ≡ self.old.spec.now) × (self.new.tracker ≡ self.old.tracker) × (self.new.detector.kinds ≡ self.old.detector.kinds)
+
+        // the call is judged and kept, and other parts stay
+        ensures same { (self.new.spec.now ≡ self.old.spec.now)
+            × (self.new.tracker ≡ self.old.tracker)
+            × (self.new.detector.kinds ≡ self.old.detector.kinds)
             × (self.new.formulas ≡ self.old.formulas) }
         ensures answer { IfOk result (λ answer. (numbers : List ℕ) (es : List EventOf)
             → IsNextCall self.old.detector.kinds self.old.detector.calls numbers es place call.now stamp.now
-            → IsAnswer self.old.detector.kinds (numbers ++ line ∷ []) (es ++ event.Call call.now ∷ []) place answer) }
+            → IsAnswer self.old.detector.kinds (numbers ++ line ∷ [])
+            (es ++ event.Call call.now ∷ []) place answer) }
         ensures stands { OnOk result ((numbers : List ℕ) (es : List EventOf)
             → IsNextCall self.old.detector.kinds self.old.detector.calls numbers es place call.now stamp.now
-            → StandsFor self.new.detector.calls (numbers ++ line ∷ []) (es ++ event.Call call.now ∷ [])) }
-        ensures held { OnOk result (length self.new.detector.calls ≡ length self.old.detector.calls + 1) }
-        ensures races { IfOk result (λ answer. self.new.races ≡ self.old.races + (if is_some answer then 1 else 0)) }
+            → StandsFor self.new.detector.calls (numbers ++ line ∷ [])
+            (es ++ event.Call call.now ∷ [])) }
+        ensures held { OnOk result
+            (length self.new.detector.calls ≡ length self.old.detector.calls + 1) }
+
+        // races are counted, only memory can stop it, and the steps are bounded
+        ensures races { IfOk result
+            (λ answer. self.new.races ≡ self.old.races + (if is_some answer then 1 else 0)) }
         ensures memory { IfErr result (λ halt. halt ≡ Halt.NoMemory) }
         ensures cost { steps.new ≤ steps.old + length self.old.detector.calls }
     {
@@ -103,9 +114,12 @@ impl<'a> Check<'a> {
     fn set_text(&mut self, race: &Race, names: &Roster) -> Result<(), NoMemory>
         requires known { IsKnownRace self.old.spec.now (naming_in names.now) race.now }
         requires formulas { self.old.formulas ≡ self.old.spec.now }
-        ensures same { (self.new.spec.now ≡ self.old.spec.now) × (self.new.tracker ≡ self.old.tracker) × (self.new.detector ≡ self.old.detector)
+        ensures same { (self.new.spec.now ≡ self.old.spec.now)
+            × (self.new.tracker ≡ self.old.tracker) × (self.new.detector ≡ self.old.detector)
             × (self.new.races ≡ self.old.races) × (self.new.formulas ≡ self.old.formulas) }
-        ensures text { OnOk result (self.new.text ≡ race_text self.old.spec.now (naming_in names.now) (told_by race.now.later.value) (told_by race.now.earlier.value)) }
+        ensures text { OnOk result
+            (self.new.text ≡ race_text self.old.spec.now (naming_in names.now)
+            (told_by race.now.later.value) (told_by race.now.earlier.value)) }
     {
         self.text.clear();
         if let Some(line) = self.formulas.find(race.kind, race.first, race.second) {
@@ -121,13 +135,17 @@ impl<'a> Check<'a> {
     fn report<S: Sink>(&mut self, race: &Race, names: &Roster, out: &mut S) -> Result<(), Halt>
         requires known { IsKnownRace self.old.spec.now (naming_in names.now) race.now }
         requires formulas { self.old.formulas ≡ self.old.spec.now }
-        ensures same { (self.new.spec.now ≡ self.old.spec.now) × (self.new.tracker ≡ self.old.tracker) × (self.new.detector ≡ self.old.detector)
+        ensures same { (self.new.spec.now ≡ self.old.spec.now)
+            × (self.new.tracker ≡ self.old.tracker) × (self.new.detector ≡ self.old.detector)
             × (self.new.races ≡ self.old.races) × (self.new.formulas ≡ self.old.formulas) }
         ensures ok { OnOk result (Appends (S.written out.old) (S.written out.new)
-            (race_text self.old.spec.now (naming_in names.now) (told_by race.now.later.value) (told_by race.now.earlier.value))) }
+            (race_text self.old.spec.now (naming_in names.now) (told_by race.now.later.value)
+            (told_by race.now.earlier.value))) }
         ensures front { OnErr result (WritesFront (S.written out.old) (S.written out.new) []
-            (race_text self.old.spec.now (naming_in names.now) (told_by race.now.later.value) (told_by race.now.earlier.value))) }
-        ensures fault { TellsFault (S.faults out.old) (S.faults out.new) (S.at_fault out.new) (S.written out.new) result }
+            (race_text self.old.spec.now (naming_in names.now) (told_by race.now.later.value)
+            (told_by race.now.earlier.value))) }
+        ensures fault { TellsFault (S.faults out.old) (S.faults out.new) (S.at_fault out.new)
+            (S.written out.new) result }
     {
         match self.set_text(race, names) {
             Ok(()) => write_lines(out, self.text.items()),
@@ -137,10 +155,14 @@ impl<'a> Check<'a> {
 
     /// Hands the next root to the tracker.
     fn root(&mut self, thread: u32) -> Result<(), Halt>
-        requires { (start : Check) × (before : List Entry) × (item : LineOf) × Checks start before self.old
-            × IsNextLine (kinds_of start.spec.now) self.old.tracker (items before) item (Accepted.Root thread) }
-        ensures checks { OnOk result ((start : Check) (before : List Entry) (entry : Entry) → Checks start before self.old →
-            IsNextLine (kinds_of start.spec.now) self.old.tracker (items before) entry.item (Accepted.Root thread) → Checks start (before ++ entry ∷ []) self.new) }
+        requires { (start : Check) × (before : List Entry) × (item : LineOf)
+            × Checks start before self.old
+            × IsNextLine (kinds_of start.spec.now) self.old.tracker (items before) item
+            (Accepted.Root thread) }
+        ensures checks { OnOk result
+            ((start : Check) (before : List Entry) (entry : Entry) → Checks start before self.old →
+            IsNextLine (kinds_of start.spec.now) self.old.tracker (items before) entry.item
+            (Accepted.Root thread) → Checks start (before ++ entry ∷ []) self.new) }
         ensures memory { IfErr result (λ halt. halt ≡ Halt.NoMemory) }
     {
         match self.tracker.root(thread) {
@@ -174,8 +196,10 @@ impl<'a> Check<'a> {
             WritesFront (S.written out.old) (S.written out.new) (race_texts start.spec.now before)
             (race_texts start.spec.now (before ++ record { number = number; item = item } ∷ []))) }
         ensures cost { (start : Check) (before : List Entry) (item : LineOf) →
-            IsNextEventLine start self.old before item event.now (naming_in names.now) place → steps.new ≤ steps.old + line_bound (items before) item }
-        ensures fault { TellsFault (S.faults out.old) (S.faults out.new) (S.at_fault out.new) (S.written out.new) result }
+            IsNextEventLine start self.old before item event.now (naming_in names.now) place →
+            steps.new ≤ steps.old + line_bound (items before) item }
+        ensures fault { TellsFault (S.faults out.old) (S.faults out.new) (S.at_fault out.new)
+            (S.written out.new) result }
     {
         let Event::Call(call) = event else {
             return match self.tracker.pass(event, steps) {

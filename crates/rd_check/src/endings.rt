@@ -22,10 +22,13 @@ pub fn write_ending<S: Sink>(
     out: &mut S,
 ) -> Status
     ensures output { (part : List ℕ) × Appends (S.written out.old) (S.written out.new) part
-        × IsOutput result part (record { text = ending_text (names_in names.now) races ending.now; status = check_status races ending.now }) }
+        × IsOutput result part
+        (record { text = ending_text (names_in names.now) races ending.now; status = check_status races ending.now }) }
     ensures input { result ≡ Status.InputFault → ending.now ≡ Ending.Fault }
-    ensures calm { result ≢ Status.InputFault → result ≢ Status.OutputFault → result ≢ Status.NoMemory → ending.now ≢ Ending.Fault }
-    ensures fault { StatusTellsFault (S.faults out.old) (S.faults out.new) (S.at_fault out.new) (S.written out.new) result }
+    ensures calm { result ≢ Status.InputFault → result ≢ Status.OutputFault →
+        result ≢ Status.NoMemory → ending.now ≢ Ending.Fault }
+    ensures fault { StatusTellsFault (S.faults out.old) (S.faults out.new) (S.at_fault out.new)
+        (S.written out.new) result }
     ensures no_usage { result ≢ Status.Usage }
     ensures no_spec { result ≢ Status.SpecRefused }
 {

@@ -24,15 +24,22 @@ use rd_walk::{Status, WalkEnd};
 /// end and some call is reported, and `ReplayDiffers` exactly where it was read to its end, no call is reported, and in the replay a call
 /// differs from its record.
 pub fn law_of_reports()
-    ensures report { (kinds : List SpecifiedKind) (entries : List Entry) → IsReport (Commute kinds) (entries_race kinds entries) (entry_events kinds entries)
+    ensures report { (kinds : List SpecifiedKind) (entries : List Entry) →
+        IsReport (Commute kinds) (entries_race kinds entries) (entry_events kinds entries)
         (length (entry_events kinds entries)) (race_texts kinds entries) }
     ensures none { (kinds : List SpecifiedKind) (entries : List Entry) →
-        ((races_of kinds entries ≡ 0) ↔ ((j : ℕ) → ¬ (Reported (Commute kinds) (entry_events kinds entries) j))) }
-    ensures raced { (kinds : List SpecifiedKind) (walked : Walked) → ((check_outcome kinds walked).status ≡ Status.Raced
-        ↔ ((ending_of walked ≡ WalkEnd.End) × ((j : ℕ) × Reported (Commute kinds) (entry_events kinds (entries_of walked)) j))) }
-    ensures differs { (kinds : List SpecifiedKind) (walked : Walked) → ((check_outcome kinds walked).status ≡ Status.ReplayDiffers
-        ↔ ((ending_of walked ≡ WalkEnd.End) × (((j : ℕ) → ¬ (Reported (Commute kinds) (entry_events kinds (entries_of walked)) j))
-        × ((line : ℕ) × (expected : ExpectedOf) × (replay_of (kinds_of kinds) (entries_of walked) ≡ ReplayEnd.Differs line expected))))) }
+        ((races_of kinds entries ≡ 0)
+        ↔ ((j : ℕ) → ¬ (Reported (Commute kinds) (entry_events kinds entries) j))) }
+    ensures raced { (kinds : List SpecifiedKind) (walked : Walked) →
+        ((check_outcome kinds walked).status ≡ Status.Raced
+        ↔ ((ending_of walked ≡ WalkEnd.End)
+        × ((j : ℕ) × Reported (Commute kinds) (entry_events kinds (entries_of walked)) j))) }
+    ensures differs { (kinds : List SpecifiedKind) (walked : Walked) →
+        ((check_outcome kinds walked).status ≡ Status.ReplayDiffers
+        ↔ ((ending_of walked ≡ WalkEnd.End)
+        × (((j : ℕ) → ¬ (Reported (Commute kinds) (entry_events kinds (entries_of walked)) j))
+        × ((line : ℕ) × (expected : ExpectedOf)
+        × (replay_of (kinds_of kinds) (entries_of walked) ≡ ReplayEnd.Differs line expected))))) }
 {}
 
 /// The headline, for all bytes of a trace, whatever the kinds of its objects and the limits within their ranges, and wherever the reading
@@ -42,13 +49,16 @@ pub fn law_of_reports()
 /// reported, and then how the replay of the calls ends, which are on declared objects, or why a line was refused, or that a read failed; and
 /// the status is that of how the lines end, of whether a call is reported, and of the replay.
 pub fn law_of_checks()
-    ensures { (kinds : List SpecifiedKind) (limits : Limits) → AreUsable limits → limits.threads < 2 ^ 32 → (stop : Stop) (bytes : List ℕ) →
-        IsChecked kinds limits stop bytes (check_outcome kinds (trace_of (kinds_of kinds) limits stop bytes)) }
+    ensures { (kinds : List SpecifiedKind) (limits : Limits) → AreUsable limits →
+        limits.threads < 2 ^ 32 → (stop : Stop) (bytes : List ℕ) →
+        IsChecked kinds limits stop bytes
+        (check_outcome kinds (trace_of (kinds_of kinds) limits stop bytes)) }
 {}
 
 /// The texts of races that are written before a read fails are a front of what is written for the whole, whatever bytes were still to come.
 pub fn law_of_faults()
-    ensures { (kinds : List SpecifiedKind) (limits : Limits) → AreUsable limits → limits.threads < 2 ^ 32 → (stop : Stop) (bytes more : List ℕ) →
+    ensures { (kinds : List SpecifiedKind) (limits : Limits) → AreUsable limits →
+        limits.threads < 2 ^ 32 → (stop : Stop) (bytes more : List ℕ) →
         IsFront (race_texts kinds (entries_of (trace_of (kinds_of kinds) limits fault bytes)))
         (check_outcome kinds (trace_of (kinds_of kinds) limits stop (bytes ++ more))).text }
 {}

@@ -60,7 +60,8 @@ impl Clock {
     /// A clock that counts the same, with room for the threads below that number, in one allocation.
     pub fn copy_with_room(&self, alloc: Global, threads: u32) -> Result<Clock, NoMemory>
         ensures room { IfOk result (λ clock. length clock ≡ max (length self.now) threads) }
-        ensures kept { IfOk result (λ clock. (thread : ℕ) → component clock thread ≡ component self.now thread) }
+        ensures kept { IfOk result
+            (λ clock. (thread : ℕ) → component clock thread ≡ component self.now thread) }
     {
         let room = self.components.len().max(threads as usize);
         let mut copy = Clock {

@@ -27,7 +27,8 @@ fn meets<L: Ledger>(
     steps: &mut Steps<L>,
 ) -> bool
     requires { (kinds : List SpecifiedKind) × IsAsked kinds kind.now call.now seen.now.call }
-    ensures answer { (kinds : List SpecifiedKind) → IsAsked kinds kind.now call.now seen.now.call → (IsTrue result ↔ Meets (Commute kinds) call.now clock.now seen.now) }
+    ensures answer { (kinds : List SpecifiedKind) → IsAsked kinds kind.now call.now seen.now.call →
+        (IsTrue result ↔ Meets (Commute kinds) call.now clock.now seen.now) }
     ensures cost { steps.new ≤ steps.old + 1 }
 {
     if seen.call.object != call.object {
@@ -62,13 +63,15 @@ impl<'a> Model for Detector<'a> {
 
     ghost coded = { Prim.hlevel (codes, coded_tree) };
 
-    ghost view = { λ d. record { kinds = d.kinds.now; calls = map (λ held. held.value) d.held.items } };
+    ghost view = { λ d.
+        record { kinds = d.kinds.now; calls = map (λ held. held.value) d.held.items } };
 }
 
 impl<'a> Detector<'a> {
     /// A detector without a call, which asks the formulas of these kinds. It stands for the list of no events.
     pub fn new(alloc: Global, spec: &'a Spec) -> Result<Detector<'a>, NoMemory>
-        ensures empty { IfOk result (λ detector. detector ≡ record { kinds = spec.now; calls = [] }) }
+        ensures empty { IfOk result
+            (λ detector. detector ≡ record { kinds = spec.now; calls = [] }) }
         ensures stands { IfOk result (λ detector. StandsFor detector.calls [] []) }
     {
         Ok(Detector {
@@ -95,7 +98,8 @@ impl<'a> Detector<'a> {
         steps: &mut Steps<L>,
     ) -> Option<&Rc<Witness>>
         requires { AreAsked self.now.kinds kind.now call.now self.now.calls }
-        ensures newest { IsNewest (Commute self.now.kinds) self.now.calls call.now clock.now (option_map (λ held. held.now.value) result) }
+        ensures newest { IsNewest (Commute self.now.kinds) self.now.calls call.now clock.now
+            (option_map (λ held. held.now.value) result) }
         ensures cost { steps.new ≤ steps.old + length self.now.calls }
     {
         let mut left = self.held.len();
@@ -121,12 +125,20 @@ impl<'a> Detector<'a> {
         _tracker: &Tracker,
         steps: &mut Steps<L>,
     ) -> Result<Option<Race>, NoMemory>
-        requires next { (lines : List ℕ) × (es : List EventOf) × IsNextCall self.old.kinds self.old.calls lines es place call.now stamp.now }
+        requires next { (lines : List ℕ) × (es : List EventOf)
+            × IsNextCall self.old.kinds self.old.calls lines es place call.now stamp.now }
+
+        // the call is judged and kept
         ensures answer { IfOk result (λ answer. (lines : List ℕ) (es : List EventOf)
             → IsNextCall self.old.kinds self.old.calls lines es place call.now stamp.now
-            → IsAnswer self.old.kinds (lines ++ line ∷ []) (es ++ event.Call call.now ∷ []) place answer) }
-        ensures stands { OnOk result ((lines : List ℕ) (es : List EventOf) → IsNextCall self.old.kinds self.old.calls lines es place call.now stamp.now
+            → IsAnswer self.old.kinds (lines ++ line ∷ [])
+            (es ++ event.Call call.now ∷ []) place answer) }
+        ensures stands { OnOk result
+            ((lines : List ℕ) (es : List EventOf) →
+            IsNextCall self.old.kinds self.old.calls lines es place call.now stamp.now
             → StandsFor self.new.calls (lines ++ line ∷ []) (es ++ event.Call call.now ∷ [])) }
+
+        // what stays, how many calls there are, and a bound of the steps
         ensures kinds { self.new.kinds ≡ self.old.kinds }
         ensures count { OnOk result (length self.new.calls ≡ length self.old.calls + 1) }
         ensures err { OnErr result (self.new ≡ self.old) }
@@ -160,7 +172,8 @@ fn witness(
     call: &Call,
     stamp: &Stamp,
 ) -> Result<Rc<Witness>, NoMemory>
-    ensures { IfOk result (λ held. held.value ≡ record { line = line; place = place; call = call.now; stamp = stamp.now }) }
+    ensures { IfOk result
+        (λ held. held.value ≡ record { line = line; place = place; call = call.now; stamp = stamp.now }) }
 {
     let call = call.copy(alloc)?;
     let stamp = copied(alloc, stamp)?;
@@ -189,7 +202,8 @@ fn race_of(later: &Rc<Witness>, earlier: &Rc<Witness>) -> Result<Race, NoMemory>
 
 // The race of a call with the newest earlier one that races with it, where there is one.
 fn answer(later: &Rc<Witness>, earlier: Option<&Rc<Witness>>) -> Result<Option<Race>, NoMemory>
-    ensures { IfOk result (Answers later.now.value (option_map (λ held. held.now.value) earlier.entry)) }
+    ensures { IfOk result
+        (Answers later.now.value (option_map (λ held. held.now.value) earlier.entry)) }
 {
     match earlier {
         None => Ok(None),

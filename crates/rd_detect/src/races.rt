@@ -16,20 +16,24 @@ pub fn law_of_races()
     ensures racing { (commuting : CallOf → CallOf → Bool) (es : List EventOf) (i j : ℕ) →
         (IsTrue (is_racing commuting es i j) ↔ Racing (Passing commuting) es i j) }
     ensures latest { (commuting : CallOf → CallOf → Bool) (es : List EventOf) (j : ℕ) →
-        MatchOption (latest_of commuting es j) (¬ (Reported (Passing commuting) es j)) (IsLatest (Passing commuting) es j) }
+        MatchOption (latest_of commuting es j) (¬ (Reported (Passing commuting) es j))
+        (IsLatest (Passing commuting) es j) }
     ensures one { (commuting : CallOf → CallOf → Bool) (es : List EventOf) (j i k : ℕ) →
         IsLatest (Passing commuting) es j i → IsLatest (Passing commuting) es j k → i ≡ k }
-    ensures growth { (commuting : CallOf → CallOf → Bool) (es fs : List EventOf) (i j : ℕ) → j < length es →
+    ensures growth { (commuting : CallOf → CallOf → Bool) (es fs : List EventOf) (i j : ℕ) →
+        j < length es →
         (Racing (Passing commuting) (es ++ fs) i j ↔ Racing (Passing commuting) es i j) }
 {}
 
 /// Calls of one kind commute both ways.
 pub fn law_of_commuting()
-    ensures { (kinds : List SpecifiedKind) (a b : CallOf) → a.kind ≡ b.kind → Commute kinds a b → Commute kinds b a }
+    ensures { (kinds : List SpecifiedKind) (a b : CallOf) → a.kind ≡ b.kind → Commute kinds a b →
+        Commute kinds b a }
 {}
 
 /// An event that is no call leaves what a detector stands for: it stands for the list with that event too.
 pub fn law_of_detectors()
-    ensures { (held : List Witness) (lines : List ℕ) (es : List EventOf) (line : ℕ) (e : EventOf) → ((call : CallOf) → e ≢ event.Call call) →
+    ensures { (held : List Witness) (lines : List ℕ) (es : List EventOf) (line : ℕ) (e : EventOf) →
+        ((call : CallOf) → e ≢ event.Call call) →
         StandsFor held lines es → StandsFor held (lines ++ line ∷ []) (es ++ e ∷ []) }
 {}

@@ -41,9 +41,11 @@ impl Model for KindSpec {
 
     ghost coded = { Prim.hlevel (codes, coded_tree) };
 
-    ghost view = { λ k. record { name = k.name; methods = k.methods.items; pairs = map (option_map tree_of) k.pairs.items } };
+    ghost view = { λ k.
+        record { name = k.name; methods = k.methods.items; pairs = map (option_map tree_of) k.pairs.items } };
 
-    ghost invariant = { λ k. IsKind (record { name = k.name; methods = k.methods.items; pairs = map (option_map tree_of) k.pairs.items }) };
+    ghost invariant = { λ k.
+        IsKind (record { name = k.name; methods = k.methods.items; pairs = map (option_map tree_of) k.pairs.items }) };
 }
 
 impl KindSpec {
@@ -66,7 +68,8 @@ impl KindSpec {
     pub fn formula(&self, first: u8, second: u8) -> &Formula
         requires { (first ≤ second) × (second < length self.now.methods) }
         ensures value { formula_at self.now first second ≡ Some (tree_of result.now) }
-        ensures valid { IsPair (tree_of result.now) (slots_at self.now.methods first) (slots_at self.now.methods second) }
+        ensures valid { IsPair (tree_of result.now) (slots_at self.now.methods first)
+            (slots_at self.now.methods second) }
     {
         self.pairs[place(first, second)].as_ref().unwrap()
     }
@@ -75,7 +78,8 @@ impl KindSpec {
     /// with the method declared first on side 1. For one method the formula holds with either call on side 1. It takes no memory.
     pub fn commute(&self, m: u8, a: &[Value], n: u8, b: &[Value]) -> bool
         requires known { (m < length self.now.methods) × (n < length self.now.methods) }
-        requires slots { (length a.now ≡ slots_at self.now.methods m) × (length b.now ≡ slots_at self.now.methods n) }
+        requires slots { (length a.now ≡ slots_at self.now.methods m)
+            × (length b.now ≡ slots_at self.now.methods n) }
         ensures { result ≡ commutes self.now m a.now n b.now }
     {
         if m < n {
@@ -128,9 +132,11 @@ impl Model for KindDraft {
 
     ghost coded = { Prim.hlevel (codes, coded_tree) };
 
-    ghost view = { λ d. record { name = d.name; methods = d.methods.items; pairs = map (option_map tree_of) d.pairs.items } };
+    ghost view = { λ d.
+        record { name = d.name; methods = d.methods.items; pairs = map (option_map tree_of) d.pairs.items } };
 
-    ghost invariant = { λ d. IsDraft (record { name = d.name; methods = d.methods.items; pairs = map (option_map tree_of) d.pairs.items }) };
+    ghost invariant = { λ d.
+        IsDraft (record { name = d.name; methods = d.methods.items; pairs = map (option_map tree_of) d.pairs.items }) };
 }
 
 impl KindDraft {
@@ -150,7 +156,8 @@ impl KindDraft {
     /// `nil`, `not`, `and`, `or` and `when`. After want of memory the draft is as before.
     pub fn method(&mut self, name: Name, variables: Names) -> Result<(), NoMemory>
         requires { MayAdd self.old name variables }
-        ensures ok { OnOk result (self.new ≡ with_method self.old (record { name = name; variables = variables })) }
+        ensures ok { OnOk result
+            (self.new ≡ with_method self.old (record { name = name; variables = variables })) }
         ensures err { OnErr result (self.new ≡ self.old) }
     {
         self.methods.reserve(1)?;
@@ -178,7 +185,8 @@ impl KindDraft {
     /// no memory.
     pub fn formula(&self, first: u8, second: u8) -> Option<&Formula>
         requires { (first ≤ second) × (second < length self.now.methods) }
-        ensures { option_map (λ formula. tree_of formula.now) result ≡ formula_at self.now first second }
+        ensures { option_map
+            (λ formula. tree_of formula.now) result ≡ formula_at self.now first second }
     {
         self.pairs[place(first, second)].as_ref()
     }
@@ -194,7 +202,8 @@ impl KindDraft {
     ) -> Option<&'a Formula>
         requires pair { (first ≤ second) × (second < length self.now.methods) }
         requires asked { (low ≤ high) × (high < length self.now.methods) }
-        ensures { option_map (λ part. tree_of part.now) result ≡ formula_at (with_pair self.now first second (tree_of formula.now)) low high }
+        ensures { option_map (λ part. tree_of part.now) result ≡ formula_at
+            (with_pair self.now first second (tree_of formula.now)) low high }
     {
         // its clause says what is known of a draft
         let _methods = self.methods();
@@ -215,8 +224,10 @@ impl KindDraft {
         other: u8,
     ) -> Option<Relations<'a>>
         requires counted { IsCounted seen }
-        requires known { (first ≤ second) × (second < length self.now.methods) × (method < length self.now.methods) × (other < length self.now.methods) }
-        ensures { Gathers (kept seen.entry) (part_of (with_pair self.now first second (tree_of formula.now)) method other) result }
+        requires known { (first ≤ second) × (second < length self.now.methods)
+            × (method < length self.now.methods) × (other < length self.now.methods) }
+        ensures { Gathers (kept seen.entry)
+            (part_of (with_pair self.now first second (tree_of formula.now)) method other) result }
     {
         let (low, high) = (method.min(other), method.max(other));
         match self.formula_with(first, second, formula, low, high) {
@@ -228,8 +239,11 @@ impl KindDraft {
     /// Has the method with this number at most 5 distinct relations on its side alone, with this formula for two methods in place
     /// of one that is set? These go by their numbers: `first` is at most `second`. It takes no memory.
     pub fn has_room<'a>(&'a self, first: u8, second: u8, formula: &'a Formula, method: u8) -> bool
-        requires { (first ≤ second) × (second < length self.now.methods) × (method < length self.now.methods) }
-        ensures { IsTrue result ↔ (length (method_predicates (with_pair self.now first second (tree_of formula.now)) method) ≤ 5) }
+        requires { (first ≤ second) × (second < length self.now.methods)
+            × (method < length self.now.methods) }
+        ensures { IsTrue result
+            ↔ (length (method_predicates
+            (with_pair self.now first second (tree_of formula.now)) method) ≤ 5) }
     {
         let mut seen = Relations::none();
         let count = self.methods().len() as u8;
@@ -270,21 +284,28 @@ impl KindDraft {
 /// The law of variables: the tests of a variable, of a name among others, and of names that differ find exactly these.
 pub fn law_of_variables()
     ensures variable { (bytes : List ℕ) → (IsTrue (is_variable bytes) ↔ IsVariable bytes) }
-    ensures among { (name : List ℕ) (names : List (List ℕ)) → (IsTrue (is_among name names) ↔ Contains names name) }
-    ensures different { (names : List (List ℕ)) → (IsTrue (are_different names) ↔ AllPairs (λ x y. x ≢ y) names) }
+    ensures among { (name : List ℕ) (names : List (List ℕ)) →
+        (IsTrue (is_among name names) ↔ Contains names name) }
+    ensures different { (names : List (List ℕ)) →
+        (IsTrue (are_different names) ↔ AllPairs (λ x y. x ≢ y) names) }
 {}
 
 /// The law of commuting calls: calls commute in either order; those of different methods by their formula with the method
 /// declared first on side 1, those of one method by its formula with either call there.
 #[tactic(auto, using(crate::proofs::CommuteLemmas::symmetric, crate::proofs::CommuteLemmas::straight, crate::proofs::CommuteLemmas::behind, crate::proofs::CommuteLemmas::alike))]
 pub fn law_of_commuting()
-    ensures symmetric { (kind : SpecifiedKind) (m n : ℕ) (a b : List Value) → commutes kind m a n b ≡ commutes kind n b m a }
-    ensures before { (kind : SpecifiedKind) (m n : ℕ) (a b : List Value) → m < n → commutes kind m a n b ≡ pair_holds kind m n a b }
-    ensures behind { (kind : SpecifiedKind) (m n : ℕ) (a b : List Value) → n < m → commutes kind m a n b ≡ pair_holds kind n m b a }
-    ensures alike { (kind : SpecifiedKind) (m : ℕ) (a b : List Value) → commutes kind m a m b ≡ (pair_holds kind m m a b && pair_holds kind m m b a) }
+    ensures symmetric { (kind : SpecifiedKind) (m n : ℕ) (a b : List Value) →
+        commutes kind m a n b ≡ commutes kind n b m a }
+    ensures before { (kind : SpecifiedKind) (m n : ℕ) (a b : List Value) → m < n →
+        commutes kind m a n b ≡ pair_holds kind m n a b }
+    ensures behind { (kind : SpecifiedKind) (m n : ℕ) (a b : List Value) → n < m →
+        commutes kind m a n b ≡ pair_holds kind n m b a }
+    ensures alike { (kind : SpecifiedKind) (m : ℕ) (a b : List Value) →
+        commutes kind m a m b ≡ (pair_holds kind m m a b && pair_holds kind m m b a) }
 {}
 
 /// The law of pairs: the test of a pair's formula, which computes on a kind that is written out, finds only those that may be set.
 pub fn law_of_pairs()
-    ensures { (kind : SpecifiedKind) (first second : ℕ) (formula : Tree) → IsTrue (may_pair kind first second formula) → MayPair kind first second formula }
+    ensures { (kind : SpecifiedKind) (first second : ℕ) (formula : Tree) →
+        IsTrue (may_pair kind first second formula) → MayPair kind first second formula }
 {}

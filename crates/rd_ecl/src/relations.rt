@@ -84,7 +84,8 @@ impl<'a> Relations<'a> {
         second: u8,
     ) -> Option<Relations<'a>>
         requires { IsCounted self }
-        ensures { Gathers (kept self.entry) (predicates_of method first second (tree_of formula.now)) result }
+        ensures { Gathers (kept self.entry)
+            (predicates_of method first second (tree_of formula.now)) result }
     {
         match formula {
             Formula::Atom {

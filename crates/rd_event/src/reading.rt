@@ -154,7 +154,8 @@ fn read_pair(pair: Pair, rest: &[u8], line: &mut Line) -> Result<(), LineRefused
 // Reads the line of a root thread with these bytes after the space behind its keyword.
 #[tactic(auto, using(rd_base::proofs::NameLemmas::is_name_decides), unfolding(crate::specs::Reading::name_of))]
 fn read_thread(rest: &[u8], line: &mut Line) -> Result<(), LineRefused>
-    ensures item { OnOk result (option_map (λ name. Line.Thread name) (name_of rest.now) ≡ Some line.new) }
+    ensures item { OnOk result
+        (option_map (λ name. Line.Thread name) (name_of rest.now) ≡ Some line.new) }
     ensures none { OnErr result (option_map (λ name. Line.Thread name) (name_of rest.now) ≡ None) }
     ensures refused { IfErr result (λ e. e ≡ LineRefused.BadLine) }
 {
@@ -168,9 +169,14 @@ fn read_thread(rest: &[u8], line: &mut Line) -> Result<(), LineRefused>
 // Reads a call with these bytes after the space behind its keyword.
 #[tactic(auto, using(rd_base::proofs::NameLemmas::is_name_decides), unfolding(crate::specs::Reading::name_of, crate::specs::Reading::call_read))]
 fn read_call(alloc: Global, rest: &[u8], line: &mut Line) -> Result<(), LineRefused>
-    ensures item { OnOk result (option_map (λ event. Line.Event event) (call_read rest.now) ≡ Some line.new) }
-    ensures none { IfErr result (λ e. e ≡ LineRefused.BadLine → option_map (λ event. Line.Event event) (call_read rest.now) ≡ None) }
-    ensures memory { IfErr result (λ e. e ≡ LineRefused.NoMemory → (item : Line) × (option_map (λ event. Line.Event event) (call_read rest.now) ≡ Some item)) }
+    ensures item { OnOk result
+        (option_map (λ event. Line.Event event) (call_read rest.now) ≡ Some line.new) }
+    ensures none { IfErr result
+        (λ e. e ≡ LineRefused.BadLine →
+        option_map (λ event. Line.Event event) (call_read rest.now) ≡ None) }
+    ensures memory { IfErr result
+        (λ e. e ≡ LineRefused.NoMemory → (item : Line)
+        × (option_map (λ event. Line.Event event) (call_read rest.now) ≡ Some item)) }
 {
     let (thread, names) = cut_name(rest);
     let Ok(thread) = Name::from_name_bytes(thread) else {
@@ -248,8 +254,11 @@ fn skip(line: &mut Line)
 fn read_item(alloc: Global, bytes: &[u8], line: &mut Line) -> Result<(), LineRefused>
     ensures item { OnOk result (item_of bytes.now ≡ Some line.new) }
     ensures none { IfErr result (λ e. e ≡ LineRefused.BadLine → item_of bytes.now ≡ None) }
-    ensures memory { IfErr result (λ e. e ≡ LineRefused.NoMemory → (item : Line) × (item_of bytes.now ≡ Some item)) }
-    ensures call { IfErr result (λ e. e ≡ LineRefused.NoMemory → IsTrue (is_call_keyword (before_first is_space bytes.now))) }
+    ensures memory { IfErr result
+        (λ e. e ≡ LineRefused.NoMemory → (item : Line) × (item_of bytes.now ≡ Some item)) }
+    ensures call { IfErr result
+        (λ e. e ≡ LineRefused.NoMemory →
+        IsTrue (is_call_keyword (before_first is_space bytes.now))) }
 {
     if is_skipped(bytes) {
         skip(line);
@@ -273,13 +282,23 @@ fn read_item(alloc: Global, bytes: &[u8], line: &mut Line) -> Result<(), LineRef
 
 /// Reads a line, given without its line feed, into `line`, which may be anything after an error. The answers are those of `read_line`.
 pub fn read_into(alloc: Global, bytes: &[u8], line: &mut Line) -> Result<(), LineRefused>
+    // the line is what the bytes say
     ensures says { OnOk result (Says bytes.now line.new) }
     ensures range { OnOk result (LineInRange line.new) }
-    ensures only { IfErr result (λ e. e ≡ LineRefused.BadLine → (item : Line) → LineInRange item → ¬ (Says bytes.now item)) }
+    ensures only { IfErr result
+        (λ e. e ≡ LineRefused.BadLine → (item : Line) → LineInRange item →
+        ¬ (Says bytes.now item)) }
+
+    // as `item_of` tells too
     ensures item { OnOk result (item_of bytes.now ≡ Some line.new) }
     ensures none { IfErr result (λ e. e ≡ LineRefused.BadLine → item_of bytes.now ≡ None) }
-    ensures memory { IfErr result (λ e. e ≡ LineRefused.NoMemory → (item : Line) × (item_of bytes.now ≡ Some item)) }
-    ensures call { IfErr result (λ e. e ≡ LineRefused.NoMemory → IsTrue (is_call_keyword (before_first is_space bytes.now))) }
+
+    // memory runs out only at bytes that say an item and begin as a call
+    ensures memory { IfErr result
+        (λ e. e ≡ LineRefused.NoMemory → (item : Line) × (item_of bytes.now ≡ Some item)) }
+    ensures call { IfErr result
+        (λ e. e ≡ LineRefused.NoMemory →
+        IsTrue (is_call_keyword (before_first is_space bytes.now))) }
 {
     read_item(alloc, bytes, line)
 }
@@ -287,13 +306,23 @@ pub fn read_into(alloc: Global, bytes: &[u8], line: &mut Line) -> Result<(), Lin
 /// Reads a line, given without its line feed. The answer is `BadLine` exactly if the bytes spell no
 /// item. Only the values of a call take memory, so `NoMemory` comes only for bytes that spell a call.
 pub fn read_line(alloc: Global, bytes: &[u8]) -> Result<Line, LineRefused>
+    // the line is what the bytes say
     ensures says { IfOk result (λ item. Says bytes.now item) }
     ensures range { IfOk result LineInRange }
-    ensures only { IfErr result (λ e. e ≡ LineRefused.BadLine → (item : Line) → LineInRange item → ¬ (Says bytes.now item)) }
+    ensures only { IfErr result
+        (λ e. e ≡ LineRefused.BadLine → (item : Line) → LineInRange item →
+        ¬ (Says bytes.now item)) }
+
+    // as `item_of` tells too
     ensures item { IfOk result (λ item. item_of bytes.now ≡ Some item) }
     ensures none { IfErr result (λ e. e ≡ LineRefused.BadLine → item_of bytes.now ≡ None) }
-    ensures memory { IfErr result (λ e. e ≡ LineRefused.NoMemory → (item : Line) × (item_of bytes.now ≡ Some item)) }
-    ensures call { IfErr result (λ e. e ≡ LineRefused.NoMemory → IsTrue (is_call_keyword (before_first is_space bytes.now))) }
+
+    // memory runs out only at bytes that say an item and begin as a call
+    ensures memory { IfErr result
+        (λ e. e ≡ LineRefused.NoMemory → (item : Line) × (item_of bytes.now ≡ Some item)) }
+    ensures call { IfErr result
+        (λ e. e ≡ LineRefused.NoMemory →
+        IsTrue (is_call_keyword (before_first is_space bytes.now))) }
 {
     let mut line = Line::Skip;
     match read_into(alloc, bytes, &mut line) {
@@ -305,8 +334,10 @@ pub fn read_line(alloc: Global, bytes: &[u8]) -> Result<Line, LineRefused>
 /// The law of spelling: `item_of` gives exactly the items that the bytes say, each in its range, it gives each item again from
 /// the item's spelling, and no bytes say two.
 pub fn law_of_spelling()
-    ensures test { (bytes : List ℕ) (item : Line) → LineInRange item → (item_of bytes ≡ Some item ↔ Says bytes item) }
+    ensures test { (bytes : List ℕ) (item : Line) → LineInRange item →
+        (item_of bytes ≡ Some item ↔ Says bytes item) }
     ensures range { (bytes : List ℕ) (item : Line) → item_of bytes ≡ Some item → LineInRange item }
     ensures again { (item : Line) → LineInRange item → item_of (spelling item) ≡ Some item }
-    ensures one_item { (bytes : List ℕ) (x y : Line) → LineInRange x → LineInRange y → Says bytes x → Says bytes y → x ≡ y }
+    ensures one_item { (bytes : List ℕ) (x y : Line) → LineInRange x → LineInRange y →
+        Says bytes x → Says bytes y → x ≡ y }
 {}

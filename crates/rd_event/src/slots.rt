@@ -99,7 +99,8 @@ fn are_slots(room: u8, bytes: &[u8]) -> bool
 #[cold]
 fn want_of_memory(bytes: &[u8]) -> LineRefused
     ensures none { result ≡ LineRefused.BadLine → slots_read 7 bytes.now ≡ None }
-    ensures memory { result ≡ LineRefused.NoMemory → (slots : List Value) × (slots_read 7 bytes.now ≡ Some slots) }
+    ensures memory { result ≡ LineRefused.NoMemory → (slots : List Value)
+        × (slots_read 7 bytes.now ≡ Some slots) }
 {
     if are_slots(7, bytes) {
         LineRefused::NoMemory
@@ -112,7 +113,9 @@ fn want_of_memory(bytes: &[u8]) -> LineRefused
 pub(crate) fn slots(alloc: Global, bytes: &[u8]) -> Result<Slots, LineRefused>
     ensures slots { IfOk result (λ slots. slots_read 7 bytes.now ≡ Some slots) }
     ensures none { IfErr result (λ e. e ≡ LineRefused.BadLine → slots_read 7 bytes.now ≡ None) }
-    ensures memory { IfErr result (λ e. e ≡ LineRefused.NoMemory → (slots : List Value) × (slots_read 7 bytes.now ≡ Some slots)) }
+    ensures memory { IfErr result
+        (λ e. e ≡ LineRefused.NoMemory → (slots : List Value)
+        × (slots_read 7 bytes.now ≡ Some slots)) }
 {
     let mut values = Vec::new(alloc);
     let mut rest = bytes;

@@ -16,7 +16,8 @@ fn append_names(
     first: &Name,
     second: &Name,
 ) -> Result<(), NoMemory>
-    ensures ok { OnOk result (text.new ≡ text.old ++ (keyword.now ++ words_apart first.now second.now)) }
+    ensures ok { OnOk result
+        (text.new ≡ text.old ++ (keyword.now ++ words_apart first.now second.now)) }
     ensures names { OnOk result (IsName first.now × IsName second.now) }
 {
     text.append(keyword)?;
@@ -57,7 +58,8 @@ pub fn append_call(
     method: &Name,
     slots: &[Value],
 ) -> Result<(), NoMemory>
-    ensures ok { OnOk result (text.new ≡ text.old ++ call_text thread.now object.now method.now slots.now) }
+    ensures ok { OnOk result
+        (text.new ≡ text.old ++ call_text thread.now object.now method.now slots.now) }
     ensures names { OnOk result (IsName thread.now × IsName object.now × IsName method.now) }
     ensures values { OnOk result (All IsValue slots.now) }
 {

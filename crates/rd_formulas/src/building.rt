@@ -22,8 +22,11 @@ fn relation(
     token: u32,
     right: u32,
 ) -> Result<Formula, NoMemory>
-    requires { IsScope scope.now × HasTerms scope.now (relation left sign token right) × IsReady scope.now (relation left sign token right) }
-    ensures { IfOk result (λ formula. Gives (MeansAt scope.now) (relation left sign token right) (formula_of formula)) }
+    requires { IsScope scope.now × HasTerms scope.now (relation left sign token right)
+        × IsReady scope.now (relation left sign token right) }
+    ensures { IfOk result
+        (λ formula. Gives (MeansAt scope.now) (relation left sign token right)
+        (formula_of formula)) }
 {
     let left = meaning(alloc, scope, left)?;
     let right = meaning(alloc, scope, right)?;
@@ -32,8 +35,10 @@ fn relation(
 
 /// The formula of what was read. Only texts and nodes below others take memory.
 pub fn build(alloc: Global, scope: &Scope, parsed: &Parsed) -> Result<Formula, NoMemory>
-    requires { IsScope scope.now × HasTerms scope.now (tree_of parsed.now) × IsReady scope.now (tree_of parsed.now) }
-    ensures { IfOk result (λ formula. Gives (MeansAt scope.now) (tree_of parsed.now) (formula_of formula)) }
+    requires { IsScope scope.now × HasTerms scope.now (tree_of parsed.now)
+        × IsReady scope.now (tree_of parsed.now) }
+    ensures { IfOk result
+        (λ formula. Gives (MeansAt scope.now) (tree_of parsed.now) (formula_of formula)) }
 {
     match parsed {
         Parsed::Truth { value: true, .. } => Ok(Formula::True),

@@ -62,7 +62,8 @@ pub fn first_unknown(scope: &Scope, parsed: &Parsed) -> Option<u32>
 // The sign of a relation, where neither of its terms is a variable.
 fn bare_at(scope: &Scope, sign: u32, left: u32, right: u32) -> Option<u32>
     requires { IsScope scope.now × IsTermAt scope.now left × IsTermAt scope.now right }
-    ensures { IsFirstSign (IsBare scope.now) (record { sign = sign; left = left; right = right } ∷ []) result }
+    ensures { IsFirstSign (IsBare scope.now)
+        (record { sign = sign; left = left; right = right } ∷ []) result }
 {
     number_if(scope.is_bare(left, right), sign)
 }

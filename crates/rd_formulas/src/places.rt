@@ -25,8 +25,11 @@ fn own_two(token: u32, node: u32) -> Result<u32, u32>
 
 // The token of the node with this number in post-order; where there are fewer nodes, the number less theirs.
 fn seek(parsed: &Parsed, formula: &Formula, node: u32) -> Result<u32, u32>
-    ensures found { IfOk result (λ token. slice_get (node_tokens (tree_of parsed.now) (formula_of formula.now)) node ≡ Some token) }
-    ensures past { IfErr result (λ rest. node ≡ length (node_tokens (tree_of parsed.now) (formula_of formula.now)) + rest) }
+    ensures found { IfOk result
+        (λ token. slice_get
+        (node_tokens (tree_of parsed.now) (formula_of formula.now)) node ≡ Some token) }
+    ensures past { IfErr result
+        (λ rest. node ≡ length (node_tokens (tree_of parsed.now) (formula_of formula.now)) + rest) }
 {
     match parsed {
         Parsed::Truth { token, .. } => own(*token, node),

@@ -69,9 +69,11 @@ fn refused_outside(
 // The formula of what was read whose terms all have a meaning.
 fn built(alloc: Global, scope: &Scope, parsed: &Parsed) -> Result<Formula, FormulaRefused>
     requires scope { IsScope scope.now × (length scope.now.line.now < 2 ^ 32 - 1) }
-    requires ready { HasTerms scope.now (tree_of parsed.now) × IsReady scope.now (tree_of parsed.now) }
+    requires ready { HasTerms scope.now (tree_of parsed.now)
+        × IsReady scope.now (tree_of parsed.now) }
     requires few { length (named_by (tree_of parsed.now)) ≤ 512 }
-    ensures gives { IfOk result (λ formula. Gives (MeansAt scope.now) (tree_of parsed.now) (formula_of formula)) }
+    ensures gives { IfOk result
+        (λ formula. Gives (MeansAt scope.now) (tree_of parsed.now) (formula_of formula)) }
     ensures formula { IfOk result (λ formula. IsFormula scope.now (formula_of formula)) }
     ensures refused { IfErr result (IsTroubled scope.now (tree_of parsed.now)) }
 {
@@ -87,7 +89,8 @@ pub fn resolve(alloc: Global, scope: &Scope, parsed: &Parsed) -> Result<Formula,
     requires scope { IsScope scope.now × (length scope.now.line.now < 2 ^ 32 - 1) }
     requires terms { HasTerms scope.now (tree_of parsed.now) }
     requires few { length (named_by (tree_of parsed.now)) ≤ 512 }
-    ensures gives { IfOk result (λ formula. Gives (MeansAt scope.now) (tree_of parsed.now) (formula_of formula)) }
+    ensures gives { IfOk result
+        (λ formula. Gives (MeansAt scope.now) (tree_of parsed.now) (formula_of formula)) }
     ensures formula { IfOk result (λ formula. IsFormula scope.now (formula_of formula)) }
     ensures refused { IfErr result (IsTroubled scope.now (tree_of parsed.now)) }
 {

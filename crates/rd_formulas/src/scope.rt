@@ -66,7 +66,8 @@ impl<'a> Scope<'a> {
     /// The slot that a variable names. It takes no memory.
     pub fn slot(&self, side: Side, name: &[u8]) -> Option<u8>
         requires { IsScope self.now }
-        ensures some { IfSome result (λ slot. slice_get (variables_of self.now side) slot ≡ Some name.now) }
+        ensures some { IfSome result
+            (λ slot. slice_get (variables_of self.now side) slot ≡ Some name.now) }
         ensures none { IfNone result (¬ (Contains (variables_of self.now side) name.now)) }
     {
         place_of(self.variables(side), name)
@@ -82,8 +83,10 @@ impl<'a> Scope<'a> {
 
     /// Has a relation of two tokens no variable? It takes no memory.
     pub fn is_bare(&self, left: u32, right: u32) -> bool
-        requires { IsScope self.now × (left < length self.now.tokens.now) × (right < length self.now.tokens.now) }
-        ensures { (sign : ℕ) → (IsTrue result ↔ IsBare self.now (record { sign = sign; left = left; right = right })) }
+        requires { IsScope self.now × (left < length self.now.tokens.now)
+            × (right < length self.now.tokens.now) }
+        ensures { (sign : ℕ) →
+            (IsTrue result ↔ IsBare self.now (record { sign = sign; left = left; right = right })) }
     {
         !self.is_variable(left) && !self.is_variable(right)
     }

@@ -84,7 +84,9 @@ fn of_slots(
     left: (Side, u8),
     right: (Side, u8),
 ) -> Result<Formula, NoMemory>
-    ensures { IfOk result (λ formula. related sign (Slot left.0 left.1) (Slot right.0 right.1) ≡ Some (tree_of formula)) }
+    ensures { IfOk result
+        (λ formula. related sign (Slot left.0 left.1) (Slot right.0 right.1) ≡ Some
+        (tree_of formula)) }
 {
     match (left.0, right.0) {
         (Side::First, Side::Second) => Ok(across(sign, false, left.1, right.1)),

@@ -11,8 +11,10 @@ ghost use Rattle.rd_grammar.specs.declared.marks.Mark.{Mark};
 pub fn law_of_grammar()
     ensures one { (ms : List Mark) (f g : Tree) → Says disj ms f → Says disj ms g → f ≡ g }
     ensures judged { (ms : List Mark) → ((f : Tree) × Says disj ms f)
-        ⊎ ((front : List Mark) × (rest : List Mark) × (ms ≡ front ++ rest) × WrongAt (Says disj) front rest) }
-    ensures right { (front rest : List Mark) (f : Tree) → Says disj (front ++ rest) f → ¬ (WrongAt (Says disj) front rest) }
+        ⊎ ((front : List Mark) × (rest : List Mark) × (ms ≡ front ++ rest)
+        × WrongAt (Says disj) front rest) }
+    ensures right { (front rest : List Mark) (f : Tree) → Says disj (front ++ rest) f →
+        ¬ (WrongAt (Says disj) front rest) }
     ensures place { (front rest others more : List Mark) → front ++ rest ≡ others ++ more
         → WrongAt (Says disj) front rest → WrongAt (Says disj) others more → front ≡ others }
     ensures canonical { (f : Tree) (ms : List Mark) → AreCanonical f ms → Says disj ms f }
@@ -22,6 +24,7 @@ pub fn law_of_grammar()
 /// The law of the numbers: where each mark's number is its place, each node of a formula names the place of its own mark;
 /// and the numbers that a formula names, from left to right, are those of its marks without the parentheses.
 pub fn law_of_numbers()
-    ensures names { (ms : List Mark) (f : Tree) → AreNumbered ms → Says disj ms f → NamesMarks ms f }
+    ensures names { (ms : List Mark) (f : Tree) → AreNumbered ms → Says disj ms f →
+        NamesMarks ms f }
     ensures order { (ms : List Mark) (f : Tree) → Says disj ms f → named_by f ≡ numbers_of ms }
 {}

@@ -111,7 +111,8 @@ impl Pending {
 
     // What the operand completes.
     fn filled(self, alloc: Global, operand: Parsed) -> Result<RightPart, NoMemory>
-        ensures formula { let p = pending_of self in IfOk result (λ r. tree_of r.formula ≡ and_with p.ands (nots_of p.nots (tree_of operand))) }
+        ensures formula { let p = pending_of self in IfOk result
+            (λ r. tree_of r.formula ≡ and_with p.ands (nots_of p.nots (tree_of operand))) }
         ensures or { let p = pending_of self in IfOk result (λ r. option_map left_of r.or ≡ p.ors) }
     {
         let Pending { or, and, nots } = self;
@@ -124,7 +125,8 @@ impl Pending {
 impl RightPart {
     // The formula with what an `or` joins it to.
     fn whole(self, alloc: Global) -> Result<Parsed, NoMemory>
-        ensures { IfOk result (λ f. tree_of f ≡ or_with (option_map left_of self.or) (tree_of self.formula)) }
+        ensures { IfOk result
+            (λ f. tree_of f ≡ or_with (option_map left_of self.or) (tree_of self.formula)) }
     {
         let RightPart { formula, or } = self;
         match or {
@@ -150,7 +152,9 @@ fn wanting(
     stack: Vec<Pending>,
     mark: Mark,
 ) -> Result<Option<Reader>, NoMemory>
-    ensures { IfOk result (λ next. option_map state_of next ≡ from_want (pending_of pending) (stack_of stack.items) mark.symbol mark.token) }
+    ensures { IfOk result
+        (λ next. option_map state_of next ≡ from_want (pending_of pending)
+        (stack_of stack.items) mark.symbol mark.token) }
 {
     let token = mark.token;
     match mark.symbol {
@@ -191,7 +195,9 @@ fn wanting(
 
 // A closing parenthesis behind a formula.
 fn closed(alloc: Global, inside: RightPart, stack: Vec<Pending>) -> Result<Option<Reader>, NoMemory>
-    ensures { IfOk result (λ next. option_map state_of next ≡ closed (tree_of inside.formula) (option_map left_of inside.or) (stack_of stack.items)) }
+    ensures { IfOk result
+        (λ next. option_map state_of next ≡ closed (tree_of inside.formula)
+        (option_map left_of inside.or) (stack_of stack.items)) }
 {
     let mut outside = stack;
     let Some(pending) = outside.pop() else {
@@ -212,7 +218,9 @@ fn complete(
     stack: Vec<Pending>,
     mark: Mark,
 ) -> Result<Option<Reader>, NoMemory>
-    ensures { IfOk result (λ next. option_map state_of next ≡ from_have (tree_of right.formula) (option_map left_of right.or) (stack_of stack.items) mark.symbol mark.token) }
+    ensures { IfOk result
+        (λ next. option_map state_of next ≡ from_have (tree_of right.formula)
+        (option_map left_of right.or) (stack_of stack.items) mark.symbol mark.token) }
 {
     let token = mark.token;
     match mark.symbol {
@@ -250,7 +258,8 @@ fn complete(
 
 // A mark behind a term, whose sign is due.
 fn sided(left: u32, pending: Pending, stack: Vec<Pending>, mark: Mark) -> Option<Reader>
-    ensures { option_map state_of result ≡ from_sided left (pending_of pending) (stack_of stack.items) mark.symbol mark.token }
+    ensures { option_map state_of result ≡ from_sided left (pending_of pending)
+        (stack_of stack.items) mark.symbol mark.token }
 {
     let Symbol::Sign(sign) = mark.symbol else {
         return None;
@@ -282,7 +291,9 @@ fn lead(
     stack: Vec<Pending>,
     mark: Mark,
 ) -> Result<Option<Reader>, NoMemory>
-    ensures { IfOk result (λ next. option_map state_of next ≡ from_lead value token (pending_of pending) (stack_of stack.items) mark.symbol mark.token) }
+    ensures { IfOk result
+        (λ next. option_map state_of next ≡ from_lead value token (pending_of pending)
+        (stack_of stack.items) mark.symbol mark.token) }
 {
     if is_sign(mark.symbol) {
         return Ok(sided(token, pending, stack, mark));
@@ -306,7 +317,9 @@ fn signed(
     stack: Vec<Pending>,
     mark: Mark,
 ) -> Result<Option<Reader>, NoMemory>
-    ensures { IfOk result (λ next. option_map state_of next ≡ from_signed (tree_of relation) (pending_of pending) (stack_of stack.items) mark.symbol) }
+    ensures { IfOk result
+        (λ next. option_map state_of next ≡ from_signed (tree_of relation) (pending_of pending)
+        (stack_of stack.items) mark.symbol) }
 {
     if !is_term(mark.symbol) {
         return Ok(None);
@@ -320,7 +333,9 @@ fn signed(
 
 // The formula, if no parenthesis is open.
 fn ended(alloc: Global, right: RightPart, stack: Vec<Pending>) -> Result<Option<Parsed>, NoMemory>
-    ensures { IfOk result (λ read. option_map tree_of read ≡ whole (tree_of right.formula) (option_map left_of right.or) (stack_of stack.items)) }
+    ensures { IfOk result
+        (λ read. option_map tree_of read ≡ whole (tree_of right.formula)
+        (option_map left_of right.or) (stack_of stack.items)) }
 {
     if !stack.is_empty() {
         return Ok(None);
@@ -399,7 +414,8 @@ pub fn parse_formula(alloc: Global, marks: &[Mark]) -> Result<Parsed, ParseRefus
     requires { length marks.now ≤ MOST_TOKENS }
     ensures ok { IfOk result (λ f. Says disj marks.now (tree_of f)) }
     ensures syntax { IfErr result (IsRefused marks.now) }
-    ensures only { IfErr result (λ refused. (place : ℕ) → refused ≡ Syntax place → (f : Tree) → ¬ (Says disj marks.now f)) }
+    ensures only { IfErr result
+        (λ refused. (place : ℕ) → refused ≡ Syntax place → (f : Tree) → ¬ (Says disj marks.now f)) }
 {
     let mut reader = Reader::new(alloc);
     for (place, mark) in marks.iter().enumerate() {

@@ -10,14 +10,19 @@ ghost use Rattle.rd_order.specs.Order.{Reaches};
 /// the event reaches that place, and the clock at an event's own thread is its own number. Events that
 /// are appended leave clocks and own numbers as they are.
 pub fn law_of_clocks()
+    // there is exactly one value, and `clock_at` finds it
     ensures exists { (es : List Event) (j t : ℕ) → (c : ℕ) × IsClock es j t c }
     ensures one { (es : List Event) (j t c d : ℕ) →
         IsClock es j t c → IsClock es j t d → c ≡ d }
     ensures test { (es : List Event) (j t : ℕ) → IsClock es j t (clock_at es j t) }
+
+    // it tells the order, and at its own thread it is the own number
     ensures tells { (es : List Event) (i j t o c : ℕ) → i < j → j < length es →
         IsOf es t i → OwnNumber es t i o → IsClock es j t c → ((o ≤ c) ↔ Reaches es i j) }
     ensures own { (es : List Event) (t j c : ℕ) → IsOf es t j →
         (IsClock es j t c ↔ OwnNumber es t j c) }
+
+    // later events change nothing
     ensures growth { (es fs : List Event) (j t c : ℕ) → j < length es →
         (IsClock (es ++ fs) j t c ↔ IsClock es j t c) }
     ensures own_growth { (es fs : List Event) (t i o : ℕ) → i < length es →

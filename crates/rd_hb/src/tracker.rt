@@ -69,7 +69,9 @@ impl Tracker {
     pub fn root(&mut self, thread: u32) -> Result<(), NoMemory>
         requires numbered { thread ≡ length self.old.threads }
         requires below { thread < 4294967295 }
-        ensures ok { OnOk result ((roots : ℕ → Bool) → StandsFor self.old roots [] → StandsFor self.new (λ t. roots t || (t == thread)) []) }
+        ensures ok { OnOk result
+            ((roots : ℕ → Bool) → StandsFor self.old roots [] →
+            StandsFor self.new (λ t. roots t || (t == thread)) []) }
         ensures count { OnOk result (length self.new.threads ≡ length self.old.threads + 1) }
         ensures err { OnErr result (self.new ≡ self.old) }
     {
@@ -92,14 +94,20 @@ impl Tracker {
         event: &Event,
         steps: &mut Steps<L>,
     ) -> Result<Stamp, NoMemory>
-        requires next { (roots : ℕ → Bool) × (es : List EventOf) × IsNextEvent self.old roots es event.now }
-        ensures stamp { IfOk result (λ stamp. (roots : ℕ → Bool) (es : List EventOf) → IsNextEvent self.old roots es event.now →
+        requires next { (roots : ℕ → Bool) × (es : List EventOf)
+            × IsNextEvent self.old roots es event.now }
+        ensures stamp { IfOk result
+            (λ stamp. (roots : ℕ → Bool) (es : List EventOf) →
+            IsNextEvent self.old roots es event.now →
             IsStamp (es ++ event.now ∷ []) (length es) stamp) }
-        ensures stands { OnOk result ((roots : ℕ → Bool) (es : List EventOf) → IsNextEvent self.old roots es event.now →
+        ensures stands { OnOk result
+            ((roots : ℕ → Bool) (es : List EventOf) → IsNextEvent self.old roots es event.now →
             StandsFor self.new roots (es ++ event.now ∷ [])) }
-        ensures count { OnOk result (length self.new.threads ≡ threads_after event.now (length self.old.threads)) }
+        ensures count { OnOk result
+            (length self.new.threads ≡ threads_after event.now (length self.old.threads)) }
         ensures err { OnErr result (self.new ≡ self.old) }
-        ensures cost { steps.new ≤ steps.old + event_bound event.now (threads_after event.now (length self.old.threads)) }
+        ensures cost { steps.new ≤ steps.old + event_bound event.now
+            (threads_after event.now (length self.old.threads)) }
     {
         let thread = actor(event);
         let memory = Vec::with_capacity(self.alloc, self.threads.len())?;
@@ -116,15 +124,27 @@ impl Tracker {
     /// memory only where a thread begins, where one gives a lock back for the first time since it learnt something, or
     /// where a clock or the list of locks has no room yet. After want of memory all is as before.
     pub fn pass<L: Ledger>(&mut self, event: &Event, steps: &mut Steps<L>) -> Result<(), NoMemory>
-        requires next { (roots : ℕ → Bool) × (es : List EventOf) × IsNextEvent self.old roots es event.now }
-        ensures stamp { OnOk result ((roots : ℕ → Bool) (es : List EventOf) → IsNextEvent self.old roots es event.now →
-            IsStamp (es ++ event.now ∷ []) (length es) (last_stamp self.new.threads (thread_of event.now))) }
-        ensures stands { OnOk result ((roots : ℕ → Bool) (es : List EventOf) → IsNextEvent self.old roots es event.now →
+        requires next { (roots : ℕ → Bool) × (es : List EventOf)
+            × IsNextEvent self.old roots es event.now }
+
+        // the event is stamped, and the tracker stands for it too
+        ensures stamp { OnOk result
+            ((roots : ℕ → Bool) (es : List EventOf) → IsNextEvent self.old roots es event.now →
+            IsStamp (es ++ event.now ∷ []) (length es)
+            (last_stamp self.new.threads (thread_of event.now))) }
+        ensures stands { OnOk result
+            ((roots : ℕ → Bool) (es : List EventOf) → IsNextEvent self.old roots es event.now →
             StandsFor self.new roots (es ++ event.now ∷ [])) }
-        ensures count { OnOk result (length self.new.threads ≡ threads_after event.now (length self.old.threads)) }
-        ensures room { OnOk result (length (tracked self.new.threads (thread_of event.now)).clock ≤ length self.old.threads) }
+
+        // sizes, what stays after an error, and a bound of the steps
+        ensures count { OnOk result
+            (length self.new.threads ≡ threads_after event.now (length self.old.threads)) }
+        ensures room { OnOk result
+            (length (tracked self.new.threads
+            (thread_of event.now)).clock ≤ length self.old.threads) }
         ensures err { OnErr result (self.new ≡ self.old) }
-        ensures cost { steps.new ≤ steps.old + event_bound event.now (threads_after event.now (length self.old.threads)) }
+        ensures cost { steps.new ≤ steps.old + event_bound event.now
+            (threads_after event.now (length self.old.threads)) }
     {
         match event {
             Event::Fork { thread, child } => self.fork(*thread, *child, steps),
@@ -150,10 +170,16 @@ impl Tracker {
     fn tick<L: Ledger>(&mut self, thread: u32, steps: &mut Steps<L>) -> u32
         requires known { thread < length self.old.threads }
         requires below { known_to self.old.threads thread thread < 4294967295 }
-        ensures counted { IsCounted thread self.old.threads self.new.threads (last_stamp self.new.threads thread) }
+
+        // the thread's next event is counted
+        ensures counted { IsCounted thread self.old.threads self.new.threads
+            (last_stamp self.new.threads thread) }
         ensures number { result ≡ (tracked self.new.threads thread).events }
+
+        // the clock's room and the locks stay, and it takes one step
         ensures room { length (tracked self.new.threads thread).clock ≤ length self.old.threads }
-        ensures same_room { length (tracked self.new.threads thread).clock ≡ length (tracked self.old.threads thread).clock }
+        ensures same_room { length (tracked self.new.threads thread).clock ≡ length
+            (tracked self.old.threads thread).clock }
         ensures locks { self.new.locks ≡ self.old.locks }
         ensures cost { steps.new ≡ steps.old + 1 }
     {
@@ -174,8 +200,13 @@ impl Tracker {
         requires numbered { child ≡ length self.now.threads }
         requires range { child < 4294967295 }
         requires below { known_to self.now.threads thread thread < 4294967295 }
-        ensures ticked { IfOk result (λ clock. IsTick (tracked self.now.threads thread).clock clock thread) }
-        ensures room { IfOk result (λ clock. length clock ≡ max (length (tracked self.now.threads thread).clock) (child + 1)) }
+
+        // the clock, its length, and a bound of the steps
+        ensures ticked { IfOk result
+            (λ clock. IsTick (tracked self.now.threads thread).clock clock thread) }
+        ensures room { IfOk result
+            (λ clock. length clock ≡ max (length (tracked self.now.threads thread).clock)
+            (child + 1)) }
         ensures cost { steps.new ≤ steps.old + 1 }
     {
         let own = &self.threads[thread as usize].clock;
@@ -196,9 +227,14 @@ impl Tracker {
         requires numbered { child ≡ length self.old.threads }
         requires range { child < 4294967295 }
         requires below { known_to self.old.threads thread thread < 4294967295 }
+
+        // the child begins, and the locks stay
         ensures ok { OnOk result (IsBegun thread child self.old.threads self.new.threads) }
-        ensures room { OnOk result (length (tracked self.new.threads thread).clock ≤ length self.old.threads) }
+        ensures room { OnOk result
+            (length (tracked self.new.threads thread).clock ≤ length self.old.threads) }
         ensures locks { self.new.locks ≡ self.old.locks }
+
+        // after an error all is as before; the steps are bounded
         ensures err { OnErr result (self.new ≡ self.old) }
         ensures cost { steps.new ≤ steps.old + 1 }
     {
@@ -216,7 +252,8 @@ impl Tracker {
         requires known { thread < length self.now.threads }
         requires awaited { child < length self.now.threads }
         ensures some { IsTrue result → 0 < known_to self.now.threads child child }
-        ensures covered { IsTrue result → known_to self.now.threads child child ≤ known_to self.now.threads thread child }
+        ensures covered { IsTrue result →
+            known_to self.now.threads child child ≤ known_to self.now.threads thread child }
         ensures cost { steps.new ≤ steps.old + 1 }
     {
         let events = self.threads[child as usize].events;
@@ -239,8 +276,14 @@ impl Tracker {
         requires awaited { child < length self.old.threads }
         requires apart { child ≢ thread }
         requires own { known_to self.old.threads child thread ≤ known_to self.old.threads thread thread }
-        ensures learnt { OnOk result (IsLearnt thread (tracked self.old.threads child).clock None self.old.threads self.new.threads) }
+
+        // the thread learns the child's clock, and the locks stay
+        ensures learnt { OnOk result
+            (IsLearnt thread
+            (tracked self.old.threads child).clock None self.old.threads self.new.threads) }
         ensures locks { self.new.locks ≡ self.old.locks }
+
+        // after an error all is as before; the steps are bounded
         ensures err { OnErr result (self.new ≡ self.old) }
         ensures cost { steps.new ≤ steps.old + 2 * length self.old.threads }
     {
@@ -258,8 +301,11 @@ impl Tracker {
     fn end(&mut self, child: u32)
         requires { child < length self.old.threads }
         ensures count { length self.new.threads ≡ length self.old.threads }
-        ensures clocks { (t : ℕ) → (tracked self.new.threads t).clock ≡ (tracked self.old.threads t).clock }
-        ensures joined { (t : ℕ) → (tracked self.new.threads t).joined ≡ ((tracked self.old.threads t).joined || (child == t)) }
+        ensures clocks { (t : ℕ) →
+            (tracked self.new.threads t).clock ≡ (tracked self.old.threads t).clock }
+        ensures joined { (t : ℕ) →
+            (tracked self.new.threads t).joined ≡ ((tracked self.old.threads t).joined ||
+            (child == t)) }
         ensures locks { self.new.locks ≡ self.old.locks }
     {
         self.threads[child as usize].joined = true;
@@ -268,7 +314,8 @@ impl Tracker {
     /// The clock that a thread shares with the locks that it gave back since it learnt something, if it gave back one.
     fn shared_by(&self, thread: u32) -> Result<Option<SharedClock>, NoMemory>
         ensures ok { IfOk result (λ held. IfSome held (IsShared self.now.threads thread)) }
-        ensures room { IfOk result (λ held. IfSome held (λ shared. length shared ≤ length self.now.threads)) }
+        ensures room { IfOk result
+            (λ held. IfSome held (λ shared. length shared ≤ length self.now.threads)) }
     {
         match self.shared.get(thread as usize) {
             Some(Some(shared)) => Ok(Some(shared.copy()?)),
@@ -324,9 +371,13 @@ impl Tracker {
         requires inside { thread < length shared }
         requires room { length shared ≤ length self.old.threads }
         requires rises { component shared thread ≤ number }
+
+        // the lock is given the clock; the threads and the other locks stay
         ensures threads { self.new.threads ≡ self.old.threads }
-        ensures given { released self.new.locks lock ≡ Some (record { thread = thread; number = number; clock = slice_set shared thread number }) }
-        ensures others { (l : ℕ) → l ≢ lock → released self.new.locks l ≡ released self.old.locks l }
+        ensures given { released self.new.locks lock ≡ Some
+            (record { thread = thread; number = number; clock = slice_set shared thread number }) }
+        ensures others { (l : ℕ) → l ≢ lock →
+            released self.new.locks l ≡ released self.old.locks l }
     {
         self.locks[lock as usize] = Some(Release::new(shared, thread, number));
     }
@@ -342,10 +393,16 @@ impl Tracker {
         requires numbered { child ≡ length self.old.threads }
         requires range { child < 4294967295 }
         requires below { known_to self.old.threads thread thread < 4294967295 }
-        ensures ok { OnOk result ((middle : List TrackedOf) × IsBegun thread child self.old.threads middle ×
+
+        // the child begins, and the locks stay
+        ensures ok { OnOk result
+            ((middle : List TrackedOf) × IsBegun thread child self.old.threads middle ×
             IsCounted thread middle self.new.threads (last_stamp self.new.threads thread)) }
-        ensures room { OnOk result (length (tracked self.new.threads thread).clock ≤ length self.old.threads) }
+        ensures room { OnOk result
+            (length (tracked self.new.threads thread).clock ≤ length self.old.threads) }
         ensures locks { self.new.locks ≡ self.old.locks }
+
+        // after an error all is as before; the steps are bounded
         ensures err { OnErr result (self.new ≡ self.old) }
         ensures cost { steps.new ≤ steps.old + 2 }
     {
@@ -365,10 +422,17 @@ impl Tracker {
         requires awaited { child < length self.old.threads }
         requires apart { child ≢ thread }
         requires own { known_to self.old.threads child thread ≤ known_to self.old.threads thread thread }
-        requires heard { 0 < known_to self.old.threads child child → known_to self.old.threads child child ≤ known_to self.old.threads thread child →
+        requires heard { 0 < known_to self.old.threads child child →
+            known_to self.old.threads child child ≤ known_to self.old.threads thread child →
             (u : ℕ) → known_to self.old.threads child u ≤ known_to self.old.threads thread u }
-        ensures learnt { OnOk result (IsLearnt thread (tracked self.old.threads child).clock None self.old.threads self.new.threads) }
+
+        // the thread learns the child's clock, and the locks stay
+        ensures learnt { OnOk result
+            (IsLearnt thread
+            (tracked self.old.threads child).clock None self.old.threads self.new.threads) }
         ensures locks { self.new.locks ≡ self.old.locks }
+
+        // after an error all is as before; the steps are bounded
         ensures err { OnErr result (self.new ≡ self.old) }
         ensures cost { steps.new ≤ steps.old + (2 * length self.old.threads + 1) }
     {
@@ -387,11 +451,19 @@ impl Tracker {
     ) -> Result<(), NoMemory>
         requires known { thread < length self.old.threads }
         requires own { handed_by self.old.locks lock thread ≤ known_to self.old.threads thread thread }
-        requires heard { IsHeard (released self.old.locks lock) (tracked self.old.threads thread).clock →
+        requires heard { IsHeard (released self.old.locks lock)
+            (tracked self.old.threads thread).clock →
             (u : ℕ) → handed_by self.old.locks lock u ≤ known_to self.old.threads thread u }
-        requires news { IsHeard (released self.old.locks lock) (tracked self.old.threads thread).clock ⊎ (2 ≤ length self.old.threads) }
-        ensures learnt { OnOk result (IsLearnt thread (clock_of (released self.old.locks lock)) None self.old.threads self.new.threads) }
+        requires news { IsHeard (released self.old.locks lock)
+            (tracked self.old.threads thread).clock ⊎ (2 ≤ length self.old.threads) }
+
+        // the thread learns the lock's clock, and the locks stay
+        ensures learnt { OnOk result
+            (IsLearnt thread
+            (clock_of (released self.old.locks lock)) None self.old.threads self.new.threads) }
         ensures locks { self.new.locks ≡ self.old.locks }
+
+        // after an error all is as before; the steps are bounded
         ensures err { OnErr result (self.new ≡ self.old) }
         ensures cost { steps.new + 1 ≤ steps.old + 4 * length self.old.threads }
     {
@@ -421,13 +493,20 @@ impl Tracker {
         requires apart { child ≢ thread }
         requires below { known_to self.old.threads thread thread < 4294967295 }
         requires own { known_to self.old.threads child thread ≤ known_to self.old.threads thread thread }
-        requires heard { 0 < known_to self.old.threads child child → known_to self.old.threads child child ≤ known_to self.old.threads thread child →
+        requires heard { 0 < known_to self.old.threads child child →
+            known_to self.old.threads child child ≤ known_to self.old.threads thread child →
             (u : ℕ) → known_to self.old.threads child u ≤ known_to self.old.threads thread u }
+
+        // the thread learns the child's clock, and the locks stay
         ensures ok { OnOk result ((middle : List TrackedOf) ×
-            IsLearnt thread (tracked self.old.threads child).clock (Some child) self.old.threads middle ×
+            IsLearnt thread (tracked self.old.threads child).clock
+            (Some child) self.old.threads middle ×
             IsCounted thread middle self.new.threads (last_stamp self.new.threads thread)) }
-        ensures room { OnOk result (length (tracked self.new.threads thread).clock ≤ length self.old.threads) }
+        ensures room { OnOk result
+            (length (tracked self.new.threads thread).clock ≤ length self.old.threads) }
         ensures locks { self.new.locks ≡ self.old.locks }
+
+        // after an error all is as before; the steps are bounded
         ensures err { OnErr result (self.new ≡ self.old) }
         ensures cost { steps.new ≤ steps.old + (2 * length self.old.threads + 2) }
     {
@@ -447,14 +526,21 @@ impl Tracker {
         requires known { thread < length self.old.threads }
         requires below { known_to self.old.threads thread thread < 4294967295 }
         requires own { handed_by self.old.locks lock thread ≤ known_to self.old.threads thread thread }
-        requires heard { IsHeard (released self.old.locks lock) (tracked self.old.threads thread).clock →
+        requires heard { IsHeard (released self.old.locks lock)
+            (tracked self.old.threads thread).clock →
             (u : ℕ) → handed_by self.old.locks lock u ≤ known_to self.old.threads thread u }
-        requires news { IsHeard (released self.old.locks lock) (tracked self.old.threads thread).clock ⊎ (2 ≤ length self.old.threads) }
+        requires news { IsHeard (released self.old.locks lock)
+            (tracked self.old.threads thread).clock ⊎ (2 ≤ length self.old.threads) }
+
+        // the thread learns the lock's clock, and the locks stay
         ensures ok { OnOk result ((middle : List TrackedOf) ×
             IsLearnt thread (clock_of (released self.old.locks lock)) None self.old.threads middle ×
             IsCounted thread middle self.new.threads (last_stamp self.new.threads thread)) }
-        ensures room { OnOk result (length (tracked self.new.threads thread).clock ≤ length self.old.threads) }
+        ensures room { OnOk result
+            (length (tracked self.new.threads thread).clock ≤ length self.old.threads) }
         ensures locks { self.new.locks ≡ self.old.locks }
+
+        // after an error all is as before; the steps are bounded
         ensures err { OnErr result (self.new ≡ self.old) }
         ensures cost { steps.new ≤ steps.old + 4 * length self.old.threads }
     {
@@ -473,9 +559,17 @@ impl Tracker {
     ) -> Result<(), NoMemory>
         requires known { thread < length self.old.threads }
         requires below { known_to self.old.threads thread thread < 4294967295 }
-        ensures ok { OnOk result (IsCounted thread self.old.threads self.new.threads (last_stamp self.new.threads thread)) }
-        ensures room { OnOk result (length (tracked self.new.threads thread).clock ≤ length self.old.threads) }
-        ensures given { OnOk result (IsReleased lock self.old.locks self.new.locks (last_stamp self.new.threads thread)) }
+
+        // the event is counted, and its stamp is given to the lock
+        ensures ok { OnOk result
+            (IsCounted thread self.old.threads self.new.threads
+            (last_stamp self.new.threads thread)) }
+        ensures room { OnOk result
+            (length (tracked self.new.threads thread).clock ≤ length self.old.threads) }
+        ensures given { OnOk result
+            (IsReleased lock self.old.locks self.new.locks (last_stamp self.new.threads thread)) }
+
+        // after an error all is as before; the steps are bounded
         ensures err { OnErr result (self.new ≡ self.old) }
         ensures cost { steps.new ≤ steps.old + 1 }
     {
@@ -504,7 +598,8 @@ fn actor(event: &Event) -> u32
 #[inline(never)]
 fn grow<T: Drop>(list: &mut Vec<Option<T>>, room: usize) -> Result<(), NoMemory>
     ensures room { OnOk result (room ≤ length list.new.items) }
-    ensures kept { (i : ℕ) → slice_index_or list.new.items i None ≡ slice_index_or list.old.items i None }
+    ensures kept { (i : ℕ) →
+        slice_index_or list.new.items i None ≡ slice_index_or list.old.items i None }
     ensures err { OnErr result (list.new.items ≡ list.old.items) }
 {
     let old = list.len();
@@ -520,7 +615,8 @@ fn grow<T: Drop>(list: &mut Vec<Option<T>>, room: usize) -> Result<(), NoMemory>
 /// Drops what stands at a place of a list, if something does.
 fn forget<T: Drop>(list: &mut Vec<Option<T>>, place: usize)
     ensures gone { slice_index_or list.new.items place None ≡ None }
-    ensures others { (i : ℕ) → i ≢ place → slice_index_or list.new.items i None ≡ slice_index_or list.old.items i None }
+    ensures others { (i : ℕ) → i ≢ place →
+        slice_index_or list.new.items i None ≡ slice_index_or list.old.items i None }
 {
     if place < list.len() {
         list[place] = None;

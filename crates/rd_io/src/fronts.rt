@@ -51,14 +51,17 @@ fn read_behind<I: Inputs>(
     ensures room { length piece.new ≡ length piece.old }
 
     // these bytes came, none at the end alone
-    ensures ok { IfOk result (λ count. (bytes : List ℕ) × (length bytes ≡ count) × (text.new ≡ text.old ++ bytes)
-        × Goes (I.told inputs.old) (I.told inputs.new) (λ old new. Takes old new bytes × (count ≡ 0 → old.held ≡ []))) }
+    ensures ok { IfOk result
+        (λ count. (bytes : List ℕ) × (length bytes ≡ count) × (text.new ≡ text.old ++ bytes)
+        × Goes (I.told inputs.old) (I.told inputs.new)
+        (λ old new. Takes old new bytes × (count ≡ 0 → old.held ≡ []))) }
     ensures bound { IfOk result (λ count. count ≤ left) }
 
     // or a read failed, or memory ran out behind it
     ensures refused { OnErr result (Goes (I.told inputs.old) (I.told inputs.new) (TakesSome left)) }
     ensures calm { result ≢ Err FrontRefused.Fault → I.faults inputs.new ≡ I.faults inputs.old }
-    ensures fault { result ≡ Err FrontRefused.Fault → Rose (I.faults inputs.old) (I.faults inputs.new) }
+    ensures fault { result ≡ Err FrontRefused.Fault →
+        Rose (I.faults inputs.old) (I.faults inputs.new) }
 {
     let room = piece.len().min(left as usize);
     let Ok(count) = inputs.read(&mut piece[..room]) else {
@@ -76,13 +79,16 @@ pub fn read_front<I: Inputs>(
     most: u32,
 ) -> Result<Bytes, FrontRefused>
     // the bytes are what was taken
-    ensures ok { IfOk result (λ bytes. Goes (I.told inputs.old) (I.told inputs.new) (λ old new. TakesFront most old new bytes)) }
+    ensures ok { IfOk result
+        (λ bytes. Goes (I.told inputs.old) (I.told inputs.new)
+        (λ old new. TakesFront most old new bytes)) }
     ensures few { IfOk result (λ bytes. length bytes ≤ most) }
 
     // or some were taken, and a read failed in this call or memory ran out
     ensures refused { OnErr result (Goes (I.told inputs.old) (I.told inputs.new) (TakesSome most)) }
     ensures calm { result ≢ Err FrontRefused.Fault → I.faults inputs.new ≡ I.faults inputs.old }
-    ensures fault { result ≡ Err FrontRefused.Fault → Rose (I.faults inputs.old) (I.faults inputs.new) }
+    ensures fault { result ≡ Err FrontRefused.Fault →
+        Rose (I.faults inputs.old) (I.faults inputs.new) }
 {
     let mut piece = vec![in alloc; 0; most.min(PIECE) as usize]?;
     let mut text = Bytes::new(alloc);

@@ -21,13 +21,15 @@ pub trait Inputs {
     /// Makes the named file the current input, with nothing taken of it. A missing name is a fault.
     /// After an `Err` the current input is as before.
     fn open(&mut self, name: &Word) -> Result<(), Failed>
-        ensures told { Goes (told self.old) (told self.new) (λ old new. Opens old new name.now result) }
+        ensures told { Goes (told self.old) (told self.new)
+            (λ old new. Opens old new name.now result) }
         ensures cause { HasCause (faults self.old) (faults self.new) result };
 
     /// Moves the next bytes of the current input to the front of the buffer, and answers how many. 0 at a
     /// buffer with room means the end of the input, for good, and before a file was opened each answer is 0. After an `Err` nothing was taken.
     fn read(&mut self, buffer: &mut [u8]) -> Result<usize, Failed>
         ensures bound { IfOk result (λ count. count ≤ length buffer.new) }
-        ensures told { Goes (told self.old) (told self.new) (λ old new. Reads old new buffer.new result) }
+        ensures told { Goes (told self.old) (told self.new)
+            (λ old new. Reads old new buffer.new result) }
         ensures cause { HasCause (faults self.old) (faults self.new) result };
 }

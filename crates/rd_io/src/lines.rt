@@ -76,6 +76,8 @@ fn make_room(buffer: &mut [u8], limit: usize, line_start: usize, start: usize, h
     requires behind { line_start ≤ start }
     requires near { start ≤ line_start + limit }
     requires within { start + held ≤ 2 * limit }
+
+    // there is room behind the line, and its bytes are kept
     ensures low { result ≤ line_start }
     ensures room { start ≤ result + limit }
     ensures kept { (from n : ℕ) → line_start ≤ from → from + n ≤ start + held →
@@ -206,12 +208,19 @@ impl LineReader {
         requires short { length self.old.pending < self.old.limit }
         requires within { length self.old.pending ≤ self.old.room }
         requires going { self.old.ended ≡ None }
+
+        // bytes are added, no more than fit
         ensures ok { IfOk result (λ count. (bytes : List ℕ) × (length bytes ≡ count)
             × (self.new ≡ with_more self.old bytes)
-            × Goes (I.told inputs.old) (I.told inputs.new) (λ old new. Takes old new bytes × (count ≡ 0 → old.held ≡ []))) }
+            × Goes (I.told inputs.old) (I.told inputs.new)
+            (λ old new. Takes old new bytes × (count ≡ 0 → old.held ≡ []))) }
         ensures bound { IfOk result (λ count. length self.old.pending + count ≤ self.old.room + 1) }
         ensures fits { IfOk result (λ count. length self.old.pending + count ≤ self.old.limit) }
-        ensures err { OnErr result ((self.new ≡ self.old) × Goes (I.told inputs.old) (I.told inputs.new) (λ old new. new ≡ old)) }
+
+        // or nothing is taken; each fault is told as one
+        ensures err { OnErr result
+            ((self.new ≡ self.old)
+            × Goes (I.told inputs.old) (I.told inputs.new) (λ old new. new ≡ old)) }
         ensures cause { HasCause (I.faults inputs.old) (I.faults inputs.new) result }
     {
         let by = make_room(
@@ -244,7 +253,8 @@ impl LineReader {
         ensures finds { (bytes : List ℕ) × Finds (with_more self.old bytes) self.new result
             × (length (self.old.pending ++ bytes) ≤ self.old.room + 1)
             × (length (self.old.pending ++ bytes) ≤ self.old.limit)
-            × Goes (I.told inputs.old) (I.told inputs.new) (λ old new. Takes old new bytes × (result ≡ Found.Ended → new.held ≡ [])) }
+            × Goes (I.told inputs.old) (I.told inputs.new)
+            (λ old new. Takes old new bytes × (result ≡ Found.Ended → new.held ≡ [])) }
         ensures still { HasLine self.old → inputs.new ≡ inputs.old }
         ensures later { I.faults inputs.old ≤ I.faults inputs.new }
         ensures calm { result ≢ Found.Faulted → I.faults inputs.new ≡ I.faults inputs.old }
@@ -284,8 +294,10 @@ impl LineReader {
     fn finish(&mut self) -> Result<Next, ReadEnd>
         requires going { self.old.ended ≡ None }
         requires short { length self.old.pending < self.old.limit }
-        ensures well { self.old.pending ≡ [] → (result ≡ Ok Next.End) × (self.new ≡ with_end self.old) }
-        ensures rest { self.old.pending ≢ [] → (result ≡ Err ReadEnd.NoFinalNewline) × (self.new ≡ with_rest self.old) }
+        ensures well { self.old.pending ≡ [] → (result ≡ Ok Next.End)
+            × (self.new ≡ with_end self.old) }
+        ensures rest { self.old.pending ≢ [] → (result ≡ Err ReadEnd.NoFinalNewline)
+            × (self.new ≡ with_rest self.old) }
     {
         if self.held == 0 {
             self.ended = Some(Ok(Next::End));
@@ -317,14 +329,17 @@ impl LineReader {
             (result ≡ answer) × (self.new ≡ self.old) × (inputs.new ≡ inputs.old) }
         // What the answer says of the lines to come, where it leaves the reader, and what it took of the input.
         ensures moves { self.old.ended ≡ None → Moves self.old self.new result }
-        ensures tells { self.old.ended ≡ None → (bytes : List ℕ) × IsAnswered self.old bytes self.new result
-            × Goes (I.told inputs.old) (I.told inputs.new) (λ old new. Takes old new bytes × (IsAtEnd result → new.held ≡ [])) }
+        ensures tells { self.old.ended ≡ None → (bytes : List ℕ)
+            × IsAnswered self.old bytes self.new result
+            × Goes (I.told inputs.old) (I.told inputs.new)
+            (λ old new. Takes old new bytes × (IsAtEnd result → new.held ≡ [])) }
         // Where a whole line is held nothing is read.
         ensures still { HasLine self.old → inputs.new ≡ inputs.old }
         // A read failed in this call exactly where the answer says so.
         ensures later { I.faults inputs.old ≤ I.faults inputs.new }
         ensures calm { ¬ (IsFault result) → I.faults inputs.new ≡ I.faults inputs.old }
-        ensures fault { self.old.ended ≡ None → IsFault result → Rose (I.faults inputs.old) (I.faults inputs.new) }
+        ensures fault { self.old.ended ≡ None → IsFault result →
+            Rose (I.faults inputs.old) (I.faults inputs.new) }
     {
         if let Some(answer) = self.ended {
             return answer;

@@ -27,7 +27,8 @@ impl Model for File {
 
 impl File {
     fn new(alloc: Global, name: &Word, bytes: &[u8], piece: u32) -> Result<File, NoMemory>
-        ensures { IfOk result (λ file. file ≡ record { name = name.now; bytes = bytes.now; piece = piece }) }
+        ensures { IfOk result
+            (λ file. file ≡ record { name = name.now; bytes = bytes.now; piece = piece }) }
     {
         Ok(File {
             name: Word::from_bytes(alloc, name.items())?,
@@ -108,7 +109,9 @@ impl MemoryInputs {
     pub fn add(&mut self, name: &Word, bytes: &[u8], piece: u32) -> Result<(), NoMemory>
         requires some { 1 ≤ piece }
         requires fresh { file_named self.old.files name.now ≡ None }
-        ensures ok { OnOk result (self.new ≡ with_file self.old (record { name = name.now; bytes = bytes.now; piece = piece })) }
+        ensures ok { OnOk result
+            (self.new ≡ with_file self.old
+            (record { name = name.now; bytes = bytes.now; piece = piece })) }
         ensures err { OnErr result (self.new ≡ self.old) }
     {
         let file = File::new(self.alloc, name, bytes, piece)?;
@@ -136,7 +139,8 @@ impl Inputs for MemoryInputs {
             (λ old new. Opens old new name.now result) }
         ensures cause { HasCause self.old.calls.faults self.new.calls.faults result }
         ensures refused { IsErr result ↔ RefusesName self.old name.now }
-        ensures ok { OnOk result ((file : StoredFile) × (file_named self.old.files name.now ≡ Some file)
+        ensures ok { OnOk result
+            ((file : StoredFile) × (file_named self.old.files name.now ≡ Some file)
             × (self.new ≡ with_opened self.old file)) }
         ensures err { OnErr result (self.new ≡ with_failed_open self.old name.now) }
     {
@@ -157,10 +161,13 @@ impl Inputs for MemoryInputs {
     /// Moves as many bytes as the buffer, the file's piece and what is left allow. It fails exactly where the call is
     /// named among those that are to fail. It takes no memory.
     fn read(&mut self, buffer: &mut [u8]) -> Result<usize, Failed>
+        // as each input promises
         ensures bound { IfOk result (λ count. count ≤ length buffer.new) }
         ensures told { Goes (Some (source_of self.old)) (Some (source_of self.new))
             (λ old new. Reads old new buffer.new result) }
         ensures cause { HasCause self.old.calls.faults self.new.calls.faults result }
+
+        // and exactly what this one does
         ensures refused { IsErr result ↔ FailsNext self.old.calls }
         ensures amount { IfOk result (λ count. count ≡ taken_by_read self.old (length buffer.old)) }
         ensures ok { IfOk result (λ count. self.new ≡ with_taken self.old count) }

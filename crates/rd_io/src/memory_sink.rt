@@ -80,13 +80,18 @@ impl Sink for MemorySink {
     /// Writes the whole part. It fails exactly where the call is named among those that are to fail, or the part is
     /// longer than the room that is left. It takes no memory.
     fn write(&mut self, part: &[u8]) -> Result<usize, Failed>
+        // as each sink promises
         ensures bound { IfOk result (λ count. count ≤ length part.now) }
         ensures written { Writes (Some self.old.written) (Some self.new.written) part.now result }
         ensures later { self.old.calls.faults ≤ self.new.calls.faults }
         ensures failed { is_failed part.now result ≡ true →
-            (self.new.calls.faults ≡ next_count self.old.calls.faults) × (self.new.at_fault ≡ Some self.new.written) }
+            (self.new.calls.faults ≡ next_count self.old.calls.faults)
+            × (self.new.at_fault ≡ Some self.new.written) }
         ensures calm { is_failed part.now result ≡ false →
-            (self.new.calls.faults ≡ self.old.calls.faults) × (self.new.at_fault ≡ self.old.at_fault) }
+            (self.new.calls.faults ≡ self.old.calls.faults)
+            × (self.new.at_fault ≡ self.old.at_fault) }
+
+        // and exactly what this one does
         ensures refused { IsErr result ↔ RefusesPart self.old part.now }
         ensures whole { IfOk result (λ count. count ≡ length part.now) }
         ensures ok { OnOk result (self.new ≡ with_part self.old part.now) }

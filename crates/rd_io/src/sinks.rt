@@ -24,7 +24,8 @@ pub trait Sink {
         ensures written { Writes (written self.old) (written self.new) part.now result }
         ensures later { faults self.old ≤ faults self.new }
         ensures failed { is_failed part.now result ≡ true →
-            (faults self.new ≡ next_count (faults self.old)) × (at_fault self.new ≡ written self.new) }
+            (faults self.new ≡ next_count (faults self.old))
+            × (at_fault self.new ≡ written self.new) }
         ensures calm { is_failed part.now result ≡ false →
             (faults self.new ≡ faults self.old) × (at_fault self.new ≡ at_fault self.old) };
 }

@@ -38,7 +38,9 @@ fn is_nil(slot: u8) -> Formula
 
 // Of `put` and `put`: the keys differ, or both calls leave the value as it is.
 fn put_put(alloc: Global) -> Result<Formula, NoMemory>
-    ensures { IfOk result (λ formula. tree_of formula ≡ either firsts_differ (both (puts_the_same First) (puts_the_same Second))) }
+    ensures { IfOk result
+        (λ formula. tree_of formula ≡ either firsts_differ
+        (both (puts_the_same First) (puts_the_same Second))) }
 {
     let both = and(
         alloc,
@@ -60,7 +62,8 @@ fn put_size(alloc: Global) -> Result<Formula, NoMemory>
 
 // Of `put` and `get`: the keys differ, or the `put` leaves the value as it is.
 fn put_get(alloc: Global) -> Result<Formula, NoMemory>
-    ensures { IfOk result (λ formula. tree_of formula ≡ either firsts_differ (puts_the_same First)) }
+    ensures { IfOk result
+        (λ formula. tree_of formula ≡ either firsts_differ (puts_the_same First)) }
 {
     or(alloc, firsts_differ(), puts_the_same(Side::First))
 }

@@ -42,7 +42,8 @@ pub(crate) fn three(
     second: &[u8],
     third: &[u8],
 ) -> Result<Names, NoMemory>
-    requires { IsTrue (is_name first.now) × IsTrue (is_name second.now) × IsTrue (is_name third.now) }
+    requires { IsTrue (is_name first.now) × IsTrue (is_name second.now)
+        × IsTrue (is_name third.now) }
     ensures { IfOk result (λ names. names ≡ first.now ∷ second.now ∷ third.now ∷ []) }
 {
     let mut names = two(alloc, first, second)?;

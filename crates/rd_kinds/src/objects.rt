@@ -59,8 +59,11 @@ impl Object {
     pub fn apply(&mut self, method: u8, args: &[Value]) -> Result<Value, ApplyRefused>
         requires { IsTaken (machine_for self.old) method args.now }
         ensures kind { kind_of self.new ≡ kind_of self.old }
-        ensures goes { IfOk result (λ value. (machine_for self.old).step method args.now (shape_of self.old) ≡ goes (shape_of self.new) value) }
-        ensures refuses { IfErr result (λ refused. (slot : ℕ) → refused ≡ ApplyRefused.BadArgument slot →
+        ensures goes { IfOk result
+            (λ value. (machine_for self.old).step method args.now (shape_of self.old) ≡ goes
+            (shape_of self.new) value) }
+        ensures refuses { IfErr result
+            (λ refused. (slot : ℕ) → refused ≡ ApplyRefused.BadArgument slot →
             (machine_for self.old).step method args.now (shape_of self.old) ≡ refuses slot) }
         ensures err { OnErr result (shape_of self.new ≡ shape_of self.old) }
     {

@@ -47,7 +47,8 @@ fn other_or_first_idle(alloc: Global) -> Result<Formula, NoMemory>
 // The pairs of `add` with each, behind its methods.
 fn set_adds(alloc: Global, kind: &mut KindDraft) -> Result<(), NoMemory>
     requires { kind.old ≡ no_pairs (codes "set") set_methods }
-    ensures { OnOk result (kind.new ≡ with_pairs (no_pairs (codes "set") set_methods) (take 4 set_pairs)) }
+    ensures { OnOk result
+        (kind.new ≡ with_pairs (no_pairs (codes "set") set_methods) (take 4 set_pairs)) }
 {
     kind.pair(0, 0, other_or_idle(alloc)?)?;
     kind.pair(0, 1, other_or_idle(alloc)?)?;

@@ -13,7 +13,8 @@ use rd_tokens::Token;
 pub(crate) fn read_kind(line: &[u8], tokens: &[Token]) -> Result<Form, FormRefused>
     requires { All (LiesIn line.now) tokens.now }
     ensures ok { IfOk result (λ form. (stage : Stage) (methods : List (List ℕ))
-        → RightLine stage methods (plain (codes "kind") ∷ words_of line.now tokens.now) (said_of form)) }
+        → RightLine stage methods (plain (codes "kind") ∷ words_of line.now tokens.now)
+        (said_of form)) }
     ensures refused { IfErr result (λ refused. (stage : Stage) (methods : List (List ℕ))
         → IsRefused stage methods (plain (codes "kind") ∷ words_of line.now tokens.now) refused) }
     ensures memory { IfErr result (λ refused. refused ≢ MemoryRefused) }

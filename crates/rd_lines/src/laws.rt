@@ -8,8 +8,12 @@ ghost use Rattle.rd_lines.specs.Lines.{Word, SaidForm, RightLine};
 pub fn law_of_lines()
     ensures one { (stage : Stage) (methods : List (List ℕ)) (words : List Word) (x y : SaidForm)
         → RightLine stage methods words x → RightLine stage methods words y → x ≡ y }
-    ensures right { (stage : Stage) (methods : List (List ℕ)) (front rest : List Word) (x : SaidForm)
-        → RightLine stage methods (front ++ rest) x → ¬ (WrongAt (RightLine stage methods) front rest) }
-    ensures place { (stage : Stage) (methods : List (List ℕ)) (front rest others more : List Word) → front ++ rest ≡ others ++ more
-        → WrongAt (RightLine stage methods) front rest → WrongAt (RightLine stage methods) others more → front ≡ others }
+    ensures right { (stage : Stage) (methods : List (List ℕ)) (front rest : List Word)
+        (x : SaidForm)
+        → RightLine stage methods (front ++ rest) x →
+        ¬ (WrongAt (RightLine stage methods) front rest) }
+    ensures place { (stage : Stage) (methods : List (List ℕ)) (front rest others more : List Word) →
+        front ++ rest ≡ others ++ more
+        → WrongAt (RightLine stage methods) front rest →
+        WrongAt (RightLine stage methods) others more → front ≡ others }
 {}

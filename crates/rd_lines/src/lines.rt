@@ -59,9 +59,13 @@ pub fn read_form(
     requires within { All (LiesIn line.now) tokens.now }
     requires few { length tokens.now < 2 ^ 32 - 1 }
     requires short { IsShort (words_of line.now tokens.now) }
-    ensures ok { IfOk result (λ form. RightLine stage (names_of methods.now) (words_of line.now tokens.now) (said_of form)) }
-    ensures refused { IfErr result (IsRefused stage (names_of methods.now) (words_of line.now tokens.now)) }
-    ensures memory { IfErr result (λ refused. refused ≡ MemoryRefused → ¬ (BeginsKind (words_of line.now tokens.now))) }
+    ensures ok { IfOk result
+        (λ form. RightLine stage (names_of methods.now) (words_of line.now tokens.now)
+        (said_of form)) }
+    ensures refused { IfErr result
+        (IsRefused stage (names_of methods.now) (words_of line.now tokens.now)) }
+    ensures memory { IfErr result
+        (λ refused. refused ≡ MemoryRefused → ¬ (BeginsKind (words_of line.now tokens.now))) }
 {
     let Some((first, rest)) = tokens.split_first() else {
         return Err(FormRefused::Syntax(0));

@@ -63,9 +63,11 @@ pub(crate) fn read_method(alloc: Global, line: &[u8], tokens: &[Token]) -> Resul
     requires within { All (LiesIn line.now) tokens.now }
     requires few { length tokens.now + 2 < 2 ^ 32 }
     ensures ok { IfOk result (λ form. (methods : List (List ℕ))
-        → RightLine Methods methods (plain (codes "method") ∷ words_of line.now tokens.now) (said_of form)) }
+        → RightLine Methods methods (plain (codes "method") ∷ words_of line.now tokens.now)
+        (said_of form)) }
     ensures refused { IfErr result (λ refused. (methods : List (List ℕ))
-        → IsRefused Methods methods (plain (codes "method") ∷ words_of line.now tokens.now) refused) }
+        → IsRefused Methods methods
+        (plain (codes "method") ∷ words_of line.now tokens.now) refused) }
 {
     let Some((second, rest)) = tokens.split_first() else {
         return Err(FormRefused::Syntax(1));

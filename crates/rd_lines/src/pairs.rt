@@ -24,10 +24,13 @@ fn read_pair<'a>(
     tokens: &'a [Token],
 ) -> Result<(Name, Name, &'a [Token]), FormRefused>
     requires { All (LiesIn line.now) tokens.now }
-    ensures ok { IfOk result (λ read. IsPairInFront (names_of methods.now) line.now tokens.now read.2.now read.0 read.1) }
+    ensures ok { IfOk result
+        (λ read. IsPairInFront
+        (names_of methods.now) line.now tokens.now read.2.now read.0 read.1) }
     ensures within { IfOk result (λ read. All (LiesIn line.now) read.2.now) }
     ensures refused { IfErr result (λ refused. (stage : Stage) → stage ≢ Outside
-        → IsRefused stage (names_of methods.now) (plain (codes "commute") ∷ words_of line.now tokens.now) refused) }
+        → IsRefused stage (names_of methods.now)
+        (plain (codes "commute") ∷ words_of line.now tokens.now) refused) }
 {
     let Some((second, behind)) = tokens.split_first() else {
         return Err(FormRefused::Syntax(1));
@@ -57,7 +60,8 @@ fn read_pair<'a>(
 fn read_formula(alloc: Global, line: &[u8], tokens: &[Token]) -> Result<Parsed, ParseRefused>
     requires within { All (LiesIn line.now) tokens.now }
     requires few { length tokens.now ≤ 512 }
-    ensures ok { IfOk result (λ parsed. SaysFormula (words_of line.now tokens.now) (tree_of parsed)) }
+    ensures ok { IfOk result
+        (λ parsed. SaysFormula (words_of line.now tokens.now) (tree_of parsed)) }
     ensures refused { IfErr result (IsFormulaRefused (words_of line.now tokens.now)) }
     ensures bound { IfErr result (λ refused. count_of refused ≤ 512) }
 {
@@ -86,9 +90,11 @@ pub(crate) fn read_commute(
     requires within { All (LiesIn line.now) tokens.now }
     requires short { IsShort (plain (codes "commute") ∷ words_of line.now tokens.now) }
     ensures ok { IfOk result (λ form. (stage : Stage) → stage ≢ Outside
-        → RightLine stage (names_of methods.now) (plain (codes "commute") ∷ words_of line.now tokens.now) (said_of form)) }
+        → RightLine stage (names_of methods.now)
+        (plain (codes "commute") ∷ words_of line.now tokens.now) (said_of form)) }
     ensures refused { IfErr result (λ refused. (stage : Stage) → stage ≢ Outside
-        → IsRefused stage (names_of methods.now) (plain (codes "commute") ∷ words_of line.now tokens.now) refused) }
+        → IsRefused stage (names_of methods.now)
+        (plain (codes "commute") ∷ words_of line.now tokens.now) refused) }
 {
     let (first, second, behind) = read_pair(methods, line, tokens)?;
     match read_formula(alloc, line, behind) {

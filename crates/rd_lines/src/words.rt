@@ -36,7 +36,8 @@ pub(crate) fn name_of(line: &[u8], token: &Token) -> Option<Name>
     requires { LiesIn line.now token.now }
     ensures some { IfSome result (λ name. word_at line.now token.now ≡ plain name) }
     ensures named { IfSome result IsName }
-    ensures none { IfNone result ((name : List ℕ) → IsName name → word_at line.now token.now ≢ plain name) }
+    ensures none { IfNone result
+        ((name : List ℕ) → IsName name → word_at line.now token.now ≢ plain name) }
 {
     let Some(bytes) = plain_bytes(line, token) else {
         return None;
@@ -65,7 +66,8 @@ pub(crate) fn variable_of(line: &[u8], token: &Token) -> Option<Name>
     requires { LiesIn line.now token.now }
     ensures some { IfSome result (λ name. word_at line.now token.now ≡ plain name) }
     ensures variable { IfSome result IsVariable }
-    ensures none { IfNone result ((name : List ℕ) → IsVariable name → word_at line.now token.now ≢ plain name) }
+    ensures none { IfNone result
+        ((name : List ℕ) → IsVariable name → word_at line.now token.now ≢ plain name) }
 {
     let Some(bytes) = plain_bytes(line, token) else {
         return None;

@@ -69,8 +69,11 @@ pub trait RefObject: Sized {
     /// where the machine doesn't take an argument, or else want of memory. After an `Err` the object is as before.
     fn apply(&mut self, method: u8, args: &[Value]) -> Result<Value, ApplyRefused>
         requires { IsTaken machine method args.now }
-        ensures goes { IfOk result (λ value. machine.step method args.now (meaning self.old) ≡ goes (meaning self.new) value) }
-        ensures refuses { IfErr result (λ refused. (slot : ℕ) → refused ≡ ApplyRefused.BadArgument slot →
+        ensures goes { IfOk result
+            (λ value. machine.step method args.now (meaning self.old) ≡ goes
+            (meaning self.new) value) }
+        ensures refuses { IfErr result
+            (λ refused. (slot : ℕ) → refused ≡ ApplyRefused.BadArgument slot →
             machine.step method args.now (meaning self.old) ≡ refuses slot) }
         ensures err { OnErr result (meaning self.new ≡ meaning self.old) };
 

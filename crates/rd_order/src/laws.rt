@@ -10,14 +10,20 @@ ghost use Rattle.rd_order.specs.EventLists.{IsBounded, MayHappen, WellFormed, gi
 /// Reaching is the least transitive relation that holds each edge. It leads to later places alone, a
 /// test tells it, and events that are appended leave it as it is.
 pub fn law_of_reaching()
+    // the least order that has the edges
     ensures edges { (es : List Event) (i j : ℕ) → Edge es i j → Reaches es i j }
     ensures joins { (es : List Event) (i j k : ℕ) →
         Reaches es i j → Reaches es j k → Reaches es i k }
-    ensures least { (es : List Event) (p : ℕ → ℕ → Bool) → ((i j : ℕ) → Edge es i j → IsTrue (p i j)) →
+    ensures least { (es : List Event) (p : ℕ → ℕ → Bool) →
+        ((i j : ℕ) → Edge es i j → IsTrue (p i j)) →
         ((i j k : ℕ) → IsTrue (p i j) → IsTrue (p j k) → IsTrue (p i k)) →
         (i j : ℕ) → Reaches es i j → IsTrue (p i j) }
+
+    // it goes forward, and stays inside
     ensures rises { (es : List Event) (i j : ℕ) → Reaches es i j → i < j }
     ensures inside { (es : List Event) (i j : ℕ) → Reaches es i j → j < length es }
+
+    // `reaches` tells it, and later events don't change it
     ensures test { (es : List Event) (i j : ℕ) → (IsTrue (reaches es i j) ↔ Reaches es i j) }
     ensures growth { (es fs : List Event) (i j : ℕ) → j < length es →
         (Reaches (es ++ fs) i j ↔ Reaches es i j) }
@@ -28,7 +34,8 @@ pub fn law_of_reaching()
 /// What is well-formed by some roots is so by those that it implies.
 pub fn law_of_lists()
     ensures places { (roots : ℕ → Bool) (es : List Event) →
-        (WellFormed roots es ↔ (((j : ℕ) (e : Event) → slice_get es j ≡ Some e → MayHappen roots (take j es) e)
+        (WellFormed roots es
+        ↔ (((j : ℕ) (e : Event) → slice_get es j ≡ Some e → MayHappen roots (take j es) e)
         × IsBounded roots es)) }
     ensures growth { (roots : ℕ → Bool) (es : List Event) (e : Event) →
         (WellFormed roots (es ++ e ∷ [])
@@ -40,10 +47,14 @@ pub fn law_of_lists()
 /// The lock rule: of two events that take or give back holds against one another, such as two on one lock, the earlier reaches the
 /// later. A hold is given back at most as often as it was taken, and while a thread has it no other thread has one against it.
 pub fn law_of_locks()
-    ensures order { (roots : ℕ → Bool) (es : List Event) (i j : ℕ) (a b : Event) (h k : Hold) → WellFormed roots es → i < j →
-        slice_get es i ≡ Some a → slice_get es j ≡ Some b → Uses a h → Uses b k → Against h k → Reaches es i j }
-    ensures covered { (roots : ℕ → Bool) (es : List Event) (t : ℕ) (h : Hold) → WellFormed roots es → givings es t h ≤ takings es t h }
-    ensures alone { (roots : ℕ → Bool) (es : List Event) (t u : ℕ) (h k : Hold) → WellFormed roots es → Against h k → t ≢ u →
+    ensures order { (roots : ℕ → Bool) (es : List Event) (i j : ℕ) (a b : Event) (h k : Hold) →
+        WellFormed roots es → i < j →
+        slice_get es i ≡ Some a → slice_get es j ≡ Some b → Uses a h → Uses b k → Against h k →
+        Reaches es i j }
+    ensures covered { (roots : ℕ → Bool) (es : List Event) (t : ℕ) (h : Hold) →
+        WellFormed roots es → givings es t h ≤ takings es t h }
+    ensures alone { (roots : ℕ → Bool) (es : List Event) (t u : ℕ) (h k : Hold) →
+        WellFormed roots es → Against h k → t ≢ u →
         givings es t h < takings es t h → takings es u k ≡ givings es u k }
 {}
 
@@ -62,20 +73,34 @@ pub fn examples_of_order()
     ensures apart { Unordered (Fork 0 1 ∷ Fork 2 3 ∷ []) 0 1 }
     // The thread that joins is ordered behind the one that it joins, and not the other way round.
     ensures not_back { Unordered (Join 0 1 ∷ Fork 1 2 ∷ []) 0 1 }
-    ensures well_formed { WellFormed (λ t. t == 0) (Fork 0 1 ∷ Fork 1 2 ∷ Join 0 1 ∷ Join 0 2 ∷ []) }
+
+    // one list is well-formed, and the next ones are not
+    ensures well_formed { WellFormed (λ t. t == 0)
+        (Fork 0 1 ∷ Fork 1 2 ∷ Join 0 1 ∷ Join 0 2 ∷ []) }
     ensures too_many_roots { ¬ (WellFormed (λ t. true) []) }
     ensures unknown_actor { ¬ (WellFormed (λ t. t == 0) (Fork 1 2 ∷ [])) }
     ensures unknown_joined { ¬ (WellFormed (λ t. t == 0) (Join 0 1 ∷ [])) }
+
+    // none begins twice, acts after its end, or joins itself
     ensures forked_twice { ¬ (WellFormed (λ t. t == 0) (Fork 0 1 ∷ Fork 0 1 ∷ [])) }
-    ensures acts_after_its_end { ¬ (WellFormed (λ t. t == 0) (Fork 0 1 ∷ Join 0 1 ∷ Fork 1 2 ∷ [])) }
+    ensures acts_after_its_end { ¬ (WellFormed (λ t. t == 0)
+        (Fork 0 1 ∷ Join 0 1 ∷ Fork 1 2 ∷ [])) }
     ensures joins_itself { ¬ (WellFormed (λ t. t == 0) (Join 0 0 ∷ [])) }
-    ensures one_call { (call : CallOf) → call.thread ≡ 0 → WellFormed (λ t. t == 0) (Call call ∷ []) }
-    ensures two_kinds { (call other : CallOf) → call.object ≡ other.object → call.kind ≢ other.kind →
+
+    // an object is of one kind
+    ensures one_call { (call : CallOf) → call.thread ≡ 0 →
+        WellFormed (λ t. t == 0) (Call call ∷ []) }
+    ensures two_kinds { (call other : CallOf) → call.object ≡ other.object →
+        call.kind ≢ other.kind →
         ¬ (WellFormed (λ t. t == 0) (Call call ∷ Call other ∷ [])) }
     // A lock may be acquired again by the thread that has it, and is free where that thread released it as often.
-    ensures acquired_again { WellFormed (λ t. t == 0) (Acquire 0 5 ∷ Acquire 0 5 ∷ Release 0 5 ∷ Release 0 5 ∷ []) }
-    ensures held_by_another { ¬ (WellFormed (λ t. (t == 0) || (t == 1)) (Acquire 0 5 ∷ Acquire 1 5 ∷ [])) }
-    ensures released_once { ¬ (WellFormed (λ t. (t == 0) || (t == 1)) (Acquire 0 5 ∷ Acquire 0 5 ∷ Release 0 5 ∷ Acquire 1 5 ∷ [])) }
+    ensures acquired_again { WellFormed (λ t. t == 0)
+        (Acquire 0 5 ∷ Acquire 0 5 ∷ Release 0 5 ∷ Release 0 5 ∷ []) }
+    ensures held_by_another { ¬ (WellFormed (λ t. (t == 0) || (t == 1))
+        (Acquire 0 5 ∷ Acquire 1 5 ∷ [])) }
+    ensures released_once { ¬ (WellFormed (λ t. (t == 0) || (t == 1))
+        (Acquire 0 5 ∷ Acquire 0 5 ∷ Release 0 5 ∷ Acquire 1 5 ∷ [])) }
     ensures not_held { ¬ (WellFormed (λ t. t == 0) (Release 0 5 ∷ [])) }
-    ensures released_twice { ¬ (WellFormed (λ t. t == 0) (Acquire 0 5 ∷ Release 0 5 ∷ Release 0 5 ∷ [])) }
+    ensures released_twice { ¬ (WellFormed (λ t. t == 0)
+        (Acquire 0 5 ∷ Release 0 5 ∷ Release 0 5 ∷ [])) }
 {}

@@ -10,10 +10,16 @@ ghost use Rattle.rd_print.specs.Text.{IsSound, text_of};
 /// and the text of the pair, which is the names of its methods and behind `when` the text of its formula. The words of each
 /// line are sound, where the kinds are kinds with names, and the constants of their formulas are values.
 pub fn law_of_printed_texts()
-    ensures kinds { (kinds : List SpecifiedKind) → spec_text kinds ≡ codes "rdspec 1\n" ++ flat_map block_text kinds }
-    ensures pair { (kind : SpecifiedKind) (first second : ℕ) → text_of (commute_words kind (first, second)) ≡ codes "commute " ++ pair_text kind first second }
-    ensures formula { (kind : SpecifiedKind) (first second : ℕ) (f : Tree) → formula_at kind first second ≡ Some f
+    ensures kinds { (kinds : List SpecifiedKind) →
+        spec_text kinds ≡ codes "rdspec 1\n" ++ flat_map block_text kinds }
+    ensures pair { (kind : SpecifiedKind) (first second : ℕ) →
+        text_of (commute_words kind
+        (first, second)) ≡ codes "commute " ++ pair_text kind first second }
+    ensures formula { (kind : SpecifiedKind) (first second : ℕ) (f : Tree) →
+        formula_at kind first second ≡ Some f
         → pair_text kind first second ≡ name_at kind.methods first ++ codes " " ++ name_at kind.methods second ++ codes " when "
-        ++ text_of (words_of (variables_at kind.methods first) (variables_at kind.methods second) f) }
-    ensures sound { (kinds : List SpecifiedKind) → All IsKind kinds → HaveValues kinds → AreNames kinds → All (All IsSound) (spec_lines kinds) }
+        ++ text_of (words_of (variables_at kind.methods first)
+        (variables_at kind.methods second) f) }
+    ensures sound { (kinds : List SpecifiedKind) → All IsKind kinds → HaveValues kinds →
+        AreNames kinds → All (All IsSound) (spec_lines kinds) }
 {}

@@ -61,7 +61,8 @@ fn append_commute(
     second: u8,
 ) -> Result<(), NoMemory>
     requires { (first ≤ second) × (second < length kind.now.methods) }
-    ensures text { OnOk result (text.new ≡ text.old ++ line_text (commute_words kind.now (first, second))) }
+    ensures text { OnOk result
+        (text.new ≡ text.old ++ line_text (commute_words kind.now (first, second))) }
     ensures values { OnOk result (PairHasValues kind.now first second) }
 {
     text.append(b"commute ")?;

@@ -8,7 +8,8 @@ use memchr::memchr;
 // The first line of a text that isn't empty, and what stands behind it.
 pub(crate) fn cut_line(text: &[u8]) -> (&[u8], &[u8])
     requires { text.now ≢ [] }
-    ensures lines { (lines : List (List ℕ)) → AreLines result.1.now lines → AreLines text.now (result.0.now ∷ lines) }
+    ensures lines { (lines : List (List ℕ)) → AreLines result.1.now lines →
+        AreLines text.now (result.0.now ∷ lines) }
     ensures less { length result.1.now < length text.now }
     ensures line { length result.0.now ≤ length text.now }
 {

@@ -11,9 +11,13 @@ use rd_object::ReplayEnd;
 /// this in its place.
 #[tactic(auto, using(crate::proofs::LawLemmas::exact_where, crate::proofs::LawLemmas::differs_where, crate::proofs::LawLemmas::not_shipped_where))]
 pub fn law_of_replays()
-    ensures exact { (kinds : List ℕ) (calls : List Recorded) → All (λ (recorded : Recorded). recorded.1.object < length kinds) calls →
+    ensures exact { (kinds : List ℕ) (calls : List Recorded) →
+        All (λ (recorded : Recorded). recorded.1.object < length kinds) calls →
         ((replay_end kinds calls ≡ ReplayEnd.Exact) ↔ ReplaysAll kinds calls) }
-    ensures differs { (kinds : List ℕ) (calls : List Recorded) (line : ℕ) (expected : ExpectedOf) → All (λ (recorded : Recorded). recorded.1.object < length kinds) calls →
-        ((replay_end kinds calls ≡ ReplayEnd.Differs line expected) ↔ ((all_shipped kinds ≡ true) × FirstDiffers kinds [] calls line expected)) }
-    ensures not_shipped { (kinds : List ℕ) (calls : List Recorded) → ((replay_end kinds calls ≡ ReplayEnd.NotShipped) ↔ (all_shipped kinds ≡ false)) }
+    ensures differs { (kinds : List ℕ) (calls : List Recorded) (line : ℕ) (expected : ExpectedOf) →
+        All (λ (recorded : Recorded). recorded.1.object < length kinds) calls →
+        ((replay_end kinds calls ≡ ReplayEnd.Differs line expected)
+        ↔ ((all_shipped kinds ≡ true) × FirstDiffers kinds [] calls line expected)) }
+    ensures not_shipped { (kinds : List ℕ) (calls : List Recorded) →
+        ((replay_end kinds calls ≡ ReplayEnd.NotShipped) ↔ (all_shipped kinds ≡ false)) }
 {}

@@ -46,11 +46,16 @@ fn is_same(given: &Value, recorded: &Value) -> bool
 /// object is as before.
 fn compare(object: &mut Object, call: &Call) -> Result<Option<Expected>, NoMemory>
     requires some { 0 < length call.now.slots }
-    requires taken { IsTaken (machine_for object.old) call.now.method (arguments_of call.now.slots) }
+    requires taken { IsTaken (machine_for object.old) call.now.method
+        (arguments_of call.now.slots) }
     ensures kind { kind_of object.new ≡ kind_of object.old }
-    ensures answer { IfOk result (λ expected. expected ≡ unlike (step_at (machine_for object.old) (shape_of object.old) call.now) (result_of call.now.slots)) }
+    ensures answer { IfOk result
+        (λ expected. expected ≡ unlike
+        (step_at (machine_for object.old) (shape_of object.old) call.now)
+        (result_of call.now.slots)) }
     ensures same { IfOk result (λ expected. expected ≡ None →
-        shape_after (step_at (machine_for object.old) (shape_of object.old) call.now) (result_of call.now.slots) ≡ Some (shape_of object.new)) }
+        shape_after (step_at (machine_for object.old) (shape_of object.old) call.now)
+        (result_of call.now.slots) ≡ Some (shape_of object.new)) }
     ensures err { OnErr result (shape_of object.new ≡ shape_of object.old) }
 {
     let (recorded, arguments) = call.slots.items().split_last().unwrap();
@@ -81,9 +86,13 @@ impl Replayer {
     /// Takes the next object, by its number, which is that of the objects so far, and the number of its kind. After want of memory the
     /// replayer stands for what it stood for before.
     pub fn declare(&mut self, object: u32, kind: u32) -> Result<(), NoMemory>
-        ensures ok { OnOk result ((kinds : List ℕ) (calls : List Recorded) → StandsFor self.old kinds calls → object ≡ length kinds →
+        ensures ok { OnOk result
+            ((kinds : List ℕ) (calls : List Recorded) → StandsFor self.old kinds calls →
+            object ≡ length kinds →
             StandsFor self.new (kinds ++ kind ∷ []) calls) }
-        ensures err { OnErr result ((kinds : List ℕ) (calls : List Recorded) → StandsFor self.old kinds calls → StandsFor self.new kinds calls) }
+        ensures err { OnErr result
+            ((kinds : List ℕ) (calls : List Recorded) → StandsFor self.old kinds calls →
+            StandsFor self.new kinds calls) }
     {
         let _next = object;
         if kind >= shipped_count() {
@@ -101,12 +110,20 @@ impl Replayer {
     /// declared with its kind, and where that is built in, its method is the kind's and it has as many slots as the method. After want
     /// of memory the replayer stands for what it stood for before.
     pub fn call(&mut self, line: u64, call: &Call) -> Result<Match, NoMemory>
-        requires { (kinds : List ℕ) × (calls : List Recorded) × StandsFor self.old kinds calls × IsRecordable kinds call.now }
-        ensures answer { IfOk result (λ answer. (kinds : List ℕ) (calls : List Recorded) → StandsFor self.old kinds calls → IsRecordable kinds call.now →
-            answer ≡ match_of (replay_end kinds calls) (replay_end kinds (calls ++ (line, call.now) ∷ []))) }
-        ensures stands { OnOk result ((kinds : List ℕ) (calls : List Recorded) → StandsFor self.old kinds calls → IsRecordable kinds call.now →
+        requires { (kinds : List ℕ) × (calls : List Recorded) × StandsFor self.old kinds calls
+            × IsRecordable kinds call.now }
+        ensures answer { IfOk result
+            (λ answer. (kinds : List ℕ) (calls : List Recorded) → StandsFor self.old kinds calls →
+            IsRecordable kinds call.now →
+            answer ≡ match_of (replay_end kinds calls)
+            (replay_end kinds (calls ++ (line, call.now) ∷ []))) }
+        ensures stands { OnOk result
+            ((kinds : List ℕ) (calls : List Recorded) → StandsFor self.old kinds calls →
+            IsRecordable kinds call.now →
             StandsFor self.new kinds (calls ++ (line, call.now) ∷ [])) }
-        ensures err { OnErr result ((kinds : List ℕ) (calls : List Recorded) → StandsFor self.old kinds calls → StandsFor self.new kinds calls) }
+        ensures err { OnErr result
+            ((kinds : List ℕ) (calls : List Recorded) → StandsFor self.old kinds calls →
+            StandsFor self.new kinds calls) }
     {
         match self.end {
             ReplayEnd::NotShipped => return Ok(Match::NotShipped),
@@ -126,7 +143,9 @@ impl Replayer {
     /// How the replay of the calls ends: `NotShipped` exactly where some object that was declared isn't of a kind that is built in, else
     /// `Differs` exactly where a call gave something else than was recorded, with the line of the first and what it gave.
     pub fn end(&self) -> Result<ReplayEnd, NoMemory>
-        ensures { IfOk result (λ end. (kinds : List ℕ) (calls : List Recorded) → StandsFor self.now kinds calls → end ≡ replay_end kinds calls) }
+        ensures { IfOk result
+            (λ end. (kinds : List ℕ) (calls : List Recorded) → StandsFor self.now kinds calls →
+            end ≡ replay_end kinds calls) }
     {
         self.end.copy(self.alloc)
     }
@@ -134,8 +153,11 @@ impl Replayer {
     /// What an object holds, by its number. It was declared, all objects are of kinds that are built in, and each call gave what was
     /// recorded.
     pub fn state(&self, object: u32) -> Result<Shape, NoMemory>
-        requires { (kinds : List ℕ) × (calls : List Recorded) × StandsFor self.now kinds calls × (object < length kinds) × (replay_end kinds calls ≡ ReplayEnd.Exact) }
-        ensures { IfOk result (λ shape. (kinds : List ℕ) (calls : List Recorded) → StandsFor self.now kinds calls → object < length kinds →
+        requires { (kinds : List ℕ) × (calls : List Recorded) × StandsFor self.now kinds calls
+            × (object < length kinds) × (replay_end kinds calls ≡ ReplayEnd.Exact) }
+        ensures { IfOk result
+            (λ shape. (kinds : List ℕ) (calls : List Recorded) → StandsFor self.now kinds calls →
+            object < length kinds →
             held kinds calls object ≡ Some shape) }
     {
         self.objects[object as usize].shape()

@@ -32,7 +32,8 @@ fn replay_status(replay: &ReplayEnd) -> Status
 
 /// How a report ends, by how the walk does and what the replayer was told.
 pub fn reported(replayer: &Replayer, ending: WalkEnd) -> Result<Ending, NoMemory>
-    ensures reported { IfOk result (λ report. (kinds : List ℕ) (calls : List Recorded) → Replays replayer.now kinds calls →
+    ensures reported { IfOk result
+        (λ report. (kinds : List ℕ) (calls : List Recorded) → Replays replayer.now kinds calls →
         report ≡ reported (replay_end kinds calls) ending) }
     ensures fault { IfOk result (λ report. (report ≡ Ending.Fault) ↔ (ending ≡ WalkEnd.Fault)) }
 {

@@ -17,7 +17,9 @@ use rd_wf::Accepted;
 /// Hands the next object to the replayer.
 #[inline(never)]
 fn follow_object(replayer: &mut Replayer, object: u32, kind: u32) -> Result<(), Halt>
-    ensures follows { OnOk result ((those : List ℕ) (calls : List Recorded) → StandsFor replayer.old those calls → object ≡ length those →
+    ensures follows { OnOk result
+        ((those : List ℕ) (calls : List Recorded) → StandsFor replayer.old those calls →
+        object ≡ length those →
         StandsFor replayer.new (those ++ kind ∷ []) calls) }
     ensures memory { IfErr result (λ halt. halt ≡ Halt.NoMemory) }
 {
@@ -30,8 +32,11 @@ fn follow_object(replayer: &mut Replayer, object: u32, kind: u32) -> Result<(), 
 /// Hands the next call to the replayer.
 #[inline(never)]
 fn follow_call(replayer: &mut Replayer, number: u64, call: &Call) -> Result<(), Halt>
-    requires { (those : List ℕ) × (calls : List Recorded) × StandsFor replayer.old those calls × IsRecordable those call.now }
-    ensures follows { OnOk result ((those : List ℕ) (calls : List Recorded) → StandsFor replayer.old those calls → IsRecordable those call.now →
+    requires { (those : List ℕ) × (calls : List Recorded) × StandsFor replayer.old those calls
+        × IsRecordable those call.now }
+    ensures follows { OnOk result
+        ((those : List ℕ) (calls : List Recorded) → StandsFor replayer.old those calls →
+        IsRecordable those call.now →
         StandsFor replayer.new those (calls ++ (number, call.now) ∷ [])) }
     ensures memory { IfErr result (λ halt. halt ≡ Halt.NoMemory) }
 {
@@ -43,10 +48,14 @@ fn follow_call(replayer: &mut Replayer, number: u64, call: &Call) -> Result<(), 
 
 /// Hands the next event to the replayer, where it is a call.
 fn follow_event(replayer: &mut Replayer, number: u64, event: &Event) -> Result<(), Halt>
-    requires { (kinds : List Kind) × (before : List Entry) × (item : LineOf) × (roster : RosterOf) × Replayed kinds before replayer.old
+    requires { (kinds : List Kind) × (before : List Entry) × (item : LineOf) × (roster : RosterOf)
+        × Replayed kinds before replayer.old
         × IsNextEntry kinds roster before item (Accepted.Event event.now) }
-    ensures follows { OnOk result ((kinds : List Kind) (before : List Entry) (item : LineOf) (roster : RosterOf) → Replayed kinds before replayer.old →
-        IsNextEntry kinds roster before item (Accepted.Event event.now) → Replayed kinds (before ++ record { number = number; item = item } ∷ []) replayer.new) }
+    ensures follows { OnOk result
+        ((kinds : List Kind) (before : List Entry) (item : LineOf) (roster : RosterOf) →
+        Replayed kinds before replayer.old →
+        IsNextEntry kinds roster before item (Accepted.Event event.now) →
+        Replayed kinds (before ++ record { number = number; item = item } ∷ []) replayer.new) }
     ensures memory { IfErr result (λ halt. halt ≡ Halt.NoMemory) }
 {
     let Event::Call(call) = event else {
@@ -57,10 +66,14 @@ fn follow_event(replayer: &mut Replayer, number: u64, event: &Event) -> Result<(
 
 /// Hands the next accepted line to the replayer: an object to declare, or a call.
 pub fn follow(replayer: &mut Replayer, number: u64, accepted: &Accepted) -> Result<(), Halt>
-    requires { (kinds : List Kind) × (before : List Entry) × (item : LineOf) × (roster : RosterOf) × Replayed kinds before replayer.old
+    requires { (kinds : List Kind) × (before : List Entry) × (item : LineOf) × (roster : RosterOf)
+        × Replayed kinds before replayer.old
         × IsNextEntry kinds roster before item accepted.now }
-    ensures follows { OnOk result ((kinds : List Kind) (before : List Entry) (item : LineOf) (roster : RosterOf) → Replayed kinds before replayer.old →
-        IsNextEntry kinds roster before item accepted.now → Replayed kinds (before ++ record { number = number; item = item } ∷ []) replayer.new) }
+    ensures follows { OnOk result
+        ((kinds : List Kind) (before : List Entry) (item : LineOf) (roster : RosterOf) →
+        Replayed kinds before replayer.old →
+        IsNextEntry kinds roster before item accepted.now →
+        Replayed kinds (before ++ record { number = number; item = item } ∷ []) replayer.new) }
     ensures memory { IfErr result (λ halt. halt ≡ Halt.NoMemory) }
 {
     match accepted {

@@ -29,9 +29,14 @@ fn set_state(
     object: u32,
 ) -> Result<(), NoMemory>
     requires known { object < length (object_names_in names.now) }
-    requires stands { (kinds : List ℕ) × (calls : List Recorded) × StandsFor replayer.now kinds calls × (object < length kinds) × (replay_end kinds calls ≡ Exact) }
-    ensures { OnOk result ((kinds : List ℕ) (calls : List Recorded) → StandsFor replayer.now kinds calls → object < length kinds →
-        text.new ≡ held_text (name_of (object_names_in names.now) object) (held kinds calls object)) }
+    requires stands { (kinds : List ℕ) × (calls : List Recorded)
+        × StandsFor replayer.now kinds calls × (object < length kinds)
+        × (replay_end kinds calls ≡ Exact) }
+    ensures { OnOk result
+        ((kinds : List ℕ) (calls : List Recorded) → StandsFor replayer.now kinds calls →
+        object < length kinds →
+        text.new ≡ held_text (name_of (object_names_in names.now) object)
+        (held kinds calls object)) }
 {
     let shape = replayer.state(object)?;
     text.clear();
@@ -47,12 +52,21 @@ fn write_state<S: Sink>(
     out: &mut S,
 ) -> Result<(), Halt>
     requires known { object < length (object_names_in names.now) }
-    requires stands { (kinds : List ℕ) × (calls : List Recorded) × StandsFor replayer.now kinds calls × (object < length kinds) × (replay_end kinds calls ≡ Exact) }
-    ensures ok { OnOk result ((kinds : List ℕ) (calls : List Recorded) → StandsFor replayer.now kinds calls → object < length kinds →
-        Appends (S.written out.old) (S.written out.new) (held_text (name_of (object_names_in names.now) object) (held kinds calls object))) }
-    ensures front { OnErr result ((kinds : List ℕ) (calls : List Recorded) → StandsFor replayer.now kinds calls → object < length kinds →
-        WritesFront (S.written out.old) (S.written out.new) [] (held_text (name_of (object_names_in names.now) object) (held kinds calls object))) }
-    ensures fault { TellsFault (S.faults out.old) (S.faults out.new) (S.at_fault out.new) (S.written out.new) result }
+    requires stands { (kinds : List ℕ) × (calls : List Recorded)
+        × StandsFor replayer.now kinds calls × (object < length kinds)
+        × (replay_end kinds calls ≡ Exact) }
+    ensures ok { OnOk result
+        ((kinds : List ℕ) (calls : List Recorded) → StandsFor replayer.now kinds calls →
+        object < length kinds →
+        Appends (S.written out.old) (S.written out.new)
+        (held_text (name_of (object_names_in names.now) object) (held kinds calls object))) }
+    ensures front { OnErr result
+        ((kinds : List ℕ) (calls : List Recorded) → StandsFor replayer.now kinds calls →
+        object < length kinds →
+        WritesFront (S.written out.old) (S.written out.new) []
+        (held_text (name_of (object_names_in names.now) object) (held kinds calls object))) }
+    ensures fault { TellsFault (S.faults out.old) (S.faults out.new) (S.at_fault out.new)
+        (S.written out.new) result }
 {
     match set_state(text, names, replayer, object) {
         Ok(()) => write_line(out, text.items()),
@@ -67,13 +81,23 @@ fn write_states<S: Sink>(
     replayer: &Replayer,
     out: &mut S,
 ) -> Result<(), Halt>
-    requires { (kinds : List ℕ) × (calls : List Recorded) × StandsFor replayer.now kinds calls × (length kinds ≡ length (object_names_in names.now))
+    requires { (kinds : List ℕ) × (calls : List Recorded) × StandsFor replayer.now kinds calls
+        × (length kinds ≡ length (object_names_in names.now))
         × (replay_end kinds calls ≡ Exact) }
-    ensures ok { OnOk result ((kinds : List ℕ) (calls : List Recorded) → StandsFor replayer.now kinds calls → length kinds ≡ length (object_names_in names.now) →
-        Appends (S.written out.old) (S.written out.new) (states_before (object_names_in names.now) kinds calls (length (object_names_in names.now)))) }
-    ensures front { OnErr result ((kinds : List ℕ) (calls : List Recorded) → StandsFor replayer.now kinds calls → length kinds ≡ length (object_names_in names.now) →
-        WritesFront (S.written out.old) (S.written out.new) [] (states_before (object_names_in names.now) kinds calls (length (object_names_in names.now)))) }
-    ensures fault { TellsFault (S.faults out.old) (S.faults out.new) (S.at_fault out.new) (S.written out.new) result }
+    ensures ok { OnOk result
+        ((kinds : List ℕ) (calls : List Recorded) → StandsFor replayer.now kinds calls →
+        length kinds ≡ length (object_names_in names.now) →
+        Appends (S.written out.old) (S.written out.new)
+        (states_before (object_names_in names.now) kinds calls
+        (length (object_names_in names.now)))) }
+    ensures front { OnErr result
+        ((kinds : List ℕ) (calls : List Recorded) → StandsFor replayer.now kinds calls →
+        length kinds ≡ length (object_names_in names.now) →
+        WritesFront (S.written out.old) (S.written out.new) []
+        (states_before (object_names_in names.now) kinds calls
+        (length (object_names_in names.now)))) }
+    ensures fault { TellsFault (S.faults out.old) (S.faults out.new) (S.at_fault out.new)
+        (S.written out.new) result }
 {
     let mut text = Bytes::new(alloc);
     for object in 0..names.objects() {
@@ -106,9 +130,14 @@ fn write_end<S: Sink>(
     ending: &Ending,
     out: &mut S,
 ) -> Result<(), Halt>
-    ensures ok { OnOk result (Appends (S.written out.old) (S.written out.new) (replayed_text (names_in names.now) [] ending.now)) }
-    ensures front { OnErr result (WritesFront (S.written out.old) (S.written out.new) [] (replayed_text (names_in names.now) [] ending.now)) }
-    ensures fault { TellsFault (S.faults out.old) (S.faults out.new) (S.at_fault out.new) (S.written out.new) result }
+    ensures ok { OnOk result
+        (Appends (S.written out.old) (S.written out.new)
+        (replayed_text (names_in names.now) [] ending.now)) }
+    ensures front { OnErr result
+        (WritesFront (S.written out.old) (S.written out.new) []
+        (replayed_text (names_in names.now) [] ending.now)) }
+    ensures fault { TellsFault (S.faults out.old) (S.faults out.new) (S.at_fault out.new)
+        (S.written out.new) result }
 {
     match end_line(alloc, names, ending) {
         Ok(line) => write_line(out, line.items()),
@@ -136,15 +165,25 @@ fn write_replayed<S: Sink>(
     ending: &Ending,
     out: &mut S,
 ) -> Result<(), Halt>
-    requires { ending.now ≡ Ending.End Exact → (kinds : List ℕ) × (calls : List Recorded) × StandsFor replayer.now kinds calls
+    requires { ending.now ≡ Ending.End Exact → (kinds : List ℕ) × (calls : List Recorded)
+        × StandsFor replayer.now kinds calls
         × (length kinds ≡ length (object_names_in names.now)) × (replay_end kinds calls ≡ Exact) }
-    ensures ok { OnOk result ((kinds : List ℕ) (calls : List Recorded) → StandsFor replayer.now kinds calls → length kinds ≡ length (object_names_in names.now) →
+    ensures ok { OnOk result
+        ((kinds : List ℕ) (calls : List Recorded) → StandsFor replayer.now kinds calls →
+        length kinds ≡ length (object_names_in names.now) →
         Appends (S.written out.old) (S.written out.new)
-        (replayed_text (names_in names.now) (states_before (object_names_in names.now) kinds calls (length (object_names_in names.now))) ending.now)) }
-    ensures front { OnErr result ((kinds : List ℕ) (calls : List Recorded) → StandsFor replayer.now kinds calls → length kinds ≡ length (object_names_in names.now) →
+        (replayed_text (names_in names.now)
+        (states_before (object_names_in names.now) kinds calls
+        (length (object_names_in names.now))) ending.now)) }
+    ensures front { OnErr result
+        ((kinds : List ℕ) (calls : List Recorded) → StandsFor replayer.now kinds calls →
+        length kinds ≡ length (object_names_in names.now) →
         WritesFront (S.written out.old) (S.written out.new) []
-        (replayed_text (names_in names.now) (states_before (object_names_in names.now) kinds calls (length (object_names_in names.now))) ending.now)) }
-    ensures fault { TellsFault (S.faults out.old) (S.faults out.new) (S.at_fault out.new) (S.written out.new) result }
+        (replayed_text (names_in names.now)
+        (states_before (object_names_in names.now) kinds calls
+        (length (object_names_in names.now))) ending.now)) }
+    ensures fault { TellsFault (S.faults out.old) (S.faults out.new) (S.at_fault out.new)
+        (S.written out.new) result }
 {
     if let Err(halt) = write_end(alloc, names, ending, out) {
         return Err(halt);
@@ -163,16 +202,23 @@ pub fn write_replay<S: Sink>(
     ending: &Ending,
     out: &mut S,
 ) -> Status
-    requires { ending.now ≡ Ending.End Exact → (kinds : List ℕ) × (calls : List Recorded) × StandsFor replayer.now kinds calls
+    requires { ending.now ≡ Ending.End Exact → (kinds : List ℕ) × (calls : List Recorded)
+        × StandsFor replayer.now kinds calls
         × (length kinds ≡ length (object_names_in names.now)) × (replay_end kinds calls ≡ Exact) }
-    ensures output { (kinds : List ℕ) (calls : List Recorded) → StandsFor replayer.now kinds calls → length kinds ≡ length (object_names_in names.now) →
-        (part : List ℕ) × Appends (S.written out.old) (S.written out.new) part × IsOutput result part (record {
-          text = replayed_text (names_in names.now) (states_before (object_names_in names.now) kinds calls (length (object_names_in names.now))) ending.now;
+    ensures output { (kinds : List ℕ) (calls : List Recorded) → StandsFor replayer.now kinds calls →
+        length kinds ≡ length (object_names_in names.now) →
+        (part : List ℕ) × Appends (S.written out.old) (S.written out.new) part
+        × IsOutput result part (record {
+          text = replayed_text (names_in names.now)
+              (states_before (object_names_in names.now) kinds calls
+              (length (object_names_in names.now))) ending.now;
           status = check_status 0 ending.now;
         }) }
     ensures input { result ≡ Status.InputFault → ending.now ≡ Ending.Fault }
-    ensures calm { result ≢ Status.InputFault → result ≢ Status.OutputFault → result ≢ Status.NoMemory → ending.now ≢ Ending.Fault }
-    ensures fault { StatusTellsFault (S.faults out.old) (S.faults out.new) (S.at_fault out.new) (S.written out.new) result }
+    ensures calm { result ≢ Status.InputFault → result ≢ Status.OutputFault →
+        result ≢ Status.NoMemory → ending.now ≢ Ending.Fault }
+    ensures fault { StatusTellsFault (S.faults out.old) (S.faults out.new) (S.at_fault out.new)
+        (S.written out.new) result }
     ensures no_usage { result ≢ Status.Usage }
     ensures no_spec { result ≢ Status.SpecRefused }
 {

@@ -29,7 +29,8 @@ fn append_part(
     some: bool,
 ) -> Result<bool, NoMemory>
     requires { thread < thread_count names.now }
-    ensures text { OnOk result (text.new ≡ text.old ++ part_text some (name_of (names_in names.now) thread) count) }
+    ensures text { OnOk result
+        (text.new ≡ text.old ++ part_text some (name_of (names_in names.now) thread) count) }
     ensures some { IfOk result (λ now. now ≡ (some || nat_lt 0 count)) }
 {
     if count == 0 {
@@ -49,7 +50,8 @@ pub(crate) fn append_clock<L: Ledger>(
     names: &Roster,
     steps: &mut Steps<L>,
 ) -> Result<(), NoMemory>
-    ensures { OnOk result (text.new ≡ text.old ++ clock_text (names_in names.now) (component clock.now)) }
+    ensures { OnOk result
+        (text.new ≡ text.old ++ clock_text (names_in names.now) (component clock.now)) }
 {
     let mut some = false;
     for thread in 0..names.threads() {

@@ -53,7 +53,8 @@ impl<'a> Formulas<'a> {
 
     /// The line of these two methods of that kind, where it was kept.
     pub fn find(&self, kind: u32, first: u8, second: u8) -> Option<&[u8]>
-        ensures { IfSome result (λ line. line.now ≡ formula_line (kind_at self.now kind) first second) }
+        ensures { IfSome result
+            (λ line. line.now ≡ formula_line (kind_at self.now kind) first second) }
     {
         for kept in &self.kept {
             if kept.kind == kind && kept.first == first && kept.second == second {

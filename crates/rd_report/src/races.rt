@@ -60,8 +60,10 @@ fn append_named_call(
     names: &Roster,
 ) -> Result<(), NoMemory>
     requires { IsNamed spec.now (naming_in names.now) call.now }
-    ensures { OnOk result (text.new ≡ text.old ++ call_text (name_of (names_in names.now) call.now.thread)
-        (name_of (object_names_in names.now) call.now.object) (name_at (kind_at spec.now call.now.kind).methods call.now.method) call.now.slots) }
+    ensures { OnOk result
+        (text.new ≡ text.old ++ call_text (name_of (names_in names.now) call.now.thread)
+        (name_of (object_names_in names.now) call.now.object)
+        (name_at (kind_at spec.now call.now.kind).methods call.now.method) call.now.slots) }
 {
     let thread = names.thread_name(call.thread);
     let object = names.object_name(call.object);
@@ -105,8 +107,11 @@ fn append_race_with<L: Ledger>(
     requires parts { blank.parts ≡ L.parts }
     requires some { 0 < blank.parts }
     requires known { IsKnownRace spec.now (naming_in names.now) race.now }
-    requires formula { formula.now ≡ formula_line (kind_at spec.now race.now.kind) race.now.first race.now.second }
-    ensures { OnOk result (text.new ≡ text.old ++ race_text spec.now (naming_in names.now) (told_by race.now.later.value) (told_by race.now.earlier.value)) }
+    requires formula { formula.now ≡ formula_line
+        (kind_at spec.now race.now.kind) race.now.first race.now.second }
+    ensures { OnOk result
+        (text.new ≡ text.old ++ race_text spec.now (naming_in names.now)
+        (told_by race.now.later.value) (told_by race.now.earlier.value)) }
 {
     let mut steps = Steps::<L>::new(blank);
     text.append(b"race line ")?;
@@ -141,8 +146,11 @@ pub fn append_race(
     names: &Roster,
 ) -> Result<(), NoMemory>
     requires known { IsKnownRace spec.now (naming_in names.now) race.now }
-    requires formula { formula.now ≡ formula_line (kind_at spec.now race.now.kind) race.now.first race.now.second }
-    ensures { OnOk result (text.new ≡ text.old ++ race_text spec.now (naming_in names.now) (told_by race.now.later.value) (told_by race.now.earlier.value)) }
+    requires formula { formula.now ≡ formula_line
+        (kind_at spec.now race.now.kind) race.now.first race.now.second }
+    ensures { OnOk result
+        (text.new ≡ text.old ++ race_text spec.now (naming_in names.now)
+        (told_by race.now.later.value) (told_by race.now.earlier.value)) }
 {
     append_race_with::<Brand>(text, race, formula, spec, names, Blank::new(1))
 }
@@ -152,7 +160,9 @@ pub fn append_race(
 /// numbers. The numbers in the race are known to the specification and the roster.
 pub fn race_text(alloc: Global, race: &Race, spec: &Spec, names: &Roster) -> Result<Bytes, NoMemory>
     requires { IsKnownRace spec.now (naming_in names.now) race.now }
-    ensures { IfOk result (λ text. text ≡ race_text spec.now (naming_in names.now) (told_by race.now.later.value) (told_by race.now.earlier.value)) }
+    ensures { IfOk result
+        (λ text. text ≡ race_text spec.now (naming_in names.now) (told_by race.now.later.value)
+        (told_by race.now.earlier.value)) }
 {
     let kind = &spec.kinds()[race.kind as usize];
     let formula = formula_line(alloc, kind, race.first, race.second)?;

@@ -26,7 +26,8 @@ fn append_expected(text: &mut Bytes, expected: &Expected) -> Result<(), NoMemory
 
 // Puts the line behind the text that tells which line of a trace gave something else, and what a machine gives there.
 fn append_differs(text: &mut Bytes, number: u64, expected: &Expected) -> Result<(), NoMemory>
-    ensures { OnOk result (text.new ≡ text.old ++ (codes "replay differs line " ++ decimal number ++ codes " " ++ expected_text expected.now ++ codes "\n")) }
+    ensures { OnOk result
+        (text.new ≡ text.old ++ (codes "replay differs line " ++ decimal number ++ codes " " ++ expected_text expected.now ++ codes "\n")) }
 {
     text.append(b"replay differs line ")?;
     append_number(text, number)?;

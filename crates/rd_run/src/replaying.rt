@@ -42,7 +42,8 @@ impl<A: Analysis> Analysis for Replaying<A> {
 
     ghost begins = { λ kinds start. A.begins kinds start.inner × Replayed kinds [] start.replayer };
 
-    ghost leads = { λ kinds start entries now. A.leads kinds start.inner entries now.inner × Replayed kinds entries now.replayer };
+    ghost leads = { λ kinds start entries now. A.leads kinds start.inner entries now.inner
+        × Replayed kinds entries now.replayer };
 
     ghost text = { λ kinds start. A.text kinds start.inner };
 

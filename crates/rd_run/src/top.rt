@@ -65,7 +65,8 @@ fn shipped_number(name: &Word) -> Option<u32>
 
 fn command_of(words: &[Word]) -> Option<Command<'_>>
     ensures asked { asked result ≡ command_of words.now }
-    ensures known { IfSome result (λ command. (number : ℕ) → command ≡ Command.Kind number → number < 4) }
+    ensures known { IfSome result
+        (λ command. (number : ℕ) → command ≡ Command.Kind number → number < 4) }
 {
     match words {
         [word, trace] if word.items() == b"check".as_slice() => Some(Command::Check(trace)),
@@ -96,12 +97,23 @@ fn check<I: Inputs, S: Sink, L: Ledger>(
     requires few { length spec.now < 2 ^ 32 }
     requires different { AllPairs (λ x y. x ≢ y) (kind_names (kinds_of spec.now)) }
     requires numbered { AreNumbered (kinds_of spec.now) }
-    ensures reports { (old : Source) → I.told inputs.old ≡ Some old → I.faults inputs.old < 2 ^ 63 → old.opens ≤ 2 ^ 63 →
-        (new : Source) × (part : List ℕ) × (I.told inputs.new ≡ Some new) × Appends (S.written out.old) (S.written out.new) part
-        × ReportsTrace (check_outcome spec.now) (kinds_of spec.now) trace.now limits.now (nat_lt (I.faults inputs.old) (I.faults inputs.new)) old new part result steps.old steps.new }
-    ensures input_fault { result ≡ Status.InputFault → Rose (I.faults inputs.old) (I.faults inputs.new) }
-    ensures calm { result ≢ Status.InputFault → result ≢ Status.OutputFault → result ≢ Status.NoMemory → I.faults inputs.new ≡ I.faults inputs.old }
-    ensures fault { StatusTellsFault (S.faults out.old) (S.faults out.new) (S.at_fault out.new) (S.written out.new) result }
+
+    // the report, and each fault is told as one
+    ensures reports { (old : Source) → I.told inputs.old ≡ Some old → I.faults inputs.old < 2 ^ 63 →
+        old.opens ≤ 2 ^ 63 →
+        (new : Source) × (part : List ℕ) × (I.told inputs.new ≡ Some new)
+        × Appends (S.written out.old) (S.written out.new) part
+        × ReportsTrace (check_outcome spec.now) (kinds_of spec.now) trace.now limits.now
+        (nat_lt (I.faults inputs.old)
+        (I.faults inputs.new)) old new part result steps.old steps.new }
+    ensures input_fault { result ≡ Status.InputFault →
+        Rose (I.faults inputs.old) (I.faults inputs.new) }
+    ensures calm { result ≢ Status.InputFault → result ≢ Status.OutputFault →
+        result ≢ Status.NoMemory → I.faults inputs.new ≡ I.faults inputs.old }
+    ensures fault { StatusTellsFault (S.faults out.old) (S.faults out.new) (S.at_fault out.new)
+        (S.written out.new) result }
+
+    // two endings never come
     ensures no_usage { result ≢ Status.Usage }
     ensures no_spec { result ≢ Status.SpecRefused }
 {
@@ -131,12 +143,23 @@ fn check_shipped<I: Inputs, S: Sink, L: Ledger>(
     steps: &mut Steps<L>,
 ) -> Status
     requires { AreUsable limits.now }
-    ensures runs { (old : Source) → I.told inputs.old ≡ Some old → I.faults inputs.old < 2 ^ 63 → old.opens < 2 ^ 63 →
-        (new : Source) × (part : List ℕ) × (I.told inputs.new ≡ Some new) × Appends (S.written out.old) (S.written out.new) part
-        × Runs (check_meaning trace.now None) limits.now (nat_lt (I.faults inputs.old) (I.faults inputs.new)) old new part result steps.old steps.new }
-    ensures input_fault { result ≡ Status.InputFault → Rose (I.faults inputs.old) (I.faults inputs.new) }
-    ensures calm { result ≢ Status.InputFault → result ≢ Status.OutputFault → result ≢ Status.NoMemory → I.faults inputs.new ≡ I.faults inputs.old }
-    ensures fault { StatusTellsFault (S.faults out.old) (S.faults out.new) (S.at_fault out.new) (S.written out.new) result }
+
+    // the report, and each fault is told as one
+    ensures runs { (old : Source) → I.told inputs.old ≡ Some old → I.faults inputs.old < 2 ^ 63 →
+        old.opens < 2 ^ 63 →
+        (new : Source) × (part : List ℕ) × (I.told inputs.new ≡ Some new)
+        × Appends (S.written out.old) (S.written out.new) part
+        × Runs (check_meaning trace.now None) limits.now
+        (nat_lt (I.faults inputs.old)
+        (I.faults inputs.new)) old new part result steps.old steps.new }
+    ensures input_fault { result ≡ Status.InputFault →
+        Rose (I.faults inputs.old) (I.faults inputs.new) }
+    ensures calm { result ≢ Status.InputFault → result ≢ Status.OutputFault →
+        result ≢ Status.NoMemory → I.faults inputs.new ≡ I.faults inputs.old }
+    ensures fault { StatusTellsFault (S.faults out.old) (S.faults out.new) (S.at_fault out.new)
+        (S.written out.new) result }
+
+    // two endings never come
     ensures no_usage { result ≢ Status.Usage }
     ensures no_spec { result ≢ Status.SpecRefused }
 {
@@ -167,12 +190,19 @@ fn check_with<I: Inputs, S: Sink, L: Ledger>(
     steps: &mut Steps<L>,
 ) -> Status
     requires { AreUsable limits.now }
-    ensures runs { (old : Source) → I.told inputs.old ≡ Some old → I.faults inputs.old < 2 ^ 63 → old.opens < 2 ^ 63 →
-        (new : Source) × (part : List ℕ) × (I.told inputs.new ≡ Some new) × Appends (S.written out.old) (S.written out.new) part
-        × Runs (check_meaning trace.now (Some file.now)) limits.now (nat_lt (I.faults inputs.old) (I.faults inputs.new)) old new part result steps.old steps.new }
-    ensures input_fault { result ≡ Status.InputFault → Rose (I.faults inputs.old) (I.faults inputs.new) }
-    ensures calm { result ≢ Status.InputFault → result ≢ Status.OutputFault → result ≢ Status.NoMemory → I.faults inputs.new ≡ I.faults inputs.old }
-    ensures fault { StatusTellsFault (S.faults out.old) (S.faults out.new) (S.at_fault out.new) (S.written out.new) result }
+    ensures runs { (old : Source) → I.told inputs.old ≡ Some old → I.faults inputs.old < 2 ^ 63 →
+        old.opens < 2 ^ 63 →
+        (new : Source) × (part : List ℕ) × (I.told inputs.new ≡ Some new)
+        × Appends (S.written out.old) (S.written out.new) part
+        × Runs (check_meaning trace.now (Some file.now)) limits.now
+        (nat_lt (I.faults inputs.old)
+        (I.faults inputs.new)) old new part result steps.old steps.new }
+    ensures input_fault { result ≡ Status.InputFault →
+        Rose (I.faults inputs.old) (I.faults inputs.new) }
+    ensures calm { result ≢ Status.InputFault → result ≢ Status.OutputFault →
+        result ≢ Status.NoMemory → I.faults inputs.new ≡ I.faults inputs.old }
+    ensures fault { StatusTellsFault (S.faults out.old) (S.faults out.new) (S.at_fault out.new)
+        (S.written out.new) result }
     ensures no_usage { result ≢ Status.Usage }
 {
     let said = match read_spec(alloc, file, inputs) {
@@ -195,12 +225,23 @@ fn replay<I: Inputs, S: Sink, L: Ledger>(
     steps: &mut Steps<L>,
 ) -> Status
     requires { AreUsable limits.now }
-    ensures runs { (old : Source) → I.told inputs.old ≡ Some old → I.faults inputs.old < 2 ^ 63 → old.opens < 2 ^ 63 →
-        (new : Source) × (part : List ℕ) × (I.told inputs.new ≡ Some new) × Appends (S.written out.old) (S.written out.new) part
-        × Runs (replay_meaning trace.now) limits.now (nat_lt (I.faults inputs.old) (I.faults inputs.new)) old new part result steps.old steps.new }
-    ensures input_fault { result ≡ Status.InputFault → Rose (I.faults inputs.old) (I.faults inputs.new) }
-    ensures calm { result ≢ Status.InputFault → result ≢ Status.OutputFault → result ≢ Status.NoMemory → I.faults inputs.new ≡ I.faults inputs.old }
-    ensures fault { StatusTellsFault (S.faults out.old) (S.faults out.new) (S.at_fault out.new) (S.written out.new) result }
+
+    // the report, and each fault is told as one
+    ensures runs { (old : Source) → I.told inputs.old ≡ Some old → I.faults inputs.old < 2 ^ 63 →
+        old.opens < 2 ^ 63 →
+        (new : Source) × (part : List ℕ) × (I.told inputs.new ≡ Some new)
+        × Appends (S.written out.old) (S.written out.new) part
+        × Runs (replay_meaning trace.now) limits.now
+        (nat_lt (I.faults inputs.old)
+        (I.faults inputs.new)) old new part result steps.old steps.new }
+    ensures input_fault { result ≡ Status.InputFault →
+        Rose (I.faults inputs.old) (I.faults inputs.new) }
+    ensures calm { result ≢ Status.InputFault → result ≢ Status.OutputFault →
+        result ≢ Status.NoMemory → I.faults inputs.new ≡ I.faults inputs.old }
+    ensures fault { StatusTellsFault (S.faults out.old) (S.faults out.new) (S.at_fault out.new)
+        (S.written out.new) result }
+
+    // two endings never come
     ensures no_usage { result ≢ Status.Usage }
     ensures no_spec { result ≢ Status.SpecRefused }
 {
@@ -222,9 +263,11 @@ fn replay<I: Inputs, S: Sink, L: Ledger>(
 
 /// Says that the words match no command.
 fn refuse_usage<S: Sink>(out: &mut S) -> Status
-    ensures output { (part : List ℕ) × Appends (S.written out.old) (S.written out.new) part × IsOutput result part usage_outcome }
+    ensures output { (part : List ℕ) × Appends (S.written out.old) (S.written out.new) part
+        × IsOutput result part usage_outcome }
     ensures status { (result ≡ Status.Usage) ⊎ (result ≡ Status.OutputFault) }
-    ensures fault { StatusTellsFault (S.faults out.old) (S.faults out.new) (S.at_fault out.new) (S.written out.new) result }
+    ensures fault { StatusTellsFault (S.faults out.old) (S.faults out.new) (S.at_fault out.new)
+        (S.written out.new) result }
 {
     match write_line(out, b"refused usage\n") {
         Ok(()) => Status::Usage,
@@ -258,27 +301,39 @@ pub fn run<I: Inputs, S: Sink, L: Ledger>(
 
     // what is written and the status are the defined ones, only the files of the words are opened, no more of them is taken than may be,
     // the steps are bounded, and a trace was read to its end where the status says so
-    ensures runs { (old : Source) → I.told inputs.old ≡ Some old → I.faults inputs.old < 2 ^ 63 → old.opens < 2 ^ 63 →
-        (new : Source) × (part : List ℕ) × (I.told inputs.new ≡ Some new) × Appends (S.written out.old) (S.written out.new) part
-        × Runs (meaning_of (command_of words.now)) limits.now (nat_lt (I.faults inputs.old) (I.faults inputs.new)) old new part result steps.old steps.new }
+    ensures runs { (old : Source) → I.told inputs.old ≡ Some old → I.faults inputs.old < 2 ^ 63 →
+        old.opens < 2 ^ 63 →
+        (new : Source) × (part : List ℕ) × (I.told inputs.new ≡ Some new)
+        × Appends (S.written out.old) (S.written out.new) part
+        × Runs (meaning_of (command_of words.now)) limits.now
+        (nat_lt (I.faults inputs.old)
+        (I.faults inputs.new)) old new part result steps.old steps.new }
 
     // nothing is left out: where no read and no write failed, all files are there and nothing is refused, the whole is written, unless
     // memory ran out
-    ensures whole { (old : Source) → I.told inputs.old ≡ Some old → I.faults inputs.old < 2 ^ 63 → old.opens < 2 ^ 63 → S.faults out.old < 2 ^ 63 →
+    ensures whole { (old : Source) → I.told inputs.old ≡ Some old → I.faults inputs.old < 2 ^ 63 →
+        old.opens < 2 ^ 63 → S.faults out.old < 2 ^ 63 →
         I.faults inputs.new ≡ I.faults inputs.old → S.faults out.new ≡ S.faults out.old →
-        (part : List ℕ) × Appends (S.written out.old) (S.written out.new) part × WritesAll (meaning_of (command_of words.now)) limits.now old part result }
+        (part : List ℕ) × Appends (S.written out.old) (S.written out.new) part
+        × WritesAll (meaning_of (command_of words.now)) limits.now old part result }
 
     // each of these statuses has its cause
     ensures usage { result ≡ Status.Usage → command_of words.now ≡ None }
-    ensures no_command { command_of words.now ≡ None → (result ≡ Status.Usage) ⊎ (result ≡ Status.OutputFault) }
-    ensures untouched { (meaning_of (command_of words.now)).files ≡ [] → (inputs.new ≡ inputs.old) × (steps.new ≡ steps.old) }
-    ensures spec_refused { result ≡ Status.SpecRefused → (name : List ℕ) × ((meaning_of (command_of words.now)).specification ≡ Some name) }
-    ensures input_fault { result ≡ Status.InputFault → Rose (I.faults inputs.old) (I.faults inputs.new) }
-    ensures calm { result ≢ Status.InputFault → result ≢ Status.OutputFault → result ≢ Status.NoMemory →
+    ensures no_command { command_of words.now ≡ None → (result ≡ Status.Usage)
+        ⊎ (result ≡ Status.OutputFault) }
+    ensures untouched { (meaning_of (command_of words.now)).files ≡ [] → (inputs.new ≡ inputs.old)
+        × (steps.new ≡ steps.old) }
+    ensures spec_refused { result ≡ Status.SpecRefused → (name : List ℕ)
+        × ((meaning_of (command_of words.now)).specification ≡ Some name) }
+    ensures input_fault { result ≡ Status.InputFault →
+        Rose (I.faults inputs.old) (I.faults inputs.new) }
+    ensures calm { result ≢ Status.InputFault → result ≢ Status.OutputFault →
+        result ≢ Status.NoMemory →
         I.faults inputs.new ≡ I.faults inputs.old }
 
     // a failed write is told as one, and nothing is written behind it
-    ensures output_fault { StatusTellsFault (S.faults out.old) (S.faults out.new) (S.at_fault out.new) (S.written out.new) result }
+    ensures output_fault { StatusTellsFault (S.faults out.old) (S.faults out.new)
+        (S.at_fault out.new) (S.written out.new) result }
 {
     match command_of(words) {
         None => refuse_usage(out),

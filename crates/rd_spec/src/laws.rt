@@ -10,10 +10,13 @@ ghost use Rattle.rd_reading.specs.declared.parsing.SpecRefused.{SpecRefused};
 /// at most 32 kinds of different names, none of them taken, says the same kinds again, where it isn't too long. What a text says
 /// is always at most 32 kinds, of different names, none of them taken.
 pub fn law_of_specifications()
-    ensures one { (text : List ℕ) (taken : List (List ℕ)) (x y : List SpecifiedKind) → SpecSays text taken x → SpecSays text taken y → x ≡ y }
-    ensures right { (text : List ℕ) (taken : List (List ℕ)) (x : List SpecifiedKind) (refused : SpecRefused)
+    ensures one { (text : List ℕ) (taken : List (List ℕ)) (x y : List SpecifiedKind) →
+        SpecSays text taken x → SpecSays text taken y → x ≡ y }
+    ensures right { (text : List ℕ) (taken : List (List ℕ)) (x : List SpecifiedKind)
+        (refused : SpecRefused)
         → SpecSays text taken x → ¬ (IsSpecRefused text taken refused) }
     ensures again { (kinds : List SpecifiedKind) (taken : List (List ℕ)) → MayBeRead kinds taken
         → (read : List SpecifiedKind) × SpecSays (spec_text kinds) taken read × AreSame kinds read }
-    ensures names { (text : List ℕ) (taken : List (List ℕ)) (kinds : List SpecifiedKind) → SpecSays text taken kinds → HasNewNames taken kinds }
+    ensures names { (text : List ℕ) (taken : List (List ℕ)) (kinds : List SpecifiedKind) →
+        SpecSays text taken kinds → HasNewNames taken kinds }
 {}

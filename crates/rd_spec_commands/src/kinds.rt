@@ -15,10 +15,14 @@ use std::alloc::Global;
 /// `kind NAME`, by the number of a kind that is built in.
 pub fn kind<S: Sink>(alloc: Global, number: u32, out: &mut S) -> Status
     requires { number < 4 }
-    ensures output { (built_in : SpecifiedKind) → slice_get shipped_kinds number ≡ Some built_in → (part : List ℕ)
-        × Appends (S.written out.old) (S.written out.new) part × IsOutput result part (kind_outcome built_in) }
-    ensures status { (result ≡ Status.Clean) ⊎ ((result ≡ Status.OutputFault) ⊎ (result ≡ Status.NoMemory)) }
-    ensures fault { StatusTellsFault (S.faults out.old) (S.faults out.new) (S.at_fault out.new) (S.written out.new) result }
+    ensures output { (built_in : SpecifiedKind) → slice_get shipped_kinds number ≡ Some built_in →
+        (part : List ℕ)
+        × Appends (S.written out.old) (S.written out.new) part
+        × IsOutput result part (kind_outcome built_in) }
+    ensures status { (result ≡ Status.Clean)
+        ⊎ ((result ≡ Status.OutputFault) ⊎ (result ≡ Status.NoMemory)) }
+    ensures fault { StatusTellsFault (S.faults out.old) (S.faults out.new) (S.at_fault out.new)
+        (S.written out.new) result }
 {
     let Ok(spec) = shipped(alloc) else {
         return Status::NoMemory;

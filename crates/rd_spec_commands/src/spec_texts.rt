@@ -27,7 +27,8 @@ fn append_outside(text: &mut Bytes, reason: Reason) -> Result<(), NoMemory>
 }
 
 fn append_missing(text: &mut Bytes, first: &Name, second: &Name) -> Result<(), NoMemory>
-    ensures { OnOk result (text.new ≡ text.old ++ codes "missing-pair " ++ first.now ++ codes " " ++ second.now) }
+    ensures { OnOk result
+        (text.new ≡ text.old ++ codes "missing-pair " ++ first.now ++ codes " " ++ second.now) }
 {
     text.append(b"missing-pair ")?;
     text.append(first.items())?;

@@ -38,14 +38,18 @@ pub enum Unread {
 /// Reads and judges the specification in a file, where the names of the shipped kinds and of those to come are taken.
 pub fn read_spec<I: Inputs>(alloc: Global, file: &Word, inputs: &mut I) -> Result<Spec, Unread>
     // what was opened and taken
-    ensures leaves { Goes (I.told inputs.old) (I.told inputs.new) (λ old new. old.opens < 2 ^ 63 → LeavesSpec file.now old new) }
+    ensures leaves { Goes (I.told inputs.old) (I.told inputs.new)
+        (λ old new. old.opens < 2 ^ 63 → LeavesSpec file.now old new) }
 
     // the text says the specification, or is refused
-    ensures said { IfOk result (λ said. Goes (I.told inputs.old) (I.told inputs.new) (λ old new. old.opens < 2 ^ 63 →
+    ensures said { IfOk result
+        (λ said. Goes (I.told inputs.old) (I.told inputs.new) (λ old new. old.opens < 2 ^ 63 →
         (bytes : List ℕ) × ReadsSpec file.now old new bytes × SpecSays bytes reserved_names said)) }
-    ensures refused { IfErr result (λ unread. (refused : Refusal) → unread ≡ Unread.Refused refused →
+    ensures refused { IfErr result
+        (λ unread. (refused : Refusal) → unread ≡ Unread.Refused refused →
         Goes (I.told inputs.old) (I.told inputs.new) (λ old new. old.opens < 2 ^ 63 →
-        (bytes : List ℕ) × ReadsSpec file.now old new bytes × IsSpecRefused bytes reserved_names refused)) }
+        (bytes : List ℕ) × ReadsSpec file.now old new bytes
+        × IsSpecRefused bytes reserved_names refused)) }
 
     // and has names of its own
     ensures names { IfOk result (HasNewNames reserved_names) }
@@ -73,7 +77,8 @@ pub fn read_spec<I: Inputs>(alloc: Global, file: &Word, inputs: &mut I) -> Resul
 fn accept<S: Sink>(alloc: Global, said: &Spec, out: &mut S) -> Status
     ensures output { (part : List ℕ) × Appends (S.written out.old) (S.written out.new) part
         × IsOutput result part (accepted_outcome said.now) }
-    ensures fault { StatusTellsFault (S.faults out.old) (S.faults out.new) (S.at_fault out.new) (S.written out.new) result }
+    ensures fault { StatusTellsFault (S.faults out.old) (S.faults out.new) (S.at_fault out.new)
+        (S.written out.new) result }
     ensures no_input { result ≢ Status.InputFault }
     ensures no_usage { result ≢ Status.Usage }
 {
@@ -99,7 +104,8 @@ fn spec_status(cause: &SpecCause) -> Status
 fn refuse<S: Sink>(alloc: Global, refused: &SpecRefused, out: &mut S) -> Status
     ensures output { (part : List ℕ) × Appends (S.written out.old) (S.written out.new) part
         × IsOutput result part (refused_outcome refused.now) }
-    ensures fault { StatusTellsFault (S.faults out.old) (S.faults out.new) (S.at_fault out.new) (S.written out.new) result }
+    ensures fault { StatusTellsFault (S.faults out.old) (S.faults out.new) (S.at_fault out.new)
+        (S.written out.new) result }
     ensures no_input { result ≢ Status.InputFault }
     ensures no_usage { result ≢ Status.Usage }
 {
@@ -114,10 +120,13 @@ fn refuse<S: Sink>(alloc: Global, refused: &SpecRefused, out: &mut S) -> Status
 
 /// Says why a specification isn't there.
 pub fn refuse_unread<S: Sink>(alloc: Global, unread: &Unread, out: &mut S) -> Status
-    ensures output { (part : List ℕ) × Appends (S.written out.old) (S.written out.new) part × TellsUnread unread.now result part }
-    ensures fault { StatusTellsFault (S.faults out.old) (S.faults out.new) (S.at_fault out.new) (S.written out.new) result }
+    ensures output { (part : List ℕ) × Appends (S.written out.old) (S.written out.new) part
+        × TellsUnread unread.now result part }
+    ensures fault { StatusTellsFault (S.faults out.old) (S.faults out.new) (S.at_fault out.new)
+        (S.written out.new) result }
     ensures input { result ≡ Status.InputFault → unread.now ≡ Unread.Fault }
-    ensures calm { result ≢ Status.InputFault → result ≢ Status.OutputFault → unread.now ≢ Unread.Fault }
+    ensures calm { result ≢ Status.InputFault → result ≢ Status.OutputFault →
+        unread.now ≢ Unread.Fault }
     ensures no_usage { result ≢ Status.Usage }
 {
     match unread {
@@ -130,14 +139,20 @@ pub fn refuse_unread<S: Sink>(alloc: Global, unread: &Unread, out: &mut S) -> St
 /// `spec SPEC`
 pub fn spec<I: Inputs, S: Sink>(alloc: Global, file: &Word, inputs: &mut I, out: &mut S) -> Status
     // what is written and the status are the defined ones, whatever the limits on traces, and no step is counted
-    ensures runs { (limits : Limits) (steps : ℕ) (old : Source) → I.told inputs.old ≡ Some old → I.faults inputs.old < 2 ^ 63 → old.opens < 2 ^ 63 →
-        (new : Source) × (part : List ℕ) × (I.told inputs.new ≡ Some new) × Appends (S.written out.old) (S.written out.new) part
-        × Runs (spec_meaning file.now) limits (nat_lt (I.faults inputs.old) (I.faults inputs.new)) old new part result steps steps }
+    ensures runs { (limits : Limits) (steps : ℕ) (old : Source) → I.told inputs.old ≡ Some old →
+        I.faults inputs.old < 2 ^ 63 → old.opens < 2 ^ 63 →
+        (new : Source) × (part : List ℕ) × (I.told inputs.new ≡ Some new)
+        × Appends (S.written out.old) (S.written out.new) part
+        × Runs (spec_meaning file.now) limits
+        (nat_lt (I.faults inputs.old) (I.faults inputs.new)) old new part result steps steps }
 
     // each fault is told as one
-    ensures input_fault { result ≡ Status.InputFault → Rose (I.faults inputs.old) (I.faults inputs.new) }
-    ensures calm { result ≢ Status.InputFault → result ≢ Status.OutputFault → I.faults inputs.new ≡ I.faults inputs.old }
-    ensures fault { StatusTellsFault (S.faults out.old) (S.faults out.new) (S.at_fault out.new) (S.written out.new) result }
+    ensures input_fault { result ≡ Status.InputFault →
+        Rose (I.faults inputs.old) (I.faults inputs.new) }
+    ensures calm { result ≢ Status.InputFault → result ≢ Status.OutputFault →
+        I.faults inputs.new ≡ I.faults inputs.old }
+    ensures fault { StatusTellsFault (S.faults out.old) (S.faults out.new) (S.at_fault out.new)
+        (S.written out.new) result }
     ensures no_usage { result ≢ Status.Usage }
 {
     match read_spec(alloc, file, inputs) {

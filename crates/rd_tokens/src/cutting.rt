@@ -167,9 +167,14 @@ pub fn tokens(alloc: Global, line: &[u8]) -> Result<Tokens, NoMemory>
 /// begins behind the tokens before it, and each byte that is no space is in a token.
 pub fn law_of_tokens()
     ensures some { (line : List ℕ) → (tokens : List Token) × AreTokens line tokens }
-    ensures one { (line : List ℕ) (first second : List Token) → AreTokens line first → AreTokens line second → first ≡ second }
-    ensures within { (line : List ℕ) (tokens : List Token) → AreTokens line tokens → All (LiesIn line) tokens }
-    ensures sorts { (line : List ℕ) (tokens : List Token) → AreTokens line tokens → All (IsTokenOf line) tokens }
-    ensures rise { (line : List ℕ) (tokens : List Token) → AreTokens line tokens → AllPairs ComesAfter tokens }
-    ensures whole { (line : List ℕ) (tokens : List Token) → AreTokens line tokens → (k : ℕ) → k < length line → slice_index line k ≢ 32 → Any (HasByte (k + 1)) tokens }
+    ensures one { (line : List ℕ) (first second : List Token) → AreTokens line first →
+        AreTokens line second → first ≡ second }
+    ensures within { (line : List ℕ) (tokens : List Token) → AreTokens line tokens →
+        All (LiesIn line) tokens }
+    ensures sorts { (line : List ℕ) (tokens : List Token) → AreTokens line tokens →
+        All (IsTokenOf line) tokens }
+    ensures rise { (line : List ℕ) (tokens : List Token) → AreTokens line tokens →
+        AllPairs ComesAfter tokens }
+    ensures whole { (line : List ℕ) (tokens : List Token) → AreTokens line tokens → (k : ℕ) →
+        k < length line → slice_index line k ≢ 32 → Any (HasByte (k + 1)) tokens }
 {}

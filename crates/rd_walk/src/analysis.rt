@@ -40,26 +40,43 @@ pub trait Analysis {
         out: &mut S,
         steps: &mut Steps<L>,
     ) -> Result<(), Halt>
-        requires { (kinds : List Kind) × (start : Self) × (before : List Entry) × leads kinds start before self.old
+        requires { (kinds : List Kind) × (start : Self) × (before : List Entry)
+            × leads kinds start before self.old
             × IsNextEntry kinds roster.now before line.now accepted.now }
 
         // the lines lead on, and what is written for the line is written, or a front of it
-        ensures leads { OnOk result ((kinds : List Kind) (start : Self) (before : List Entry) → leads kinds start before self.old →
-            IsNextEntry kinds roster.now before line.now accepted.now → leads kinds start (before ++ record { number = number; item = line.now } ∷ []) self.new) }
-        ensures written { OnOk result ((kinds : List Kind) (start : Self) (before : List Entry) → leads kinds start before self.old →
-            IsNextEntry kinds roster.now before line.now accepted.now → WritesBetween (S.written out.old) (S.written out.new)
-            (text kinds start before) (text kinds start (before ++ record { number = number; item = line.now } ∷ []))) }
-        ensures halted { OnErr result ((kinds : List Kind) (start : Self) (before : List Entry) → leads kinds start before self.old →
-            IsNextEntry kinds roster.now before line.now accepted.now → WritesFront (S.written out.old) (S.written out.new)
-            (text kinds start before) (text kinds start (before ++ record { number = number; item = line.now } ∷ []))) }
+        ensures leads { OnOk result
+            ((kinds : List Kind) (start : Self) (before : List Entry) →
+            leads kinds start before self.old →
+            IsNextEntry kinds roster.now before line.now accepted.now →
+            leads kinds start
+            (before ++ record { number = number; item = line.now } ∷ []) self.new) }
+        ensures written { OnOk result
+            ((kinds : List Kind) (start : Self) (before : List Entry) →
+            leads kinds start before self.old →
+            IsNextEntry kinds roster.now before line.now accepted.now →
+            WritesBetween (S.written out.old) (S.written out.new)
+            (text kinds start before)
+            (text kinds start (before ++ record { number = number; item = line.now } ∷ []))) }
+        ensures halted { OnErr result
+            ((kinds : List Kind) (start : Self) (before : List Entry) →
+            leads kinds start before self.old →
+            IsNextEntry kinds roster.now before line.now accepted.now →
+            WritesFront (S.written out.old) (S.written out.new)
+            (text kinds start before)
+            (text kinds start (before ++ record { number = number; item = line.now } ∷ []))) }
 
         // the steps are bounded, and a failed write is told as one
-        ensures cost { (kinds : List Kind) (start : Self) (before : List Entry) → leads kinds start before self.old →
-            IsNextEntry kinds roster.now before line.now accepted.now → steps.new ≤ steps.old + line_bound (items before) line.now }
-        ensures fault { TellsFault (S.faults out.old) (S.faults out.new) (S.at_fault out.new) (S.written out.new) result };
+        ensures cost { (kinds : List Kind) (start : Self) (before : List Entry) →
+            leads kinds start before self.old →
+            IsNextEntry kinds roster.now before line.now accepted.now →
+            steps.new ≤ steps.old + line_bound (items before) line.now }
+        ensures fault { TellsFault (S.faults out.old) (S.faults out.new) (S.at_fault out.new)
+            (S.written out.new) result };
 
     /// No line leads anywhere else, and nothing is written for none.
-    ghost starts: { (kinds : List Kind) (start : Self) → begins kinds start → leads kinds start [] start };
+    ghost starts: { (kinds : List Kind) (start : Self) → begins kinds start →
+        leads kinds start [] start };
 
     ghost silent: { (kinds : List Kind) (start : Self) → text kinds start [] ≡ [] };
 }

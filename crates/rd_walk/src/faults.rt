@@ -9,9 +9,11 @@ use rd_io::Sink;
 
 /// Says that the file could not be opened or read.
 pub fn write_fault<S: Sink>(out: &mut S) -> Status
-    ensures output { (part : List ℕ) × Appends (S.written out.old) (S.written out.new) part × IsOutput result part fault_outcome }
+    ensures output { (part : List ℕ) × Appends (S.written out.old) (S.written out.new) part
+        × IsOutput result part fault_outcome }
     ensures status { (result ≡ Status.InputFault) ⊎ (result ≡ Status.OutputFault) }
-    ensures fault { StatusTellsFault (S.faults out.old) (S.faults out.new) (S.at_fault out.new) (S.written out.new) result }
+    ensures fault { StatusTellsFault (S.faults out.old) (S.faults out.new) (S.at_fault out.new)
+        (S.written out.new) result }
 {
     match write_line(out, b"fault input\n") {
         Ok(()) => Status::InputFault,

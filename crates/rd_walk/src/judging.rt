@@ -37,22 +37,32 @@ pub fn judge(
 
     // what the bytes say may follow, and is told in numbers
     ensures says { OnOk result (item_of bytes.now ≡ Some line.new) }
-    ensures judged { OnOk result ((kinds : List Kind) (before : List Item) → StandsFor kinds roster.old before →
+    ensures judged { OnOk result
+        ((kinds : List Kind) (before : List Item) → StandsFor kinds roster.old before →
         judged kinds limits.now before bytes.now ≡ Ok line.new) }
-    ensures follows { OnOk result ((kinds : List Kind) (before : List Item) → StandsFor kinds roster.old before →
+    ensures follows { OnOk result
+        ((kinds : List Kind) (before : List Item) → StandsFor kinds roster.old before →
         MayFollow kinds limits.now before line.new) }
-    ensures numbers { IfOk result (λ accepted. (kinds : List Kind) (before : List Item) → StandsFor kinds roster.old before →
+    ensures numbers { IfOk result
+        (λ accepted. (kinds : List Kind) (before : List Item) → StandsFor kinds roster.old before →
         accepted ≡ accepted_of kinds before line.new) }
-    ensures stands { OnOk result ((kinds : List Kind) (before : List Item) → StandsFor kinds roster.old before →
+    ensures stands { OnOk result
+        ((kinds : List Kind) (before : List Item) → StandsFor kinds roster.old before →
         StandsFor kinds roster.new (before ++ line.new ∷ [])) }
-    ensures few { OnOk result ((kinds : List Kind) (before : List Item) → StandsFor kinds roster.old before →
+    ensures few { OnOk result
+        ((kinds : List Kind) (before : List Item) → StandsFor kinds roster.old before →
         length (threads_of (before ++ line.new ∷ [])) ≤ 4294967295) }
 
     // or the first cause against it is told
-    ensures refused { IfErr result (λ e. (cause : TraceCause) → e ≡ Refusal.Cause cause → (kinds : List Kind) (before : List Item) →
+    ensures refused { IfErr result
+        (λ e. (cause : TraceCause) → e ≡ Refusal.Cause cause →
+        (kinds : List Kind) (before : List Item) →
         StandsFor kinds roster.old before → judged kinds limits.now before bytes.now ≡ Err cause) }
-    ensures memory { IfErr result (λ e. e ≡ Refusal.NoMemory → (item : Item) × (item_of bytes.now ≡ Some item)) }
-    ensures same { OnErr result ((kinds : List Kind) (before : List Item) → StandsFor kinds roster.old before → StandsFor kinds roster.new before) }
+    ensures memory { IfErr result
+        (λ e. e ≡ Refusal.NoMemory → (item : Item) × (item_of bytes.now ≡ Some item)) }
+    ensures same { OnErr result
+        ((kinds : List Kind) (before : List Item) → StandsFor kinds roster.old before →
+        StandsFor kinds roster.new before) }
 {
     match read_into(alloc, bytes, line) {
         Ok(()) => {}

@@ -36,27 +36,37 @@ pub trait Report: Analysis {
         ending: WalkEnd,
         out: &mut S,
     ) -> Status
-        requires { (kinds : List Kind) × (start : Self) × (entries : List Entry) × Self.leads kinds start entries self.now
+        requires { (kinds : List Kind) × (start : Self) × (entries : List Entry)
+            × Self.leads kinds start entries self.now
             × StandsFor kinds names.now (items entries) }
 
         // the outcome is written behind the texts of the lines
-        ensures output { (kinds : List Kind) (start : Self) (entries : List Entry) → Self.leads kinds start entries self.now →
-            StandsFor kinds names.now (items entries) → (part : List ℕ) × Appends (S.written out.old) (S.written out.new) part
-            × IsOutput result (Self.text kinds start entries ++ part) (outcome kinds start (after entries (ends ending))) }
+        ensures output { (kinds : List Kind) (start : Self) (entries : List Entry) →
+            Self.leads kinds start entries self.now →
+            StandsFor kinds names.now (items entries) → (part : List ℕ)
+            × Appends (S.written out.old) (S.written out.new) part
+            × IsOutput result (Self.text kinds start entries ++ part)
+            (outcome kinds start (after entries (ends ending))) }
 
         // each of these statuses has its cause
         ensures input { result ≡ Status.InputFault → ending ≡ WalkEnd.Fault }
-        ensures calm { result ≢ Status.InputFault → result ≢ Status.OutputFault → result ≢ Status.NoMemory → ending ≢ WalkEnd.Fault }
-        ensures fault { StatusTellsFault (S.faults out.old) (S.faults out.new) (S.at_fault out.new) (S.written out.new) result }
+        ensures calm { result ≢ Status.InputFault → result ≢ Status.OutputFault →
+            result ≢ Status.NoMemory → ending ≢ WalkEnd.Fault }
+        ensures fault { StatusTellsFault (S.faults out.old) (S.faults out.new) (S.at_fault out.new)
+            (S.written out.new) result }
         ensures no_usage { result ≢ Status.Usage }
         ensures no_spec { result ≢ Status.SpecRefused };
 
     /// The law of a report: the text of the first lines is a front of what is written for all, and a status that says that the trace was
     /// read to its end comes only where it was.
     fn law_of_outcomes(&self)
-        ensures fronts { (kinds : List Kind) (entries : List Entry) (walked : Walked) → Self.begins kinds self.now →
-            AreAccepted kinds (items (entries_of (after entries walked))) → IsFront (Self.text kinds self.now entries) (outcome kinds self.now (after entries walked)).text }
-        ensures well { (kinds : List Kind) (walked : Walked) → IsWell (outcome kinds self.now walked).status → ending_of walked ≡ WalkEnd.End };
+        ensures fronts { (kinds : List Kind) (entries : List Entry) (walked : Walked) →
+            Self.begins kinds self.now →
+            AreAccepted kinds (items (entries_of (after entries walked))) →
+            IsFront (Self.text kinds self.now entries)
+            (outcome kinds self.now (after entries walked)).text }
+        ensures well { (kinds : List Kind) (walked : Walked) →
+            IsWell (outcome kinds self.now walked).status → ending_of walked ≡ WalkEnd.End };
 }
 
 /// A report on the current input, from its first byte on.
@@ -71,16 +81,25 @@ fn report_opened<A: Report + Drop, I: Inputs, S: Sink, L: Ledger>(
     requires fresh { reader ≡ fresh walker.limits }
     requires none { StandsFor (kinds_in walker.roster) walker.roster [] }
     requires begins { A.begins (kinds_in walker.roster) walker.analysis }
+
+    // the report, and each fault is told as one
     ensures reported { (entries : List Entry) × (taken : List ℕ) × (part : List ℕ)
         × Appends (S.written out.old) (S.written out.new) part
         × (steps.new ≤ steps.old + step_bound entries)
         × IsRead walker.limits taken (length entries)
         × Goes (I.told inputs.old) (I.told inputs.new) (λ old new. Takes old new taken
-        × HasReported (A.text (kinds_in walker.roster) walker.analysis) (A.outcome (kinds_in walker.roster) walker.analysis)
-        (kinds_in walker.roster) walker.limits taken new.held entries part result (I.faults inputs.old) (I.faults inputs.new)) }
-    ensures input_fault { result ≡ Status.InputFault → Rose (I.faults inputs.old) (I.faults inputs.new) }
-    ensures calm { result ≢ Status.InputFault → result ≢ Status.OutputFault → result ≢ Status.NoMemory → I.faults inputs.new ≡ I.faults inputs.old }
-    ensures fault { StatusTellsFault (S.faults out.old) (S.faults out.new) (S.at_fault out.new) (S.written out.new) result }
+        × HasReported (A.text (kinds_in walker.roster) walker.analysis)
+        (A.outcome (kinds_in walker.roster) walker.analysis)
+        (kinds_in walker.roster) walker.limits taken new.held entries part result
+        (I.faults inputs.old) (I.faults inputs.new)) }
+    ensures input_fault { result ≡ Status.InputFault →
+        Rose (I.faults inputs.old) (I.faults inputs.new) }
+    ensures calm { result ≢ Status.InputFault → result ≢ Status.OutputFault →
+        result ≢ Status.NoMemory → I.faults inputs.new ≡ I.faults inputs.old }
+    ensures fault { StatusTellsFault (S.faults out.old) (S.faults out.new) (S.at_fault out.new)
+        (S.written out.new) result }
+
+    // two endings never come
     ensures no_usage { result ≢ Status.Usage }
     ensures no_spec { result ≢ Status.SpecRefused }
 {
@@ -103,13 +122,24 @@ pub fn report_trace<A: Report + Drop, I: Inputs, S: Sink, L: Ledger>(
     requires usable { AreUsable walker.limits }
     requires none { StandsFor (kinds_in walker.roster) walker.roster [] }
     requires begins { A.begins (kinds_in walker.roster) walker.analysis }
-    ensures reports { (old : Source) → I.told inputs.old ≡ Some old → I.faults inputs.old < 2 ^ 63 → old.opens ≤ 2 ^ 63 →
-        (new : Source) × (part : List ℕ) × (I.told inputs.new ≡ Some new) × Appends (S.written out.old) (S.written out.new) part
-        × ReportsTrace (A.outcome (kinds_in walker.roster) walker.analysis) (kinds_in walker.roster) trace.now walker.limits
-        (nat_lt (I.faults inputs.old) (I.faults inputs.new)) old new part result steps.old steps.new }
-    ensures input_fault { result ≡ Status.InputFault → Rose (I.faults inputs.old) (I.faults inputs.new) }
-    ensures calm { result ≢ Status.InputFault → result ≢ Status.OutputFault → result ≢ Status.NoMemory → I.faults inputs.new ≡ I.faults inputs.old }
-    ensures fault { StatusTellsFault (S.faults out.old) (S.faults out.new) (S.at_fault out.new) (S.written out.new) result }
+
+    // the report, and each fault is told as one
+    ensures reports { (old : Source) → I.told inputs.old ≡ Some old → I.faults inputs.old < 2 ^ 63 →
+        old.opens ≤ 2 ^ 63 →
+        (new : Source) × (part : List ℕ) × (I.told inputs.new ≡ Some new)
+        × Appends (S.written out.old) (S.written out.new) part
+        × ReportsTrace (A.outcome (kinds_in walker.roster) walker.analysis)
+        (kinds_in walker.roster) trace.now walker.limits
+        (nat_lt (I.faults inputs.old)
+        (I.faults inputs.new)) old new part result steps.old steps.new }
+    ensures input_fault { result ≡ Status.InputFault →
+        Rose (I.faults inputs.old) (I.faults inputs.new) }
+    ensures calm { result ≢ Status.InputFault → result ≢ Status.OutputFault →
+        result ≢ Status.NoMemory → I.faults inputs.new ≡ I.faults inputs.old }
+    ensures fault { StatusTellsFault (S.faults out.old) (S.faults out.new) (S.at_fault out.new)
+        (S.written out.new) result }
+
+    // two endings never come
     ensures no_usage { result ≢ Status.Usage }
     ensures no_spec { result ≢ Status.SpecRefused }
 {

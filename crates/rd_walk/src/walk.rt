@@ -47,7 +47,8 @@ pub struct Walker<A> {
 /// How a trace ends whose lines ended well. The number is that of its last line.
 fn at_end(roster: &Roster, number: u64) -> WalkEnd
     requires { number < 2 ^ 64 - 1 }
-    ensures ending { (kinds : List Kind) (before : List Item) → StandsFor kinds roster.now before → (limits : _) → result ≡ ended limits before (number + 1) at_end }
+    ensures ending { (kinds : List Kind) (before : List Item) → StandsFor kinds roster.now before →
+        (limits : _) → result ≡ ended limits before (number + 1) at_end }
     ensures whole { result ≢ WalkEnd.Fault }
 {
     match roster.finish() {
@@ -84,36 +85,51 @@ fn take_line<A: Analysis, S: Sink, L: Ledger>(
     steps: &mut Steps<L>,
 ) -> Result<Option<TraceCause>, Halt>
     requires usable { AreUsable walker.old.limits }
-    requires stands { (kinds : List Kind) × (start : A) × (before : List Entry) × StandsFor kinds walker.old.roster (items before)
+    requires stands { (kinds : List Kind) × (start : A) × (before : List Entry)
+        × StandsFor kinds walker.old.roster (items before)
         × A.leads kinds start before walker.old.analysis }
     ensures limits { walker.new.limits ≡ walker.old.limits }
 
     // a line is accepted and handed on
-    ensures taken { IfOk result (λ refused. refused ≡ None → (kinds : List Kind) (start : A) (before : List Entry) →
-        StandsFor kinds walker.old.roster (items before) → A.leads kinds start before walker.old.analysis →
+    ensures taken { IfOk result
+        (λ refused. refused ≡ None → (kinds : List Kind) (start : A) (before : List Entry) →
+        StandsFor kinds walker.old.roster (items before) →
+        A.leads kinds start before walker.old.analysis →
         (item : Item) × (judged kinds walker.old.limits (items before) bytes.now ≡ Ok item)
         × StandsFor kinds walker.new.roster (items before ++ item ∷ [])
-        × A.leads kinds start (before ++ record { number = number; item = item } ∷ []) walker.new.analysis
+        × A.leads kinds start
+        (before ++ record { number = number; item = item } ∷ []) walker.new.analysis
         × WritesBetween (S.written out.old) (S.written out.new)
-        (A.text kinds start before) (A.text kinds start (before ++ record { number = number; item = item } ∷ []))
+        (A.text kinds start before)
+        (A.text kinds start (before ++ record { number = number; item = item } ∷ []))
         × (steps.new ≤ steps.old + line_bound (items before) item)) }
 
     // or refused, and all else is as before
-    ensures refused { IfOk result (λ refused. (cause : TraceCause) → refused ≡ Some cause → (kinds : List Kind) (before : List Entry) →
+    ensures refused { IfOk result
+        (λ refused. (cause : TraceCause) → refused ≡ Some cause →
+        (kinds : List Kind) (before : List Entry) →
         StandsFor kinds walker.old.roster (items before) →
-        (judged kinds walker.old.limits (items before) bytes.now ≡ Err cause) × StandsFor kinds walker.new.roster (items before)) }
+        (judged kinds walker.old.limits (items before) bytes.now ≡ Err cause)
+        × StandsFor kinds walker.new.roster (items before)) }
     ensures silent { IfOk result (λ refused. (cause : TraceCause) → refused ≡ Some cause →
-        (out.new ≡ out.old) × (walker.new.analysis ≡ walker.old.analysis) × (steps.new ≡ steps.old)) }
+        (out.new ≡ out.old) × (walker.new.analysis ≡ walker.old.analysis)
+        × (steps.new ≡ steps.old)) }
 
     // or memory runs out in reading it, or in what is done with it, or a write fails; memory runs out only where the bytes say an item
-    ensures memory { IfErr result (λ halt. halt ≡ Halt.NoMemory → (item : Item) × (item_of bytes.now ≡ Some item)) }
-    ensures halted { OnErr result ((kinds : List Kind) (start : A) (before : List Entry) → StandsFor kinds walker.old.roster (items before) →
-        A.leads kinds start before walker.old.analysis → ((S.written out.new ≡ S.written out.old) × (steps.new ≡ steps.old))
+    ensures memory { IfErr result
+        (λ halt. halt ≡ Halt.NoMemory → (item : Item) × (item_of bytes.now ≡ Some item)) }
+    ensures halted { OnErr result
+        ((kinds : List Kind) (start : A) (before : List Entry) →
+        StandsFor kinds walker.old.roster (items before) →
+        A.leads kinds start before walker.old.analysis →
+        ((S.written out.new ≡ S.written out.old) × (steps.new ≡ steps.old))
         ⊎ ((item : Item) × (judged kinds walker.old.limits (items before) bytes.now ≡ Ok item)
         × WritesFront (S.written out.old) (S.written out.new)
-        (A.text kinds start before) (A.text kinds start (before ++ record { number = number; item = item } ∷ []))
+        (A.text kinds start before)
+        (A.text kinds start (before ++ record { number = number; item = item } ∷ []))
         × (steps.new ≤ steps.old + line_bound (items before) item))) }
-    ensures fault { TellsFault (S.faults out.old) (S.faults out.new) (S.at_fault out.new) (S.written out.new) result }
+    ensures fault { TellsFault (S.faults out.old) (S.faults out.new) (S.at_fault out.new)
+        (S.written out.new) result }
 {
     match judge(
         walker.alloc,
@@ -160,24 +176,29 @@ pub fn walk_lines<A: Analysis, I: Inputs, S: Sink, L: Ledger>(
     ensures walked { IfOk result (λ ending. (entries : List Entry) × (taken : List ℕ)
         × A.leads (kinds_in walker.old.roster) walker.old.analysis entries walker.new.analysis
         × StandsFor (kinds_in walker.old.roster) walker.new.roster (items entries)
-        × Appends (S.written out.old) (S.written out.new) (A.text (kinds_in walker.old.roster) walker.old.analysis entries)
+        × Appends (S.written out.old) (S.written out.new)
+        (A.text (kinds_in walker.old.roster) walker.old.analysis entries)
         × (steps.new ≤ steps.old + step_bound entries)
         × IsRead walker.old.limits taken (length entries)
         × Goes (I.told inputs.old) (I.told inputs.new)
-        (λ old new. Takes old new taken × WalksTo (kinds_in walker.old.roster) walker.old.limits taken new.held entries ending)) }
+        (λ old new. Takes old new taken
+        × WalksTo (kinds_in walker.old.roster) walker.old.limits taken new.held entries ending)) }
 
     // or some of them
     ensures halted { OnErr result ((entries : List Entry) × (taken : List ℕ)
-        × WritesFront (S.written out.old) (S.written out.new) [] (A.text (kinds_in walker.old.roster) walker.old.analysis entries)
+        × WritesFront (S.written out.old) (S.written out.new) []
+        (A.text (kinds_in walker.old.roster) walker.old.analysis entries)
         × (steps.new ≤ steps.old + step_bound entries)
         × IsRead walker.old.limits taken (length entries)
         × WalksOn (kinds_in walker.old.roster) walker.old.limits taken entries
         × Goes (I.told inputs.old) (I.told inputs.new) (λ old new. Takes old new taken)) }
 
     // each fault is told as one
-    ensures input_fault { result ≡ Ok WalkEnd.Fault → Rose (I.faults inputs.old) (I.faults inputs.new) }
+    ensures input_fault { result ≡ Ok WalkEnd.Fault →
+        Rose (I.faults inputs.old) (I.faults inputs.new) }
     ensures calm { result ≢ Ok WalkEnd.Fault → I.faults inputs.new ≡ I.faults inputs.old }
-    ensures fault { TellsFault (S.faults out.old) (S.faults out.new) (S.at_fault out.new) (S.written out.new) result }
+    ensures fault { TellsFault (S.faults out.old) (S.faults out.new) (S.at_fault out.new)
+        (S.written out.new) result }
 {
     'lines: loop {
         match reader.next(inputs) {

@@ -13,7 +13,8 @@ use rd_io::{Sink, write_all};
 pub fn write_line<S: Sink>(out: &mut S, line: &[u8]) -> Result<(), Halt>
     ensures ok { OnOk result (Appends (S.written out.old) (S.written out.new) line.now) }
     ensures front { OnErr result (WritesFront (S.written out.old) (S.written out.new) [] line.now) }
-    ensures fault { TellsFault (S.faults out.old) (S.faults out.new) (S.at_fault out.new) (S.written out.new) result }
+    ensures fault { TellsFault (S.faults out.old) (S.faults out.new) (S.at_fault out.new)
+        (S.written out.new) result }
     ensures only { IfErr result (λ halt. halt ≡ Halt.OutputFault) }
 {
     match write_all(out, line) {
@@ -38,7 +39,8 @@ fn cut_line(text: &[u8]) -> (&[u8], &[u8])
 pub fn write_lines<S: Sink>(out: &mut S, text: &[u8]) -> Result<(), Halt>
     ensures ok { OnOk result (Appends (S.written out.old) (S.written out.new) text.now) }
     ensures front { OnErr result (WritesFront (S.written out.old) (S.written out.new) [] text.now) }
-    ensures fault { TellsFault (S.faults out.old) (S.faults out.new) (S.at_fault out.new) (S.written out.new) result }
+    ensures fault { TellsFault (S.faults out.old) (S.faults out.new) (S.at_fault out.new)
+        (S.written out.new) result }
     ensures only { IfErr result (λ halt. halt ≡ Halt.OutputFault) }
 {
     let mut rest = text;

@@ -18,11 +18,15 @@ use crate::causes::WfCause;
 /// follow, and else the one cause whose part the line breaks first.
 pub fn law_of_following()
     ensures test { (kinds : List Kind) (limits : LimitsOf) (before : List LineOf) (line : LineOf) →
-        MatchOption (first_broken kinds limits before line) (MayFollow kinds limits before line) (IsBrokenFirst kinds limits before line) }
+        MatchOption (first_broken kinds limits before line) (MayFollow kinds limits before line)
+        (IsBrokenFirst kinds limits before line) }
     ensures apart { (kinds : List Kind) (limits : LimitsOf) (before : List LineOf) (line : LineOf) →
-        MayFollow kinds limits before line → (cause : WfCause) → ¬ (IsBrokenFirst kinds limits before line cause) }
-    ensures only { (kinds : List Kind) (limits : LimitsOf) (before : List LineOf) (line : LineOf) (cause : WfCause) →
-        IsBrokenFirst kinds limits before line cause → first_broken kinds limits before line ≡ Some cause }
+        MayFollow kinds limits before line → (cause : WfCause) →
+        ¬ (IsBrokenFirst kinds limits before line cause) }
+    ensures only { (kinds : List Kind) (limits : LimitsOf) (before : List LineOf) (line : LineOf)
+        (cause : WfCause) →
+        IsBrokenFirst kinds limits before line cause →
+        first_broken kinds limits before line ≡ Some cause }
 {}
 
 /// The events of accepted lines are a well-formed list for the kinds and for the threads that no
@@ -31,18 +35,35 @@ pub fn law_of_following()
 /// declares. A thread takes and gives back a lock as often as the lines with their names acquire and
 /// release it, and a lock that is acquired for the first time has the next number.
 pub fn law_of_events()
-    ensures formed { (kinds : List Kind) (lines : List LineOf) → AreAccepted kinds lines → WellFormedWith kinds (roots_of lines) (events_of kinds lines) }
-    ensures count { (kinds : List Kind) (lines : List LineOf) → AreAccepted kinds lines → length (events_of kinds lines) ≡ events lines }
+    // the events are well formed, and counted
+    ensures formed { (kinds : List Kind) (lines : List LineOf) → AreAccepted kinds lines →
+        WellFormedWith kinds (roots_of lines) (events_of kinds lines) }
+    ensures count { (kinds : List Kind) (lines : List LineOf) → AreAccepted kinds lines →
+        length (events_of kinds lines) ≡ events lines }
+
+    // threads and objects
     ensures known { (kinds : List Kind) (lines : List LineOf) → AreAccepted kinds lines → (t : ℕ) →
         (Known (roots_of lines) (events_of kinds lines) t ↔ (t < length (threads_of lines))) }
     ensures ended { (kinds : List Kind) (lines : List LineOf) → AreAccepted kinds lines → (t : ℕ) →
-        ((0 < joins (events_of kinds lines) t) ↔ ((name : List ℕ) × (slice_get (threads_of lines) t ≡ Some name) × Contains (joined_of lines) name)) }
-    ensures one_kind { (kinds : List Kind) (lines : List LineOf) → AreAccepted kinds lines → (object kind : ℕ) →
-        0 < calls (events_of kinds lines) object kind → slice_get (object_kinds kinds lines) object ≡ Some kind }
-    ensures taken { (kinds : List Kind) (lines : List LineOf) → AreAccepted kinds lines → (t l : ℕ) (thread lock : List ℕ) →
-        slice_get (threads_of lines) t ≡ Some thread → slice_get (locks_of lines) l ≡ Some lock → takings (events_of kinds lines) t (exclusive l) ≡ acquires lines thread lock }
-    ensures given { (kinds : List Kind) (lines : List LineOf) → AreAccepted kinds lines → (t l : ℕ) (thread lock : List ℕ) →
-        slice_get (threads_of lines) t ≡ Some thread → slice_get (locks_of lines) l ≡ Some lock → givings (events_of kinds lines) t (exclusive l) ≡ releases lines thread lock }
-    ensures numbered { (kinds : List Kind) (before : List LineOf) (thread lock : List ℕ) → ¬ (Contains (locks_of before) lock) →
-        accepted_of kinds before (line.Event (spelled.Acquire thread lock)) ≡ accepted.Event (event.Acquire (place (threads_of before) thread) (length (locks_of before))) }
+        ((0 < joins (events_of kinds lines) t)
+        ↔ ((name : List ℕ) × (slice_get (threads_of lines) t ≡ Some name)
+        × Contains (joined_of lines) name)) }
+    ensures one_kind { (kinds : List Kind) (lines : List LineOf) → AreAccepted kinds lines →
+        (object kind : ℕ) →
+        0 < calls (events_of kinds lines) object kind →
+        slice_get (object_kinds kinds lines) object ≡ Some kind }
+
+    // locks
+    ensures taken { (kinds : List Kind) (lines : List LineOf) → AreAccepted kinds lines →
+        (t l : ℕ) (thread lock : List ℕ) →
+        slice_get (threads_of lines) t ≡ Some thread → slice_get (locks_of lines) l ≡ Some lock →
+        takings (events_of kinds lines) t (exclusive l) ≡ acquires lines thread lock }
+    ensures given { (kinds : List Kind) (lines : List LineOf) → AreAccepted kinds lines →
+        (t l : ℕ) (thread lock : List ℕ) →
+        slice_get (threads_of lines) t ≡ Some thread → slice_get (locks_of lines) l ≡ Some lock →
+        givings (events_of kinds lines) t (exclusive l) ≡ releases lines thread lock }
+    ensures numbered { (kinds : List Kind) (before : List LineOf) (thread lock : List ℕ) →
+        ¬ (Contains (locks_of before) lock) →
+        accepted_of kinds before (line.Event (spelled.Acquire thread lock)) ≡ accepted.Event
+        (event.Acquire (place (threads_of before) thread) (length (locks_of before))) }
 {}

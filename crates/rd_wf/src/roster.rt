@@ -84,7 +84,8 @@ impl Roster {
     #[inline(never)]
     fn accept_header(&mut self, version: u8, limits: &Limits) -> Result<Accepted, WfRefused>
         ensures ok { IfOk result (Accepts self.old self.new limits.now (Line.Header version)) }
-        ensures refused { IfErr result (Refuses self.old self.new limits.now (Line.Header version)) }
+        ensures refused { IfErr result
+            (Refuses self.old self.new limits.now (Line.Header version)) }
     {
         if self.header {
             return Err(WfRefused::Cause(WfCause::HeaderFirst));
@@ -96,7 +97,8 @@ impl Roster {
     #[inline(never)]
     fn accept_root(&mut self, name: &Name, limits: &Limits) -> Result<Accepted, WfRefused>
         ensures ok { IfOk result (Accepts self.old self.new limits.now (Line.Thread name.now)) }
-        ensures refused { IfErr result (Refuses self.old self.new limits.now (Line.Thread name.now)) }
+        ensures refused { IfErr result
+            (Refuses self.old self.new limits.now (Line.Thread name.now)) }
     {
         let thread = match self.judge_root(name, limits) {
             Ok(thread) => thread,
@@ -113,8 +115,10 @@ impl Roster {
         kind: &Name,
         limits: &Limits,
     ) -> Result<Accepted, WfRefused>
-        ensures ok { IfOk result (Accepts self.old self.new limits.now (Line.Object name.now kind.now)) }
-        ensures refused { IfErr result (Refuses self.old self.new limits.now (Line.Object name.now kind.now)) }
+        ensures ok { IfOk result
+            (Accepts self.old self.new limits.now (Line.Object name.now kind.now)) }
+        ensures refused { IfErr result
+            (Refuses self.old self.new limits.now (Line.Object name.now kind.now)) }
     {
         let Declared { object, kind } = match self.judge_object(name, kind, limits) {
             Ok(new) => new,
@@ -131,8 +135,12 @@ impl Roster {
         child: &Name,
         limits: &Limits,
     ) -> Result<Accepted, WfRefused>
-        ensures ok { IfOk result (Accepts self.old self.new limits.now (Line.Event (LineEvent.Fork thread.now child.now))) }
-        ensures refused { IfErr result (Refuses self.old self.new limits.now (Line.Event (LineEvent.Fork thread.now child.now))) }
+        ensures ok { IfOk result
+            (Accepts self.old self.new limits.now
+            (Line.Event (LineEvent.Fork thread.now child.now))) }
+        ensures refused { IfErr result
+            (Refuses self.old self.new limits.now
+            (Line.Event (LineEvent.Fork thread.now child.now))) }
     {
         let near = near_place(thread);
         let pair = match self.judge_fork(thread, near, child, limits) {
@@ -155,8 +163,12 @@ impl Roster {
         child: &Name,
         limits: &Limits,
     ) -> Result<Accepted, WfRefused>
-        ensures ok { IfOk result (Accepts self.old self.new limits.now (Line.Event (LineEvent.Join thread.now child.now))) }
-        ensures refused { IfErr result (Refuses self.old self.new limits.now (Line.Event (LineEvent.Join thread.now child.now))) }
+        ensures ok { IfOk result
+            (Accepts self.old self.new limits.now
+            (Line.Event (LineEvent.Join thread.now child.now))) }
+        ensures refused { IfErr result
+            (Refuses self.old self.new limits.now
+            (Line.Event (LineEvent.Join thread.now child.now))) }
     {
         let near = near_place(thread);
         let pair = match self.judge_join(thread, near, child, limits) {
@@ -179,8 +191,12 @@ impl Roster {
         lock: &Name,
         limits: &Limits,
     ) -> Result<Accepted, WfRefused>
-        ensures ok { IfOk result (Accepts self.old self.new limits.now (Line.Event (LineEvent.Acquire thread.now lock.now))) }
-        ensures refused { IfErr result (Refuses self.old self.new limits.now (Line.Event (LineEvent.Acquire thread.now lock.now))) }
+        ensures ok { IfOk result
+            (Accepts self.old self.new limits.now
+            (Line.Event (LineEvent.Acquire thread.now lock.now))) }
+        ensures refused { IfErr result
+            (Refuses self.old self.new limits.now
+            (Line.Event (LineEvent.Acquire thread.now lock.now))) }
     {
         let near = near_place(thread);
         let lock_near = near_place(lock);
@@ -213,8 +229,12 @@ impl Roster {
         lock: &Name,
         limits: &Limits,
     ) -> Result<Accepted, WfRefused>
-        ensures ok { IfOk result (Accepts self.old self.new limits.now (Line.Event (LineEvent.Release thread.now lock.now))) }
-        ensures refused { IfErr result (Refuses self.old self.new limits.now (Line.Event (LineEvent.Release thread.now lock.now))) }
+        ensures ok { IfOk result
+            (Accepts self.old self.new limits.now
+            (Line.Event (LineEvent.Release thread.now lock.now))) }
+        ensures refused { IfErr result
+            (Refuses self.old self.new limits.now
+            (Line.Event (LineEvent.Release thread.now lock.now))) }
     {
         let near = near_place(thread);
         let lock_near = near_place(lock);
@@ -244,8 +264,12 @@ impl Roster {
         slots: &Slots,
         limits: &Limits,
     ) -> Result<Accepted, WfRefused>
-        ensures ok { IfOk result (Accepts self.old self.new limits.now (Line.Event (LineEvent.Call thread.now object.now method.now slots.now))) }
-        ensures refused { IfErr result (Refuses self.old self.new limits.now (Line.Event (LineEvent.Call thread.now object.now method.now slots.now))) }
+        ensures ok { IfOk result
+            (Accepts self.old self.new limits.now
+            (Line.Event (LineEvent.Call thread.now object.now method.now slots.now))) }
+        ensures refused { IfErr result
+            (Refuses self.old self.new limits.now
+            (Line.Event (LineEvent.Call thread.now object.now method.now slots.now))) }
     {
         let near = near_place(thread);
         let numbers = match self.judge_call(thread, near, object, method, slots, limits) {
@@ -302,26 +326,52 @@ impl Roster {
     /// lines as before.
     pub fn accept(&mut self, line: &Line, limits: &Limits) -> Result<Accepted, WfRefused>
         requires { AreUsable limits.now }
-        ensures ok { IfOk result (λ accepted. (kinds : List Kind) (lines : List LineOf) → StandsFor kinds self.old lines →
-            (first_broken kinds limits.now lines line.now ≡ None) × (accepted ≡ accepted_of kinds lines line.now)
+
+        // the line is accepted, and may follow
+        ensures ok { IfOk result
+            (λ accepted. (kinds : List Kind) (lines : List LineOf) →
+            StandsFor kinds self.old lines →
+            (first_broken kinds limits.now lines line.now ≡ None)
+            × (accepted ≡ accepted_of kinds lines line.now)
             × StandsFor kinds self.new (lines ++ line.now ∷ [])) }
-        ensures follows { OnOk result ((kinds : List Kind) (lines : List LineOf) → StandsFor kinds self.old lines → MayFollow kinds limits.now lines line.now) }
-        ensures few { OnOk result ((kinds : List Kind) (lines : List LineOf) → StandsFor kinds self.old lines →
+        ensures follows { OnOk result
+            ((kinds : List Kind) (lines : List LineOf) → StandsFor kinds self.old lines →
+            MayFollow kinds limits.now lines line.now) }
+        ensures few { OnOk result
+            ((kinds : List Kind) (lines : List LineOf) → StandsFor kinds self.old lines →
             length (threads_of (lines ++ line.now ∷ [])) ≤ 4294967295) }
-        ensures refused { IfErr result (λ e. (kinds : List Kind) (lines : List LineOf) → StandsFor kinds self.old lines → (cause : WfCause) → e ≡ WfRefused.Cause cause →
-            (first_broken kinds limits.now lines line.now ≡ Some cause) × IsBrokenFirst kinds limits.now lines line.now cause) }
-        ensures same { IfErr result (λ e. (cause : WfCause) → e ≡ WfRefused.Cause cause → self.new ≡ self.old) }
-        ensures memory { IfErr result (λ e. e ≡ WfRefused.NoMemory → (kinds : List Kind) (lines : List LineOf) → StandsFor kinds self.old lines →
-            (first_broken kinds limits.now lines line.now ≡ None) × IsTrue (takes_memory line.now)) }
-        ensures err { OnErr result ((kinds : List Kind) (lines : List LineOf) → StandsFor kinds self.old lines → StandsFor kinds self.new lines) }
+
+        // or it is refused with its cause, and nothing changes
+        ensures refused { IfErr result
+            (λ e. (kinds : List Kind) (lines : List LineOf) → StandsFor kinds self.old lines →
+            (cause : WfCause) → e ≡ WfRefused.Cause cause →
+            (first_broken kinds limits.now lines line.now ≡ Some cause)
+            × IsBrokenFirst kinds limits.now lines line.now cause) }
+        ensures same { IfErr result
+            (λ e. (cause : WfCause) → e ≡ WfRefused.Cause cause → self.new ≡ self.old) }
+
+        // or memory runs out; the roster stands for the same lines
+        ensures memory { IfErr result
+            (λ e. e ≡ WfRefused.NoMemory → (kinds : List Kind) (lines : List LineOf) →
+            StandsFor kinds self.old lines →
+            (first_broken kinds limits.now lines line.now ≡ None)
+            × IsTrue (takes_memory line.now)) }
+        ensures err { OnErr result
+            ((kinds : List Kind) (lines : List LineOf) → StandsFor kinds self.old lines →
+            StandsFor kinds self.new lines) }
     {
         self.take(line, limits)
     }
 
     /// Whether the lines may end here: a trace has a header. It takes no memory.
     pub fn finish(&self) -> Result<(), WfCause>
-        ensures ok { OnOk result ((kinds : List Kind) (lines : List LineOf) → StandsFor kinds self.now lines → 0 < headers lines) }
-        ensures err { IfErr result (λ e. (e ≡ WfCause.HeaderFirst) × ((kinds : List Kind) (lines : List LineOf) → StandsFor kinds self.now lines → headers lines ≡ 0)) }
+        ensures ok { OnOk result
+            ((kinds : List Kind) (lines : List LineOf) → StandsFor kinds self.now lines →
+            0 < headers lines) }
+        ensures err { IfErr result
+            (λ e. (e ≡ WfCause.HeaderFirst)
+            × ((kinds : List Kind) (lines : List LineOf) → StandsFor kinds self.now lines →
+            headers lines ≡ 0)) }
     {
         if self.header {
             Ok(())
@@ -334,7 +384,8 @@ impl Roster {
     pub fn thread_name(&self, thread: u32) -> &Name
         requires { thread < thread_count self.now }
         ensures name { slice_get (names_in self.now) thread ≡ Some result.now }
-        ensures history { (kinds : List Kind) (lines : List LineOf) → StandsFor kinds self.now lines → slice_get (threads_of lines) thread ≡ Some result.now }
+        ensures history { (kinds : List Kind) (lines : List LineOf) →
+            StandsFor kinds self.now lines → slice_get (threads_of lines) thread ≡ Some result.now }
     {
         self.threads.get_index(thread as usize).unwrap().0
     }
@@ -343,7 +394,8 @@ impl Roster {
     pub fn object_name(&self, object: u32) -> &Name
         requires { object < object_count self.now }
         ensures name { slice_get (object_names_in self.now) object ≡ Some result.now }
-        ensures history { (kinds : List Kind) (lines : List LineOf) → StandsFor kinds self.now lines → slice_get (objects_of lines) object ≡ Some result.now }
+        ensures history { (kinds : List Kind) (lines : List LineOf) →
+            StandsFor kinds self.now lines → slice_get (objects_of lines) object ≡ Some result.now }
     {
         self.objects.get_index(object as usize).unwrap().0
     }
@@ -351,7 +403,8 @@ impl Roster {
     /// The name of the lock with this number, which is below `locks()`. It takes no memory.
     pub fn lock_name(&self, lock: u32) -> &Name
         requires { lock < lock_count self.now }
-        ensures { (kinds : List Kind) (lines : List LineOf) → StandsFor kinds self.now lines → slice_get (locks_of lines) lock ≡ Some result.now }
+        ensures { (kinds : List Kind) (lines : List LineOf) → StandsFor kinds self.now lines →
+            slice_get (locks_of lines) lock ≡ Some result.now }
     {
         self.locks.get_index(lock as usize).unwrap().0
     }
@@ -359,7 +412,8 @@ impl Roster {
     /// How many threads were begun. It takes no memory.
     pub fn threads(&self) -> u32
         ensures count { result ≡ thread_count self.now }
-        ensures history { (kinds : List Kind) (lines : List LineOf) → StandsFor kinds self.now lines → result ≡ length (threads_of lines) }
+        ensures history { (kinds : List Kind) (lines : List LineOf) →
+            StandsFor kinds self.now lines → result ≡ length (threads_of lines) }
     {
         self.threads.len() as u32
     }
@@ -367,7 +421,8 @@ impl Roster {
     /// How many locks were acquired, each counted once. It takes no memory.
     pub fn locks(&self) -> u32
         ensures count { result ≡ lock_count self.now }
-        ensures history { (kinds : List Kind) (lines : List LineOf) → StandsFor kinds self.now lines → result ≡ length (locks_of lines) }
+        ensures history { (kinds : List Kind) (lines : List LineOf) →
+            StandsFor kinds self.now lines → result ≡ length (locks_of lines) }
     {
         self.locks.len() as u32
     }
@@ -375,14 +430,16 @@ impl Roster {
     /// How many objects were declared. It takes no memory.
     pub fn objects(&self) -> u32
         ensures count { result ≡ object_count self.now }
-        ensures history { (kinds : List Kind) (lines : List LineOf) → StandsFor kinds self.now lines → result ≡ length (objects_of lines) }
+        ensures history { (kinds : List Kind) (lines : List LineOf) →
+            StandsFor kinds self.now lines → result ≡ length (objects_of lines) }
     {
         self.objects.len() as u32
     }
 
     /// How many events were accepted. It takes no memory.
     pub fn events(&self) -> u32
-        ensures { (kinds : List Kind) (lines : List LineOf) → StandsFor kinds self.now lines → result ≡ events lines }
+        ensures { (kinds : List Kind) (lines : List LineOf) → StandsFor kinds self.now lines →
+            result ≡ events lines }
     {
         self.events
     }

@@ -59,9 +59,11 @@ impl Model for Release {
 
     ghost Value = { Stamp };
 
-    ghost view = { λ r. record { thread = r.thread; number = r.number; clock = slice_set r.shared r.thread r.number } };
+    ghost view = { λ r.
+        record { thread = r.thread; number = r.number; clock = slice_set r.shared r.thread r.number } };
 
-    ghost invariant = { λ r. (r.thread < length r.shared) × (component r.shared r.thread ≤ r.number) };
+    ghost invariant = { λ r. (r.thread < length r.shared)
+        × (component r.shared r.thread ≤ r.number) };
 }
 
 impl Release {

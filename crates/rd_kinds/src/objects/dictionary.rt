@@ -36,7 +36,8 @@ fn insert(
     value: &Value,
 ) -> Result<Value, NoMemory>
     ensures value { IfOk result (λ old. old ≡ value_at key.now entries.old.entries) }
-    ensures entries { IfOk result (λ old. entries.new.entries ≡ insert_entry value_cmp entries.old.entries key.now value.now) }
+    ensures entries { IfOk result
+        (λ old. entries.new.entries ≡ insert_entry value_cmp entries.old.entries key.now value.now) }
     ensures err { OnErr result (entries.new.entries ≡ entries.old.entries) }
 {
     let value = value.copy(alloc)?;

@@ -62,7 +62,8 @@ pub(crate) fn write_word(
     sort: Sort,
     bytes: &[u8],
 ) -> Result<(), NoMemory>
-    ensures { OnOk result (words.new ≡ words.old ++ record { sort = sort; bytes = bytes.now } ∷ []) }
+    ensures { OnOk result
+        (words.new ≡ words.old ++ record { sort = sort; bytes = bytes.now } ∷ []) }
 {
     let mut word = Bytes::new(alloc);
     word.append(bytes)?;
@@ -94,9 +95,12 @@ pub(crate) fn write_sided(
     left: &Term,
     right: &Term,
 ) -> Result<(), NoMemory>
-    requires left { FitsTerm left.now (length (names_of variables.now.first.now variables.now.second.now side)) }
-    requires right { FitsTerm right.now (length (names_of variables.now.first.now variables.now.second.now side)) }
-    ensures words { OnOk result (words.new ≡ words.old ++ sided_words variables.now.first.now variables.now.second.now side sign left.now right.now) }
+    requires left { FitsTerm left.now
+        (length (names_of variables.now.first.now variables.now.second.now side)) }
+    requires right { FitsTerm right.now
+        (length (names_of variables.now.first.now variables.now.second.now side)) }
+    ensures words { OnOk result
+        (words.new ≡ words.old ++ sided_words variables.now.first.now variables.now.second.now side sign left.now right.now) }
     ensures values { OnOk result (IsConstant left.now × IsConstant right.now) }
 {
     let names = variables.of(side);
@@ -116,7 +120,10 @@ pub(crate) fn write_across(
 ) -> Result<(), NoMemory>
     requires first { first < length variables.now.first.now }
     requires second { second < length variables.now.second.now }
-    ensures { OnOk result (words.new ≡ words.old ++ relation_words (slot_word First variables.now.first.now first) sign (slot_word Second variables.now.second.now second)) }
+    ensures { OnOk result
+        (words.new ≡ words.old ++ relation_words
+        (slot_word First variables.now.first.now first) sign
+        (slot_word Second variables.now.second.now second)) }
 {
     let left = slot_word(alloc, Side::First, variables.first, first)?;
     let right = slot_word(alloc, Side::Second, variables.second, second)?;
@@ -134,7 +141,10 @@ fn write_flipped(
 ) -> Result<(), NoMemory>
     requires first { first < length variables.now.first.now }
     requires second { second < length variables.now.second.now }
-    ensures { OnOk result (words.new ≡ words.old ++ relation_words (slot_word Second variables.now.second.now second) sign (slot_word First variables.now.first.now first)) }
+    ensures { OnOk result
+        (words.new ≡ words.old ++ relation_words
+        (slot_word Second variables.now.second.now second) sign
+        (slot_word First variables.now.first.now first)) }
 {
     let left = slot_word(alloc, Side::Second, variables.second, second)?;
     let right = slot_word(alloc, Side::First, variables.first, first)?;
@@ -153,7 +163,9 @@ pub(crate) fn write_mixed(
 ) -> Result<(), NoMemory>
     requires first { first < length variables.now.first.now }
     requires second { second < length variables.now.second.now }
-    ensures { OnOk result (words.new ≡ words.old ++ words_of variables.now.first.now variables.now.second.now (mixed rel flipped first second)) }
+    ensures { OnOk result
+        (words.new ≡ words.old ++ words_of variables.now.first.now variables.now.second.now
+        (mixed rel flipped first second)) }
 {
     if flipped {
         write_flipped(alloc, words, variables, first, sign_of(rel), second)

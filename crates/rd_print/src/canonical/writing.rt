@@ -37,7 +37,8 @@ fn is_of_two(formula: &Formula) -> bool
 
 // The side and the terms of a relation with `=` on one side.
 fn equality(formula: &Formula) -> Option<(Side, &Term, &Term)>
-    ensures some { IfSome result (λ found. tree_of formula.now ≡ atom found.0 Eq found.1.now found.2.now) }
+    ensures some { IfSome result
+        (λ found. tree_of formula.now ≡ atom found.0 Eq found.1.now found.2.now) }
     ensures none { IfNone result (IsPlainNot (tree_of formula.now)) }
 {
     match formula {
@@ -80,9 +81,12 @@ fn write_leaf(
     variables: &Variables,
     formula: &Formula,
 ) -> Result<(), NoMemory>
-    requires fits { Fits (tree_of formula.now) (length variables.now.first.now) (length variables.now.second.now) }
+    requires fits { Fits (tree_of formula.now) (length variables.now.first.now)
+        (length variables.now.second.now) }
     requires leaf { has_part (tree_of formula.now) ≡ false }
-    ensures words { OnOk result (words.new ≡ words.old ++ words_of variables.now.first.now variables.now.second.now (tree_of formula.now)) }
+    ensures words { OnOk result
+        (words.new ≡ words.old ++ words_of variables.now.first.now variables.now.second.now
+        (tree_of formula.now)) }
     ensures values { OnOk result (AreValues (tree_of formula.now)) }
 {
     match formula {
@@ -114,8 +118,11 @@ fn write(
     variables: &Variables,
     formula: &Formula,
 ) -> Result<(), NoMemory>
-    requires { Fits (tree_of formula.now) (length variables.now.first.now) (length variables.now.second.now) }
-    ensures words { OnOk result (words.new ≡ words.old ++ words_of variables.now.first.now variables.now.second.now (tree_of formula.now)) }
+    requires { Fits (tree_of formula.now) (length variables.now.first.now)
+        (length variables.now.second.now) }
+    ensures words { OnOk result
+        (words.new ≡ words.old ++ words_of variables.now.first.now variables.now.second.now
+        (tree_of formula.now)) }
     ensures values { OnOk result (AreValues (tree_of formula.now)) }
 {
     match formula {
@@ -158,7 +165,8 @@ pub fn words(
     second: &[Name],
 ) -> Result<Words, NoMemory>
     requires { Fits (tree_of formula.now) (length first.now) (length second.now) }
-    ensures words { IfOk result (λ words. words ≡ words_of first.now second.now (tree_of formula.now)) }
+    ensures words { IfOk result
+        (λ words. words ≡ words_of first.now second.now (tree_of formula.now)) }
     ensures values { IfOk result (λ _. AreValues (tree_of formula.now)) }
 {
     let mut words = Words::new(alloc);

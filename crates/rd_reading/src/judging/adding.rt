@@ -57,9 +57,11 @@ fn add_kind(
     name: Name,
 ) -> Result<(), LineRefused>
     requires { length line.now < 2 ^ 32 - 1 }
-    ensures clean { OnOk result (HasNone (FormHas taken.now known.old line.now tokens.now (kind_said name))) }
+    ensures clean { OnOk result
+        (HasNone (FormHas taken.now known.old line.now tokens.now (kind_said name))) }
     ensures adds { OnOk result (FormAdds known.old line.now tokens.now (kind_said name) known.new) }
-    ensures refused { IfErr result (Refuses (FormHas taken.now known.old line.now tokens.now (kind_said name))) }
+    ensures refused { IfErr result
+        (Refuses (FormHas taken.now known.old line.now tokens.now (kind_said name))) }
 {
     if let Some(fault) = judge_kind(taken, known, line, tokens, &name) {
         return Err(LineRefused::Fault(fault));
@@ -80,10 +82,14 @@ fn add_method(
 ) -> Result<(), LineRefused>
     requires short { length line.now < 2 ^ 32 - 1 }
     requires count { length tokens.now < 2 ^ 32 - 1 }
-    requires right { IsMethodLine (stage_of known.old) (words_of line.now tokens.now) name arguments value }
-    ensures clean { OnOk result (HasNone (FormHas [] known.old line.now tokens.now (method_said name arguments value))) }
-    ensures adds { OnOk result (FormAdds known.old line.now tokens.now (method_said name arguments value) known.new) }
-    ensures refused { IfErr result (Refuses (FormHas [] known.old line.now tokens.now (method_said name arguments value))) }
+    requires right { IsMethodLine (stage_of known.old)
+        (words_of line.now tokens.now) name arguments value }
+    ensures clean { OnOk result
+        (HasNone (FormHas [] known.old line.now tokens.now (method_said name arguments value))) }
+    ensures adds { OnOk result
+        (FormAdds known.old line.now tokens.now (method_said name arguments value) known.new) }
+    ensures refused { IfErr result
+        (Refuses (FormHas [] known.old line.now tokens.now (method_said name arguments value))) }
 {
     let Some(mut block) = known.block.take() else {
         unreachable!();
@@ -120,10 +126,19 @@ fn add_pair(
     requires sorts { All (IsTokenOf line.now) tokens.now }
     requires short { length line.now < 2 ^ 32 - 1 }
     requires few { IsShort (words_of line.now tokens.now) }
-    requires right { IsCommuteLine (stage_of known.old) (methods_of known.old) (words_of line.now tokens.now) first.now second.now (tree_of parsed.now) }
-    ensures clean { OnOk result (HasNone (FormHas [] known.old line.now tokens.now (commute_said first.now second.now (tree_of parsed.now)))) }
-    ensures adds { OnOk result (FormAdds known.old line.now tokens.now (commute_said first.now second.now (tree_of parsed.now)) known.new) }
-    ensures refused { IfErr result (Refuses (FormHas [] known.old line.now tokens.now (commute_said first.now second.now (tree_of parsed.now)))) }
+    requires right { IsCommuteLine (stage_of known.old) (methods_of known.old)
+        (words_of line.now tokens.now) first.now second.now (tree_of parsed.now) }
+
+    // the line is clean and adds what it says, or it is refused
+    ensures clean { OnOk result
+        (HasNone (FormHas [] known.old line.now tokens.now
+        (commute_said first.now second.now (tree_of parsed.now)))) }
+    ensures adds { OnOk result
+        (FormAdds known.old line.now tokens.now
+        (commute_said first.now second.now (tree_of parsed.now)) known.new) }
+    ensures refused { IfErr result
+        (Refuses (FormHas [] known.old line.now tokens.now
+        (commute_said first.now second.now (tree_of parsed.now)))) }
 {
     let Some(mut block) = known.block.take() else {
         unreachable!();
@@ -154,10 +169,15 @@ pub(crate) fn add_form(
     requires short { length line.now < 2 ^ 32 - 1 }
     requires count { length tokens.now < 2 ^ 32 - 1 }
     requires few { IsShort (words_of line.now tokens.now) }
-    requires right { RightLine (stage_of known.old) (methods_of known.old) (words_of line.now tokens.now) (said_of form) }
-    ensures clean { OnOk result (HasNone (FormHas taken.now known.old line.now tokens.now (said_of form))) }
+    requires right { RightLine (stage_of known.old) (methods_of known.old)
+        (words_of line.now tokens.now) (said_of form) }
+
+    // the line is clean and adds what it says, or it is refused
+    ensures clean { OnOk result
+        (HasNone (FormHas taken.now known.old line.now tokens.now (said_of form))) }
     ensures adds { OnOk result (FormAdds known.old line.now tokens.now (said_of form) known.new) }
-    ensures refused { IfErr result (Refuses (FormHas taken.now known.old line.now tokens.now (said_of form))) }
+    ensures refused { IfErr result
+        (Refuses (FormHas taken.now known.old line.now tokens.now (said_of form))) }
 {
     match form {
         Form::Kind(name) => add_kind(alloc, taken, known, line, tokens, name),

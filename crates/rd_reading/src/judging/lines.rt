@@ -70,9 +70,12 @@ fn methods(known: &Known) -> &[Method]
 fn read_header(known: &mut Known, line: &[u8], tokens: &[Token]) -> Result<(), LineRefused>
     requires within { All (LiesIn line.now) tokens.now }
     requires begins { known.old.begun ≡ false }
-    ensures clean { OnOk result ((taken : List (List ℕ)) → HasNone (Has taken known.old line.now tokens.now)) }
+    ensures clean { OnOk result
+        ((taken : List (List ℕ)) → HasNone (Has taken known.old line.now tokens.now)) }
     ensures adds { OnOk result (Adds known.old line.now tokens.now known.new) }
-    ensures refused { IfErr result (λ refused. (taken : List (List ℕ)) → Refuses (Has taken known.old line.now tokens.now) refused) }
+    ensures refused { IfErr result
+        (λ refused. (taken : List (List ℕ)) →
+        Refuses (Has taken known.old line.now tokens.now) refused) }
 {
     if is_header(line, tokens) {
         known.begun = true;
@@ -97,6 +100,8 @@ fn read_behind_header(
     requires short { length line.now < 2 ^ 32 - 1 }
     requires count { length tokens.now < 2 ^ 32 - 1 }
     requires begun { known.old.begun ≡ true }
+
+    // the line is clean and adds what it says, or it is refused
     ensures clean { OnOk result (HasNone (Has taken.now known.old line.now tokens.now)) }
     ensures adds { OnOk result (Adds known.old line.now tokens.now known.new) }
     ensures refused { IfErr result (Refuses (Has taken.now known.old line.now tokens.now)) }

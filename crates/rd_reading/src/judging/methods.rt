@@ -71,10 +71,14 @@ pub(crate) fn judge_method(
 ) -> Result<Option<Fault>, NoMemory>
     requires short { length line.now < 2 ^ 32 - 1 }
     requires few { length arguments.now < 2 ^ 32 }
-    ensures judged { IfOk result (Judged (MethodHas kind.now line.now tokens.now name.now arguments.now value.now)) }
-    ensures room { IfOk result (λ found. IfNone found ((length kind.now.methods < 16) × (length arguments.now ≤ 6))) }
-    ensures fresh { IfOk result (λ found. IfNone found (is_among name.now (names_of kind.now.methods) ≡ false)) }
-    ensures different { IfOk result (λ found. IfNone found (AllPairs (λ x y. x ≢ y) (arguments.now ++ value.now ∷ []))) }
+    ensures judged { IfOk result
+        (Judged (MethodHas kind.now line.now tokens.now name.now arguments.now value.now)) }
+    ensures room { IfOk result
+        (λ found. IfNone found ((length kind.now.methods < 16) × (length arguments.now ≤ 6))) }
+    ensures fresh { IfOk result
+        (λ found. IfNone found (is_among name.now (names_of kind.now.methods) ≡ false)) }
+    ensures different { IfOk result
+        (λ found. IfNone found (AllPairs (λ x y. x ≢ y) (arguments.now ++ value.now ∷ []))) }
 {
     if is_known(kind.methods(), name) {
         return Ok(Some(Fault {

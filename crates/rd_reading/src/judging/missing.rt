@@ -11,9 +11,13 @@ use rd_ecl::KindDraft;
 // The first method, from the same one on, whose pair with this method is missing.
 fn missing_with(kind: &KindDraft, first: u8) -> Option<u8>
     requires { first < length kind.now.methods }
-    ensures some { IfSome result (λ second. (first ≤ second) × (second < length kind.now.methods) × (formula_at kind.now first second ≡ None)) }
-    ensures before { IfSome result (λ second. (n : ℕ) → first ≤ n → n < second → IsSome (formula_at kind.now first n)) }
-    ensures none { IfNone result ((n : ℕ) → first ≤ n → n < length kind.now.methods → IsSome (formula_at kind.now first n)) }
+    ensures some { IfSome result
+        (λ second. (first ≤ second) × (second < length kind.now.methods)
+        × (formula_at kind.now first second ≡ None)) }
+    ensures before { IfSome result
+        (λ second. (n : ℕ) → first ≤ n → n < second → IsSome (formula_at kind.now first n)) }
+    ensures none { IfNone result
+        ((n : ℕ) → first ≤ n → n < length kind.now.methods → IsSome (formula_at kind.now first n)) }
 {
     let count = kind.methods().len() as u8;
     for second in first..count {

@@ -12,8 +12,10 @@ pub(crate) fn first_repeated(
     names: &[Name],
     last: &Name,
 ) -> Result<Option<usize>, NoMemory>
-    ensures some { IfOk result (λ found. IfSome found (IsFirstRepeated (names.now ++ last.now ∷ []))) }
-    ensures none { IfOk result (λ found. IfNone found (AllPairs (λ x y. x ≢ y) (names.now ++ last.now ∷ []))) }
+    ensures some { IfOk result
+        (λ found. IfSome found (IsFirstRepeated (names.now ++ last.now ∷ []))) }
+    ensures none { IfOk result
+        (λ found. IfNone found (AllPairs (λ x y. x ≢ y) (names.now ++ last.now ∷ []))) }
 {
     let mut seen = IndexSet::new(alloc);
     for (number, name) in names.iter().enumerate() {

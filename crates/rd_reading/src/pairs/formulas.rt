@@ -49,9 +49,16 @@ pub(crate) fn formula_of(
     requires methods { AreMethods methods.now }
     requires known { (first < length methods.now) × (second < length methods.now) }
     requires right { HasFormula line.now tokens.now (tree_of parsed.now) }
-    ensures gives { IfOk result (λ formula. Gives (MeansAt (scope_of (kind_with methods.now) line.now tokens.now first second)) (tree_of parsed.now) (formula_of formula)) }
-    ensures formula { IfOk result (λ formula. IsFormula (scope_of (kind_with methods.now) line.now tokens.now first second) (formula_of formula)) }
-    ensures refused { IfErr result (IsTroubled (scope_of (kind_with methods.now) line.now tokens.now first second) (tree_of parsed.now)) }
+    ensures gives { IfOk result
+        (λ formula. Gives
+        (MeansAt (scope_of (kind_with methods.now) line.now tokens.now first second))
+        (tree_of parsed.now) (formula_of formula)) }
+    ensures formula { IfOk result
+        (λ formula. IsFormula (scope_of (kind_with methods.now) line.now tokens.now first second)
+        (formula_of formula)) }
+    ensures refused { IfErr result
+        (IsTroubled (scope_of (kind_with methods.now) line.now tokens.now first second)
+        (tree_of parsed.now)) }
 {
     let scope = Scope {
         line,

@@ -34,11 +34,22 @@ pub fn judge_pair(
     requires sorts { All (IsTokenOf line.now) tokens.now }
     requires short { length line.now < 2 ^ 32 - 1 }
     requires few { IsShort (words_of line.now tokens.now) }
-    requires right { (stage : Stage) × IsCommuteLine stage (names_of kind.now.methods) (words_of line.now tokens.now) first.now second.now (tree_of parsed.now) }
-    ensures clean { IfOk result (λ pair. HasNone (PairHas kind.now line.now tokens.now first.now second.now (tree_of parsed.now))) }
-    ensures says { IfOk result (λ pair. SaysPair kind.now line.now tokens.now first.now second.now (tree_of parsed.now) pair.first pair.second (formula_of pair.formula)) }
-    ensures may { IfOk result (λ pair. MayPair kind.now pair.first pair.second (formula_of pair.formula)) }
-    ensures refused { IfErr result (IsRefused (PairHas kind.now line.now tokens.now first.now second.now (tree_of parsed.now))) }
+    requires right { (stage : Stage)
+        × IsCommuteLine stage (names_of kind.now.methods)
+        (words_of line.now tokens.now) first.now second.now (tree_of parsed.now) }
+
+    // the pair is clean, is what the line says and may stand, or it is refused
+    ensures clean { IfOk result
+        (λ pair. HasNone
+        (PairHas kind.now line.now tokens.now first.now second.now (tree_of parsed.now))) }
+    ensures says { IfOk result
+        (λ pair. SaysPair kind.now line.now tokens.now first.now second.now
+        (tree_of parsed.now) pair.first pair.second (formula_of pair.formula)) }
+    ensures may { IfOk result
+        (λ pair. MayPair kind.now pair.first pair.second (formula_of pair.formula)) }
+    ensures refused { IfErr result
+        (IsRefused (PairHas kind.now line.now tokens.now first.now second.now
+        (tree_of parsed.now))) }
 {
     let methods = kind.methods();
     let (one, other) = match numbers_of(methods, line, tokens, first, second) {

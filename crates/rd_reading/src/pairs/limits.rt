@@ -35,7 +35,8 @@ fn passed(kind: &KindDraft, first: u8, second: u8, formula: &Formula) -> Option<
     requires unset { formula_at kind.now first second ≡ None }
     requires few { nodes (tree_of formula.now) ≤ 512 }
     ensures first { IfSome result (IsFirstPassed kind.now first second (tree_of formula.now)) }
-    ensures none { IfNone result ((cause : SpecCause) → ¬ (Passes kind.now first second (tree_of formula.now) cause)) }
+    ensures none { IfNone result
+        ((cause : SpecCause) → ¬ (Passes kind.now first second (tree_of formula.now) cause)) }
 {
     if formula.nodes() > 64 {
         return Some(SpecCause::Limit(LimitName::Nodes, 64));
@@ -61,7 +62,8 @@ pub(crate) fn judge_right(
     requires known { (first ≤ second) × (second < length kind.now.methods) }
     requires few { nodes (tree_of formula.now) ≤ 512 }
     requires short { length line.now < 2 ^ 32 - 1 }
-    ensures { Judged (LateHas kind.now line.now tokens.now first second (tree_of formula.now)) result }
+    ensures { Judged
+        (LateHas kind.now line.now tokens.now first second (tree_of formula.now)) result }
 {
     if is_set(kind, first, second) {
         return Some(Fault {

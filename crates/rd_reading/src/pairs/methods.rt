@@ -19,9 +19,12 @@ pub(crate) fn numbers_of(
 ) -> Result<(u8, u8), Fault>
     requires few { length methods.now ≤ 16 }
     requires short { length line.now < 2 ^ 32 - 1 }
-    ensures first { IfOk result (λ numbers. slice_get (names_of methods.now) numbers.0 ≡ Some first.now) }
-    ensures second { IfOk result (λ numbers. slice_get (names_of methods.now) numbers.1 ≡ Some second.now) }
-    ensures unknown { IfErr result (IsUnknownFault methods.now first.now second.now line.now tokens.now) }
+    ensures first { IfOk result
+        (λ numbers. slice_get (names_of methods.now) numbers.0 ≡ Some first.now) }
+    ensures second { IfOk result
+        (λ numbers. slice_get (names_of methods.now) numbers.1 ≡ Some second.now) }
+    ensures unknown { IfErr result
+        (IsUnknownFault methods.now first.now second.now line.now tokens.now) }
 {
     let Some(one) = number_of(methods, first) else {
         return Err(Fault {

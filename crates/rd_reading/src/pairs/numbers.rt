@@ -10,7 +10,8 @@ use rd_tokens::Token;
 // The number of the method with this name.
 pub(crate) fn number_of(methods: &[Method], name: &Name) -> Option<u8>
     requires { length methods.now ≤ 16 }
-    ensures some { IfSome result (λ number. slice_get (names_of methods.now) number ≡ Some name.now) }
+    ensures some { IfSome result
+        (λ number. slice_get (names_of methods.now) number ≡ Some name.now) }
     ensures none { IfNone result (¬ (Contains (names_of methods.now) name.now)) }
 {
     for (number, method) in methods.iter().enumerate() {

@@ -18,12 +18,23 @@ ghost use Rattle.rd_tokens.specs.Words.{SaysTerm, IsTerm, IsSymbol, AreMarks};
 /// one, and a word that says one is a term for the grammar; the words `true` and `false` say their values. The marks of a
 /// line are one list, in which each mark's number is its place.
 pub fn law_of_words()
+    // there is exactly one symbol
     ensures some { (sort : Sort) (bytes : List ℕ) → (symbol : Symbol) × IsSymbol sort bytes symbol }
-    ensures one { (sort : Sort) (bytes : List ℕ) (x y : Symbol) → IsSymbol sort bytes x → IsSymbol sort bytes y → x ≡ y }
+    ensures one { (sort : Sort) (bytes : List ℕ) (x y : Symbol) → IsSymbol sort bytes x →
+        IsSymbol sort bytes y → x ≡ y }
+
+    // terms say one thing, and their symbols tell them
     ensures terms { (bytes : List ℕ) (s t : Said) → SaysTerm bytes s → SaysTerm bytes t → s ≡ t }
-    ensures said { (sort : Sort) (bytes behind : List ℕ) (x : Symbol) → IsToken sort bytes behind → IsSymbol sort bytes x → is_term x ≡ true → IsTerm bytes }
-    ensures found { (bytes : List ℕ) (x : Symbol) → IsTerm bytes → IsSymbol Word bytes x → is_term x ≡ true }
-    ensures truth { (bytes : List ℕ) (value : Bool) → (IsSymbol Word bytes (Truth value) ↔ SaysTerm bytes (ValueTerm (TruthValue value))) }
-    ensures numbered { (line : List ℕ) (tokens : List Token) (marks : List Mark) → AreMarks line tokens marks → AreNumbered marks }
-    ensures alike { (line : List ℕ) (tokens : List Token) (first second : List Mark) → AreMarks line tokens first → AreMarks line tokens second → first ≡ second }
+    ensures said { (sort : Sort) (bytes behind : List ℕ) (x : Symbol) → IsToken sort bytes behind →
+        IsSymbol sort bytes x → is_term x ≡ true → IsTerm bytes }
+    ensures found { (bytes : List ℕ) (x : Symbol) → IsTerm bytes → IsSymbol Word bytes x →
+        is_term x ≡ true }
+    ensures truth { (bytes : List ℕ) (value : Bool) →
+        (IsSymbol Word bytes (Truth value) ↔ SaysTerm bytes (ValueTerm (TruthValue value))) }
+
+    // the marks of a line
+    ensures numbered { (line : List ℕ) (tokens : List Token) (marks : List Mark) →
+        AreMarks line tokens marks → AreNumbered marks }
+    ensures alike { (line : List ℕ) (tokens : List Token) (first second : List Mark) →
+        AreMarks line tokens first → AreMarks line tokens second → first ≡ second }
 {}

@@ -89,7 +89,8 @@ fn side(mark: &[u8]) -> Option<Side>
 // The variable that the bytes are with their last two, and its side.
 #[tactic(auto, unfolding(crate::specs::ReadingWords::variable_of))]
 fn variable(bytes: &[u8]) -> Option<(Side, &[u8])>
-    ensures some { IfSome result (λ found. variable_of bytes.now ≡ Some (Variable found.0 found.1.now)) }
+    ensures some { IfSome result
+        (λ found. variable_of bytes.now ≡ Some (Variable found.0 found.1.now)) }
     ensures none { IfNone result (variable_of bytes.now ≡ None) }
     ensures name { IfSome result (λ found. IsTrue (is_variable found.1.now)) }
 {
@@ -107,7 +108,8 @@ fn variable(bytes: &[u8]) -> Option<(Side, &[u8])>
 #[tactic(auto, using(crate::proofs::TermLemmas::variable_says, crate::proofs::TermLemmas::no_variable))]
 pub fn read_variable(bytes: &[u8]) -> Option<(Side, &[u8])>
     ensures some { IfSome result (λ found. SaysTerm bytes.now (Variable found.0 found.1.now)) }
-    ensures none { IfNone result ((side : Side) (name : List ℕ) → ¬ (SaysTerm bytes.now (Variable side name))) }
+    ensures none { IfNone result
+        ((side : Side) (name : List ℕ) → ¬ (SaysTerm bytes.now (Variable side name))) }
 {
     variable(bytes)
 }
@@ -157,7 +159,8 @@ fn term(alloc: Global, bytes: &[u8]) -> Result<Option<Said>, NoMemory>
 /// What a term says; None where the bytes are no term. Only a text takes memory.
 pub fn read_term(alloc: Global, bytes: &[u8]) -> Result<Option<Said>, NoMemory>
     ensures some { IfOk result (λ found. IfSome found (SaysTerm bytes.now)) }
-    ensures none { IfOk result (λ found. IfNone found ((said : Said) → ¬ (SaysTerm bytes.now said))) }
+    ensures none { IfOk result
+        (λ found. IfNone found ((said : Said) → ¬ (SaysTerm bytes.now said))) }
     ensures memory { OnErr result (SpellsText bytes.now) }
 {
     term(alloc, bytes)

@@ -61,7 +61,8 @@ impl Lock {
         name: &Name,
         locks: &mut IndexMap<Name, Lock>,
     ) -> Result<(), NoMemory>
-        ensures entries { OnOk result (locks.new.entries ≡ insert_entry same_name locks.old.entries name.now self) }
+        ensures entries { OnOk result
+            (locks.new.entries ≡ insert_entry same_name locks.old.entries name.now self) }
         ensures len { OnOk result (index_map_len locks.new ≤ index_map_len locks.old + 1) }
         ensures err { OnErr result (IsUnchanged locks.old locks.new) }
     {
@@ -188,11 +189,14 @@ impl Broken {
     /// The cause of the first rule that is broken.
     #[inline(always)]
     fn first(&self, limits: &Limits) -> Option<WfCause>
-        ensures first { (before : List LineOf) → IfSome self.now.held_by (λ holder. holder < length (threads_of before)) →
+        ensures first { (before : List LineOf) →
+            IfSome self.now.held_by (λ holder. holder < length (threads_of before)) →
             result ≡ find (flag self.now) (causes limits.now before) }
         ensures known { IfNone result (self.now.unknown_thread ≡ false) }
         ensures held { IfNone result ((self.now.held_by ≡ None) × (self.now.not_held ≡ false)) }
-        ensures room { IfNone result ((self.now.events ≡ false) × (self.now.threads ≡ false) × (self.now.locks ≡ false) × (self.now.objects ≡ false) × (self.now.depth ≡ false)) }
+        ensures room { IfNone result
+            ((self.now.events ≡ false) × (self.now.threads ≡ false) × (self.now.locks ≡ false)
+            × (self.now.objects ≡ false) × (self.now.depth ≡ false)) }
     {
         if self.is_unbroken() {
             return None;
@@ -203,11 +207,14 @@ impl Broken {
     // Taken by value, so that the flags need no place in memory where no rule is broken.
     #[inline(never)]
     fn choose(self, limits: &Limits) -> Option<WfCause>
-        ensures first { (before : List LineOf) → IfSome self.held_by (λ holder. holder < length (threads_of before)) →
+        ensures first { (before : List LineOf) →
+            IfSome self.held_by (λ holder. holder < length (threads_of before)) →
             result ≡ find (flag self) (causes limits.now before) }
         ensures known { IfNone result (self.unknown_thread ≡ false) }
         ensures held { IfNone result ((self.held_by ≡ None) × (self.not_held ≡ false)) }
-        ensures room { IfNone result ((self.events ≡ false) × (self.threads ≡ false) × (self.locks ≡ false) × (self.objects ≡ false) × (self.depth ≡ false)) }
+        ensures room { IfNone result
+            ((self.events ≡ false) × (self.threads ≡ false) × (self.locks ≡ false)
+            × (self.objects ≡ false) × (self.depth ≡ false)) }
     {
         if self.header_first {
             Some(WfCause::HeaderFirst)
@@ -270,7 +277,8 @@ impl Roster {
 
     #[inline(always)]
     fn find_thread(&self, name: &Name, near: usize) -> FoundThread
-        ensures value { (kinds : List Kind) (lines : List LineOf) → StandsFor kinds self.now lines → result ≡ found_thread lines name.now }
+        ensures value { (kinds : List Kind) (lines : List LineOf) → StandsFor kinds self.now lines →
+            result ≡ found_thread lines name.now }
         ensures within { result.unknown ≡ false → result.number < thread_count self.now }
     {
         let guess = self.near_threads[near % NEAR_LENGTH];
@@ -294,7 +302,8 @@ impl Roster {
 
     #[inline(never)]
     fn look_up_thread(&self, name: &Name) -> FoundThread
-        ensures value { (kinds : List Kind) (lines : List LineOf) → StandsFor kinds self.now lines → result ≡ found_thread lines name.now }
+        ensures value { (kinds : List Kind) (lines : List LineOf) → StandsFor kinds self.now lines →
+            result ≡ found_thread lines name.now }
         ensures within { result.unknown ≡ false → result.number < thread_count self.now }
     {
         match self.threads.get_full(name) {
@@ -313,11 +322,14 @@ impl Roster {
 
     #[inline(always)]
     fn find_lock(&self, name: &Name, near: usize) -> FoundLock
-        ensures number { (kinds : List Kind) (lines : List LineOf) → StandsFor kinds self.now lines →
-            (result.number ≡ place (locks_of lines) name.now) × (result.unknown ≡ not (is_among (locks_of lines) name.now)) }
+        ensures number { (kinds : List Kind) (lines : List LineOf) →
+            StandsFor kinds self.now lines →
+            (result.number ≡ place (locks_of lines) name.now)
+            × (result.unknown ≡ not (is_among (locks_of lines) name.now)) }
         ensures lock { result.lock ≡ lock_in self.now name.now }
         ensures within { result.unknown ≡ false → result.number < lock_count self.now }
-        ensures new { result.unknown ≡ true → (result.number ≡ lock_count self.now) × (result.lock.depth ≡ 0) }
+        ensures new { result.unknown ≡ true → (result.number ≡ lock_count self.now)
+            × (result.lock.depth ≡ 0) }
     {
         let guess = self.near_locks[near % NEAR_LENGTH];
         if let Some((near_name, lock)) = self.locks.get_index(guess as usize)
@@ -334,11 +346,14 @@ impl Roster {
 
     #[inline(never)]
     fn look_up_lock(&self, name: &Name) -> FoundLock
-        ensures number { (kinds : List Kind) (lines : List LineOf) → StandsFor kinds self.now lines →
-            (result.number ≡ place (locks_of lines) name.now) × (result.unknown ≡ not (is_among (locks_of lines) name.now)) }
+        ensures number { (kinds : List Kind) (lines : List LineOf) →
+            StandsFor kinds self.now lines →
+            (result.number ≡ place (locks_of lines) name.now)
+            × (result.unknown ≡ not (is_among (locks_of lines) name.now)) }
         ensures lock { result.lock ≡ lock_in self.now name.now }
         ensures within { result.unknown ≡ false → result.number < lock_count self.now }
-        ensures new { result.unknown ≡ true → (result.number ≡ lock_count self.now) × (result.lock.depth ≡ 0) }
+        ensures new { result.unknown ≡ true → (result.number ≡ lock_count self.now)
+            × (result.lock.depth ≡ 0) }
     {
         match self.locks.get_full(name) {
             None => FoundLock {
@@ -355,7 +370,8 @@ impl Roster {
     }
 
     fn find_object(&self, name: &Name) -> FoundObject
-        ensures { (kinds : List Kind) (lines : List LineOf) → StandsFor kinds self.now lines → result ≡ found_object kinds lines name.now }
+        ensures { (kinds : List Kind) (lines : List LineOf) → StandsFor kinds self.now lines →
+            result ≡ found_object kinds lines name.now }
     {
         match self.objects.get_full(name) {
             None => FoundObject {
@@ -372,7 +388,8 @@ impl Roster {
     }
 
     fn find_method(&self, kind: u32, name: &Name) -> Method
-        ensures { (kinds : List Kind) (lines : List LineOf) → StandsFor kinds self.now lines → result ≡ found_method (methods_at kinds kind) name.now }
+        ensures { (kinds : List Kind) (lines : List LineOf) → StandsFor kinds self.now lines →
+            result ≡ found_method (methods_at kinds kind) name.now }
     {
         match self.kinds.get_index(kind as usize) {
             None => Method {
@@ -385,7 +402,8 @@ impl Roster {
     }
 
     pub(super) fn judge_root(&self, name: &Name, limits: &Limits) -> Result<u32, WfCause>
-        ensures ok { IfOk result (λ thread. Permits self.now limits.now (Line.Thread name.now) (Accepted.Root thread)) }
+        ensures ok { IfOk result
+            (λ thread. Permits self.now limits.now (Line.Thread name.now) (Accepted.Root thread)) }
         ensures room { OnOk result (thread_count self.now + 1 < 2 ^ 32) }
         ensures err { IfErr result (Forbids self.now limits.now (Line.Thread name.now)) }
     {
@@ -409,7 +427,9 @@ impl Roster {
         kind: &Name,
         limits: &Limits,
     ) -> Result<Declared, WfCause>
-        ensures ok { IfOk result (λ new. Permits self.now limits.now (Line.Object name.now kind.now) (Accepted.Object new.object new.kind)) }
+        ensures ok { IfOk result
+            (λ new. Permits self.now limits.now (Line.Object name.now kind.now)
+            (Accepted.Object new.object new.kind)) }
         ensures room { OnOk result (object_count self.now + 1 < 2 ^ 32) }
         ensures err { IfErr result (Forbids self.now limits.now (Line.Object name.now kind.now)) }
     {
@@ -439,10 +459,13 @@ impl Roster {
         child: &Name,
         limits: &Limits,
     ) -> Result<Pair, WfCause>
-        ensures ok { IfOk result (λ pair. Permits self.now limits.now (Line.Event (LineEvent.Fork thread.now child.now))
+        ensures ok { IfOk result
+            (λ pair. Permits self.now limits.now (Line.Event (LineEvent.Fork thread.now child.now))
             (Accepted.Event (Event.Fork pair.thread pair.child))) }
-        ensures room { OnOk result ((thread_count self.now + 1 < 2 ^ 32) × (self.now.events + 1 < 2 ^ 32)) }
-        ensures err { IfErr result (Forbids self.now limits.now (Line.Event (LineEvent.Fork thread.now child.now))) }
+        ensures room { OnOk result
+            ((thread_count self.now + 1 < 2 ^ 32) × (self.now.events + 1 < 2 ^ 32)) }
+        ensures err { IfErr result
+            (Forbids self.now limits.now (Line.Event (LineEvent.Fork thread.now child.now))) }
     {
         let actor = self.find_thread(thread, near);
         let new = self.threads.len() as u32;
@@ -471,10 +494,13 @@ impl Roster {
         child: &Name,
         limits: &Limits,
     ) -> Result<Pair, WfCause>
-        ensures ok { IfOk result (λ pair. Permits self.now limits.now (Line.Event (LineEvent.Join thread.now child.now))
+        ensures ok { IfOk result
+            (λ pair. Permits self.now limits.now (Line.Event (LineEvent.Join thread.now child.now))
             (Accepted.Event (Event.Join pair.thread pair.child))) }
-        ensures room { IfOk result (λ pair. (pair.child < thread_count self.now) × (self.now.events + 1 < 2 ^ 32)) }
-        ensures err { IfErr result (Forbids self.now limits.now (Line.Event (LineEvent.Join thread.now child.now))) }
+        ensures room { IfOk result
+            (λ pair. (pair.child < thread_count self.now) × (self.now.events + 1 < 2 ^ 32)) }
+        ensures err { IfErr result
+            (Forbids self.now limits.now (Line.Event (LineEvent.Join thread.now child.now))) }
     {
         let actor = self.find_thread(thread, near);
         let awaited = self.find_thread(child, near_place(child));
@@ -503,16 +529,28 @@ impl Roster {
         lock_near: usize,
         limits: &Limits,
     ) -> Result<Used, WfCause>
-        ensures ok { IfOk result (λ used. Permits self.now limits.now (Line.Event (LineEvent.Acquire thread.now lock.now))
+        // the line is permitted, and the depth is that of the lock
+        ensures ok { IfOk result
+            (λ used. Permits self.now limits.now
+            (Line.Event (LineEvent.Acquire thread.now lock.now))
             (Accepted.Event (Event.Acquire used.thread used.lock))) }
         ensures depth { IfOk result (λ used. used.depth ≡ (lock_in self.now lock.now).depth) }
-        ensures own { IfOk result (λ used. depth_of (lock_in self.now lock.now) used.thread ≡ used.depth) }
-        ensures unknown { IfOk result (λ used. (kinds : List Kind) (lines : List LineOf) → StandsFor kinds self.now lines →
+        ensures own { IfOk result
+            (λ used. depth_of (lock_in self.now lock.now) used.thread ≡ used.depth) }
+
+        // whether the lock is new
+        ensures unknown { IfOk result
+            (λ used. (kinds : List Kind) (lines : List LineOf) → StandsFor kinds self.now lines →
             used.unknown ≡ not (is_among (locks_of lines) lock.now)) }
-        ensures known { IfOk result (λ used. used.unknown ≡ false → used.lock < lock_count self.now) }
+        ensures known { IfOk result
+            (λ used. used.unknown ≡ false → used.lock < lock_count self.now) }
         ensures new { IfOk result (λ used. used.unknown ≡ true → lock_count self.now + 1 < 2 ^ 32) }
-        ensures room { IfOk result (λ used. (self.now.events + 1 < 2 ^ 32) × (used.depth + 1 < 2 ^ 32)) }
-        ensures err { IfErr result (Forbids self.now limits.now (Line.Event (LineEvent.Acquire thread.now lock.now))) }
+
+        // its numbers fit; or the line is forbidden
+        ensures room { IfOk result
+            (λ used. (self.now.events + 1 < 2 ^ 32) × (used.depth + 1 < 2 ^ 32)) }
+        ensures err { IfErr result
+            (Forbids self.now limits.now (Line.Event (LineEvent.Acquire thread.now lock.now))) }
     {
         let actor = self.find_thread(thread, near);
         let found = self.find_lock(lock, lock_near);
@@ -546,13 +584,17 @@ impl Roster {
         lock_near: usize,
         limits: &Limits,
     ) -> Result<Used, WfCause>
-        ensures ok { IfOk result (λ used. Permits self.now limits.now (Line.Event (LineEvent.Release thread.now lock.now))
+        ensures ok { IfOk result
+            (λ used. Permits self.now limits.now
+            (Line.Event (LineEvent.Release thread.now lock.now))
             (Accepted.Event (Event.Release used.thread used.lock))) }
         ensures depth { IfOk result (λ used. used.depth ≡ (lock_in self.now lock.now).depth) }
-        ensures own { IfOk result (λ used. depth_of (lock_in self.now lock.now) used.thread ≡ used.depth) }
+        ensures own { IfOk result
+            (λ used. depth_of (lock_in self.now lock.now) used.thread ≡ used.depth) }
         ensures held { IfOk result (λ used. (used.lock < lock_count self.now) × (0 < used.depth)) }
         ensures room { OnOk result (self.now.events + 1 < 2 ^ 32) }
-        ensures err { IfErr result (Forbids self.now limits.now (Line.Event (LineEvent.Release thread.now lock.now))) }
+        ensures err { IfErr result
+            (Forbids self.now limits.now (Line.Event (LineEvent.Release thread.now lock.now))) }
     {
         let actor = self.find_thread(thread, near);
         let found = self.find_lock(lock, lock_near);
@@ -585,10 +627,15 @@ impl Roster {
         slots: &Slots,
         limits: &Limits,
     ) -> Result<Numbers, WfCause>
-        ensures ok { IfOk result (λ call. Permits self.now limits.now (Line.Event (LineEvent.Call thread.now object.now method.now slots.now))
-            (Accepted.Event (Event.Call (record { thread = call.thread; object = call.object; kind = call.kind; method = call.method; slots = slots.now })))) }
+        ensures ok { IfOk result
+            (λ call. Permits self.now limits.now
+            (Line.Event (LineEvent.Call thread.now object.now method.now slots.now))
+            (Accepted.Event
+            (Event.Call (record { thread = call.thread; object = call.object; kind = call.kind; method = call.method; slots = slots.now })))) }
         ensures room { OnOk result (self.now.events + 1 < 2 ^ 32) }
-        ensures err { IfErr result (Forbids self.now limits.now (Line.Event (LineEvent.Call thread.now object.now method.now slots.now))) }
+        ensures err { IfErr result
+            (Forbids self.now limits.now
+            (Line.Event (LineEvent.Call thread.now object.now method.now slots.now))) }
     {
         let actor = self.find_thread(thread, near);
         let object = self.find_object(object);
