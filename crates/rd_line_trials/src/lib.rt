@@ -1,10 +1,8 @@
-//! Trials of values, inputs, the items of traces, their order and their clocks.
+//! Tests of values, the items of traces, their order and their clocks.
 #![tactic(auto)]
 
 #[cfg(test)]
 mod clocks;
-#[cfg(test)]
-mod inputs;
 #[cfg(test)]
 mod items;
 #[cfg(test)]

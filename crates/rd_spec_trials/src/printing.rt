@@ -1,9 +1,10 @@
 //! Texts of specifications that are printed again.
 
-use crate::rows::{gives, read_bytes};
+use crate::rows::gives;
 use rd_base::NoMemory;
 use rd_ecl::{KindSpec, Spec};
 use rd_print::{formula_text, law_of_printed_texts, print, print_kind};
+use rd_samples::read_bytes;
 use rd_spec::parse;
 use std::alloc::Global;
 use std::process::Abort;

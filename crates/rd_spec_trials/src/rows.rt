@@ -1,72 +1,10 @@
-//! What the rows of the tests share.
+//! What each row asserts.
 
 use rd_base::NoMemory;
-use rd_reading::SpecCause;
-use std::alloc::Global;
 use std::process::Abort;
 
 /// What a row gives is the text that is wanted.
 pub(crate) fn gives(rt: &impl Abort, found: Result<String, NoMemory>, wanted: &str, at: &[u8]) {
     let found = found.expect(rt, "memory");
     assert_eq!(rt; found.as_str(), wanted, "at {at:?}");
-}
-
-/// Words so often.
-pub(crate) fn push_times(text: &mut String, words: &str, count: u32) -> Result<(), NoMemory> {
-    for _ in 0..count {
-        text.push_str(words)?;
-    }
-    Ok(())
-}
-
-/// Words so often between two texts.
-pub(crate) fn repeated(
-    alloc: Global,
-    front: &str,
-    words: &str,
-    count: u32,
-    behind: &str,
-) -> Result<String, NoMemory> {
-    let mut text = String::from_str(alloc, front)?;
-    push_times(&mut text, words, count)?;
-    text.push_str(behind)?;
-    Ok(text)
-}
-
-/// A number between two texts.
-pub(crate) fn push_number(
-    text: &mut String,
-    front: &str,
-    number: u32,
-    behind: &str,
-) -> Result<(), NoMemory> {
-    write!(text, "{front}{number}{behind}")?;
-    Ok(())
-}
-
-/// What stands between two parts.
-pub(crate) fn push_comma(text: &mut String) -> Result<(), NoMemory> {
-    if !text.is_empty() {
-        text.push_str(", ")?;
-    }
-    Ok(())
-}
-
-/// Bytes that are text.
-pub(crate) fn read_bytes(bytes: &[u8]) -> &str {
-    str::from_utf8(bytes).unwrap_or("?")
-}
-
-/// The place and the cause, which says a pair that is missing by its names.
-pub(crate) fn push_cause(text: &mut String, place: u32, cause: &SpecCause) -> Result<(), NoMemory> {
-    push_number(text, "", place, " ")?;
-    if let SpecCause::MissingPair(first, second) = cause {
-        text.push_str("MissingPair ")?;
-        text.push_str(read_bytes(first.items()))?;
-        text.push_str(" ")?;
-        text.push_str(read_bytes(second.items()))?;
-    } else {
-        write!(text, "{cause:?}")?;
-    }
-    Ok(())
 }

@@ -1,7 +1,8 @@
 //! Texts of specifications with their refusals.
 
-use crate::rows::{gives, push_cause, push_number, push_times, repeated};
+use crate::rows::gives;
 use rd_base::{Bytes, Name, NoMemory};
+use rd_samples::{push_cause, push_number, push_times, repeated};
 use rd_spec::{ParseRefused, parse};
 use std::alloc::Global;
 use std::process::Abort;

@@ -3,10 +3,11 @@ ghost use Rattle.std.specs.Prelude.{◌≡◌, IfOk};
 ghost use Rattle.rd_ecl.specs.Formulas.{Fits, tree_of};
 
 use crate::formulas::read;
-use crate::rows::{gives, push_comma, read_bytes};
+use crate::rows::gives;
 use rd_base::{Bytes, Name, NoMemory};
 use rd_ecl::{Formula, Rel};
 use rd_print::{Word, Words, append_text, law_of_texts, words};
+use rd_samples::{push_comma, read_bytes};
 use rd_tokens::Sort;
 use std::alloc::Global;
 use std::process::Abort;

@@ -1,9 +1,10 @@
 //! Formulas by their marks: what is read of them, and the first wrong mark.
 ghost use Rattle.std.specs.Prelude.{◌≤◌, length};
 
-use crate::rows::{gives, push_number, push_times, repeated};
+use crate::rows::gives;
 use rd_base::NoMemory;
 use rd_grammar::{MOST_TOKENS, Mark, Parsed, Sign, Symbol, parse_formula};
+use rd_samples::{push_number, push_times, repeated};
 use std::alloc::Global;
 use std::process::Abort;
 

@@ -4,11 +4,12 @@ ghost use Rattle.rd_ecl.specs.Formulas.{tree_of};
 ghost use Rattle.rd_ecl.specs.Specified.{MayPair};
 
 use crate::judging::read;
-use crate::rows::{gives, push_cause, push_number, repeated};
+use crate::rows::gives;
 use rd_base::NoMemory;
 use rd_ecl::KindDraft;
 use rd_lines::{Form, Stage, read_form};
 use rd_reading::{Known, Pair, PairRefused, judge_pair};
+use rd_samples::{push_cause, push_number, repeated};
 use rd_tokens::tokens;
 use std::alloc::Global;
 use std::process::Abort;

@@ -1,8 +1,9 @@
 //! Words, terms and a line's marks.
 
-use crate::rows::{gives, push_comma, push_number, read_bytes};
+use crate::rows::gives;
 use rd_base::{NoMemory, Value};
 use rd_grammar::{Mark, Sign, Symbol};
+use rd_samples::{push_comma, push_number, read_bytes};
 use rd_tokens::{Marks, Said, Sort, marks, read_term, symbol, tokens};
 use std::alloc::Global;
 use std::process::Abort;

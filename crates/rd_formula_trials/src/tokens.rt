@@ -1,7 +1,8 @@
 //! Lines with their tokens.
 
-use crate::rows::{gives, push_comma, push_number, read_bytes, repeated};
+use crate::rows::gives;
 use rd_base::NoMemory;
+use rd_samples::{push_comma, push_number, read_bytes, repeated};
 use rd_tokens::{Token, law_of_tokens, tokens};
 use std::alloc::Global;
 use std::process::Abort;

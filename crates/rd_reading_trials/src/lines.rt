@@ -1,11 +1,12 @@
 //! Lines by their form: what they say, or their first wrong token.
 
-use crate::rows::{gives, push_number, read_bytes};
+use crate::rows::gives;
 use rd_base::{Name, NoMemory};
 use rd_ecl::{Method, Names};
 use rd_grammar::Parsed;
 use rd_lines::Stage::{self, Methods, Outside, Pairs};
 use rd_lines::{Form, FormRefused, read_form};
+use rd_samples::{push_number, read_bytes};
 use rd_tokens::tokens;
 use std::alloc::Global;
 use std::process::Abort;

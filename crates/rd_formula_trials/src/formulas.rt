@@ -2,10 +2,11 @@
 ghost use Rattle.std.specs.Prelude.{◌≡◌, ◌≤◌, length, IfOk};
 ghost use Rattle.rd_ecl.specs.Formulas.{Fits, nodes, tree_of};
 
-use crate::rows::{gives, push_number, repeated};
+use crate::rows::gives;
 use rd_base::{Name, NoMemory, Text, Value};
 use rd_ecl::Formula;
 use rd_formulas::{FormulaRefused, Scope, read_formula};
+use rd_samples::{push_number, repeated};
 use rd_tokens::tokens;
 use std::alloc::Global;
 use std::process::Abort;

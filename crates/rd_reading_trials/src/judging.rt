@@ -1,8 +1,9 @@
 //! Lines one by one behind those before them, and the end.
 
-use crate::rows::{gives, push_cause, repeated};
+use crate::rows::gives;
 use rd_base::{Name, NoMemory};
 use rd_reading::{Known, LineRefused, finish, read_line};
+use rd_samples::{push_cause, repeated};
 use std::alloc::Global;
 use std::process::Abort;
 

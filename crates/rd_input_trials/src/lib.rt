@@ -1,0 +1,5 @@
+//! Tests of inputs, sinks and the reader of lines.
+#![tactic(auto)]
+
+#[cfg(test)]
+mod inputs;

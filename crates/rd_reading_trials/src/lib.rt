@@ -1,0 +1,11 @@
+//! Tests of a specification's lines: their forms, pairs, and what a line is behind others.
+#![tactic(auto)]
+
+#[cfg(test)]
+mod judging;
+#[cfg(test)]
+mod lines;
+#[cfg(test)]
+mod pairs;
+#[cfg(test)]
+mod rows;
