@@ -1,6 +1,6 @@
 //! Kinds that are being made, and the relations that their methods have room for.
 
-use crate::samples::{draft_of, is_text, outline};
+use crate::samples::{draft_of, is_so_at, is_text, outline};
 use rd_base::Value;
 use rd_ecl::{Formula, KindDraft, Rel, Side, Term};
 use std::alloc::Global;
@@ -14,15 +14,20 @@ const PUTS_OF_A_CELL: &str =
 const SIXTEEN_METHODS: &str =
     "rdspec 1\nkind whole\nmethod m0 a b c d e true_ -> x9\nmethod m1 a b c d e true_ -> x9\nmethod m2 a b c d e true_ -> x9\nmethod m3 a b c d e true_ -> x9\nmethod m4 a b c d e true_ -> x9\nmethod m5 a b c d e true_ -> x9\nmethod m6 a b c d e true_ -> x9\nmethod m7 a b c d e true_ -> x9\nmethod m8 a b c d e true_ -> x9\nmethod m9 a b c d e true_ -> x9\nmethod true a b c d e true_ -> x9\nmethod - a b c d e true_ -> x9\nmethod M a b c d e true_ -> x9\nmethod m a b c d e true_ -> x9\nmethod a a b c d e true_ -> x9\nmethod last a b c d e true_ -> x9";
 
+// The cell has its two methods, and the formula of two calls of `put` alone.
+fn has_puts_alone(draft: &KindDraft) -> bool {
+    draft.methods().len() == 2
+        && matches!(draft.formula(0, 0), Some(Formula::And(_, _)))
+        && draft.formula(0, 1).is_none()
+        && draft.formula(1, 1).is_none()
+}
+
 #[test]
 fn what_is_drafted(rt: HostRuntime) {
     let draft = draft_of(&rt, rt.alloc(), PUTS_OF_A_CELL);
     let text = outline(&rt, rt.alloc(), draft.name(), draft.methods());
     is_text(&rt, text.items(), "cell; put value prev; get value");
-    assert!(rt; draft.methods().len() == 2);
-    assert!(rt; matches!(draft.formula(0, 0), Some(Formula::And(_, _))));
-    assert!(rt; draft.formula(0, 1).is_none());
-    assert!(rt; draft.formula(1, 1).is_none());
+    assert!(rt; has_puts_alone(&draft));
 }
 
 #[test]
@@ -90,60 +95,138 @@ fn or_not(rt: &impl Abort, alloc: Global, count: i64, sketch: Sketch) -> Formula
     Formula::Or(Box::new(alloc, integers).expect(rt, "memory"), not)
 }
 
-// Has the method of the draft room? `None` where the draft has no such pair or method.
-fn room(draft: &KindDraft, pair: (u8, u8), formula: &Formula, method: u8) -> Option<bool> {
+// Has the method of the draft room?
+fn has_room(
+    rt: &impl Abort,
+    draft: &KindDraft,
+    (first, second): (u8, u8),
+    formula: &Formula,
+    method: u8,
+) -> bool {
     let count = draft.methods().len();
-    let (first, second) = pair;
-    if first > second || usize::from(second) >= count || usize::from(method) >= count {
-        return None;
-    }
-    Some(draft.has_room(first, second, formula, method))
+    assert!(rt; first <= second && usize::from(second) < count && usize::from(method) < count);
+    draft.has_room(first, second, formula, method)
 }
 
-// `put` has one relation already, that its two slots are equal.
+// A pair of methods, what its formula relates on a side and again, and the rooms of `put` and of `get`. `put` has one relation already,
+// that its two slots are equal.
+type Rooms = ((u8, u8), (Side, i64, i64), (Side, i64, i64), bool, bool);
+
+const ROOMS: [Rooms; 9] = [
+    ((0, 1), (Side::First, 0, 4), (Side::First, 0, 0), true, true),
+    (
+        (0, 1),
+        (Side::First, 0, 5),
+        (Side::First, 0, 0),
+        false,
+        true,
+    ),
+    // equal relations count once
+    ((0, 1), (Side::First, 0, 4), (Side::First, 0, 4), true, true),
+    (
+        (0, 1),
+        (Side::First, 0, 4),
+        (Side::First, 3, 5),
+        false,
+        true,
+    ),
+    // each side is that of one method
+    (
+        (0, 1),
+        (Side::Second, 0, 5),
+        (Side::First, 0, 4),
+        true,
+        true,
+    ),
+    (
+        (0, 1),
+        (Side::Second, 0, 6),
+        (Side::First, 0, 4),
+        true,
+        false,
+    ),
+    // both sides are those of one method
+    (
+        (1, 1),
+        (Side::First, 0, 3),
+        (Side::Second, 3, 5),
+        true,
+        true,
+    ),
+    (
+        (1, 1),
+        (Side::First, 0, 3),
+        (Side::Second, 3, 6),
+        true,
+        false,
+    ),
+    (
+        (1, 1),
+        (Side::First, 0, 5),
+        (Side::Second, 0, 5),
+        true,
+        true,
+    ),
+];
+
+// Has the method room for both?
+fn has_room_for(
+    rt: &impl Abort,
+    alloc: Global,
+    draft: &KindDraft,
+    row: &Rooms,
+    method: u8,
+) -> bool {
+    let (pair, some, more, _, _) = *row;
+    let formula = and_integers(rt, alloc, Formula::True, some);
+    let formula = and_integers(rt, alloc, formula, more);
+    has_room(rt, draft, pair, &formula, method)
+}
+
+fn have_rooms(rt: &impl Abort, alloc: Global, draft: &KindDraft, rows: &[Rooms]) {
+    for (number, row) in rows.iter().enumerate() {
+        is_so_at(rt, has_room_for(rt, alloc, draft, row, 0) == row.3, number);
+        is_so_at(rt, has_room_for(rt, alloc, draft, row, 1) == row.4, number);
+    }
+}
+
+// A relation that is turned round is another one. One that the pair of `put` and `put` has counts once with that. In a row are a relation,
+// how many others there are, and the room of `put`.
+const ONE_MORE: [(Sketch, i64, bool); 5] = [
+    (Sketch::IntegerIs(Side::First, 0), 3, true),
+    (Sketch::IntegerIs(Side::First, 0), 4, false),
+    (Sketch::IsInteger(Side::First, 0), 4, true),
+    (Sketch::Keeps, 4, true),
+    (Sketch::Keeps, 5, false),
+];
+
+// Has `put` room for these?
+fn has_room_for_one_more(
+    rt: &impl Abort,
+    alloc: Global,
+    draft: &KindDraft,
+    count: i64,
+    sketch: Sketch,
+) -> bool {
+    let formula = or_not(rt, alloc, count, sketch);
+    has_room(rt, draft, (0, 1), &formula, 0)
+}
+
+fn have_room_for_one_more(
+    rt: &impl Abort,
+    alloc: Global,
+    draft: &KindDraft,
+    rows: &[(Sketch, i64, bool)],
+) {
+    for (number, (sketch, count, expected)) in rows.iter().enumerate() {
+        let has_room = has_room_for_one_more(rt, alloc, draft, *count, *sketch);
+        is_so_at(rt, has_room == *expected, number);
+    }
+}
+
 #[test]
 fn rooms_of_methods(rt: HostRuntime) {
     let draft = draft_of(&rt, rt.alloc(), PUTS_OF_A_CELL);
-    let (one, two) = (Side::First, Side::Second);
-    // the pair, what its formula relates on a side and again, and the rooms of `put` and of `get`
-    let rows = [
-        ((0, 1), (one, 0, 4), (one, 0, 0), true, true),
-        ((0, 1), (one, 0, 5), (one, 0, 0), false, true),
-        // equal relations count once
-        ((0, 1), (one, 0, 4), (one, 0, 4), true, true),
-        ((0, 1), (one, 0, 4), (one, 3, 5), false, true),
-        // each side is that of one method
-        ((0, 1), (two, 0, 5), (one, 0, 4), true, true),
-        ((0, 1), (two, 0, 6), (one, 0, 4), true, false),
-        // both sides are those of one method
-        ((1, 1), (one, 0, 3), (two, 3, 5), true, true),
-        ((1, 1), (one, 0, 3), (two, 3, 6), true, false),
-        ((1, 1), (one, 0, 5), (two, 0, 5), true, true),
-    ];
-    for (row, (pair, some, more, put, get)) in rows.into_iter().enumerate() {
-        let formula = and_integers(&rt, rt.alloc(), Formula::True, some);
-        let formula = and_integers(&rt, rt.alloc(), formula, more);
-        assert!(rt; room(&draft, pair, &formula, 0) == Some(put), "row {row}");
-        assert!(rt; room(&draft, pair, &formula, 1) == Some(get), "row {row}");
-    }
-}
-
-// A relation that is turned round is another one. One that the pair of `put` and `put` has counts once with that.
-#[test]
-fn rooms_for_one_relation_more(rt: HostRuntime) {
-    let draft = draft_of(&rt, rt.alloc(), PUTS_OF_A_CELL);
-    let rows = [
-        (Sketch::IntegerIs(Side::First, 0), 3, true),
-        (Sketch::IntegerIs(Side::First, 0), 4, false),
-        (Sketch::IsInteger(Side::First, 0), 4, true),
-        (Sketch::Keeps, 4, true),
-        (Sketch::Keeps, 5, false),
-    ];
-    for (row, (sketch, count, expected)) in rows.into_iter().enumerate() {
-        let formula = or_not(&rt, rt.alloc(), count, sketch);
-        assert!(rt;
-            room(&draft, (0, 1), &formula, 0) == Some(expected),
-            "row {row}"
-        );
-    }
+    have_rooms(&rt, rt.alloc(), &draft, &ROOMS);
+    have_room_for_one_more(&rt, rt.alloc(), &draft, &ONE_MORE);
 }

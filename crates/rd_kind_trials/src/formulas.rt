@@ -6,9 +6,9 @@ ghost use Rattle.rd_ecl.specs.declared.formulas.Side.TheVariants.{First, Second}
 ghost use Rattle.rd_ecl.specs.declared.formulas.Term.TheVariants.{Slot, Const};
 ghost use Rattle.rd_ecl.specs.Formulas.{Fits, tree_of, atom, cross, mixed, negation, both, either, nodes};
 
-use crate::samples::value;
+use crate::samples::{is_so, is_so_at, value};
 use rd_base::Value;
-use rd_ecl::{Formula, Reason, Rel, Side, Term};
+use rd_ecl::{Formula, Outside, Reason, Rel, Side, Term};
 use std::alloc::Global;
 use std::process::Abort;
 
@@ -148,71 +148,99 @@ fn holds(formula: &Formula, turned: bool) -> bool
     }
 }
 
+// A formula, whether the calls are turned round, and whether it holds.
+const CALLS: [(Sketch, bool, bool); 15] = [
+    (Sketch::True, false, true),
+    (Sketch::False, false, false),
+    // slot 0 of the call on side 2 is 1
+    (Sketch::Sided, false, true),
+    (Sketch::Sided, true, false),
+    // 5 differs from 7, and 1 doesn't differ from 1
+    (Sketch::Crossing, false, true),
+    (Sketch::Crossing, true, false),
+    // 7 isn't at most 5, and 1 is at most 1
+    (Sketch::AtMost, false, false),
+    (Sketch::AtMost, true, true),
+    (Sketch::Straight, false, true),
+    (Sketch::NotSided, false, false),
+    (Sketch::NotSided, true, true),
+    (Sketch::SidedAndCrossing, false, true),
+    (Sketch::SidedAndAtMost, false, false),
+    (Sketch::AtMostOrSided, false, true),
+    (Sketch::SidedOrCrossing, true, false),
+];
+
+// Does the formula hold?
+fn sketch_holds(rt: &impl Abort, alloc: Global, sketch: Sketch, turned: bool) -> bool {
+    holds(&made(rt, alloc, sketch), turned)
+}
+
+fn hold_so(rt: &impl Abort, alloc: Global, rows: &[(Sketch, bool, bool)]) {
+    for (number, (sketch, turned, expected)) in rows.iter().enumerate() {
+        let found = sketch_holds(rt, alloc, *sketch, *turned);
+        is_so_at(rt, found == *expected, number);
+    }
+}
+
 #[test]
 fn formulas_of_two_calls(rt: HostRuntime) {
-    let rows = [
-        (Sketch::True, false, true),
-        (Sketch::False, false, false),
-        // slot 0 of the call on side 2 is 1
-        (Sketch::Sided, false, true),
-        (Sketch::Sided, true, false),
-        // 5 differs from 7, and 1 doesn't differ from 1
-        (Sketch::Crossing, false, true),
-        (Sketch::Crossing, true, false),
-        // 7 isn't at most 5, and 1 is at most 1
-        (Sketch::AtMost, false, false),
-        (Sketch::AtMost, true, true),
-        (Sketch::Straight, false, true),
-        (Sketch::NotSided, false, false),
-        (Sketch::NotSided, true, true),
-        (Sketch::SidedAndCrossing, false, true),
-        (Sketch::SidedAndAtMost, false, false),
-        (Sketch::AtMostOrSided, false, true),
-        (Sketch::SidedOrCrossing, true, false),
-    ];
-    for (sketch, turned, expected) in rows {
-        let formula = made(&rt, rt.alloc(), sketch);
-        assert!(rt;
-            holds(&formula, turned) == expected,
-            "sketch {}",
-            sketch as u8
-        );
+    hold_so(&rt, rt.alloc(), &CALLS);
+}
+
+// A formula, and the number of the first node outside with the reason. Where there is none, so is no reason.
+const OUTSIDE: [(Sketch, u32, Option<Reason>); 13] = [
+    (Sketch::False, 0, None),
+    (Sketch::Sided, 0, None),
+    (Sketch::Crossing, 0, None),
+    (Sketch::NotSided, 0, None),
+    (Sketch::CrossingAndCrossing, 0, None),
+    (Sketch::CrossingOrSided, 0, None),
+    (Sketch::SidedOrCrossing, 0, None),
+    (Sketch::Guarded, 0, None),
+    (Sketch::AtMost, 0, Some(Reason::CrossRelation)),
+    (Sketch::NotCrossing, 1, Some(Reason::NotOverCross)),
+    (Sketch::CrossingOrCrossing, 2, Some(Reason::OrOfCross)),
+    // the part on the right of the `or` comes before the `or`
+    (Sketch::CrossingOrAtMost, 1, Some(Reason::CrossRelation)),
+    // 0 and 1 are on one side, 2 is the `and` of them, 3 the crossing one, 4 the `not`
+    (Sketch::LateNot, 4, Some(Reason::NotOverCross)),
+];
+
+// Is this the first node outside?
+fn is_place(found: Option<Outside>, node: u32, reason: Option<Reason>) -> bool {
+    match found {
+        Some(outside) => outside.node == node && reason == Some(outside.reason),
+        None => reason.is_none(),
+    }
+}
+
+// The first node outside.
+fn place_of(rt: &impl Abort, alloc: Global, sketch: Sketch) -> Option<Outside> {
+    made(rt, alloc, sketch).place_outside()
+}
+
+fn lie_outside(rt: &impl Abort, alloc: Global, rows: &[(Sketch, u32, Option<Reason>)]) {
+    for (number, (sketch, node, reason)) in rows.iter().enumerate() {
+        let found = place_of(rt, alloc, *sketch);
+        is_so_at(rt, is_place(found, *node, *reason), number);
     }
 }
 
 #[test]
 fn first_nodes_outside(rt: HostRuntime) {
-    let rows = [
-        (Sketch::False, None),
-        (Sketch::Sided, None),
-        (Sketch::Crossing, None),
-        (Sketch::NotSided, None),
-        (Sketch::CrossingAndCrossing, None),
-        (Sketch::CrossingOrSided, None),
-        (Sketch::SidedOrCrossing, None),
-        (Sketch::Guarded, None),
-        (Sketch::AtMost, Some((0, Reason::CrossRelation))),
-        (Sketch::NotCrossing, Some((1, Reason::NotOverCross))),
-        (Sketch::CrossingOrCrossing, Some((2, Reason::OrOfCross))),
-        // the part on the right of the `or` comes before the `or`
-        (Sketch::CrossingOrAtMost, Some((1, Reason::CrossRelation))),
-        // 0 and 1 are on one side, 2 is the `and` of them, 3 the crossing one, 4 the `not`
-        (Sketch::LateNot, Some((4, Reason::NotOverCross))),
-    ];
-    for (sketch, expected) in rows {
-        let place = made(&rt, rt.alloc(), sketch).place_outside();
-        let found = place.map(|outside| (outside.node, outside.reason));
-        assert!(rt; found == expected, "sketch {}", sketch as u8);
-    }
+    lie_outside(&rt, rt.alloc(), &OUTSIDE);
+}
+
+// How many nodes and levels has it?
+fn size(rt: &impl Abort, alloc: Global, sketch: Sketch) -> (u32, u32) {
+    let formula = made(rt, alloc, sketch);
+    (formula.nodes(), formula.levels())
 }
 
 #[test]
 fn nodes_and_levels(rt: HostRuntime) {
-    for (sketch, nodes, levels) in [(Sketch::Guarded, 8, 4), (Sketch::LateNot, 6, 3)] {
-        let formula = made(&rt, rt.alloc(), sketch);
-        assert!(rt; formula.nodes() == nodes, "sketch {}", sketch as u8);
-        assert!(rt; formula.levels() == levels, "sketch {}", sketch as u8);
-    }
+    assert!(rt; size(&rt, rt.alloc(), Sketch::Guarded) == (8, 4));
+    assert!(rt; size(&rt, rt.alloc(), Sketch::LateNot) == (6, 3));
 }
 
 // A relation of two values.
@@ -226,35 +254,49 @@ fn related(rel: Rel, left: Value, right: Value) -> bool {
     formula.holds(&[], &[])
 }
 
+// Two values, and `=`, `<` and `<=` of them.
+type Relations<'a> = (&'a str, &'a str, bool, bool, bool);
+
+const RELATIONS: [Relations<'static>; 13] = [
+    ("nil", "nil", true, false, false),
+    ("true", "true", true, false, false),
+    ("false", "true", false, false, false),
+    ("nil", "false", false, false, false),
+    ("3", "3", true, false, true),
+    ("-4", "3", false, true, true),
+    ("3", "-4", false, false, false),
+    (
+        "-9223372036854775808",
+        "9223372036854775807",
+        false,
+        true,
+        true,
+    ),
+    ("0", "true", false, false, false),
+    ("1", "\"1\"", false, false, false),
+    ("\"1\"", "\"10\"", false, false, false),
+    // texts have no order
+    ("\"ab\"", "\"ab\"", true, false, false),
+    ("\"ab\"", "\"ac\"", false, false, false),
+];
+
+fn relates(rt: &impl Abort, alloc: Global, left: &str, right: &str, rel: Rel) -> bool {
+    related(rel, value(rt, alloc, left), value(rt, alloc, right))
+}
+
+fn are_related(rt: &impl Abort, alloc: Global, rows: &[Relations<'_>]) {
+    for (left, right, equal, below, at_most) in rows {
+        is_so(rt, relates(rt, alloc, left, right, Rel::Eq) == *equal, left);
+        is_so(rt, relates(rt, alloc, left, right, Rel::Lt) == *below, left);
+        is_so(
+            rt,
+            relates(rt, alloc, left, right, Rel::Le) == *at_most,
+            left,
+        );
+    }
+}
+
 #[test]
 fn relations_of_values(rt: HostRuntime) {
-    // `=`, `<` and `<=` of the two
-    let rows = [
-        ("nil", "nil", true, false, false),
-        ("true", "true", true, false, false),
-        ("false", "true", false, false, false),
-        ("nil", "false", false, false, false),
-        ("3", "3", true, false, true),
-        ("-4", "3", false, true, true),
-        ("3", "-4", false, false, false),
-        (
-            "-9223372036854775808",
-            "9223372036854775807",
-            false,
-            true,
-            true,
-        ),
-        ("0", "true", false, false, false),
-        ("1", "\"1\"", false, false, false),
-        ("\"1\"", "\"10\"", false, false, false),
-        // texts have no order
-        ("\"ab\"", "\"ab\"", true, false, false),
-        ("\"ab\"", "\"ac\"", false, false, false),
-    ];
-    for (left, right, equal, below, at_most) in rows {
-        for (rel, expected) in [(Rel::Eq, equal), (Rel::Lt, below), (Rel::Le, at_most)] {
-            let (a, b) = (value(&rt, rt.alloc(), left), value(&rt, rt.alloc(), right));
-            assert!(rt; related(rel, a, b) == expected, "{left} and {right}");
-        }
-    }
+    are_related(&rt, rt.alloc(), &RELATIONS);
 }

@@ -1,8 +1,9 @@
 //! Kinds, their methods, and calls that commute or don't.
 
-use crate::samples::{built_in, commute, is_text, kind_at, name, outline, spec_of};
+use crate::samples::{built_in, commute, is_so, is_text, kind_at, name, outline, spec_of};
+use rd_base::Name;
 use rd_ecl::{KindDraft, KindSpec, Names, Spec};
-use rd_kinds::{dictionary_table, law_of_shipped_kinds, reserved, shipped_count};
+use rd_kinds::{KindTable, dictionary_table, law_of_shipped_kinds, reserved, shipped_count};
 use std::alloc::Global;
 use std::process::Abort;
 
@@ -10,113 +11,139 @@ use std::process::Abort;
 const CELL_AND_FLAG: &str =
     "rdspec 1\nkind cell\nmethod put value -> prev\nmethod get -> value\ncommute put put when value@1 = prev@1 and value@2 = prev@2\ncommute put get when value@1 = prev@1\ncommute get get when true\nkind flag\nmethod set -> done\ncommute set set when done@1 = true\n";
 
+// The kind has this outline.
+fn has_outline(rt: &impl Abort, alloc: Global, kind: &KindSpec, wanted: &str) {
+    let text = outline(rt, alloc, kind.name(), kind.methods());
+    is_text(rt, text.items(), wanted);
+}
+
 // The outlines of the kinds are these, by their numbers.
 fn have_outlines(rt: &impl Abort, alloc: Global, kinds: &[KindSpec], outlines: &[&str]) {
     assert!(rt; kinds.len() == outlines.len());
     for (kind, wanted) in kinds.iter().zip(outlines) {
-        let text = outline(rt, alloc, kind.name(), kind.methods());
-        is_text(rt, text.items(), wanted);
+        has_outline(rt, alloc, kind, wanted);
     }
+}
+
+const BUILT_IN: [&str; 4] = [
+    "register; read value; write value done; swap value prev",
+    "counter; add amount done; get total",
+    "set; add item done; remove item done; contains item found; size n",
+    "dictionary; put key value prev; get key value; size n",
+];
+
+const SAID: [&str; 2] = ["cell; put value prev; get value", "flag; set done"];
+
+// The kinds that are built in, and one behind them.
+const FLAG_BEHIND: [&str; 5] = [
+    "register; read value; write value done; swap value prev",
+    "counter; add amount done; get total",
+    "set; add item done; remove item done; contains item found; size n",
+    "dictionary; put key value prev; get key value; size n",
+    "flag; set done",
+];
+
+// The kinds that are built in, and these behind them.
+fn behind(rt: &impl Abort, alloc: Global, kinds: Spec) -> Spec {
+    built_in(rt, alloc).append(kinds).expect(rt, "memory")
+}
+
+#[test]
+fn a_kind_behind_the_built_in_ones(rt: HostRuntime) {
+    let flag = "rdspec 1\nkind flag\nmethod set -> done\ncommute set set when done@1 = true\n";
+    let all = behind(&rt, rt.alloc(), spec_of(&rt, rt.alloc(), flag));
+    have_outlines(&rt, rt.alloc(), all.kinds(), &FLAG_BEHIND);
 }
 
 #[test]
 fn kinds_by_number(rt: HostRuntime) {
     law_of_shipped_kinds();
     assert!(rt; shipped_count() == 4);
-    let built_in_ones = [
-        "register; read value; write value done; swap value prev",
-        "counter; add amount done; get total",
-        "set; add item done; remove item done; contains item found; size n",
-        "dictionary; put key value prev; get key value; size n",
-    ];
     let spec = built_in(&rt, rt.alloc());
-    have_outlines(&rt, rt.alloc(), spec.kinds(), &built_in_ones);
+    have_outlines(&rt, rt.alloc(), spec.kinds(), &BUILT_IN);
     let spec = spec_of(&rt, rt.alloc(), CELL_AND_FLAG);
-    let said = ["cell; put value prev; get value", "flag; set done"];
-    have_outlines(&rt, rt.alloc(), spec.kinds(), &said);
+    have_outlines(&rt, rt.alloc(), spec.kinds(), &SAID);
 }
 
 // The number of a kind, two calls by the numbers of their methods and their slots, and whether they commute.
-type Pair<'a> = (u32, (u8, &'a str), (u8, &'a str), bool);
+type Pair<'a> = (u32, u8, &'a str, u8, &'a str, bool);
 
 // The calls of these pairs commute or don't.
 fn answer_pairs(rt: &impl Abort, alloc: Global, spec: &Spec, pairs: &[Pair<'_>]) {
-    for (number, first, second, expected) in pairs {
+    for (number, first, slots, second, others, expected) in pairs {
         let kind = kind_at(rt, spec, *number);
-        assert!(rt;
-            commute(rt, alloc, kind, *first, *second) == *expected,
-            "kind {number}: {} and {}",
-            first.1,
-            second.1
-        );
+        let found = commute(rt, alloc, kind, (*first, slots), (*second, others));
+        is_so(rt, found == *expected, slots);
     }
 }
+
+const CELL_AND_FLAG_PAIRS: [Pair<'static>; 11] = [
+    // a `put` that changes nothing commutes with a `get` on either side, and one that changes the value doesn't
+    (0, 0, "1 1", 1, "1", true),
+    (0, 1, "1", 0, "1 1", true),
+    (0, 0, "1 1", 0, "3 3", true),
+    (0, 0, "1 2", 1, "1", false),
+    (0, 1, "1", 0, "1 2", false),
+    (0, 0, "1 2", 0, "3 3", false),
+    (0, 1, "1", 1, "nil", true),
+    // the formula is asked with either call on side 1
+    (1, 0, "true", 0, "true", true),
+    (1, 0, "true", 0, "false", false),
+    (1, 0, "false", 0, "true", false),
+    (1, 0, "false", 0, "false", false),
+];
 
 #[test]
 fn calls_of_a_cell_and_a_flag(rt: HostRuntime) {
-    let pairs = [
-        // a `put` that changes nothing commutes with a `get` on either side, and one that changes the value doesn't
-        (0, (0, "1 1"), (1, "1"), true),
-        (0, (1, "1"), (0, "1 1"), true),
-        (0, (0, "1 1"), (0, "3 3"), true),
-        (0, (0, "1 2"), (1, "1"), false),
-        (0, (1, "1"), (0, "1 2"), false),
-        (0, (0, "1 2"), (0, "3 3"), false),
-        (0, (1, "1"), (1, "nil"), true),
-        // the formula is asked with either call on side 1
-        (1, (0, "true"), (0, "true"), true),
-        (1, (0, "true"), (0, "false"), false),
-        (1, (0, "false"), (0, "true"), false),
-        (1, (0, "false"), (0, "false"), false),
-    ];
     let spec = spec_of(&rt, rt.alloc(), CELL_AND_FLAG);
-    answer_pairs(&rt, rt.alloc(), &spec, &pairs);
+    answer_pairs(&rt, rt.alloc(), &spec, &CELL_AND_FLAG_PAIRS);
 }
+
+const BUILT_IN_PAIRS: [Pair<'static>; 17] = [
+    (0, 0, "1", 0, "1", true),
+    (0, 0, "1", 2, "1 1", true),
+    (0, 2, "1 1", 2, "1 1", true),
+    (0, 0, "1", 2, "2 1", false),
+    (0, 2, "2 1", 2, "2 1", false),
+    (1, 0, "0 nil", 1, "7", true),
+    (1, 1, "7", 0, "0 nil", true),
+    (1, 0, "0 nil", 0, "0 nil", true),
+    (1, 0, "1 nil", 1, "7", false),
+    (1, 1, "7", 0, "1 nil", false),
+    (1, 0, "1 nil", 0, "1 nil", true),
+    (3, 0, "1 5 nil", 0, "2 5 nil", true),
+    (3, 0, "1 5 nil", 0, "1 6 5", false),
+    (3, 0, "1 5 5", 0, "1 5 5", true),
+    (3, 0, "1 5 nil", 2, "2", false),
+    (3, 0, "1 6 5", 2, "2", true),
+    (3, 2, "2", 0, "1 nil nil", true),
+];
+
+// An `add` or a `remove` of a set, with a `size` and with a `contains` of 1.
+const SET_PAIRS: [Pair<'static>; 16] = [
+    (2, 0, "1 true", 3, "3", false),
+    (2, 2, "1 true", 0, "1 true", false),
+    (2, 1, "1 true", 3, "3", false),
+    (2, 2, "1 true", 1, "1 true", false),
+    (2, 0, "1 false", 3, "3", true),
+    (2, 2, "1 true", 0, "1 false", true),
+    (2, 1, "1 false", 3, "3", true),
+    (2, 2, "1 true", 1, "1 false", true),
+    (2, 0, "2 true", 3, "3", false),
+    (2, 2, "1 true", 0, "2 true", true),
+    (2, 1, "2 true", 3, "3", false),
+    (2, 2, "1 true", 1, "2 true", true),
+    (2, 0, "2 false", 3, "3", true),
+    (2, 2, "1 true", 0, "2 false", true),
+    (2, 1, "2 false", 3, "3", true),
+    (2, 2, "1 true", 1, "2 false", true),
+];
 
 #[test]
 fn calls_of_kinds_that_are_built_in(rt: HostRuntime) {
-    let pairs = [
-        (0, (0, "1"), (0, "1"), true),
-        (0, (0, "1"), (2, "1 1"), true),
-        (0, (2, "1 1"), (2, "1 1"), true),
-        (0, (0, "1"), (2, "2 1"), false),
-        (0, (2, "2 1"), (2, "2 1"), false),
-        (1, (0, "0 nil"), (1, "7"), true),
-        (1, (1, "7"), (0, "0 nil"), true),
-        (1, (0, "0 nil"), (0, "0 nil"), true),
-        (1, (0, "1 nil"), (1, "7"), false),
-        (1, (1, "7"), (0, "1 nil"), false),
-        (1, (0, "1 nil"), (0, "1 nil"), true),
-        (3, (0, "1 5 nil"), (0, "2 5 nil"), true),
-        (3, (0, "1 5 nil"), (0, "1 6 5"), false),
-        (3, (0, "1 5 5"), (0, "1 5 5"), true),
-        (3, (0, "1 5 nil"), (2, "2"), false),
-        (3, (0, "1 6 5"), (2, "2"), true),
-        (3, (2, "2"), (0, "1 nil nil"), true),
-    ];
     let spec = built_in(&rt, rt.alloc());
-    answer_pairs(&rt, rt.alloc(), &spec, &pairs);
-}
-
-#[test]
-fn calls_of_a_set(rt: HostRuntime) {
-    let spec = built_in(&rt, rt.alloc());
-    // an `add` or a `remove`, and whether it commutes with a `size` and with a `contains` of 1
-    let rows = [
-        ("1 true", false, false),
-        ("1 false", true, true),
-        ("2 true", false, true),
-        ("2 false", true, true),
-    ];
-    for (call, with_size, with_contains) in rows {
-        for method in 0..2 {
-            let pairs = [
-                (2, (method, call), (3, "3"), with_size),
-                (2, (2, "1 true"), (method, call), with_contains),
-            ];
-            answer_pairs(&rt, rt.alloc(), &spec, &pairs);
-        }
-    }
+    answer_pairs(&rt, rt.alloc(), &spec, &BUILT_IN_PAIRS);
+    answer_pairs(&rt, rt.alloc(), &spec, &SET_PAIRS);
 }
 
 // How many nodes the formula of two methods has.
@@ -133,46 +160,60 @@ fn nodes_of_formulas(rt: HostRuntime) {
     assert!(rt; nodes(&rt, cell, 1, 1) == 1);
 }
 
+// Puts a kind without methods behind the others.
+fn push_bare(rt: &impl Abort, alloc: Global, spec: &mut Spec) {
+    let draft = KindDraft::new(alloc, name(rt, "bare")).expect(rt, "memory");
+    assert!(rt; spec.push(draft.finish()).is_ok());
+}
+
 #[test]
 fn no_kinds(rt: HostRuntime) {
     let mut spec = Spec::empty(rt.alloc());
     assert!(rt; spec.kinds().is_empty());
     assert!(rt; Names::new(rt.alloc()).items().is_empty());
-    let draft = KindDraft::new(rt.alloc(), name(&rt, "bare")).expect(&rt, "memory");
-    assert!(rt; spec.push(draft.finish()).is_ok());
+    push_bare(&rt, rt.alloc(), &mut spec);
     have_outlines(&rt, rt.alloc(), spec.kinds(), &["bare"]);
+}
+
+const TAKEN: [&str; 8] = [
+    "register",
+    "counter",
+    "set",
+    "dictionary",
+    "bag",
+    "peak",
+    "queue",
+    "tally",
+];
+
+fn are_names(rt: &impl Abort, names: &[Name], rows: &[&str]) {
+    assert!(rt; names.len() == rows.len());
+    for (name, wanted) in names.iter().zip(rows) {
+        is_text(rt, name.items(), wanted);
+    }
 }
 
 #[test]
 fn taken_names(rt: HostRuntime) {
-    let rows = [
-        "register",
-        "counter",
-        "set",
-        "dictionary",
-        "bag",
-        "peak",
-        "queue",
-        "tally",
-    ];
-    let names = reserved();
-    assert!(rt; names.len() == rows.len());
-    for (name, wanted) in names.iter().zip(rows) {
-        assert!(rt; name.items() == wanted.as_bytes(), "{wanted}");
+    are_names(&rt, &reserved(), &TAKEN);
+}
+
+// A name and the number of its method, and a number and how many arguments its method has.
+const METHODS: [(&str, Option<u8>, u8, Option<u8>); 4] = [
+    ("put", Some(0), 0, Some(2)),
+    ("get", Some(1), 1, Some(1)),
+    ("size", Some(2), 2, Some(0)),
+    ("add", None, 3, None),
+];
+
+fn has_methods(rt: &impl Abort, table: &KindTable<3>, rows: &[(&str, Option<u8>, u8, Option<u8>)]) {
+    for (text, number, method, args) in rows {
+        is_so(rt, table.find(&name(rt, text)) == *number, text);
+        is_so(rt, table.args(*method) == *args, text);
     }
 }
 
 #[test]
 fn tables(rt: HostRuntime) {
-    let table = dictionary_table();
-    let rows = [
-        ("put", Some(0), 0, Some(2)),
-        ("get", Some(1), 1, Some(1)),
-        ("size", Some(2), 2, Some(0)),
-        ("add", None, 3, None),
-    ];
-    for (text, number, method, args) in rows {
-        assert!(rt; table.find(&name(&rt, text)) == number, "{text}");
-        assert!(rt; table.args(method) == args, "{text}");
-    }
+    has_methods(&rt, &dictionary_table(), &METHODS);
 }

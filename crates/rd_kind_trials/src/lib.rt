@@ -1,4 +1,4 @@
-//! Trials of formulas, of kinds and their objects, of rosters, of replays and of reports.
+//! Tests of formulas, and of kinds and their objects.
 #![tactic(auto)]
 
 #[cfg(test)]
@@ -10,12 +10,4 @@ mod kinds;
 #[cfg(test)]
 mod objects;
 #[cfg(test)]
-mod replays;
-#[cfg(test)]
-mod reports;
-#[cfg(test)]
-mod roster;
-#[cfg(test)]
 mod samples;
-#[cfg(test)]
-mod single_calls;

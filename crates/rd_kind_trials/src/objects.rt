@@ -4,24 +4,18 @@ ghost use Rattle.rd_kinds.specs.Machines.{shipped_machines};
 ghost use Rattle.rd_kinds.specs.Objects.{kind_of};
 ghost use Rattle.rd_kinds.specs.Shipped.{shipped_kinds};
 
-use crate::samples::{built_in, commute, has_slots, is_spelled, is_text, kind_at, name, slots};
-use rd_base::{Bytes, Value};
+use crate::samples::{
+    built_in, commute, has_slots, is_so, is_spelled, is_state, kind_at, slots, state_line,
+};
+use rd_base::{Bytes, Value, spell_value};
 use rd_ecl::{KindSpec, Spec};
 use rd_kinds::{Counter, Dictionary, Object, Register, Set};
-use rd_object::{ApplyRefused, RefObject, Shape};
-use rd_report::append_state;
+use rd_object::{ApplyRefused, RefObject};
 use std::alloc::Global;
 use std::process::Abort;
 
 // The number of a method, its arguments, what the call gives, and the line of the state behind it.
 type Step<'a> = (u8, &'a str, &'a str, &'a str);
-
-// The line of a shape under the name `o`.
-fn state(rt: &impl Abort, alloc: Global, shape: &Shape) -> Bytes {
-    let mut text = Bytes::new(alloc);
-    append_state(&mut text, &name(rt, "o"), shape).expect(rt, "memory");
-    text
-}
 
 // Does the call give this, or refuse its only argument?
 fn is_answer(
@@ -37,76 +31,92 @@ fn is_answer(
     }
 }
 
+// The call of the object gives this.
+fn gives<O: RefObject>(
+    rt: &impl Abort,
+    alloc: Global,
+    kind: &KindSpec,
+    object: &mut O,
+    method: u8,
+    args: &str,
+    wanted: &str,
+)
+    requires { kind.now ≡ O.machine.kind }
+{
+    let args = slots(rt, alloc, args);
+    assert!(rt; has_slots(kind, method, args.items().len() + 1));
+    let answer = object.apply(method, args.items());
+    is_so(rt, is_answer(rt, alloc, &answer, wanted), wanted);
+}
+
+// The line of the state of the object is this.
+fn has_state<O: RefObject>(rt: &impl Abort, alloc: Global, object: &O, wanted: &str) {
+    let shape = object.shape().expect(rt, "memory");
+    is_state(rt, alloc, &shape, wanted);
+}
+
 // A new object of the kind runs these calls one after another.
 fn runs<O: RefObject + Drop>(rt: &impl Abort, alloc: Global, kind: &KindSpec, steps: &[Step<'_>])
     requires { kind.now ≡ O.machine.kind }
 {
     let mut object = O::start(alloc);
     for (method, args, wanted, wanted_state) in steps {
-        let args = slots(rt, alloc, args);
-        assert!(rt; has_slots(kind, *method, args.items().len() + 1));
-        let answer = object.apply(*method, args.items());
-        assert!(rt; is_answer(rt, alloc, &answer, wanted), "{method}: {wanted}");
-        let shape = object.shape().expect(rt, "memory");
-        let text = state(rt, alloc, &shape);
-        assert!(rt;
-            text.items() == wanted_state.as_bytes(),
-            "{method}: {wanted}"
-        );
+        gives(rt, alloc, kind, &mut object, *method, args, wanted);
+        has_state(rt, alloc, &object, wanted_state);
     }
 }
 
-#[test]
-fn runs_of_objects(rt: HostRuntime) {
-    let register = [
-        (2, "5", "nil", "state o one 5\n"),
-        (1, "6", "nil", "state o one 6\n"),
-        (0, "", "6", "state o one 6\n"),
-    ];
-    let counter = [
-        (0, "\"x\"", "refused", "state o number 0\n"),
-        (
-            0,
-            "9223372036854775807",
-            "nil",
-            "state o number 9223372036854775807\n",
-        ),
-        (0, "1", "nil", "state o number -9223372036854775808\n"),
-        (
-            1,
-            "",
-            "-9223372036854775808",
-            "state o number -9223372036854775808\n",
-        ),
-    ];
-    let spec = built_in(&rt, rt.alloc());
-    runs::<Register>(&rt, rt.alloc(), kind_at(&rt, &spec, 0), &register);
-    runs::<Counter>(&rt, rt.alloc(), kind_at(&rt, &spec, 1), &counter);
-}
+const REGISTER: [Step<'static>; 3] = [
+    (2, "5", "nil", "state o one 5\n"),
+    (1, "6", "nil", "state o one 6\n"),
+    (0, "", "6", "state o one 6\n"),
+];
+
+const COUNTER: [Step<'static>; 4] = [
+    (0, "\"x\"", "refused", "state o number 0\n"),
+    (
+        0,
+        "9223372036854775807",
+        "nil",
+        "state o number 9223372036854775807\n",
+    ),
+    (0, "1", "nil", "state o number -9223372036854775808\n"),
+    (
+        1,
+        "",
+        "-9223372036854775808",
+        "state o number -9223372036854775808\n",
+    ),
+];
+
+const SET: [Step<'static>; 5] = [
+    (0, "nil", "true", "state o items nil\n"),
+    (0, "nil", "false", "state o items nil\n"),
+    (1, "nil", "true", "state o items\n"),
+    (2, "nil", "false", "state o items\n"),
+    (3, "", "0", "state o items\n"),
+];
+
+const RISING_SET: [Step<'static>; 3] = [
+    (0, "3", "true", "state o items 3\n"),
+    (0, "1", "true", "state o items 1 3\n"),
+    (0, "2", "true", "state o items 1 2 3\n"),
+];
+
+const DICTIONARY: [Step<'static>; 3] = [
+    (0, "1 2", "nil", "state o map 1 2\n"),
+    (0, "1 nil", "2", "state o map\n"),
+    (2, "", "0", "state o map\n"),
+];
 
 #[test]
-fn runs_of_objects_with_items(rt: HostRuntime) {
-    let set = [
-        (0, "nil", "true", "state o items nil\n"),
-        (0, "nil", "false", "state o items nil\n"),
-        (1, "nil", "true", "state o items\n"),
-        (2, "nil", "false", "state o items\n"),
-        (3, "", "0", "state o items\n"),
-    ];
-    let dictionary = [
-        (0, "1 2", "nil", "state o map 1 2\n"),
-        (0, "1 nil", "2", "state o map\n"),
-        (2, "", "0", "state o map\n"),
-    ];
-    let rising = [
-        (0, "3", "true", "state o items 3\n"),
-        (0, "1", "true", "state o items 1 3\n"),
-        (0, "2", "true", "state o items 1 2 3\n"),
-    ];
+fn runs_of_objects(rt: HostRuntime) {
     let spec = built_in(&rt, rt.alloc());
-    runs::<Set>(&rt, rt.alloc(), kind_at(&rt, &spec, 2), &set);
-    runs::<Set>(&rt, rt.alloc(), kind_at(&rt, &spec, 2), &rising);
-    runs::<Dictionary>(&rt, rt.alloc(), kind_at(&rt, &spec, 3), &dictionary);
+    runs::<Register>(&rt, rt.alloc(), kind_at(&rt, &spec, 0), &REGISTER);
+    runs::<Counter>(&rt, rt.alloc(), kind_at(&rt, &spec, 1), &COUNTER);
+    runs::<Set>(&rt, rt.alloc(), kind_at(&rt, &spec, 2), &SET);
+    runs::<Set>(&rt, rt.alloc(), kind_at(&rt, &spec, 2), &RISING_SET);
+    runs::<Dictionary>(&rt, rt.alloc(), kind_at(&rt, &spec, 3), &DICTIONARY);
 }
 
 // Runs a call of an object of the kind with this number.
@@ -142,55 +152,123 @@ fn begun(rt: &impl Abort, alloc: Global, kinds: &Spec, kind: u32, call: (u8, &st
 // The line of the state of an object.
 fn state_of(rt: &impl Abort, alloc: Global, object: &Object) -> Bytes {
     let shape = object.shape().expect(rt, "memory");
-    state(rt, alloc, &shape)
+    state_line(rt, alloc, &shape)
 }
 
-// Do two calls, which run behind another one, give the same results in both orders, and does the object hold the same then?
-fn alike(
+// What two calls give, and the state behind both.
+#[derive(Drop)]
+struct Outcome {
+    first: Bytes,
+    second: Bytes,
+    state: Bytes,
+}
+
+// The spelling of what a call gives.
+fn spelled_run(
+    rt: &impl Abort,
+    alloc: Global,
+    kinds: &Spec,
+    object: &mut Object,
+    kind: u32,
+    call: (u8, &str),
+) -> Bytes
+    requires kinds { kinds.now ≡ shipped_kinds }
+    requires is_kind { kind_of object.old ≡ kind }
+    ensures { kind_of object.new ≡ kind }
+{
+    let value = run(rt, alloc, kinds, object, kind, call);
+    spell_value(alloc, &value).expect(rt, "memory")
+}
+
+// The outcome of two calls that run one after the other, behind another one.
+fn run_both(
     rt: &impl Abort,
     alloc: Global,
     kinds: &Spec,
     kind: u32,
     before: (u8, &str),
-    calls: [(u8, &str); 2],
-) -> bool
+    first: (u8, &str),
+    second: (u8, &str),
+) -> Outcome
     requires kinds { kinds.now ≡ shipped_kinds }
     requires known { kind < length shipped_machines }
 {
-    let [first, second] = calls;
-    let mut one = begun(rt, alloc, kinds, kind, before);
-    let a = run(rt, alloc, kinds, &mut one, kind, first);
-    let b = run(rt, alloc, kinds, &mut one, kind, second);
-    let mut other = begun(rt, alloc, kinds, kind, before);
-    let b_before = run(rt, alloc, kinds, &mut other, kind, second);
-    let a_behind = run(rt, alloc, kinds, &mut other, kind, first);
-    let (one, other) = (state_of(rt, alloc, &one), state_of(rt, alloc, &other));
-    a == a_behind && b == b_before && one.items() == other.items()
+    let mut object = begun(rt, alloc, kinds, kind, before);
+    let first = spelled_run(rt, alloc, kinds, &mut object, kind, first);
+    let second = spelled_run(rt, alloc, kinds, &mut object, kind, second);
+    let state = state_of(rt, alloc, &object);
+    Outcome {
+        first,
+        second,
+        state,
+    }
+}
+
+// Did two calls give the same in both orders, and was the state behind them the same?
+fn are_alike(straight: &Outcome, turned: &Outcome) -> bool {
+    straight.first.items() == turned.second.items()
+        && straight.second.items() == turned.first.items()
+        && straight.state.items() == turned.state.items()
+}
+
+// A kind, the method and the arguments of the call before and of two calls, the slots of these, and whether they commute.
+type Row<'a> = (
+    u32,
+    u8,
+    &'a str,
+    u8,
+    &'a str,
+    u8,
+    &'a str,
+    &'a str,
+    &'a str,
+    bool,
+);
+
+const ROWS: [Row<'static>; 5] = [
+    // a register of 3, `swap 3 -> 3` and `read -> 3`
+    (0, 1, "3", 2, "3", 0, "", "3 3", "3", true),
+    // a counter of 5, `add 0 -> nil` and `get -> 5`
+    (1, 0, "5", 0, "0", 1, "", "0 nil", "5", true),
+    // an empty set, `add 1 -> true` and `add 1 -> false`
+    (2, 2, "1", 0, "1", 0, "1", "1 true", "1 false", false),
+    // a set of 1, `remove 2 -> false` and `size -> 1`
+    (2, 0, "1", 1, "2", 3, "", "2 false", "1", true),
+    // a dictionary of 1 to 2, `put 1 2 -> 2` and `get 1 -> 2`
+    (3, 0, "1 2", 0, "1 2", 1, "1", "1 2 2", "1 2", true),
+];
+
+// Do the two calls commute by their slots?
+fn are_recorded(rt: &impl Abort, alloc: Global, kinds: &Spec, row: &Row<'_>) -> bool {
+    let (number, _, _, first, _, second, _, slots, others, _) = *row;
+    let kind = kind_at(rt, kinds, number);
+    commute(rt, alloc, kind, (first, slots), (second, others))
+}
+
+// Are they alike in both orders?
+fn are_run(rt: &impl Abort, alloc: Global, kinds: &Spec, row: &Row<'_>) -> bool
+    requires { kinds.now ≡ shipped_kinds }
+{
+    let number = row.0;
+    assert!(rt; number < 4);
+    let (before, first, second) = ((row.1, row.2), (row.3, row.4), (row.5, row.6));
+    let straight = run_both(rt, alloc, kinds, number, before, first, second);
+    let turned = run_both(rt, alloc, kinds, number, before, second, first);
+    are_alike(&straight, &turned)
+}
+
+fn are_in_both_orders(rt: &impl Abort, alloc: Global, kinds: &Spec, rows: &[Row<'_>])
+    requires { kinds.now ≡ shipped_kinds }
+{
+    for row in rows {
+        is_so(rt, are_recorded(rt, alloc, kinds, row) == row.9, row.7);
+        is_so(rt, are_run(rt, alloc, kinds, row) == row.9, row.7);
+    }
 }
 
 // Calls that commute by their results may run in either order.
 #[test]
 fn calls_in_both_orders(rt: HostRuntime) {
-    // the kind, a call before, two calls with their slots, and whether they commute
-    let rows = [
-        // a register of 3, `swap 3 -> 3` and `read -> 3`
-        (0, (1, "3"), (2, "3", "3 3"), (0, "", "3"), true),
-        // a counter of 5, `add 0 -> nil` and `get -> 5`
-        (1, (0, "5"), (0, "0", "0 nil"), (1, "", "5"), true),
-        // an empty set, `add 1 -> true` and `add 1 -> false`
-        (2, (2, "1"), (0, "1", "1 true"), (0, "1", "1 false"), false),
-        // a set of 1, `remove 2 -> false` and `size -> 1`
-        (2, (0, "1"), (1, "2", "2 false"), (3, "", "1"), true),
-        // a dictionary of 1 to 2, `put 1 2 -> 2` and `get 1 -> 2`
-        (3, (0, "1 2"), (0, "1 2", "1 2 2"), (1, "1", "1 2"), true),
-    ];
     let spec = built_in(&rt, rt.alloc());
-    for (number, before, first, second, expected) in rows {
-        let kind = kind_at(&rt, &spec, number);
-        let recorded = [(first.0, first.2), (second.0, second.2)];
-        assert!(rt; commute(&rt, rt.alloc(), kind, recorded[0], recorded[1]) == expected);
-        let calls = [(first.0, first.1), (second.0, second.1)];
-        assert!(rt; number < 4);
-        assert!(rt; alike(&rt, rt.alloc(), &spec, number, before, calls) == expected);
-    }
+    are_in_both_orders(&rt, rt.alloc(), &spec, &ROWS);
 }

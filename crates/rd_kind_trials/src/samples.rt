@@ -1,14 +1,15 @@
 //! Values, formulas, kinds and lines that are made from texts.
-ghost use Rattle.std.specs.Prelude.{◌≡◌, ◌≢◌, ◌<◌, ◌^◌, AllPairs, IsTrue, Some, length, slice_get};
-ghost use Rattle.rd_ecl.specs.Kinds.{kind_names, kinds_of};
+ghost use Rattle.std.specs.Prelude.{◌≡◌, ◌<◌, IsTrue, Some, length, slice_get};
 ghost use Rattle.rd_ecl.specs.Specified.{slots_at};
 ghost use Rattle.rd_kinds.specs.Shipped.{shipped_kinds};
 
 use rd_base::{Bytes, Name, Slots, Value, read_value, spell_value};
 use rd_ecl::{KindDraft, KindSpec, Method, Spec};
-use rd_event::{Line, read_line};
+use rd_event::read_line;
 use rd_kinds::shipped;
+use rd_object::Shape;
 use rd_reading::Known;
+use rd_report::append_state;
 use rd_spec::parse;
 use std::alloc::Global;
 use std::process::Abort;
@@ -35,9 +36,19 @@ pub fn name(rt: &impl Abort, text: &str) -> Name {
     Name::from_bytes(text.as_bytes()).expect(rt, "a name")
 }
 
+/// This holds, at this row.
+pub fn is_so(rt: &impl Abort, holds: bool, row: &str) {
+    assert!(rt; holds, "{row}");
+}
+
+/// The same at a row with a number.
+pub fn is_so_at(rt: &impl Abort, holds: bool, row: usize) {
+    assert!(rt; holds, "row {row}");
+}
+
 /// The bytes are this text.
 pub fn is_text(rt: &impl Abort, found: &[u8], wanted: &str) {
-    assert!(rt; found == wanted.as_bytes(), "{wanted}");
+    is_so(rt, found == wanted.as_bytes(), wanted);
 }
 
 /// Is this the spelling of the value?
@@ -47,11 +58,7 @@ pub fn is_spelled(rt: &impl Abort, alloc: Global, value: &Value, spelling: &str)
 }
 
 /// The kinds that a text says.
-#[tactic(auto, using(crate::proofs::NameLemmas::few_kinds, crate::proofs::NameLemmas::names_differ))]
-pub fn spec_of(rt: &impl Abort, alloc: Global, text: &str) -> Spec
-    ensures few { length result < 2 ^ 32 }
-    ensures different { AllPairs (λ x y. x ≢ y) (kind_names (kinds_of result)) }
-{
+pub fn spec_of(rt: &impl Abort, alloc: Global, text: &str) -> Spec {
     parse(alloc, text.as_bytes(), &[]).expect(rt, "a specification")
 }
 
@@ -62,13 +69,18 @@ pub fn built_in(rt: &impl Abort, alloc: Global) -> Spec
     shipped(alloc).expect(rt, "memory")
 }
 
+// Takes a line of a specification.
+fn takes_line(rt: &impl Abort, alloc: Global, known: &mut Known, line: &str) {
+    assert!(rt; line.len() <= 1_048_576);
+    let read = rd_reading::read_line(alloc, &[], known, line.as_bytes());
+    is_so(rt, read.is_ok(), line);
+}
+
 /// The kind that these lines of a specification begin.
 pub fn draft_of(rt: &impl Abort, alloc: Global, lines: &str) -> KindDraft {
     let mut known = Known::new(alloc);
     for line in lines.split('\n') {
-        assert!(rt; line.len() <= 1_048_576);
-        let read = rd_reading::read_line(alloc, &[], &mut known, line.as_bytes());
-        assert!(rt; read.is_ok(), "{line}");
+        takes_line(rt, alloc, &mut known, line);
     }
     known.block.expect(rt, "a kind").draft
 }
@@ -105,9 +117,17 @@ pub fn commute(
     kind.commute(first.0, a.items(), second.0, b.items())
 }
 
-/// The line of a trace.
-pub fn line(rt: &impl Abort, alloc: Global, text: &str) -> Line {
-    read_line(alloc, text.as_bytes()).expect(rt, "a line")
+/// The line of a state under the name `o` is this.
+pub fn is_state(rt: &impl Abort, alloc: Global, shape: &Shape, wanted: &str) {
+    let text = state_line(rt, alloc, shape);
+    is_text(rt, text.items(), wanted);
+}
+
+/// The line of a state under the name `o`.
+pub fn state_line(rt: &impl Abort, alloc: Global, shape: &Shape) -> Bytes {
+    let mut text = Bytes::new(alloc);
+    append_state(&mut text, &name(rt, "o"), shape).expect(rt, "memory");
+    text
 }
 
 // Puts a name behind the text, behind this separator.

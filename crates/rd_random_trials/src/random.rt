@@ -8,13 +8,12 @@
 ghost use Rattle.std.specs.Prelude.{◌<◌};
 
 use crate::checked::checked;
-use crate::random_calls::{
-    Call, CounterCall, DictionaryCall, GATE, GateCall, Kind, RegisterCall, SetCall, Value, pair,
-};
-use crate::random_objects::Object;
+use crate::random_calls::{Call, GATE, Kind, Method, Value, append_call, append_value, pair};
+use crate::random_objects::Objects;
+use rd_io::MemorySink;
 use rd_run::Status;
 use std::alloc::Global;
-use std::test::Fail;
+use std::process::Abort;
 
 /// How many threads no other begins.
 const ROOTS: u32 = 2;
@@ -117,139 +116,210 @@ fn failed(first: &Step, second: &Step) -> Option<&'static str> {
     }
 }
 
-/// For each place, which of the places before it reach it: by an edge, or by an edge from a place that is reached.
-fn reaching(alloc: Global, steps: &[Step]) -> Result<Vec<Vec<bool>>, Fail> {
-    let mut rows: Vec<Vec<bool>> = Vec::new(alloc);
-    for second in steps {
-        let mut row: Vec<bool> = Vec::new(alloc);
-        for first in steps {
-            if row.len() == rows.len() {
-                break;
-            }
-            let mut reached = is_edge(first, second);
-            for (reached_before, middle) in rows.iter().zip(steps.iter()) {
-                let before = reached_before.get(row.len()).is_some_and(|before| *before);
-                if before && is_edge(middle, second) {
-                    reached = true;
-                }
-            }
-            row.push(reached)?;
-        }
-        rows.push(row)?;
+/// Does the event at a place come before a later one: by an edge, or by an edge from an event between them that it reaches? The rows say
+/// which places reach each place before the later one.
+fn reaches(steps: &[Step], rows: &[Vec<bool>], place: usize, first: &Step, second: &Step) -> bool {
+    if is_edge(first, second) {
+        return true;
     }
-    Ok(rows)
+    for (row, middle) in rows.iter().zip(steps.iter()) {
+        if matches!(row.get(place), Some(true)) && is_edge(middle, second) {
+            return true;
+        }
+    }
+    false
 }
 
-/// `T:N` for each thread that has events which are the one at a place or come before it, and how many. The row says which of the events
-/// before the place come before it.
-fn clock(alloc: Global, steps: &[Step], own: &Step, row: &[bool]) -> Result<String, Fail> {
-    let mut text = String::new(alloc);
-    for thread in 0..THREADS {
-        let mut count = 0u32;
-        for (step, reached) in steps.iter().zip(row.iter()) {
-            if *reached && step.actor() == thread {
-                count = count.saturating_add(1);
-            }
+/// Which of the places before this event, each of which has a row, reach it.
+fn row_of(
+    rt: &impl Abort,
+    alloc: Global,
+    steps: &[Step],
+    rows: &[Vec<bool>],
+    second: &Step,
+) -> Vec<bool> {
+    let mut row: Vec<bool> = Vec::new(alloc);
+    for first in steps {
+        if row.len() == rows.len() {
+            break;
         }
-        if own.actor() == thread {
+        row.push(reaches(steps, rows, row.len(), first, second))
+            .expect(rt, "memory");
+    }
+    row
+}
+
+/// For each place, which of the places before it reach it.
+fn reaching(rt: &impl Abort, alloc: Global, steps: &[Step]) -> Vec<Vec<bool>> {
+    let mut rows: Vec<Vec<bool>> = Vec::new(alloc);
+    for second in steps {
+        let row = row_of(rt, alloc, steps, rows.as_slice(), second);
+        rows.push(row).expect(rt, "memory");
+    }
+    rows
+}
+
+/// How many events of the thread are this one or come before it. The row says which of the events before it come before it.
+fn count(steps: &[Step], own: &Step, row: &[bool], thread: u32) -> u32 {
+    let mut count = 0u32;
+    for (step, reached) in steps.iter().zip(row.iter()) {
+        if *reached && step.actor() == thread {
             count = count.saturating_add(1);
         }
-        if count > 0 && !text.is_empty() {
-            text.push_str(",")?;
-        }
+    }
+    if own.actor() == thread {
+        count = count.saturating_add(1);
+    }
+    count
+}
+
+/// `T:N` for each thread that has events which are this one or come before it, and how many.
+fn append_clock(rt: &impl Abort, text: &mut String, steps: &[Step], own: &Step, row: &[bool]) {
+    let mut separator = "";
+    for thread in 0..THREADS {
+        let count = count(steps, own, row, thread);
         if count > 0 {
-            text.push_str(&format!(in alloc; "t{thread}:{count}")?)?;
+            write!(text, "{separator}t{thread}:{count}").expect(rt, "memory");
+            separator = ",";
         }
     }
-    Ok(text)
 }
 
 /// The event at a place, its line and its clock.
-fn told(
-    alloc: Global,
+fn append_event(
+    rt: &impl Abort,
+    text: &mut String,
     steps: &[Step],
     place: usize,
     own: &Step,
     row: &[bool],
-) -> Result<String, Fail> {
+) {
     let line = place.saturating_add(FIRST_LINE);
-    let call = spelled(alloc, own)?;
-    let clock = clock(alloc, steps, own, row)?;
-    Ok(format!(in alloc; "line {line} {call} clock {clock}\n")?)
+    write!(text, "line {line} ").expect(rt, "memory");
+    append_step(rt, text, own);
+    text.push_str(" clock ").expect(rt, "memory");
+    append_clock(rt, text, steps, own, row);
+    text.push_str("\n").expect(rt, "memory");
 }
 
-/// The line of the replay, and whether some call has another result than its object gives.
-fn replay(alloc: Global, kinds: (Kind, Kind), steps: &[Step]) -> Result<(String, bool), Fail> {
-    if kinds.0 == Kind::Gate || kinds.1 == Kind::Gate {
-        return Ok((String::from_str(alloc, "replay not shipped\n")?, false));
+/// The line of the replay at a call, where the object gives another result than this or doesn't take it. True where there is one.
+fn append_difference(
+    rt: &impl Abort,
+    text: &mut String,
+    objects: &mut Objects,
+    place: usize,
+    step: &Step,
+) -> bool {
+    let Step::Call { object, call, .. } = step else {
+        return false;
+    };
+    let given = objects.run(rt, *object, call);
+    if given == Some(call.result) {
+        return false;
     }
-    let mut first = Object::new(alloc);
-    let mut second = Object::new(alloc);
-    for (place, step) in steps.iter().enumerate() {
-        let Step::Call { object, call, .. } = step else {
-            continue;
-        };
-        let given = if *object == 0 {
-            first.run(alloc, call)?
-        } else {
-            second.run(alloc, call)?
-        };
-        let line = place.saturating_add(FIRST_LINE);
-        let Some(value) = given else {
-            return Ok((
-                format!(in alloc; "replay differs line {line} argument 1\n")?,
-                true,
-            ));
-        };
-        if value != call.result() {
-            let value = value.spelled(alloc)?;
-            return Ok((
-                format!(in alloc; "replay differs line {line} expected {value}\n")?,
-                true,
-            ));
+    let line = place.saturating_add(FIRST_LINE);
+    write!(text, "replay differs line {line} ").expect(rt, "memory");
+    match given {
+        None => text.push_str("argument 1").expect(rt, "memory"),
+        Some(value) => {
+            text.push_str("expected ").expect(rt, "memory");
+            append_value(rt, text, value);
         }
     }
-    Ok((String::from_str(alloc, "replay exact\n")?, false))
+    text.push_str("\n").expect(rt, "memory");
+    true
+}
+
+/// The line of the replay. Whether some call has another result than its object gives.
+fn append_replay(
+    rt: &impl Abort,
+    text: &mut String,
+    kinds: (Kind, Kind),
+    objects: &mut Objects,
+    steps: &[Step],
+) -> bool {
+    if kinds.0 == Kind::Gate || kinds.1 == Kind::Gate {
+        text.push_str("replay not shipped\n").expect(rt, "memory");
+        return false;
+    }
+    for (place, step) in steps.iter().enumerate() {
+        if append_difference(rt, text, objects, place, step) {
+            return true;
+        }
+    }
+    text.push_str("replay exact\n").expect(rt, "memory");
+    false
+}
+
+/// The latest of the events before this one that does not come before it and that it does not commute with: the place, and the formula.
+/// The row says which come before it.
+fn latest(steps: &[Step], row: &[bool], second: &Step) -> Option<(usize, &'static str)> {
+    let mut latest = None;
+    for ((place, first), reached) in steps.iter().enumerate().zip(row.iter()) {
+        if *reached {
+            continue;
+        }
+        if let Some(formula) = failed(first, second) {
+            latest = Some((place, formula));
+        }
+    }
+    latest
+}
+
+/// The race that the event at a place ends, if it ends one.
+fn append_race(
+    rt: &impl Abort,
+    text: &mut String,
+    steps: &[Step],
+    rows: &[Vec<bool>],
+    place: usize,
+    second: &Step,
+) -> bool {
+    let row = rows.get(place).expect(rt, "a row").as_slice();
+    let Some((earlier, formula)) = latest(steps, row, second) else {
+        return false;
+    };
+    text.push_str("race ").expect(rt, "memory");
+    append_event(rt, text, steps, place, second, row);
+    text.push_str("with ").expect(rt, "memory");
+    let first = steps.get(earlier).expect(rt, "an event");
+    let before = rows.get(earlier).expect(rt, "a row").as_slice();
+    append_event(rt, text, steps, earlier, first, before);
+    write!(text, "formula {formula}\n").expect(rt, "memory");
+    true
+}
+
+/// The races, and how many they are.
+fn append_races(rt: &impl Abort, text: &mut String, steps: &[Step], rows: &[Vec<bool>]) -> u32 {
+    let mut races = 0u32;
+    for (place, second) in steps.iter().enumerate() {
+        if append_race(rt, text, steps, rows, place, second) {
+            races = races.saturating_add(1);
+        }
+    }
+    write!(text, "races {races}\n").expect(rt, "memory");
+    races
 }
 
 /// The report of a trace of these events.
-fn report(alloc: Global, kinds: (Kind, Kind), steps: &[Step]) -> Result<(Status, String), Fail> {
-    let rows = reaching(alloc, steps)?;
-    let mut text = String::new(alloc);
-    let mut reported = Vec::new(alloc);
-    for ((later, second), row) in steps.iter().enumerate().zip(rows.iter()) {
-        let mut latest = String::new(alloc);
-        for (((earlier, first), its), reached) in steps
-            .iter()
-            .enumerate()
-            .zip(rows.iter())
-            .zip(row.iter())
-        {
-            if *reached {
-                continue;
-            }
-            if let Some(formula) = failed(first, second) {
-                let witness = told(alloc, steps, earlier, first, its)?;
-                latest = format!(in alloc; "with {witness}formula {formula}\n")?;
-            }
-        }
-        if !latest.is_empty() {
-            reported.push(later)?;
-            let race = told(alloc, steps, later, second, row)?;
-            text.push_str(&format!(in alloc; "race {race}{latest}")?)?;
-        }
-    }
-    let races = reported.len();
-    let (replay, differs) = replay(alloc, kinds, steps)?;
-    text.push_str(&format!(in alloc; "races {races}\n{replay}")?)?;
-    let status = if races > 0 {
+fn append_report(
+    rt: &impl Abort,
+    alloc: Global,
+    text: &mut String,
+    kinds: (Kind, Kind),
+    steps: &[Step],
+) -> Status {
+    let rows = reaching(rt, alloc, steps);
+    let races = append_races(rt, text, steps, rows.as_slice());
+    let mut objects = Objects::new(alloc);
+    let differs = append_replay(rt, text, kinds, &mut objects, steps);
+    if races > 0 {
         Status::Raced
     } else if differs {
         Status::ReplayDiffers
     } else {
         Status::Clean
-    };
-    Ok((status, text))
+    }
 }
 
 /// What may be done with a lock: who has it, and how often it was acquired and not released.
@@ -272,6 +342,76 @@ impl Held {
             return Some(Step::Release { thread, lock });
         }
         None
+    }
+}
+
+/// What the events so far left.
+#[derive(Drop)]
+struct Course {
+    kinds: (Kind, Kind),
+    objects: Objects,
+    threads: u32,
+    ended: Vec<u32>,
+    first: Held,
+    second: Held,
+}
+
+impl Course {
+    fn new(alloc: Global, kinds: (Kind, Kind)) -> Course {
+        let free = Held {
+            holder: 0,
+            depth: 0,
+        };
+        Course {
+            kinds,
+            objects: Objects::new(alloc),
+            threads: ROOTS,
+            ended: Vec::new(alloc),
+            first: free,
+            second: free,
+        }
+    }
+
+    fn forked(&mut self, thread: u32) -> Step {
+        let child = self.threads;
+        self.threads = child.saturating_add(1);
+        Step::Fork { thread, child }
+    }
+
+    fn joined(&mut self, rt: &impl Abort, thread: u32, child: u32) -> Step {
+        self.ended.push(child).expect(rt, "memory");
+        Step::Join { thread, child }
+    }
+
+    fn used(&mut self, thread: u32, acquires: bool, lock: u32) -> Option<Step> {
+        if lock == 0 {
+            self.first.used(thread, lock, acquires)
+        } else {
+            self.second.used(thread, lock, acquires)
+        }
+    }
+
+    /// The call, which the object runs. Its result is the one that the object gives, where it gives one and that is asked for.
+    fn called(
+        &mut self,
+        rt: &impl Abort,
+        thread: u32,
+        object: u32,
+        call: Call,
+        is_given: bool,
+    ) -> Step {
+        let mut call = call;
+        let given = self.objects.run(rt, object, &call);
+        if let Some(value) = given
+            && is_given
+        {
+            call.result = value;
+        }
+        Step::Call {
+            thread,
+            object,
+            call,
+        }
     }
 }
 
@@ -308,11 +448,7 @@ impl Random {
     }
 
     fn truth(&mut self) -> Value {
-        if self.below(2) == 0 {
-            Value::Bool(true)
-        } else {
-            Value::Bool(false)
-        }
+        Value::Bool(self.below(2) == 0)
     }
 
     fn amount(&mut self) -> Value {
@@ -331,195 +467,221 @@ impl Random {
         }
     }
 
-    fn call(&mut self, kind: Kind) -> Call {
-        let method = self.below(4);
-        match kind {
-            Kind::Register => Call::Register(match method {
-                0 => RegisterCall::Read {
-                    value: self.number(),
-                },
-                1 => RegisterCall::Write {
-                    value: self.number(),
-                },
-                _ => RegisterCall::Swap {
-                    value: self.number(),
-                    prev: self.number(),
-                },
-            }),
-            Kind::Counter => Call::Counter(match method {
-                0 | 1 => CounterCall::Add {
-                    amount: self.amount(),
-                },
-                _ => CounterCall::Get {
-                    total: self.number(),
-                },
-            }),
-            Kind::Set => Call::Set(match method {
-                0 => SetCall::Add {
-                    item: self.number(),
-                    done: self.truth(),
-                },
-                1 => SetCall::Remove {
-                    item: self.number(),
-                    done: self.truth(),
-                },
-                2 => SetCall::Contains {
-                    item: self.number(),
-                    found: self.truth(),
-                },
-                _ => SetCall::Size { n: self.number() },
-            }),
-            Kind::Dictionary => Call::Dictionary(match method {
-                0 | 1 => DictionaryCall::Put {
-                    key: self.number(),
-                    value: self.content(),
-                    prev: self.content(),
-                },
-                2 => DictionaryCall::Get {
-                    key: self.number(),
-                    value: self.content(),
-                },
-                _ => DictionaryCall::Size { n: self.number() },
-            }),
-            Kind::Gate => Call::Gate(match method {
-                0 | 1 => GateCall::Pass {
-                    by: self.number(),
-                    done: self.truth(),
-                },
-                _ => GateCall::Look { seen: self.truth() },
-            }),
+    fn method(&mut self, kind: Kind) -> Method {
+        match (kind, self.below(4)) {
+            (Kind::Register, 0) => Method::RegisterRead,
+            (Kind::Register, 1) => Method::RegisterWrite,
+            (Kind::Register, _) => Method::RegisterSwap,
+            (Kind::Counter, 0 | 1) => Method::CounterAdd,
+            (Kind::Counter, _) => Method::CounterGet,
+            (Kind::Set, 0) => Method::SetAdd,
+            (Kind::Set, 1) => Method::SetRemove,
+            (Kind::Set, 2) => Method::SetContains,
+            (Kind::Set, _) => Method::SetSize,
+            (Kind::Dictionary, 0 | 1) => Method::DictionaryPut,
+            (Kind::Dictionary, 2) => Method::DictionaryGet,
+            (Kind::Dictionary, _) => Method::DictionarySize,
+            (Kind::Gate, 0 | 1) => Method::GatePass,
+            (Kind::Gate, _) => Method::GateLook,
         }
     }
 
-    /// Events that may follow one another. The results are those that the objects give, or random.
+    /// An item, what is put under a key, and a result, each where the method has it.
+    fn values(&mut self, method: Method) -> (Value, Value, Value) {
+        match method {
+            Method::RegisterRead | Method::CounterGet | Method::SetSize | Method::DictionarySize =>
+                (Value::Nil, Value::Nil, self.number()),
+            Method::RegisterWrite => (self.number(), Value::Nil, Value::Nil),
+            Method::RegisterSwap => (self.number(), Value::Nil, self.number()),
+            Method::CounterAdd => (self.amount(), Value::Nil, Value::Nil),
+            Method::SetAdd | Method::SetRemove | Method::SetContains | Method::GatePass => {
+                (self.number(), Value::Nil, self.truth())
+            }
+            Method::DictionaryPut => (self.number(), self.content(), self.content()),
+            Method::DictionaryGet => (self.number(), Value::Nil, self.content()),
+            Method::GateLook => (Value::Nil, Value::Nil, self.truth()),
+        }
+    }
+
+    fn call(&mut self, kind: Kind) -> Call {
+        let method = self.method(kind);
+        let (item, put, result) = self.values(method);
+        Call {
+            method,
+            item,
+            put,
+            result,
+        }
+    }
+
+    /// A call of one of the objects.
+    fn called(
+        &mut self,
+        rt: &impl Abort,
+        course: &mut Course,
+        thread: u32,
+        is_given: bool,
+    ) -> Step {
+        let object = self.below(2);
+        let kind = if object == 0 {
+            course.kinds.0
+        } else {
+            course.kinds.1
+        };
+        let call = self.call(kind);
+        course.called(rt, thread, object, call, is_given)
+    }
+
+    /// An event that may follow, or none where what is drawn may not. Its result is the one that the object gives, or random.
+    fn step(&mut self, rt: &impl Abort, course: &mut Course, is_given: bool) -> Option<Step> {
+        let thread = self.below(THREADS);
+        if thread >= course.threads || course.ended.contains(&thread) {
+            return None;
+        }
+        let child = self.below(THREADS);
+        let choice = self.below(8);
+        if choice == 0 && course.threads < THREADS {
+            Some(course.forked(thread))
+        } else if choice == 1 && child < course.threads && child != thread {
+            Some(course.joined(rt, thread, child))
+        } else if choice <= 3 {
+            let acquires = self.below(2) == 0;
+            course.used(thread, acquires, self.below(2))
+        } else {
+            Some(self.called(rt, course, thread, is_given))
+        }
+    }
+
+    /// Puts events behind one another that may follow so. The results are those that the objects give, or random.
     fn steps(
         &mut self,
-        alloc: Global,
-        kinds: (Kind, Kind),
+        rt: &impl Abort,
+        course: &mut Course,
         are_given: bool,
-    ) -> Result<Vec<Step>, Fail> {
-        let mut steps = Vec::new(alloc);
-        let mut objects = (Object::new(alloc), Object::new(alloc));
-        let mut ended: Vec<u32> = Vec::new(alloc);
-        let mut threads = ROOTS;
-        let mut first = Held {
-            holder: 0,
-            depth: 0,
-        };
-        let mut second = first;
+        steps: &mut Vec<Step>,
+    ) {
         for _ in 0..self.below(40) {
-            let thread = self.below(THREADS);
-            if thread >= threads || ended.contains(&thread) {
-                continue;
-            }
-            let child = self.below(THREADS);
-            let choice = self.below(8);
-            if choice == 0 && threads < THREADS {
-                steps.push(Step::Fork {
-                    thread,
-                    child: threads,
-                })?;
-                threads += 1;
-            } else if choice == 1 && child < threads && child != thread {
-                steps.push(Step::Join { thread, child })?;
-                ended.push(child)?;
-            } else if choice <= 3 {
-                let acquires = self.below(2) == 0;
-                let used = if self.below(2) == 0 {
-                    first.used(thread, 0, acquires)
-                } else {
-                    second.used(thread, 1, acquires)
-                };
-                if let Some(step) = used {
-                    steps.push(step)?;
-                }
-            } else {
-                let object = self.below(2);
-                let kind = if object == 0 { kinds.0 } else { kinds.1 };
-                let call = self.call(kind);
-                let given = if object == 0 {
-                    objects.0.run(alloc, &call)?
-                } else {
-                    objects.1.run(alloc, &call)?
-                };
-                let call = match given {
-                    Some(value) if are_given => call.with_result(value),
-                    _ => call,
-                };
-                steps.push(Step::Call {
-                    thread,
-                    object,
-                    call,
-                })?;
+            if let Some(step) = self.step(rt, course, are_given) {
+                steps.push(step).expect(rt, "memory");
             }
         }
-        Ok(steps)
     }
 }
 
+/// An event with a thread, and the number of a thread or lock behind this letter.
+fn append_pair(rt: &impl Abort, text: &mut String, word: &str, thread: u32, other: (&str, u32)) {
+    let (letter, number) = other;
+    write!(text, "{word} t{thread} {letter}{number}").expect(rt, "memory");
+}
+
+/// A call of an object, without the word `call`.
+fn append_called(rt: &impl Abort, text: &mut String, thread: u32, object: u32, call: &Call) {
+    write!(text, "t{thread} x{object} ").expect(rt, "memory");
+    append_call(rt, text, call);
+}
+
 /// An event as in its line, a call without the word `call`.
-fn spelled(alloc: Global, step: &Step) -> Result<String, Fail> {
-    Ok(match step {
-        Step::Fork { thread, child } => format!(in alloc; "fork t{thread} t{child}")?,
-        Step::Join { thread, child } => format!(in alloc; "join t{thread} t{child}")?,
-        Step::Acquire { thread, lock } => format!(in alloc; "acquire t{thread} l{lock}")?,
-        Step::Release { thread, lock } => format!(in alloc; "release t{thread} l{lock}")?,
+fn append_step(rt: &impl Abort, text: &mut String, step: &Step) {
+    match step {
+        Step::Fork { thread, child } => append_pair(rt, text, "fork", *thread, ("t", *child)),
+        Step::Join { thread, child } => append_pair(rt, text, "join", *thread, ("t", *child)),
+        Step::Acquire { thread, lock } => append_pair(rt, text, "acquire", *thread, ("l", *lock)),
+        Step::Release { thread, lock } => append_pair(rt, text, "release", *thread, ("l", *lock)),
         Step::Call {
             thread,
             object,
             call,
-        } => {
-            let call = call.spelled(alloc)?;
-            format!(in alloc; "t{thread} x{object} {call}")?
-        }
-    })
+        } => append_called(rt, text, *thread, *object, call),
+    }
 }
 
-fn trace(alloc: Global, kinds: (Kind, Kind), steps: &[Step]) -> Result<String, Fail> {
+fn append_trace(rt: &impl Abort, text: &mut String, kinds: (Kind, Kind), steps: &[Step]) {
     let (first, second) = (kinds.0.name(), kinds.1.name());
-    let mut text = format!(in alloc;
+    write!(
+        text,
         "rdtrace 1\nthread t0\nthread t1\nobject x0 {first}\nobject x1 {second}\n"
-    )?;
+    )
+    .expect(rt, "memory");
     for step in steps {
         if let Step::Call { .. } = step {
-            text.push_str("call ")?;
+            text.push_str("call ").expect(rt, "memory");
         }
-        text.push_str(&spelled(alloc, step)?)?;
-        text.push_str("\n")?;
+        append_step(rt, text, step);
+        text.push_str("\n").expect(rt, "memory");
     }
-    Ok(text)
 }
 
-#[test]
-fn random_traces(rt: HostRuntime) -> Result<(), Fail> {
-    let alloc = rt.alloc();
-    let mut random = Random { state: 1 };
-    let mut clean = 0u32;
-    let mut raced = 0u32;
-    let mut exact = 0u32;
-    let mut differing = 0u32;
-    for _ in 0..800u32 {
-        let kinds = (random.kind(), random.kind());
-        let are_given = random.below(2) == 0;
-        let steps = random.steps(alloc, kinds, are_given)?;
-        let (status, text) = report(alloc, kinds, &steps)?;
-        let trace = trace(alloc, kinds, &steps)?;
-        let (answer, out) = checked(alloc, trace.as_bytes(), GATE)?;
-        assert_eq!(rt; out.written(), text.as_bytes(), "{trace}");
-        assert_eq!(rt; answer, status, "{trace}");
+/// How many traces ended in each way.
+#[derive(Clone, Copy)]
+struct Tally {
+    clean: u32,
+    raced: u32,
+    exact: u32,
+    differing: u32,
+}
+
+impl Tally {
+    fn add(&mut self, status: Status, text: &str) {
         match status {
-            Status::Clean => clean = clean.saturating_add(1),
-            Status::Raced => raced = raced.saturating_add(1),
+            Status::Clean => self.clean = self.clean.saturating_add(1),
+            Status::Raced => self.raced = self.raced.saturating_add(1),
             _ => {}
         }
         if text.ends_with("replay exact\n") {
-            exact = exact.saturating_add(1);
+            self.exact = self.exact.saturating_add(1);
         } else if !text.ends_with("replay not shipped\n") {
-            differing = differing.saturating_add(1);
+            self.differing = self.differing.saturating_add(1);
         }
     }
+}
+
+/// `check` answers and writes this for the trace.
+fn is_answered(rt: &impl Abort, alloc: Global, trace: &str, status: Status, text: &str) {
+    let mut out = MemorySink::new(alloc, 16_384, &[]).expect(rt, "memory");
+    let answer = checked(rt, alloc, trace.as_bytes(), GATE, &mut out);
+    let is_written = out.written() == text.as_bytes();
+    assert!(rt; is_written && answer == status, "{trace}\n{text}");
+}
+
+/// A trace of these events.
+fn is_checked(
+    rt: &impl Abort,
+    alloc: Global,
+    kinds: (Kind, Kind),
+    steps: &[Step],
+    tally: &mut Tally,
+) {
+    let mut text = String::new(alloc);
+    let status = append_report(rt, alloc, &mut text, kinds, steps);
+    tally.add(status, text.as_str());
+    let mut trace = String::new(alloc);
+    append_trace(rt, &mut trace, kinds, steps);
+    is_answered(rt, alloc, trace.as_str(), status, text.as_str());
+}
+
+/// The next random trace.
+fn tries(rt: &impl Abort, alloc: Global, random: &mut Random, tally: &mut Tally) {
+    let kinds = (random.kind(), random.kind());
+    let are_given = random.below(2) == 0;
+    let mut course = Course::new(alloc, kinds);
+    let mut steps = Vec::new(alloc);
+    random.steps(rt, &mut course, are_given, &mut steps);
+    is_checked(rt, alloc, kinds, steps.as_slice(), tally);
+}
+
+#[test]
+fn random_traces(rt: HostRuntime) {
+    let mut random = Random { state: 1 };
+    let mut tally = Tally {
+        clean: 0,
+        raced: 0,
+        exact: 0,
+        differing: 0,
+    };
+    for _ in 0..800u32 {
+        tries(&rt, rt.alloc(), &mut random, &mut tally);
+    }
     // Each comes often.
-    assert!(rt; clean >= 150 && raced >= 150, "{clean} {raced}");
-    assert!(rt; exact >= 150 && differing >= 150, "{exact} {differing}");
-    Ok(())
+    assert!(rt; tally.clean >= 150 && tally.raced >= 150);
+    assert!(rt; tally.exact >= 150 && tally.differing >= 150);
 }

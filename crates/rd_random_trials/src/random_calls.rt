@@ -1,7 +1,6 @@
 //! Calls of each kind, and when two of them commute, in words of this crate alone.
 
-use std::alloc::Global;
-use std::test::Fail;
+use std::process::Abort;
 
 /// The kind of an object.
 #[derive(Clone, Copy, PartialEq, Eq)]
@@ -37,220 +36,117 @@ pub enum Value {
     Int(i64),
 }
 
-impl Value {
-    pub fn spelled(&self, alloc: Global) -> Result<String, Fail> {
-        Ok(match self {
-            Value::Nil => String::from_str(alloc, "nil")?,
-            Value::Bool(truth) => format!(in alloc; "{truth}")?,
-            Value::Int(number) => format!(in alloc; "{number}")?,
-        })
+pub fn append_value(rt: &impl Abort, text: &mut String, value: Value) {
+    match value {
+        Value::Nil => text.push_str("nil").expect(rt, "memory"),
+        Value::Bool(truth) => write!(text, "{truth}").expect(rt, "memory"),
+        Value::Int(number) => write!(text, "{number}").expect(rt, "memory"),
     }
 }
 
+/// The methods of all kinds.
 #[derive(Clone, Copy)]
-pub enum RegisterCall {
-    Read { value: Value },
-    Write { value: Value },
-    Swap { value: Value, prev: Value },
+pub enum Method {
+    RegisterRead,
+    RegisterWrite,
+    RegisterSwap,
+    CounterAdd,
+    CounterGet,
+    SetAdd,
+    SetRemove,
+    SetContains,
+    SetSize,
+    DictionaryPut,
+    DictionaryGet,
+    DictionarySize,
+    GatePass,
+    GateLook,
 }
 
-#[derive(Clone, Copy)]
-pub enum CounterCall {
-    Add { amount: Value },
-    Get { total: Value },
-}
-
-#[derive(Clone, Copy)]
-pub enum SetCall {
-    Add { item: Value, done: Value },
-    Remove { item: Value, done: Value },
-    Contains { item: Value, found: Value },
-    Size { n: Value },
-}
-
-#[derive(Clone, Copy)]
-pub enum DictionaryCall {
-    Put {
-        key: Value,
-        value: Value,
-        prev: Value,
-    },
-    Get {
-        key: Value,
-        value: Value,
-    },
-    Size {
-        n: Value,
-    },
-}
-
-#[derive(Clone, Copy)]
-pub enum GateCall {
-    Pass { by: Value, done: Value },
-    Look { seen: Value },
-}
-
-/// A call with its values. A write and an addition have the result nil.
-#[derive(Clone, Copy)]
-pub enum Call {
-    Register(RegisterCall),
-    Counter(CounterCall),
-    Set(SetCall),
-    Dictionary(DictionaryCall),
-    Gate(GateCall),
-}
-
-impl Call {
-    /// The method, the arguments and the result.
-    fn parts(&self) -> (&'static str, [Option<Value>; 2], Value) {
+impl Method {
+    /// The name, and how many arguments there are.
+    fn shape(self) -> (&'static str, u32) {
         match self {
-            Call::Register(RegisterCall::Read { value }) => ("read", [None, None], *value),
-            Call::Register(RegisterCall::Write { value }) => (
-                "write",
-                [Some(*value), None],
-                Value::Nil,
-            ),
-            Call::Register(RegisterCall::Swap { value, prev }) => (
-                "swap",
-                [Some(*value), None],
-                *prev,
-            ),
-            Call::Counter(CounterCall::Add { amount }) => (
-                "add",
-                [Some(*amount), None],
-                Value::Nil,
-            ),
-            Call::Counter(CounterCall::Get { total }) => ("get", [None, None], *total),
-            Call::Set(SetCall::Add { item, done }) => ("add", [Some(*item), None], *done),
-            Call::Set(SetCall::Remove { item, done }) => ("remove", [Some(*item), None], *done),
-            Call::Set(SetCall::Contains { item, found }) => (
-                "contains",
-                [Some(*item), None],
-                *found,
-            ),
-            Call::Set(SetCall::Size { n }) => ("size", [None, None], *n),
-            Call::Dictionary(DictionaryCall::Put { key, value, prev }) => (
-                "put",
-                [Some(*key), Some(*value)],
-                *prev,
-            ),
-            Call::Dictionary(DictionaryCall::Get { key, value }) => (
-                "get",
-                [Some(*key), None],
-                *value,
-            ),
-            Call::Dictionary(DictionaryCall::Size { n }) => ("size", [None, None], *n),
-            Call::Gate(GateCall::Pass { by, done }) => ("pass", [Some(*by), None], *done),
-            Call::Gate(GateCall::Look { seen }) => ("look", [None, None], *seen),
+            Method::RegisterRead => ("read", 0),
+            Method::RegisterWrite => ("write", 1),
+            Method::RegisterSwap => ("swap", 1),
+            Method::CounterAdd | Method::SetAdd => ("add", 1),
+            Method::CounterGet => ("get", 0),
+            Method::SetRemove => ("remove", 1),
+            Method::SetContains => ("contains", 1),
+            Method::SetSize | Method::DictionarySize => ("size", 0),
+            Method::DictionaryPut => ("put", 2),
+            Method::DictionaryGet => ("get", 1),
+            Method::GatePass => ("pass", 1),
+            Method::GateLook => ("look", 0),
         }
-    }
-
-    pub fn result(&self) -> Value {
-        let (_, _, result) = self.parts();
-        result
-    }
-
-    /// The same call with another result. A write and an addition keep theirs.
-    pub fn with_result(&self, given: Value) -> Call {
-        match *self {
-            Call::Register(RegisterCall::Read { .. }) => {
-                Call::Register(RegisterCall::Read { value: given })
-            }
-            Call::Register(RegisterCall::Swap { value, .. }) => {
-                Call::Register(RegisterCall::Swap { value, prev: given })
-            }
-            Call::Counter(CounterCall::Get { .. }) => {
-                Call::Counter(CounterCall::Get { total: given })
-            }
-            Call::Set(SetCall::Add { item, .. }) => {
-                Call::Set(SetCall::Add { item, done: given })
-            }
-            Call::Set(SetCall::Remove { item, .. }) => {
-                Call::Set(SetCall::Remove { item, done: given })
-            }
-            Call::Set(SetCall::Contains { item, .. }) => {
-                Call::Set(SetCall::Contains { item, found: given })
-            }
-            Call::Set(SetCall::Size { .. }) => Call::Set(SetCall::Size { n: given }),
-            Call::Dictionary(DictionaryCall::Put { key, value, .. }) => {
-                Call::Dictionary(DictionaryCall::Put {
-                    key,
-                    value,
-                    prev: given,
-                })
-            }
-            Call::Dictionary(DictionaryCall::Get { key, .. }) => {
-                Call::Dictionary(DictionaryCall::Get { key, value: given })
-            }
-            Call::Dictionary(DictionaryCall::Size { .. }) => {
-                Call::Dictionary(DictionaryCall::Size { n: given })
-            }
-            Call::Gate(GateCall::Pass { by, .. }) => {
-                Call::Gate(GateCall::Pass { by, done: given })
-            }
-            Call::Gate(GateCall::Look { .. }) => { Call::Gate(GateCall::Look { seen: given }) }
-            Call::Register(RegisterCall::Write { .. }) | Call::Counter(CounterCall::Add { .. }) => {
-                *self
-            }
-        }
-    }
-
-    /// The method, the arguments and the result, as in a line.
-    pub fn spelled(&self, alloc: Global) -> Result<String, Fail> {
-        let (method, arguments, result) = self.parts();
-        let mut text = String::from_str(alloc, method)?;
-        for argument in arguments {
-            if let Some(value) = argument {
-                text.push_str(" ")?;
-                text.push_str(&value.spelled(alloc)?)?;
-            }
-        }
-        text.push_str(" -> ")?;
-        text.push_str(&result.spelled(alloc)?)?;
-        Ok(text)
     }
 }
 
-/// The formula of two calls whose methods were declared in this order, and whether it holds for them.
+/// A call with its values: an item, a key, or what is written, added or passed by; what is put under a key; and the result. A value that
+/// the method doesn't have is nil. A write and an addition have the result nil.
+#[derive(Clone, Copy)]
+pub struct Call {
+    pub method: Method,
+    pub item: Value,
+    pub put: Value,
+    pub result: Value,
+}
+
+/// The method, the arguments and the result, as in a line.
+pub fn append_call(rt: &impl Abort, text: &mut String, call: &Call) {
+    let (name, arguments) = call.method.shape();
+    text.push_str(name).expect(rt, "memory");
+    if arguments >= 1 {
+        text.push_str(" ").expect(rt, "memory");
+        append_value(rt, text, call.item);
+    }
+    if arguments == 2 {
+        text.push_str(" ").expect(rt, "memory");
+        append_value(rt, text, call.put);
+    }
+    text.push_str(" -> ").expect(rt, "memory");
+    append_value(rt, text, call.result);
+}
+
+/// The formula of two calls of one object, whose methods were declared in this order, and whether it holds for them.
 pub fn pair(first: &Call, second: &Call) -> Option<(&'static str, bool)> {
-    match (first, second) {
-        (Call::Register(first), Call::Register(second)) => register(first, second),
-        (Call::Counter(first), Call::Counter(second)) => counter(first, second),
-        (Call::Set(first), Call::Set(second)) => set(first, second),
-        (Call::Dictionary(first), Call::Dictionary(second)) => dictionary(first, second),
-        (Call::Gate(first), Call::Gate(second)) => gate(first, second),
-        _ => None,
+    match first.method {
+        Method::RegisterRead | Method::RegisterWrite | Method::RegisterSwap => {
+            register(first, second)
+        }
+        Method::CounterAdd | Method::CounterGet => counter(first, second),
+        Method::SetAdd | Method::SetRemove => changed_set(first, second),
+        Method::SetContains | Method::SetSize => unchanged_set(first, second),
+        Method::DictionaryPut | Method::DictionaryGet | Method::DictionarySize => {
+            dictionary(first, second)
+        }
+        Method::GatePass | Method::GateLook => gate(first, second),
     }
 }
 
 /// A swap for the value that was there is a read. Nothing else commutes with a write.
-fn register(first: &RegisterCall, second: &RegisterCall) -> Option<(&'static str, bool)> {
-    Some(match (first, second) {
-        (RegisterCall::Read { .. }, RegisterCall::Read { .. }) => {
-            ("register read read when true", true)
-        }
-        (RegisterCall::Read { .. }, RegisterCall::Write { .. }) => {
+fn register(first: &Call, second: &Call) -> Option<(&'static str, bool)> {
+    let first_keeps = first.item == first.result;
+    let second_keeps = second.item == second.result;
+    Some(match (first.method, second.method) {
+        (Method::RegisterRead, Method::RegisterRead) => ("register read read when true", true),
+        (Method::RegisterRead, Method::RegisterWrite) => {
             ("register read write when false", false)
         }
-        (RegisterCall::Read { .. }, RegisterCall::Swap { value, prev }) => {
-            ("register read swap when value@2 = prev@2", value == prev)
+        (Method::RegisterRead, Method::RegisterSwap) => {
+            ("register read swap when value@2 = prev@2", second_keeps)
         }
-        (RegisterCall::Write { .. }, RegisterCall::Write { .. }) => {
+        (Method::RegisterWrite, Method::RegisterWrite) => {
             ("register write write when false", false)
         }
-        (RegisterCall::Write { .. }, RegisterCall::Swap { .. }) => {
+        (Method::RegisterWrite, Method::RegisterSwap) => {
             ("register write swap when false", false)
         }
-        (
-            RegisterCall::Swap { value, prev },
-            RegisterCall::Swap {
-                value: then,
-                prev: before,
-            },
-        ) => {
+        (Method::RegisterSwap, Method::RegisterSwap) => {
             (
                 "register swap swap when value@1 = prev@1 and value@2 = prev@2",
-                value == prev && then == before,
+                first_keeps && second_keeps,
             )
         }
         _ => return None,
@@ -258,147 +154,103 @@ fn register(first: &RegisterCall, second: &RegisterCall) -> Option<(&'static str
 }
 
 /// Sums have no order, and nothing may be added before a total is asked for.
-fn counter(first: &CounterCall, second: &CounterCall) -> Option<(&'static str, bool)> {
-    Some(match (first, second) {
-        (CounterCall::Add { .. }, CounterCall::Add { .. }) => {
-            ("counter add add when true", true)
+fn counter(first: &Call, second: &Call) -> Option<(&'static str, bool)> {
+    let adds_nothing = first.item == Value::Int(0);
+    Some(match (first.method, second.method) {
+        (Method::CounterAdd, Method::CounterAdd) => ("counter add add when true", true),
+        (Method::CounterAdd, Method::CounterGet) => {
+            ("counter add get when amount@1 = 0", adds_nothing)
         }
-        (CounterCall::Add { amount }, CounterCall::Get { .. }) => {
-            (
-                "counter add get when amount@1 = 0",
-                *amount == Value::Int(0),
-            )
-        }
-        (CounterCall::Get { .. }, CounterCall::Get { .. }) => {
-            ("counter get get when true", true)
-        }
+        (Method::CounterGet, Method::CounterGet) => ("counter get get when true", true),
         _ => return None,
     })
 }
 
 /// Calls with different items commute, and so do calls that change nothing. A size commutes with what changes nothing.
-fn set(first: &SetCall, second: &SetCall) -> Option<(&'static str, bool)> {
-    Some(match (first, second) {
-        (
-            SetCall::Add { item, done },
-            SetCall::Add {
-                item: other,
-                done: also,
-            },
-        ) => (
+fn changed_set(first: &Call, second: &Call) -> Option<(&'static str, bool)> {
+    let others = first.item != second.item;
+    let is_idle = first.result == Value::Bool(false);
+    let are_idle = is_idle && second.result == Value::Bool(false);
+    Some(match (first.method, second.method) {
+        (Method::SetAdd, Method::SetAdd) => (
             "set add add when item@1 != item@2 or done@1 = false and done@2 = false",
-            item != other || idle(*done, *also),
+            others || are_idle,
         ),
-        (
-            SetCall::Add { item, done },
-            SetCall::Remove {
-                item: other,
-                done: also,
-            },
-        ) => (
+        (Method::SetAdd, Method::SetRemove) => (
             "set add remove when item@1 != item@2 or done@1 = false and done@2 = false",
-            item != other || idle(*done, *also),
+            others || are_idle,
         ),
-        (SetCall::Add { item, done }, SetCall::Contains { item: other, .. }) => (
-            "set add contains when item@1 != item@2 or done@1 = false",
-            item != other || *done == Value::Bool(false),
-        ),
-        (SetCall::Add { done, .. }, SetCall::Size { .. }) => {
-            (
-                "set add size when done@1 = false",
-                *done == Value::Bool(false),
-            )
-        }
-        (
-            SetCall::Remove { item, done },
-            SetCall::Remove {
-                item: other,
-                done: also,
-            },
-        ) => (
+        (Method::SetRemove, Method::SetRemove) => (
             "set remove remove when item@1 != item@2 or done@1 = false and done@2 = false",
-            item != other || idle(*done, *also),
+            others || are_idle,
         ),
-        (SetCall::Remove { item, done }, SetCall::Contains { item: other, .. }) => (
+        (Method::SetAdd, Method::SetContains) => (
+            "set add contains when item@1 != item@2 or done@1 = false",
+            others || is_idle,
+        ),
+        (Method::SetRemove, Method::SetContains) => (
             "set remove contains when item@1 != item@2 or done@1 = false",
-            item != other || *done == Value::Bool(false),
+            others || is_idle,
         ),
-        (SetCall::Remove { done, .. }, SetCall::Size { .. }) => {
-            (
-                "set remove size when done@1 = false",
-                *done == Value::Bool(false),
-            )
-        }
-        (SetCall::Contains { .. }, SetCall::Contains { .. }) => {
-            ("set contains contains when true", true)
-        }
-        (SetCall::Contains { .. }, SetCall::Size { .. }) => {
-            ("set contains size when true", true)
-        }
-        (SetCall::Size { .. }, SetCall::Size { .. }) => ("set size size when true", true),
+        (Method::SetAdd, Method::SetSize) => ("set add size when done@1 = false", is_idle),
+        (Method::SetRemove, Method::SetSize) => ("set remove size when done@1 = false", is_idle),
         _ => return None,
     })
 }
 
-fn idle(done: Value, also: Value) -> bool {
-    done == Value::Bool(false) && also == Value::Bool(false)
+fn unchanged_set(first: &Call, second: &Call) -> Option<(&'static str, bool)> {
+    Some(match (first.method, second.method) {
+        (Method::SetContains, Method::SetContains) => ("set contains contains when true", true),
+        (Method::SetContains, Method::SetSize) => ("set contains size when true", true),
+        (Method::SetSize, Method::SetSize) => ("set size size when true", true),
+        _ => return None,
+    })
 }
 
 /// Calls with different keys commute, and a put of the value that was there is a get. A size commutes with a put that neither makes nor
 /// ends an entry: nil stands for none.
-fn dictionary(first: &DictionaryCall, second: &DictionaryCall) -> Option<(&'static str, bool)> {
-    Some(match (first, second) {
-        (
-            DictionaryCall::Put { key, value, prev },
-            DictionaryCall::Put {
-                key: other,
-                value: then,
-                prev: before,
-            },
-        ) => (
+fn dictionary(first: &Call, second: &Call) -> Option<(&'static str, bool)> {
+    let others = first.item != second.item;
+    let first_keeps = first.put == first.result;
+    let second_keeps = second.put == second.result;
+    let keeps_size = (first.put == Value::Nil) == (first.result == Value::Nil);
+    Some(match (first.method, second.method) {
+        (Method::DictionaryPut, Method::DictionaryPut) => (
             "dictionary put put when key@1 != key@2 or value@1 = prev@1 and value@2 = prev@2",
-            key != other || (value == prev && then == before),
+            others || (first_keeps && second_keeps),
         ),
-        (DictionaryCall::Put { key, value, prev }, DictionaryCall::Get { key: other, .. }) => (
+        (Method::DictionaryPut, Method::DictionaryGet) => (
             "dictionary put get when key@1 != key@2 or value@1 = prev@1",
-            key != other || value == prev,
+            others || first_keeps,
         ),
-        (DictionaryCall::Put { value, prev, .. }, DictionaryCall::Size { .. }) => (
+        (Method::DictionaryPut, Method::DictionarySize) => (
             "dictionary put size when value@1 = nil and prev@1 = nil or value@1 != nil and prev@1 != nil",
-            (*value == Value::Nil) == (*prev == Value::Nil),
+            keeps_size,
         ),
-        (DictionaryCall::Get { .. }, DictionaryCall::Get { .. }) => {
-            ("dictionary get get when true", true)
-        }
-        (DictionaryCall::Get { .. }, DictionaryCall::Size { .. }) => {
+        (Method::DictionaryGet, Method::DictionaryGet) => ("dictionary get get when true", true),
+        (Method::DictionaryGet, Method::DictionarySize) => {
             ("dictionary get size when true", true)
         }
-        (DictionaryCall::Size { .. }, DictionaryCall::Size { .. }) => {
+        (Method::DictionarySize, Method::DictionarySize) => {
             ("dictionary size size when true", true)
         }
         _ => return None,
     })
 }
 
-fn gate(first: &GateCall, second: &GateCall) -> Option<(&'static str, bool)> {
-    Some(match (first, second) {
-        (
-            GateCall::Pass { by, done },
-            GateCall::Pass {
-                by: other,
-                done: also,
-            },
-        ) => (
+fn gate(first: &Call, second: &Call) -> Option<(&'static str, bool)> {
+    let passes_another = first.item != second.item && first.result == Value::Bool(true);
+    let first_fails = first.result == Value::Bool(false);
+    let second_fails = second.result == Value::Bool(false);
+    Some(match (first.method, second.method) {
+        (Method::GatePass, Method::GatePass) => (
             "gate pass pass when by@1 != by@2 and done@1 = true or done@2 = false",
-            (by != other && *done == Value::Bool(true)) || *also == Value::Bool(false),
+            passes_another || second_fails,
         ),
-        (GateCall::Pass { done, .. }, GateCall::Look { .. }) => {
-            (
-                "gate pass look when done@1 = false",
-                *done == Value::Bool(false),
-            )
+        (Method::GatePass, Method::GateLook) => {
+            ("gate pass look when done@1 = false", first_fails)
         }
-        (GateCall::Look { .. }, GateCall::Look { .. }) => ("gate look look when true", true),
+        (Method::GateLook, Method::GateLook) => ("gate look look when true", true),
         _ => return None,
     })
 }

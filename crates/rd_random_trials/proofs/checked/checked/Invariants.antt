@@ -1,4 +1,4 @@
 use Rattle.rd_random_trials.proofs.checked.checked.Given as goal
 
 abbrev pub ghosts-run_counted : goal.ghosts-run_counted
-ghosts-run_counted a = record { name = a.blank.name; parts = a.blank.parts }
+ghosts-run_counted g a = record { name = a.blank.name; parts = a.blank.parts }

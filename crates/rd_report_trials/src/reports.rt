@@ -2,9 +2,9 @@
 ghost use Rattle.std.specs.Prelude.{◌≡◌, ◌<◌, IfOk, length};
 ghost use Rattle.rd_report.specs.Races.{IsKnownRace};
 ghost use Rattle.rd_report.specs.Texts.{naming_in};
-ghost use Rattle.rd_kind_trials.specs.Reports.{HasOneMethod, IsOfOne};
+ghost use Rattle.rd_report_trials.specs.Reports.{HasOneMethod, IsOfOne};
 
-use crate::samples::{built_in, is_text, kind_at, line, name, slots, spec_of, value};
+use crate::samples::{built_in, is_text, kind_at, name, opens, roster_over, slots, spec_of, value};
 use rd_base::{Bytes, LimitName, Limits, Slots, Steps, Value};
 use rd_clock::{Clock, Stamp};
 use rd_ecl::Spec;
@@ -27,13 +27,9 @@ use std::sync::ledger::{Blank, Ledger};
 const FLAGS: &str = "rdspec 1\nkind flag\nmethod set -> done\ncommute set set when done@1 = true\n";
 
 // The roster of these lines, with a semicolon between two.
-fn roster_of(rt: &impl Abort, alloc: Global, lines: &str) -> Roster {
-    let spec = spec_of(rt, alloc, FLAGS);
-    let mut roster = Roster::new(alloc, &spec).expect(rt, "memory");
-    for text in lines.split(';') {
-        let answer = roster.accept(&line(rt, alloc, text), &Limits::standard());
-        assert!(rt; answer.is_ok(), "{text}");
-    }
+fn roster_of(rt: &impl Abort, alloc: Global, lines: &str) -> Box<Roster> {
+    let mut roster = roster_over(rt, alloc, FLAGS);
+    opens(rt, alloc, &mut roster, lines, &Limits::standard());
     roster
 }
 
@@ -41,20 +37,20 @@ fn roster_of(rt: &impl Abort, alloc: Global, lines: &str) -> Roster {
 fn clock_of<L: Ledger>(
     rt: &impl Abort,
     alloc: Global,
-    counts: [u32; 3],
+    counts: (u32, u32, u32),
     steps: &mut Steps<L>,
 ) -> Clock {
     let mut clock = Clock::new(alloc);
     clock.reserve(3).expect(rt, "memory");
-    clock.raise(0, counts[0], steps);
-    clock.raise(1, counts[1], steps);
-    clock.raise(2, counts[2], steps);
+    clock.raise(0, counts.0, steps);
+    clock.raise(1, counts.1, steps);
+    clock.raise(2, counts.2, steps);
     clock
 }
 
 // What is told of a call of the first flag: the number of its line, its thread, its result, and how many events of three threads its
 // clock counts.
-type Told = (u64, u32, bool, [u32; 3]);
+type Told = (u64, u32, bool, (u32, u32, u32));
 
 // A call of the first flag.
 fn call_of<L: Ledger>(
@@ -120,13 +116,33 @@ fn race_of(
     }
 }
 
-// The race has this text, and the same is put behind another text.
-fn is_told(rt: &impl Abort, alloc: Global, spec: &Spec, names: &Roster, race: &Race, wanted: &str)
-    requires spec { HasOneMethod spec.now }
-    requires race { IsKnownRace spec.now (naming_in names.now) race.now }
+// The text of the race is this.
+fn is_written(
+    rt: &impl Abort,
+    alloc: Global,
+    spec: &Spec,
+    names: &Roster,
+    race: &Race,
+    wanted: &str,
+)
+    requires { IsKnownRace spec.now (naming_in names.now) race.now }
 {
     let text = race_text(alloc, race, spec, names).expect(rt, "memory");
     is_text(rt, text.items(), wanted);
+}
+
+// The same is put behind another text.
+fn is_appended(
+    rt: &impl Abort,
+    alloc: Global,
+    spec: &Spec,
+    names: &Roster,
+    race: &Race,
+    wanted: &str,
+)
+    requires spec { HasOneMethod spec.now }
+    requires race { IsKnownRace spec.now (naming_in names.now) race.now }
+{
     let kind = &spec.kinds()[race.kind as usize];
     let formula = formula_line(alloc, kind, race.first, race.second).expect(rt, "memory");
     let mut text = Bytes::new(alloc);
@@ -137,6 +153,25 @@ fn is_told(rt: &impl Abort, alloc: Global, spec: &Spec, names: &Roster, race: &R
         .strip_prefix(b"before\n")
         .expect(rt, "the text before");
     is_text(rt, told, wanted);
+}
+
+// The race of the two calls has this text.
+fn is_told(
+    rt: &impl Abort,
+    alloc: Global,
+    spec: &Spec,
+    names: &Roster,
+    later: Rc<Witness>,
+    earlier: Rc<Witness>,
+    wanted: &str,
+)
+    requires spec { HasOneMethod spec.now }
+    requires later { IsOfOne later.value.call }
+    requires earlier { IsOfOne earlier.value.call }
+{
+    let race = race_of(rt, spec, names, later, earlier);
+    is_written(rt, alloc, spec, names, &race, wanted);
+    is_appended(rt, alloc, spec, names, &race, wanted);
 }
 
 // Two calls of the first flag, with one counter for their clocks.
@@ -159,32 +194,41 @@ fn both_calls<L: Ledger>(
 }
 
 // Two threads set a flag, on these lines of a trace. The text of the race is this.
-fn is_race(rt: &impl Abort, alloc: Global, lines: &str, calls: [Told; 2], wanted: &str) {
-    let (later, earlier) = both_calls::<Brand>(rt, alloc, Blank::new(1), calls[0], calls[1]);
+fn is_race(
+    rt: &impl Abort,
+    alloc: Global,
+    lines: &str,
+    (later, earlier): (Told, Told),
+    wanted: &str,
+) {
+    let (later, earlier) = both_calls::<Brand>(rt, alloc, Blank::new(1), later, earlier);
     let spec = spec_of(rt, alloc, FLAGS);
     has_one_method(rt, &spec);
     let names = roster_of(rt, alloc, lines);
-    let race = race_of(rt, &spec, &names, later, earlier);
-    is_told(rt, alloc, &spec, &names, &race, wanted);
+    is_told(rt, alloc, &spec, &names, later, earlier, wanted);
 }
+
+// The lines of a trace, the later and the earlier of two calls, and the text of their race.
+type RaceRow<'a> = (&'a str, (Told, Told), &'a str);
+
+const RACES: [RaceRow<'static>; 2] = [
+    (
+        "rdtrace 1;thread p;thread q;object f flag",
+        ((6, 1, false, (0, 1, 0)), (5, 0, true, (1, 0, 0))),
+        "race line 6 q f set -> false clock q:1\nwith line 5 p f set -> true clock p:1\nformula flag set set when done@1 = true\n",
+    ),
+    // the first and the last of three threads
+    (
+        "rdtrace 1;thread main;thread a;thread b;object g.1 flag",
+        ((4294967296, 2, true, (2, 0, 1)), (40, 0, true, (12, 7, 0))),
+        "race line 4294967296 b g.1 set -> true clock main:2,b:1\nwith line 40 main g.1 set -> true clock main:12,a:7\nformula flag set set when done@1 = true\n",
+    ),
+];
 
 #[test]
 fn a_race_of_two_calls(rt: HostRuntime) {
-    let rows = [
-        (
-            "rdtrace 1;thread p;thread q;object f flag",
-            [(6, 1, false, [0, 1, 0]), (5, 0, true, [1, 0, 0])],
-            "race line 6 q f set -> false clock q:1\nwith line 5 p f set -> true clock p:1\nformula flag set set when done@1 = true\n",
-        ),
-        // the first and the last of three threads
-        (
-            "rdtrace 1;thread main;thread a;thread b;object g.1 flag",
-            [(4294967296, 2, true, [2, 0, 1]), (40, 0, true, [12, 7, 0])],
-            "race line 4294967296 b g.1 set -> true clock main:2,b:1\nwith line 40 main g.1 set -> true clock main:12,a:7\nformula flag set set when done@1 = true\n",
-        ),
-    ];
-    for (lines, calls, wanted) in rows {
-        is_race(&rt, rt.alloc(), lines, calls, wanted);
+    for (lines, calls, wanted) in &RACES {
+        is_race(&rt, rt.alloc(), lines, *calls, wanted);
     }
 }
 
@@ -192,59 +236,80 @@ fn a_race_of_two_calls(rt: HostRuntime) {
 #[derive(Clone, Copy)]
 enum Closing {
     Exact,
-    Refused(u64, TraceCause),
+    LockHeld,
+    BadLine,
+    NoFinalNewline,
+    LongLine,
     Fault,
 }
 
-fn ending(closing: Closing) -> Ending {
+fn refusal(line: u64, cause: TraceCause) -> Ending {
+    Ending::Refused { line, cause }
+}
+
+fn ending(closing: Closing, line: u64) -> Ending {
     match closing {
         Closing::Exact => Ending::End {
             replay: ReplayEnd::Exact,
         },
-        Closing::Refused(line, cause) => Ending::Refused { line, cause },
+        Closing::LockHeld => refusal(line, TraceCause::Wf(WfCause::LockHeld(0))),
+        Closing::BadLine => refusal(line, TraceCause::BadLine),
+        Closing::NoFinalNewline => refusal(line, TraceCause::NoFinalNewline),
+        Closing::LongLine => refusal(line, TraceCause::Limit(LimitName::Line, 8192)),
         Closing::Fault => Ending::Fault,
     }
 }
 
-#[test]
-fn endings(rt: HostRuntime) {
-    let rows = [
-        (0, Closing::Exact, "races 0\nreplay exact\n"),
-        (
-            1,
-            Closing::Refused(10, TraceCause::Wf(WfCause::LockHeld(0))),
-            "races 1\nrefused line 10 lock-held p\n",
-        ),
-        (
-            0,
-            Closing::Refused(2, TraceCause::BadLine),
-            "races 0\nrefused line 2 bad-line\n",
-        ),
-        (
-            3,
-            Closing::Refused(7, TraceCause::NoFinalNewline),
-            "races 3\nrefused line 7 no-final-newline\n",
-        ),
-        (
-            0,
-            Closing::Refused(2, TraceCause::Limit(LimitName::Line, 8192)),
-            "races 0\nrefused line 2 limit line 8192\n",
-        ),
-        (0, Closing::Fault, "races 0\nfault input\n"),
-    ];
-    let names = roster_of(&rt, rt.alloc(), "rdtrace 1;thread p;thread q");
-    for (races, closing, wanted) in rows {
-        let text = ending_text(rt.alloc(), races, &ending(closing), &names);
-        is_text(&rt, text.expect(&rt, "memory").items(), wanted);
+// How many races there are, how the lines end, at which line, and the text.
+const ENDINGS: [(u64, Closing, u64, &str); 6] = [
+    (0, Closing::Exact, 0, "races 0\nreplay exact\n"),
+    (
+        1,
+        Closing::LockHeld,
+        10,
+        "races 1\nrefused line 10 lock-held p\n",
+    ),
+    (0, Closing::BadLine, 2, "races 0\nrefused line 2 bad-line\n"),
+    (
+        3,
+        Closing::NoFinalNewline,
+        7,
+        "races 3\nrefused line 7 no-final-newline\n",
+    ),
+    (
+        0,
+        Closing::LongLine,
+        2,
+        "races 0\nrefused line 2 limit line 8192\n",
+    ),
+    (0, Closing::Fault, 0, "races 0\nfault input\n"),
+];
+
+fn end_so(rt: &impl Abort, alloc: Global, names: &Roster, rows: &[(u64, Closing, u64, &str)]) {
+    for (races, closing, line, wanted) in rows {
+        let ending = ending(*closing, *line);
+        let text = ending_text(alloc, *races, &ending, names).expect(rt, "memory");
+        is_text(rt, text.items(), wanted);
     }
 }
 
+fn is_refusal(rt: &impl Abort, alloc: Global, names: &Roster, cause: TraceCause, wanted: &str) {
+    let text = refused_text(alloc, 4, cause, names).expect(rt, "memory");
+    is_text(rt, text.items(), wanted);
+}
+
 #[test]
-fn a_refusal(rt: HostRuntime) {
+fn endings(rt: HostRuntime) {
     let names = roster_of(&rt, rt.alloc(), "rdtrace 1;thread p;thread q");
+    end_so(&rt, rt.alloc(), &names, &ENDINGS);
     let cause = TraceCause::Wf(WfCause::LockHeld(1));
-    let text = refused_text(rt.alloc(), 4, cause, &names).expect(&rt, "memory");
-    is_text(&rt, text.items(), "refused line 4 lock-held q\n");
+    is_refusal(
+        &rt,
+        rt.alloc(),
+        &names,
+        cause,
+        "refused line 4 lock-held q\n",
+    );
 }
 
 // How a replay ends, without values.
@@ -271,38 +336,41 @@ fn replay_end(rt: &impl Abort, alloc: Global, replayed: Replayed<'_>) -> ReplayE
     }
 }
 
-#[test]
-fn replays(rt: HostRuntime) {
-    let rows = [
-        (Replayed::Exact, "replay exact\n"),
-        (
-            Replayed::Value(12, "nil"),
-            "replay differs line 12 expected nil\n",
-        ),
-        (
-            Replayed::BadArgument(7, 0),
-            "replay differs line 7 argument 1\n",
-        ),
-        (Replayed::NotShipped, "replay not shipped\n"),
-    ];
+const REPLAYS: [(Replayed<'static>, &str); 4] = [
+    (Replayed::Exact, "replay exact\n"),
+    (
+        Replayed::Value(12, "nil"),
+        "replay differs line 12 expected nil\n",
+    ),
+    (
+        Replayed::BadArgument(7, 0),
+        "replay differs line 7 argument 1\n",
+    ),
+    (Replayed::NotShipped, "replay not shipped\n"),
+];
+
+fn are_replays(rt: &impl Abort, alloc: Global, rows: &[(Replayed<'_>, &str)]) {
     for (replayed, wanted) in rows {
-        let end = replay_end(&rt, rt.alloc(), replayed);
-        let text = replay_text(rt.alloc(), &end).expect(&rt, "memory");
-        is_text(&rt, text.items(), wanted);
+        let end = replay_end(rt, alloc, *replayed);
+        let text = replay_text(alloc, &end).expect(rt, "memory");
+        is_text(rt, text.items(), wanted);
     }
 }
 
-// What an object holds, without values. These stand with a blank between two.
+#[test]
+fn replays(rt: HostRuntime) {
+    are_replays(&rt, rt.alloc(), &REPLAYS);
+}
+
+// What an object holds, without values.
 #[derive(Clone, Copy)]
-enum Held<'a> {
-    One(&'a str),
-    Number(i64),
-    Items(&'a str),
-    // the keys, and their values
-    Map(&'a str, &'a str),
-    // the items, and how often each is there
-    Counts(&'a str, [u64; 2]),
-    Row(&'a str),
+enum Held {
+    One,
+    Number,
+    Items,
+    Map,
+    Counts,
+    Row,
 }
 
 fn pairs(rt: &impl Abort, alloc: Global, keys: &str, values: &str) -> ValuePairs {
@@ -314,55 +382,77 @@ fn pairs(rt: &impl Abort, alloc: Global, keys: &str, values: &str) -> ValuePairs
     ValuePairs::from_pairs(made)
 }
 
-fn counts(rt: &impl Abort, alloc: Global, items: &str, counts: [u64; 2]) -> ValueCounts {
+fn counts(rt: &impl Abort, alloc: Global, row: &State<'_>) -> ValueCounts {
+    let (_, first, second, _, count, other, _) = *row;
     let mut made = Vec::new(alloc);
-    for (item, count) in items.split(' ').zip(counts) {
-        made.push((value(rt, alloc, item), count))
-            .expect(rt, "memory");
-    }
+    made.push((value(rt, alloc, first), count))
+        .expect(rt, "memory");
+    made.push((value(rt, alloc, second), other))
+        .expect(rt, "memory");
     ValueCounts::from_counts(made)
 }
 
-fn shape(rt: &impl Abort, alloc: Global, held: Held<'_>) -> Shape {
-    match held {
-        Held::One(spelling) => Shape::One(value(rt, alloc, spelling)),
-        Held::Number(number) => Shape::Number(number),
-        Held::Items(spellings) => Shape::Items(slots(rt, alloc, spellings)),
-        Held::Map(keys, values) => Shape::Map(pairs(rt, alloc, keys, values)),
-        Held::Counts(items, numbers) => Shape::Counts(counts(rt, alloc, items, numbers)),
-        Held::Row(spellings) => Shape::Row(slots(rt, alloc, spellings)),
+fn shape(rt: &impl Abort, alloc: Global, row: &State<'_>) -> Shape {
+    match row.0 {
+        Held::One => Shape::One(value(rt, alloc, row.1)),
+        Held::Number => Shape::Number(row.3),
+        Held::Items => Shape::Items(slots(rt, alloc, row.1)),
+        Held::Map => Shape::Map(pairs(rt, alloc, row.1, row.2)),
+        Held::Counts => Shape::Counts(counts(rt, alloc, row)),
+        Held::Row => Shape::Row(slots(rt, alloc, row.1)),
+    }
+}
+
+// What an object holds: its values, with a blank between two, or keys; the values of keys, or a second value; a number; how often each of
+// two values is there; and the line.
+type State<'a> = (Held, &'a str, &'a str, i64, u64, u64, &'a str);
+
+const STATES: [State<'static>; 7] = [
+    (Held::One, "nil", "", 0, 0, 0, "state o one nil\n"),
+    (Held::Number, "", "", -5, 0, 0, "state o number -5\n"),
+    (Held::Items, "-1 10", "", 0, 0, 0, "state o items -1 10\n"),
+    (
+        Held::Map,
+        "\"a\" \"b\"",
+        "1 true",
+        0,
+        0,
+        0,
+        "state o map \"a\" 1 \"b\" true\n",
+    ),
+    (
+        Held::Counts,
+        "nil",
+        "\"\\\"\"",
+        0,
+        3,
+        1,
+        "state o counts nil 3 \"\\\"\" 1\n",
+    ),
+    (Held::Row, "-3 -4", "", 0, 0, 0, "state o row -3 -4\n"),
+    (Held::Items, "", "", 0, 0, 0, "state o items\n"),
+];
+
+// What is put behind the text is this.
+fn appends_state(rt: &impl Abort, text: &mut Bytes, shape: &Shape, wanted: &str) {
+    let length = text.items().len();
+    append_state(text, &name(rt, "o"), shape).expect(rt, "memory");
+    let told = text.items().get(length..).expect(rt, "the text before");
+    is_text(rt, told, wanted);
+}
+
+// Each is put behind those before.
+fn append_states(rt: &impl Abort, alloc: Global, rows: &[State<'_>]) {
+    let mut text = Bytes::new(alloc);
+    for row in rows {
+        let shape = shape(rt, alloc, row);
+        appends_state(rt, &mut text, &shape, row.6);
     }
 }
 
 #[test]
 fn states(rt: HostRuntime) {
-    let rows = [
-        (Held::One("nil"), "state o one nil\n"),
-        (Held::Number(-5), "state o number -5\n"),
-        (Held::Items("-1 10"), "state o items -1 10\n"),
-        (
-            Held::Map("\"a\" \"b\"", "1 true"),
-            "state o map \"a\" 1 \"b\" true\n",
-        ),
-        (
-            Held::Counts("nil \"\\\"\"", [3, 1]),
-            "state o counts nil 3 \"\\\"\" 1\n",
-        ),
-        (Held::Row("-3 -4"), "state o row -3 -4\n"),
-        (Held::Items(""), "state o items\n"),
-    ];
-    // each is put behind those before
-    let (mut text, mut length) = (Bytes::new(rt.alloc()), 0);
-    for (held, wanted) in rows {
-        let shape = shape(&rt, rt.alloc(), held);
-        append_state(&mut text, &name(&rt, "o"), &shape).expect(&rt, "memory");
-        is_text(
-            &rt,
-            text.items().get(length..).expect(&rt, "the text before"),
-            wanted,
-        );
-        length = text.items().len();
-    }
+    append_states(&rt, rt.alloc(), &STATES);
 }
 
 #[test]

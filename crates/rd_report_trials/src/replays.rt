@@ -2,15 +2,14 @@
 ghost use Rattle.std.specs.Prelude.{◌≡◌, ℕ};
 ghost use Rattle.rd_kinds.specs.Machines.{machine_of};
 ghost use Rattle.rd_kinds.specs.Shipped.{shipped_kinds};
-ghost use Rattle.rd_kind_trials.specs.Replays.{Fits, HasOne};
+ghost use Rattle.rd_report_trials.specs.Replays.{Fits, HasOne};
 
-use crate::samples::{built_in, has_slots, is_text, name, slots, value};
-use rd_base::{Bytes, Slots};
+use crate::samples::{built_in, has_slots, is_so, is_state, slots, value};
+use rd_base::Slots;
 use rd_ecl::Spec;
 use rd_event::Call;
 use rd_object::{Expected, ReplayEnd};
 use rd_replay::{Match, Replayer};
-use rd_report::append_state;
 use std::alloc::Global;
 use std::process::Abort;
 
@@ -61,7 +60,7 @@ fn call(
         slots,
     };
     let found = replayer.call(line, &call).expect(rt, "memory");
-    assert!(rt; found == wanted, "line {line}");
+    is_so(rt, found == wanted, spellings);
 }
 
 // The replayer of one object of this kind, behind these calls.
@@ -76,52 +75,58 @@ fn replayed(rt: &impl Abort, alloc: Global, kind: u32, rows: &[Row<'_>]) -> Repl
     replayer
 }
 
-// The line of the state of the object, where each call gave what was recorded.
-fn state(rt: &impl Abort, alloc: Global, replayer: &Replayer) -> Bytes
+// The replay ends so.
+fn ends(rt: &impl Abort, replayer: &Replayer, wanted: &ReplayEnd)
+    requires { (kind : ℕ) × HasOne replayer.now kind }
+{
+    let end = replayer.end().expect(rt, "memory");
+    assert!(rt; end == *wanted);
+}
+
+// Each call gave what was recorded, and the line of the state of the object is this.
+fn has_state(rt: &impl Abort, alloc: Global, replayer: &Replayer, wanted: &str)
     requires { (kind : ℕ) × HasOne replayer.now kind }
 {
     let end = replayer.end().expect(rt, "memory");
     assert!(rt; matches!(end, ReplayEnd::Exact));
     let shape = replayer.state(0).expect(rt, "memory");
-    let mut text = Bytes::new(alloc);
-    append_state(&mut text, &name(rt, "o"), &shape).expect(rt, "memory");
-    text
+    is_state(rt, alloc, &shape, wanted);
 }
+
+// `put "x" 1 -> nil`, `put "y" 2 -> nil` and `size -> 2`
+const DICTIONARY: [Row<'static>; 3] = [
+    (6, 0, "\"x\" 1 nil", Match::Same),
+    (7, 0, "\"y\" 2 nil", Match::Same),
+    (10, 2, "2", Match::Same),
+];
 
 #[test]
 fn calls_of_a_dictionary(rt: HostRuntime) {
-    // `put "x" 1 -> nil`, `put "y" 2 -> nil` and `size -> 2`
-    let rows = [
-        (6, 0, "\"x\" 1 nil", Match::Same),
-        (7, 0, "\"y\" 2 nil", Match::Same),
-        (10, 2, "2", Match::Same),
-    ];
-    let replayer = replayed(&rt, rt.alloc(), 3, &rows);
-    let text = state(&rt, rt.alloc(), &replayer);
-    is_text(&rt, text.items(), "state o map \"x\" 1 \"y\" 2\n");
+    let replayer = replayed(&rt, rt.alloc(), 3, &DICTIONARY);
+    has_state(&rt, rt.alloc(), &replayer, "state o map \"x\" 1 \"y\" 2\n");
 }
+
+// `add 1 -> nil`, `get -> 0` and `get -> 1`
+const COUNTER: [Row<'static>; 3] = [
+    (5, 0, "1 nil", Match::Same),
+    (6, 1, "0", Match::Differs),
+    (7, 1, "1", Match::Stopped),
+];
 
 #[test]
 fn a_counter_that_differs(rt: HostRuntime) {
-    // `add 1 -> nil`, `get -> 0` and `get -> 1`
-    let rows = [
-        (5, 0, "1 nil", Match::Same),
-        (6, 1, "0", Match::Differs),
-        (7, 1, "1", Match::Stopped),
-    ];
-    let replayer = replayed(&rt, rt.alloc(), 1, &rows);
-    let end = replayer.end().expect(&rt, "memory");
+    let replayer = replayed(&rt, rt.alloc(), 1, &COUNTER);
     let expected = Expected::Value(value(&rt, rt.alloc(), "1"));
-    assert!(rt; end == ReplayEnd::Differs { line: 6, expected });
+    ends(&rt, &replayer, &ReplayEnd::Differs { line: 6, expected });
 }
+
+const NOT_BUILT_IN: [Row<'static>; 2] = [
+    (5, 0, "true", Match::NotShipped),
+    (6, 0, "false", Match::NotShipped),
+];
 
 #[test]
 fn an_object_of_a_kind_that_is_not_built_in(rt: HostRuntime) {
-    let rows = [
-        (5, 0, "true", Match::NotShipped),
-        (6, 0, "false", Match::NotShipped),
-    ];
-    let replayer = replayed(&rt, rt.alloc(), 4, &rows);
-    let end = replayer.end().expect(&rt, "memory");
-    assert!(rt; end == ReplayEnd::NotShipped);
+    let replayer = replayed(&rt, rt.alloc(), 4, &NOT_BUILT_IN);
+    ends(&rt, &replayer, &ReplayEnd::NotShipped);
 }

@@ -1,0 +1,13 @@
+//! Tests of rosters, of replays and of reports.
+#![tactic(auto)]
+
+#[cfg(test)]
+mod replays;
+#[cfg(test)]
+mod reports;
+#[cfg(test)]
+mod roster;
+#[cfg(test)]
+mod samples;
+#[cfg(test)]
+mod single_calls;
