@@ -6,10 +6,11 @@ use Rattle.std.specs.List.{AllPass, position, prefix_len, position_or_len}
 use Rattle.std.proofs.lemmas.Bool.{and_parts}
 use Rattle.std.proofs.lemmas.Bool.Decides.{Decides-and, Decides-ltb, Decides-like, nat_tests}
 use Rattle.std.proofs.lemmas.List.Sums.{AllPass-from_list_all, list_all-from_AllPass, prefix_len-le-length, prefix_len_passes, prefix_len_stops}
+use Rattle.rd_base.specs.declared.limits.TheConstants.{MOST_NAME_BYTES}
 use Rattle.rd_base.specs.declared.names.TheConstants.{NAME_BYTES}
 use Rattle.rd_base.specs.Names.{IsName, is_name, is_name_byte}
 
-few_decides : (bytes : List ℕ) → Decides (leb (length bytes) 64) (length bytes ≤ 64)
+few_decides : (bytes : List ℕ) → Decides (leb (length bytes) MOST_NAME_BYTES) (length bytes ≤ MOST_NAME_BYTES)
 few_decides bytes = (λ h. grind (arith, nat_tests), λ h. grind (arith, nat_tests))
 
 pub is_name_decides : (bytes : List ℕ) → Decides (is_name bytes) (IsName bytes)

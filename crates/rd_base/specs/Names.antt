@@ -1,6 +1,7 @@
 -- Names: this project's profile.
 use Rattle.std.specs.Prelude.{ℕ, ◌<◌, ◌≤◌, ◌==◌, ◌||◌, ◌&&◌, Bool, nat_lt, nat_le, List, length}
 use Rattle.std.specs.List.{AllPass, list_all}
+use Rattle.rd_base.specs.declared.limits.TheConstants.{MOST_NAME_BYTES}
 
 -- a letter or a digit of ASCII
 abbrev pub is_letter_or_digit : ℕ → Bool
@@ -13,9 +14,9 @@ is_name_byte b = is_letter_or_digit b || b == 95 || b == 46 || b == 58 || b == 3
 -- the bytes of a name
 pub record IsName (bytes : List ℕ) : Type 0 where
   pub some : 0 < length bytes
-  pub few : length bytes ≤ 64
+  pub few : length bytes ≤ MOST_NAME_BYTES
   pub each : AllPass is_name_byte bytes
 
 -- the test of it
 unfoldable pub is_name : List ℕ → Bool
-is_name bytes = nat_lt 0 (length bytes) && (nat_le (length bytes) 64 && list_all is_name_byte bytes)
+is_name bytes = nat_lt 0 (length bytes) && (nat_le (length bytes) MOST_NAME_BYTES && list_all is_name_byte bytes)

@@ -12,7 +12,10 @@ mod values;
 
 pub use byte_lists::{Bytes, Word};
 pub use counter::Steps;
-pub use limits::{LimitName, Limits};
+pub use limits::{
+    LimitName, Limits, MOST_ARGUMENTS, MOST_KINDS, MOST_LEVELS, MOST_METHODS, MOST_NAME_BYTES,
+    MOST_NODES, MOST_PREDICATES, MOST_SPEC_BYTES, MOST_TOKENS,
+};
 pub use memory::NoMemory;
 pub use names::{BadName, Name, name_length};
 pub use slots::Slots;

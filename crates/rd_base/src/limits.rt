@@ -22,6 +22,33 @@ pub enum LimitName {
     Predicates,
 }
 
+/// How many bytes a name has at most, and a variable.
+pub const MOST_NAME_BYTES: usize = 64;
+
+/// How many bytes the text of a specification has at most: `LimitName::SpecText`.
+pub const MOST_SPEC_BYTES: u32 = 1_048_576;
+
+/// How many tokens stand behind `when` at most: `LimitName::Tokens`.
+pub const MOST_TOKENS: usize = 512;
+
+/// How many kinds a specification has at most: `LimitName::Kinds`.
+pub const MOST_KINDS: usize = 32;
+
+/// How many methods a kind has at most: `LimitName::Methods`.
+pub const MOST_METHODS: usize = 16;
+
+/// How many arguments a method has at most: `LimitName::Arguments`.
+pub const MOST_ARGUMENTS: usize = 6;
+
+/// How many nodes the formula of a pair has at most: `LimitName::Nodes`.
+pub const MOST_NODES: u32 = 64;
+
+/// How many levels it has at most: `LimitName::FormulaDepth`.
+pub const MOST_LEVELS: u32 = 32;
+
+/// How many distinct relations on its side alone a method has at most: `LimitName::Predicates`.
+pub const MOST_PREDICATES: usize = 5;
+
 /// How much of each a trace may have. A call that takes limits asks that `line` is at least 1,
 /// `events` at most 4,294,967,294 and `bytes` at most 18,446,744,073,709,551,614.
 #[derive(Clone, Copy, Debug, PartialEq, Eq)]

@@ -3,6 +3,7 @@ ghost use Rattle.std.specs.Prelude.{◌≡◌, ◌↔◌, ◌≤◌, length, not
 ghost use Rattle.std.specs.List.{AllPass, position, prefix_len};
 ghost use Rattle.rd_base.specs.Names.{IsName, is_name_byte};
 
+use crate::limits::MOST_NAME_BYTES;
 use arrayvec::ArrayVec;
 use std::hash::{Hash, Hasher};
 use std::marker::Model;
@@ -17,7 +18,7 @@ pub struct BadName;
 /// list of its bytes, by which it is compared and hashed.
 #[derive(Debug, Drop, PartialEq, Eq, PartialOrd, Ord)]
 pub struct Name {
-    bytes: ArrayVec<u8, 64>,
+    bytes: ArrayVec<u8, MOST_NAME_BYTES>,
 }
 
 impl Model for Name {
@@ -82,7 +83,7 @@ pub fn name_length(bytes: &[u8]) -> usize
 }
 
 // The bytes of a name.
-fn name_bytes(bytes: &[u8]) -> ArrayVec<u8, 64>
+fn name_bytes(bytes: &[u8]) -> ArrayVec<u8, MOST_NAME_BYTES>
     requires { IsName bytes.now }
     ensures { result.items ≡ bytes.now }
 {
@@ -113,7 +114,7 @@ impl Name {
         ensures variant { IsOk result ↔ IsName bytes.now }
         ensures value { IfOk result (λ name. name ≡ bytes.now) }
     {
-        if bytes.is_empty() || bytes.len() > 64 {
+        if bytes.is_empty() || bytes.len() > MOST_NAME_BYTES {
             return Err(BadName);
         }
         Ok(Name {

@@ -11,6 +11,7 @@ use Rattle.rd_ecl.specs.declared.kinds.Method.{Method}
 use Rattle.rd_ecl.specs.Formulas.{Tree, tree_of, truth, atom, cross, mixed, negation, both, either, of_side, predicates_of, distinct}
 use Rattle.rd_ecl.specs.Specified.{SpecifiedKind, ArePairs, IsDraft, IsPair, MayAdd, MayPair, all_pairs, formula_at, method_predicates, predicates_at, slots_at, with_method, with_pair}
 use Rattle.rd_ecl.proofs.MethodLemmas.{no_methods, one_method_more}
+use Rattle.rd_base.specs.declared.limits.TheConstants.{MOST_METHODS, MOST_PREDICATES}
 
 -- the same parts give the same whole
 same_parts : (t u : ℕ × ℕ → List Predicate) (ps : List (ℕ × ℕ)) → ((p : ℕ × ℕ) → t p ≡ u p) → flat_map t ps ≡ flat_map u ps
@@ -40,7 +41,7 @@ some_within (x ∷ xs) (suc p) f e = omega (arith, some_within xs p f e)
 
 -- one more method leaves the formulas as they are
 at_more : (kind : SpecifiedKind) (method : Method) (i j : ℕ) → formula_at (with_method kind method) i j ≡ formula_at kind i j
-at_more kind method i j = rw (none_behind kind.pairs 16 (16 * j + i)) refl
+at_more kind method i j = rw (none_behind kind.pairs MOST_METHODS (MOST_METHODS * j + i)) refl
 
 parts_more : (kind : SpecifiedKind) (method : Method) (m : ℕ) (p : ℕ × ℕ) → predicates_at (with_method kind method) m p ≡ predicates_at kind m p
 parts_more kind method m p = rw (at_more kind method p.0 p.1) refl
@@ -52,8 +53,8 @@ known_by false xs p f e = absurd (cc)
 
 pub known : (kind : SpecifiedKind) → ArePairs kind → (i j : ℕ) (f : Tree) → formula_at kind i j ≡ Some f → (i ≤ j) × (j < length kind.methods)
 known kind pairs i j f e =
-    let h = known_by (nat_le i j) kind.pairs (16 * j + i) f e in
-    let within = some_within kind.pairs (16 * j + i) f h.1 in
+    let h = known_by (nat_le i j) kind.pairs (MOST_METHODS * j + i) f e in
+    let within = some_within kind.pairs (MOST_METHODS * j + i) f h.1 in
     let rows = pairs.rows in
     (leb-true i j h.0, omega (arith, within, rows))
 
@@ -81,18 +82,18 @@ unguarded : (b : Bool) (xs : List (Option Tree)) (p : ℕ) → b ≡ true → (i
 unguarded true xs p e = refl
 unguarded false xs p e = absurd (cc)
 
-same_place : (i j first second : ℕ) → i ≤ j → first ≤ second → second < 16 → 16 * j + i ≡ 16 * second + first → (i ≡ first) × (j ≡ second)
+same_place : (i j first second : ℕ) → i ≤ j → first ≤ second → second < MOST_METHODS → MOST_METHODS * j + i ≡ MOST_METHODS * second + first → (i ≡ first) × (j ≡ second)
 same_place i j first second h k few e = (omega arith, omega arith)
 
-pub at_set : (kind : SpecifiedKind) (first second : ℕ) (f : Tree) → first ≤ second → 16 * second + first < length kind.pairs
+pub at_set : (kind : SpecifiedKind) (first second : ℕ) (f : Tree) → first ≤ second → MOST_METHODS * second + first < length kind.pairs
     → formula_at (with_pair kind first second f) first second ≡ Some f
 at_set kind first second f h within =
-    unguarded (nat_le first second) (set kind.pairs (16 * second + first) (Some f)) (16 * second + first) (le-leb first second h)
-    ∙ get_or-set_same kind.pairs (16 * second + first) (Some f) None within
+    unguarded (nat_le first second) (set kind.pairs (MOST_METHODS * second + first) (Some f)) (MOST_METHODS * second + first) (le-leb first second h)
+    ∙ get_or-set_same kind.pairs (MOST_METHODS * second + first) (Some f) None within
 
-pub at_other : (kind : SpecifiedKind) (first second i j : ℕ) (f : Tree) → 16 * j + i ≢ 16 * second + first
+pub at_other : (kind : SpecifiedKind) (first second i j : ℕ) (f : Tree) → MOST_METHODS * j + i ≢ MOST_METHODS * second + first
     → formula_at (with_pair kind first second f) i j ≡ formula_at kind i j
-at_other kind first second i j f h = rw (get_or-set_other kind.pairs (16 * second + first) (16 * j + i) (Some f) None h) refl
+at_other kind first second i j f h = rw (get_or-set_other kind.pairs (MOST_METHODS * second + first) (MOST_METHODS * j + i) (Some f) None h) refl
 
 -- what the other methods' predicates are stays as it was
 pub none_of : (kind : SpecifiedKind) (m i j : ℕ) → formula_at kind i j ≡ None → predicates_at kind m (i, j) ≡ []
@@ -105,30 +106,30 @@ guarded : (b : Bool) (xs : List (Option Tree)) (p : ℕ) → b ≡ false → (if
 guarded true xs p e = absurd (cc)
 guarded false xs p e = refl
 
-parts_set : (kind : SpecifiedKind) (m first second : ℕ) (f : Tree) → first ≤ second → 16 * second + first < length kind.pairs
+parts_set : (kind : SpecifiedKind) (m first second : ℕ) (f : Tree) → first ≤ second → MOST_METHODS * second + first < length kind.pairs
     → formula_at kind first second ≡ None → first ≢ m → second ≢ m
     → predicates_at (with_pair kind first second f) m (first, second) ≡ predicates_at kind m (first, second)
 parts_set kind m first second f ordered within unset h k =
     some_of (with_pair kind first second f) m first second f (at_set kind first second f ordered within)
     ∙ (not_asked f m first second h k ∙ sym (none_of kind m first second unset))
 
-parts_at : (kind : SpecifiedKind) (m first second i j : ℕ) (f : Tree) → (b : Bool) → nat_le i j ≡ b → 16 * j + i ≡ 16 * second + first → second < 16
-    → first ≤ second → 16 * second + first < length kind.pairs → formula_at kind first second ≡ None → first ≢ m → second ≢ m
+parts_at : (kind : SpecifiedKind) (m first second i j : ℕ) (f : Tree) → (b : Bool) → nat_le i j ≡ b → MOST_METHODS * j + i ≡ MOST_METHODS * second + first → second < MOST_METHODS
+    → first ≤ second → MOST_METHODS * second + first < length kind.pairs → formula_at kind first second ≡ None → first ≢ m → second ≢ m
     → predicates_at (with_pair kind first second f) m (i, j) ≡ predicates_at kind m (i, j)
 parts_at kind m first second i j f true e same few ordered within unset h k =
     let at = same_place i j first second (leb-true i j e) ordered few same in
     rw (at.0, at.1) (parts_set kind m first second f ordered within unset h k)
 parts_at kind m first second i j f false e same few ordered within unset h k =
-    none_of (with_pair kind first second f) m i j (guarded (nat_le i j) (set kind.pairs (16 * second + first) (Some f)) (16 * j + i) e)
-    ∙ sym (none_of kind m i j (guarded (nat_le i j) kind.pairs (16 * j + i) e))
+    none_of (with_pair kind first second f) m i j (guarded (nat_le i j) (set kind.pairs (MOST_METHODS * second + first) (Some f)) (MOST_METHODS * j + i) e)
+    ∙ sym (none_of kind m i j (guarded (nat_le i j) kind.pairs (MOST_METHODS * j + i) e))
 
-parts_apart : (kind : SpecifiedKind) (m first second : ℕ) (f : Tree) (p : ℕ × ℕ) → second < 16 → first ≤ second → 16 * second + first < length kind.pairs
+parts_apart : (kind : SpecifiedKind) (m first second : ℕ) (f : Tree) (p : ℕ × ℕ) → second < MOST_METHODS → first ≤ second → MOST_METHODS * second + first < length kind.pairs
     → formula_at kind first second ≡ None → first ≢ m → second ≢ m → predicates_at (with_pair kind first second f) m p ≡ predicates_at kind m p
 parts_apart kind m first second f (i, j) few ordered within unset h k =
     ⊎_elim (λ same. parts_at kind m first second i j f (nat_le i j) refl same few ordered within unset h k)
-    (λ other. rw (at_other kind first second i j f other) refl) (cases_eq (16 * j + i) (16 * second + first))
+    (λ other. rw (at_other kind first second i j f other) refl) (cases_eq (MOST_METHODS * j + i) (MOST_METHODS * second + first))
 
-few_apart : (kind : SpecifiedKind) (m first second : ℕ) (f : Tree) → second < 16 → first ≤ second → 16 * second + first < length kind.pairs
+few_apart : (kind : SpecifiedKind) (m first second : ℕ) (f : Tree) → second < MOST_METHODS → first ≤ second → MOST_METHODS * second + first < length kind.pairs
     → formula_at kind first second ≡ None → first ≢ m → second ≢ m → method_predicates (with_pair kind first second f) m ≡ method_predicates kind m
 few_apart kind m first second f few ordered within unset h k =
     ap distinct (same_parts (predicates_at (with_pair kind first second f) m) (predicates_at kind m) all_pairs
@@ -146,8 +147,8 @@ no_draft name =
       methods = no_methods;
       pairs = record {
         rows = refl;
-        each = λ i j f e. absurd (omega (arith, some_within [] (16 * j + i) f (known_by (nat_le i j) [] (16 * j + i) f e).1));
-        few = λ m. let e = no_parts (predicates_at kind m) all_pairs (λ p. none_of kind m p.0 p.1 (bare (nat_le p.0 p.1) (16 * p.1 + p.0))) in
+        each = λ i j f e. absurd (omega (arith, some_within [] (MOST_METHODS * j + i) f (known_by (nat_le i j) [] (MOST_METHODS * j + i) f e).1));
+        few = λ m. let e = no_parts (predicates_at kind m) all_pairs (λ p. none_of kind m p.0 p.1 (bare (nat_le p.0 p.1) (MOST_METHODS * p.1 + p.0))) in
             rw e (omega arith);
       };
     }
@@ -160,7 +161,7 @@ draft_more kind method is may =
     record {
       methods = one_method_more kind method is.methods may;
       pairs = record {
-        rows = omega (arith, rows, length-append kind.pairs (replicate 16 None), length-append kind.methods (method ∷ []), length-replicate {A = Option Tree} 16 None);
+        rows = omega (arith, rows, length-append kind.pairs (replicate MOST_METHODS None), length-append kind.methods (method ∷ []), length-replicate {A = Option Tree} MOST_METHODS None);
         each = λ i j f e.
             let was : formula_at kind i j ≡ Some f = sym (at_more kind method i j) ∙ e in
             let at = known kind pairs i j f was in
@@ -169,18 +170,18 @@ draft_more kind method is may =
       };
     }
 
-few_more : (kind : SpecifiedKind) (first second : ℕ) (f : Tree) → IsDraft kind → MayPair kind first second f → 16 * second + first < length kind.pairs → second < 16
-    → (m : ℕ) → (first ≡ m) ⊎ (first ≢ m) → (second ≡ m) ⊎ (second ≢ m) → length (method_predicates (with_pair kind first second f) m) ≤ 5
-few_more kind first second f is may within few m (inl e) k = subst (λ (n : ℕ). length (method_predicates (with_pair kind first second f) n) ≤ 5) e may.few_first
-few_more kind first second f is may within few m (inr h) (inl e) = subst (λ (n : ℕ). length (method_predicates (with_pair kind first second f) n) ≤ 5) e may.few_second
+few_more : (kind : SpecifiedKind) (first second : ℕ) (f : Tree) → IsDraft kind → MayPair kind first second f → MOST_METHODS * second + first < length kind.pairs → second < MOST_METHODS
+    → (m : ℕ) → (first ≡ m) ⊎ (first ≢ m) → (second ≡ m) ⊎ (second ≢ m) → length (method_predicates (with_pair kind first second f) m) ≤ MOST_PREDICATES
+few_more kind first second f is may within few m (inl e) k = subst (λ (n : ℕ). length (method_predicates (with_pair kind first second f) n) ≤ MOST_PREDICATES) e may.few_first
+few_more kind first second f is may within few m (inr h) (inl e) = subst (λ (n : ℕ). length (method_predicates (with_pair kind first second f) n) ≤ MOST_PREDICATES) e may.few_second
 few_more kind first second f is may within few m (inr h) (inr k) =
     rw (few_apart kind m first second f few may.ordered within may.unset h k) (is.pairs.few m)
 
-each_more : (kind : SpecifiedKind) (first second : ℕ) (f : Tree) → IsDraft kind → MayPair kind first second f → 16 * second + first < length kind.pairs → second < 16
-    → (i j : ℕ) (g : Tree) → formula_at (with_pair kind first second f) i j ≡ Some g → (16 * j + i ≡ 16 * second + first) ⊎ (16 * j + i ≢ 16 * second + first)
+each_more : (kind : SpecifiedKind) (first second : ℕ) (f : Tree) → IsDraft kind → MayPair kind first second f → MOST_METHODS * second + first < length kind.pairs → second < MOST_METHODS
+    → (i j : ℕ) (g : Tree) → formula_at (with_pair kind first second f) i j ≡ Some g → (MOST_METHODS * j + i ≡ MOST_METHODS * second + first) ⊎ (MOST_METHODS * j + i ≢ MOST_METHODS * second + first)
     → IsPair g (slots_at kind.methods i) (slots_at kind.methods j)
 each_more kind first second f is may within few i j g e (inl same) =
-    let h = known_by (nat_le i j) (set kind.pairs (16 * second + first) (Some f)) (16 * j + i) g e in
+    let h = known_by (nat_le i j) (set kind.pairs (MOST_METHODS * second + first) (Some f)) (MOST_METHODS * j + i) g e in
     let at = same_place i j first second (leb-true i j h.0) may.ordered few same in
     let set_is = at_set kind first second f may.ordered within in
     let here : formula_at (with_pair kind first second f) first second ≡ Some g =
@@ -200,13 +201,13 @@ draft_set kind first second f is may =
     let count = methods.few in
     let ordered = may.ordered in
     let at = may.known in
-    let few : second < 16 = omega (arith, count, at) in
-    let within : 16 * second + first < length kind.pairs = omega (arith, rows, ordered, at, few) in
+    let few : second < MOST_METHODS = omega (arith, count, at) in
+    let within : MOST_METHODS * second + first < length kind.pairs = omega (arith, rows, ordered, at, few) in
     record {
       methods = is.methods;
       pairs = record {
-        rows = length-set kind.pairs (16 * second + first) (Some f) ∙ rows;
-        each = λ i j g e. each_more kind first second f is may within few i j g e (cases_eq (16 * j + i) (16 * second + first));
+        rows = length-set kind.pairs (MOST_METHODS * second + first) (Some f) ∙ rows;
+        each = λ i j g e. each_more kind first second f is may within few i j g e (cases_eq (MOST_METHODS * j + i) (MOST_METHODS * second + first));
         few = λ m. few_more kind first second f is may within few m (cases_eq first m) (cases_eq second m);
       };
     }
@@ -236,8 +237,8 @@ kept_in (y ∷ items) zero x f h e s = ap shown (sym e ∙ s)
 kept_in (y ∷ items) (suc p) x f h e s = kept_in items p x f (omega arith) e s
 
 pub kept_at : (name : List ℕ) (methods : List Method) (items : List (Option Formula)) (first second : ℕ) (x : Option Formula) (f : Formula)
-    → length (map shown items) ≡ 16 * length methods → first ≤ second → second < length methods → length methods ≤ 16 → x ≡ get_or items (16 * second + first) x → x ≡ Some f
+    → length (map shown items) ≡ MOST_METHODS * length methods → first ≤ second → second < length methods → length methods ≤ MOST_METHODS → x ≡ get_or items (MOST_METHODS * second + first) x → x ≡ Some f
     → formula_at (record { name = name; methods = methods; pairs = map shown items }) first second ≡ Some (tree_of f)
 kept_at name methods items first second x f rows ordered known few e s =
-    unguarded (nat_le first second) (map shown items) (16 * second + first) (le-leb first second ordered)
-    ∙ kept_in items (16 * second + first) x f (omega (arith, length-map items shown, rows, ordered, known, few)) e s
+    unguarded (nat_le first second) (map shown items) (MOST_METHODS * second + first) (le-leb first second ordered)
+    ∙ kept_in items (MOST_METHODS * second + first) x f (omega (arith, length-map items shown, rows, ordered, known, few)) e s

@@ -7,6 +7,7 @@ use Rattle.rd_ecl.specs.declared.formulas.Predicate.{Predicate}
 use Rattle.rd_ecl.specs.declared.relations.Relations.{Relations}
 use Rattle.rd_ecl.specs.Formulas.{same_predicate, distinct_from}
 use Rattle.rd_ecl.specs.Relations.{Gathers, IsCounted, kept}
+use Rattle.rd_base.specs.declared.limits.TheConstants.{MOST_PREDICATES}
 
 abbrev among : Predicate → List Predicate → Bool
 among p ps = list_any (same_predicate p) ps
@@ -57,7 +58,7 @@ gathers_then old xs ys middle None h k =
     let e = h.1 in
     let count = length-append old (distinct_from old xs) in
     let both = length-append (distinct_from old xs) (distinct_from (old ++ distinct_from old xs) ys) in
-    let full : 5 < length (old ++ distinct_from old xs) + length (distinct_from (old ++ distinct_from old xs) ys) = rw (← e) k in
+    let full : MOST_PREDICATES < length (old ++ distinct_from old xs) + length (distinct_from (old ++ distinct_from old xs) ys) = rw (← e) k in
     rw (more) (omega (arith, full, count, both))
 
 pub gathers_full : (old xs ys : List Predicate) → Gathers old xs None → Gathers old (xs ++ ys) None

@@ -7,6 +7,7 @@ use Rattle.rd_ecl.specs.declared.formulas.Term.TheVariants.{Slot, Const}
 use Rattle.rd_ecl.specs.Formulas.{Tree, truth, atom, cross, mixed, negation, both, either, Fits, FitsTerm, formula_fits, term_fits, of_side, has_slots, post_order, first_offence, nodes, levels}
 use Rattle.rd_ecl.specs.Specified.{SpecifiedKind, IsPair, MayPair, formula_at, is_pair, may_pair, method_predicates, slots_at, with_pair}
 use Rattle.rd_ecl.proofs.FragmentLemmas.{inside}
+use Rattle.rd_base.specs.declared.limits.TheConstants.{MOST_LEVELS, MOST_NODES, MOST_PREDICATES}
 
 fits_term : (t : Term) (n : ℕ) → term_fits t n ≡ true → FitsTerm t n
 fits_term (Slot number) n e = ltb-true number n e
@@ -28,13 +29,13 @@ pair_by f m n e =
     let h = and_parts (formula_fits f m n) _ e in
     let k = and_parts (has_slots f) _ h.1 in
     let l = and_parts (is_none (first_offence 0 (post_order f))) _ k.1 in
-    let s = and_parts (nat_le (nodes f) 64) (nat_le (levels f) 32) l.1 in
+    let s = and_parts (nat_le (nodes f) MOST_NODES) (nat_le (levels f) MOST_LEVELS) l.1 in
     record {
       fits = fits f m n h.0;
       slots = k.0;
       inside = inside f l.0;
-      few = leb-true (nodes f) 64 s.0;
-      shallow = leb-true (levels f) 32 s.1;
+      few = leb-true (nodes f) MOST_NODES s.0;
+      shallow = leb-true (levels f) MOST_LEVELS s.1;
     }
 
 unset_by : (o : Option Tree) → is_none o ≡ true → o ≡ None
@@ -47,12 +48,12 @@ may_by kind first second f e =
     let k = and_parts (nat_lt second (length kind.methods)) _ h.1 in
     let l = and_parts (is_none (formula_at kind first second)) _ k.1 in
     let p = and_parts (is_pair f (slots_at kind.methods first) (slots_at kind.methods second)) _ l.1 in
-    let s = and_parts (nat_le (length (method_predicates (with_pair kind first second f) first)) 5) (nat_le (length (method_predicates (with_pair kind first second f) second)) 5) p.1 in
+    let s = and_parts (nat_le (length (method_predicates (with_pair kind first second f) first)) MOST_PREDICATES) (nat_le (length (method_predicates (with_pair kind first second f) second)) MOST_PREDICATES) p.1 in
     record {
       ordered = leb-true first second h.0;
       known = ltb-true second (length kind.methods) k.0;
       unset = unset_by (formula_at kind first second) l.0;
       pair = pair_by f (slots_at kind.methods first) (slots_at kind.methods second) p.0;
-      few_first = leb-true (length (method_predicates (with_pair kind first second f) first)) 5 s.0;
-      few_second = leb-true (length (method_predicates (with_pair kind first second f) second)) 5 s.1;
+      few_first = leb-true (length (method_predicates (with_pair kind first second f) first)) MOST_PREDICATES s.0;
+      few_second = leb-true (length (method_predicates (with_pair kind first second f) second)) MOST_PREDICATES s.1;
     }

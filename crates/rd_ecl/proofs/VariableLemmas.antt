@@ -8,12 +8,13 @@ use Rattle.std.proofs.lemmas.List.Sums.{AllPass-from_list_all, list_all-from_All
 use Rattle.std.proofs.lemmas.Map.Made.{AllPairs-from_IsDistinct, IsDistinct-from_AllPairs}
 use Rattle.std.proofs.lemmas.Map.Views.{Contains-from_any, list_any-from_Contains}
 use Rattle.rd_ecl.specs.Variables.{IsVariable, is_variable, is_variable_byte, kept_words, is_among, are_different}
+use Rattle.rd_base.specs.declared.limits.TheConstants.{MOST_NAME_BYTES}
 
 pub among_decides : (name : List ℕ) (names : List (List ℕ)) → Decides (is_among name names) (Contains names name)
 among_decides name names =
     (Contains-from_any (λ x y h. same_text x y (sym h)) name names, list_any-from_Contains nat_list_eq_equiv name names)
 
-few_decides : (bytes : List ℕ) → Decides (leb (length bytes) 64) (length bytes ≤ 64)
+few_decides : (bytes : List ℕ) → Decides (leb (length bytes) MOST_NAME_BYTES) (length bytes ≤ MOST_NAME_BYTES)
 few_decides bytes = (λ h. grind (arith, nat_tests), λ h. grind (arith, nat_tests))
 
 pub variable_decides : (bytes : List ℕ) → Decides (is_variable bytes) (IsVariable bytes)

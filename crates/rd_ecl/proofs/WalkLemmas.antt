@@ -14,6 +14,7 @@ use Rattle.rd_ecl.specs.Relations.{Gathers, IsCounted, kept, part_of}
 use Rattle.rd_ecl.specs.Specified.{SpecifiedKind, IsDraft, all_pairs, formula_at, method_predicates, predicates_at, with_pair}
 use Rattle.rd_ecl.proofs.PairLemmas.{none_of, not_asked, some_of}
 use Rattle.rd_ecl.proofs.RoomLemmas.{distinct_both}
+use Rattle.rd_base.specs.declared.limits.TheConstants.{MOST_METHODS, MOST_PREDICATES}
 
 -- numbers in a row
 both_ranges : (a m n : ℕ) → range_with_len a (m + n) ≡ range_with_len a m ++ range_with_len (a + m) n
@@ -67,18 +68,18 @@ apart_from kind m i j h k = apart_by kind m i j (formula_at kind i j) refl h k
 
 -- the pairs that begin with a method
 abbrev row_of : SpecifiedKind → ℕ → ℕ → List Predicate
-row_of kind m first = flat_map (λ (second : ℕ). predicates_at kind m (first, second)) (range_with_len first (16 - first))
+row_of kind m first = flat_map (λ (second : ℕ). predicates_at kind m (first, second)) (range_with_len first (MOST_METHODS - first))
 
-row_before : (kind : SpecifiedKind) (m first : ℕ) → m < 16 → first < m → row_of kind m first ≡ part_of kind m first
+row_before : (kind : SpecifiedKind) (m first : ℕ) → m < MOST_METHODS → first < m → row_of kind m first ≡ part_of kind m first
 row_before kind m first few h =
     let low : min m first ≡ first = omega (arith, h) in
     let high : max m first ≡ m = omega (arith, h) in
-    rw (low, high) (one_in_row (λ (second : ℕ). predicates_at kind m (first, second)) first (16 - first) m (omega (arith, h, few)) (omega (arith, h))
+    rw (low, high) (one_in_row (λ (second : ℕ). predicates_at kind m (first, second)) first (MOST_METHODS - first) m (omega (arith, h, few)) (omega (arith, h))
     (λ k apart. apart_from kind m first k (λ e. absurd (omega (arith, e, h))) apart))
 
 row_behind : (kind : SpecifiedKind) (m first : ℕ) → m < first → row_of kind m first ≡ []
 row_behind kind m first h =
-    empty_row (λ (second : ℕ). predicates_at kind m (first, second)) first (16 - first)
+    empty_row (λ (second : ℕ). predicates_at kind m (first, second)) first (MOST_METHODS - first)
     (λ k l r. apart_from kind m first k (λ e. absurd (omega (arith, e, h))) (λ e. absurd (omega (arith, e, h, l))))
 
 part_behind : (kind : SpecifiedKind) (m second : ℕ) → m ≤ second → predicates_at kind m (m, second) ≡ part_of kind m second
@@ -87,46 +88,46 @@ part_behind kind m second h =
     let high : max m second ≡ second = omega (arith, h) in
     rw (low, high) refl
 
-row_at : (kind : SpecifiedKind) (m : ℕ) → row_of kind m m ≡ flat_map (part_of kind m) (range_with_len m (16 - m))
-row_at kind m = same_row (λ (second : ℕ). predicates_at kind m (m, second)) (part_of kind m) m (16 - m) (λ k l r. part_behind kind m k l)
+row_at : (kind : SpecifiedKind) (m : ℕ) → row_of kind m m ≡ flat_map (part_of kind m) (range_with_len m (MOST_METHODS - m))
+row_at kind m = same_row (λ (second : ℕ). predicates_at kind m (m, second)) (part_of kind m) m (MOST_METHODS - m) (λ k l r. part_behind kind m k l)
 
-all_rows : (kind : SpecifiedKind) (m : ℕ) → flat_map (predicates_at kind m) all_pairs ≡ flat_map (row_of kind m) (range_with_len 0 16)
+all_rows : (kind : SpecifiedKind) (m : ℕ) → flat_map (predicates_at kind m) all_pairs ≡ flat_map (row_of kind m) (range_with_len 0 MOST_METHODS)
 unfolding all_pairs
 all_rows kind m =
-    nested (predicates_at kind m) (λ (first : ℕ). map (λ (second : ℕ). (first, second)) (range_with_len first (16 - first))) (range_with_len 0 16)
-    ∙ same_row (λ (first : ℕ). flat_map (predicates_at kind m) (map (λ (second : ℕ). (first, second)) (range_with_len first (16 - first)))) (row_of kind m) 0 16
-    (λ first l r. flat_map-map (predicates_at kind m) (λ (second : ℕ). (first, second)) (range_with_len first (16 - first)))
+    nested (predicates_at kind m) (λ (first : ℕ). map (λ (second : ℕ). (first, second)) (range_with_len first (MOST_METHODS - first))) (range_with_len 0 MOST_METHODS)
+    ∙ same_row (λ (first : ℕ). flat_map (predicates_at kind m) (map (λ (second : ℕ). (first, second)) (range_with_len first (MOST_METHODS - first)))) (row_of kind m) 0 MOST_METHODS
+    (λ first l r. flat_map-map (predicates_at kind m) (λ (second : ℕ). (first, second)) (range_with_len first (MOST_METHODS - first)))
 
-rows_are : (kind : SpecifiedKind) (m : ℕ) → m < 16 → flat_map (row_of kind m) (range_with_len 0 16) ≡ flat_map (part_of kind m) (range_with_len 0 16)
+rows_are : (kind : SpecifiedKind) (m : ℕ) → m < MOST_METHODS → flat_map (row_of kind m) (range_with_len 0 MOST_METHODS) ≡ flat_map (part_of kind m) (range_with_len 0 MOST_METHODS)
 rows_are kind m few =
-    let whole = up_to m 16 (omega (arith, few)) in
-    let rest : range_with_len m (16 - m) ≡ m ∷ range_with_len (m + 1) (15 - m) = (let e : 16 - m ≡ suc (15 - m) = omega (arith, few) in ap (range_with_len m) e) in
+    let whole = up_to m MOST_METHODS (omega (arith, few)) in
+    let rest : range_with_len m (MOST_METHODS - m) ≡ m ∷ range_with_len (m + 1) (MOST_METHODS - 1 - m) = (let e : MOST_METHODS - m ≡ suc (MOST_METHODS - 1 - m) = omega (arith, few) in ap (range_with_len m) e) in
     let front = same_row (row_of kind m) (part_of kind m) 0 m (λ k l r. row_before kind m k few (omega (arith, r))) in
-    let back = empty_row (row_of kind m) (m + 1) (15 - m) (λ k l r. row_behind kind m k (omega (arith, l))) in
-    ap (flat_map (row_of kind m)) whole ∙ (flat_map-append (row_of kind m) (range_with_len 0 m) (range_with_len m (16 - m))
-    ∙ (ap (λ (l : List Predicate). l ++ flat_map (row_of kind m) (range_with_len m (16 - m))) front
+    let back = empty_row (row_of kind m) (m + 1) (MOST_METHODS - 1 - m) (λ k l r. row_behind kind m k (omega (arith, l))) in
+    ap (flat_map (row_of kind m)) whole ∙ (flat_map-append (row_of kind m) (range_with_len 0 m) (range_with_len m (MOST_METHODS - m))
+    ∙ (ap (λ (l : List Predicate). l ++ flat_map (row_of kind m) (range_with_len m (MOST_METHODS - m))) front
     ∙ (ap (λ (l : List Predicate). flat_map (part_of kind m) (range_with_len 0 m) ++ l)
     (ap (flat_map (row_of kind m)) rest ∙ (ap (λ (l : List Predicate). row_of kind m m ++ l) back ∙ (append-nil (row_of kind m m) ∙ row_at kind m)))
-    ∙ (sym (flat_map-append (part_of kind m) (range_with_len 0 m) (range_with_len m (16 - m))) ∙ ap (flat_map (part_of kind m)) (sym whole)))))
+    ∙ (sym (flat_map-append (part_of kind m) (range_with_len 0 m) (range_with_len m (MOST_METHODS - m))) ∙ ap (flat_map (part_of kind m)) (sym whole)))))
 
 -- past the methods no formula is set
 past_by : (b : Bool) (xs : List (Option Tree)) (p : ℕ) → length xs ≤ p → (if b then get_or xs p None else None) ≡ None
 past_by true xs p h = get_or-eq_default xs None h
 past_by false xs p h = refl
 
-past : (kind : SpecifiedKind) (m k : ℕ) → length kind.pairs ≡ 16 * length kind.methods → length kind.methods ≤ k → part_of kind m k ≡ []
+past : (kind : SpecifiedKind) (m k : ℕ) → length kind.pairs ≡ MOST_METHODS * length kind.methods → length kind.methods ≤ k → part_of kind m k ≡ []
 past kind m k rows h =
-    none_of kind m (min m k) (max m k) (past_by (nat_le (min m k) (max m k)) kind.pairs (16 * max m k + min m k) (omega (arith, rows, h)))
+    none_of kind m (min m k) (max m k) (past_by (nat_le (min m k) (max m k)) kind.pairs (MOST_METHODS * max m k + min m k) (omega (arith, rows, h)))
 
 -- the walk over the methods finds what all pairs say
-pub walk_is : (kind : SpecifiedKind) (m : ℕ) → length kind.pairs ≡ 16 * length kind.methods → length kind.methods ≤ 16 → m < length kind.methods
+pub walk_is : (kind : SpecifiedKind) (m : ℕ) → length kind.pairs ≡ MOST_METHODS * length kind.methods → length kind.methods ≤ MOST_METHODS → m < length kind.methods
     → method_predicates kind m ≡ distinct (flat_map (part_of kind m) (range_with_len 0 (length kind.methods)))
 walk_is kind m rows few known =
     let n = length kind.methods in
-    let whole = up_to n 16 few in
-    let back = empty_row (part_of kind m) n (16 - n) (λ k l r. past kind m k rows l) in
+    let whole = up_to n MOST_METHODS few in
+    let back = empty_row (part_of kind m) n (MOST_METHODS - n) (λ k l r. past kind m k rows l) in
     ap distinct (all_rows kind m ∙ (rows_are kind m (omega (arith, few, known)) ∙ (ap (flat_map (part_of kind m)) whole
-    ∙ (flat_map-append (part_of kind m) (range_with_len 0 n) (range_with_len n (16 - n))
+    ∙ (flat_map-append (part_of kind m) (range_with_len 0 n) (range_with_len n (MOST_METHODS - n))
     ∙ (ap (λ (l : List Predicate). flat_map (part_of kind m) (range_with_len 0 n) ++ l) back ∙ append-nil (flat_map (part_of kind m) (range_with_len 0 n)))))))
 
 -- what is kept after a walk over the first methods
@@ -150,16 +151,16 @@ kept_more kind m other seen more h k =
     (k.0, gathered ∙ (sym (distinct_both [] old (part_of kind m other)) ∙ ap distinct (sym (one_more kind m other))))
 
 -- a walk that finds a sixth shows that there are more than 5
-pub kept_full : (kind : SpecifiedKind) (m other : ℕ) (seen : Relations) → length kind.pairs ≡ 16 * length kind.methods → length kind.methods ≤ 16
+pub kept_full : (kind : SpecifiedKind) (m other : ℕ) (seen : Relations) → length kind.pairs ≡ MOST_METHODS * length kind.methods → length kind.methods ≤ MOST_METHODS
     → m < length kind.methods → other < length kind.methods → IsKept kind m other seen → Gathers (kept seen) (part_of kind m other) None
-    → 5 < length (method_predicates kind m)
+    → MOST_PREDICATES < length (method_predicates kind m)
 kept_full kind m other seen rows few known below h k =
     let n = length kind.methods in
     let old = flat_map (part_of kind m) (range_with_len 0 other) in
     let new = part_of kind m other in
     let rest = flat_map (part_of kind m) (range_with_len (other + 1) (n - (other + 1))) in
     let is = h.1 in
-    let full : 5 < length (distinct old) + length (distinct_from (distinct old) new) = rw (← is) k in
+    let full : MOST_PREDICATES < length (distinct old) + length (distinct_from (distinct old) new) = rw (← is) k in
     let whole : flat_map (part_of kind m) (range_with_len 0 n) ≡ (old ++ new) ++ rest =
     ap (flat_map (part_of kind m)) (up_to (other + 1) n (omega (arith, below)))
     ∙ (flat_map-append (part_of kind m) (range_with_len 0 (other + 1)) (range_with_len (other + 1) (n - (other + 1)))
@@ -172,8 +173,8 @@ kept_full kind m other seen rows few known below h k =
     let here : length (distinct (old ++ new)) ≡ length (distinct old) + length (distinct_from (distinct old) new) = ap length inner ∙ counted in
     rw (walk_is kind m rows few known, whole) (omega (arith, there, here, full))
 
-pub kept_all : (kind : SpecifiedKind) (m : ℕ) (seen : Relations) → length kind.pairs ≡ 16 * length kind.methods → length kind.methods ≤ 16
-    → m < length kind.methods → IsKept kind m (length kind.methods) seen → length (method_predicates kind m) ≤ 5
+pub kept_all : (kind : SpecifiedKind) (m : ℕ) (seen : Relations) → length kind.pairs ≡ MOST_METHODS * length kind.methods → length kind.methods ≤ MOST_METHODS
+    → m < length kind.methods → IsKept kind m (length kind.methods) seen → length (method_predicates kind m) ≤ MOST_PREDICATES
 kept_all kind m seen rows few known h =
     let is = h.1 in
     let room = h.0.few in

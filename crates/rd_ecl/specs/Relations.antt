@@ -5,6 +5,7 @@ use Rattle.rd_ecl.specs.declared.relations.Relation.{Relation}
 use Rattle.rd_ecl.specs.declared.relations.Relations.{Relations}
 use Rattle.rd_ecl.specs.Formulas.{distinct_from}
 use Rattle.rd_ecl.specs.Specified.{SpecifiedKind, predicates_at}
+use Rattle.rd_base.specs.declared.limits.TheConstants.{MOST_PREDICATES}
 
 abbrev pub predicate_of : Relation → Predicate
 predicate_of relation = record { rel = relation.rel; left = relation.left.now; right = relation.right.now }
@@ -20,13 +21,13 @@ kept seen = flat_map in_place (take seen.taken seen.places)
 
 -- each place that is taken has a relation
 pub record IsCounted (seen : Relations) : Type 0 where
-  pub few : seen.taken ≤ 5
+  pub few : seen.taken ≤ MOST_PREDICATES
   pub count : length (kept seen) ≡ seen.taken
 
 -- those of the list that aren't among the old ones come behind these; there is nothing where that makes more than 5
 abbrev pub Gathers : List Predicate → List Predicate → Option Relations → Type 0
 Gathers old more (Some seen) = IsCounted seen × (kept seen ≡ old ++ distinct_from old more)
-Gathers old more None = 5 < length old + length (distinct_from old more)
+Gathers old more None = MOST_PREDICATES < length old + length (distinct_from old more)
 
 -- what the formula of a method and another says of it alone
 abbrev pub part_of : SpecifiedKind → ℕ → ℕ → List Predicate

@@ -6,6 +6,7 @@ use Rattle.rd_ecl.specs.declared.formulas.Predicate.{Predicate}
 use Rattle.rd_ecl.specs.declared.kinds.Method.{Method}
 use Rattle.rd_ecl.specs.Formulas.{Tree, Fits, formula_fits, has_slots, post_order, first_offence, InFragment, nodes, levels, predicates_of, distinct, holds}
 use Rattle.rd_ecl.specs.Variables.{AreVariables, are_different, is_among, is_variable}
+use Rattle.rd_base.specs.declared.limits.TheConstants.{MOST_ARGUMENTS, MOST_LEVELS, MOST_METHODS, MOST_NODES, MOST_PREDICATES}
 
 -- a kind, by its name, its methods, and the formula of each pair of them, where it is set: that of methods m and n, with m
 -- at most n, stands at 16 n + m
@@ -30,7 +31,7 @@ names_of methods = map (λ method. method.name) methods
 
 -- the methods of a kind: at most 16, no two of one name
 pub record AreMethods (methods : List Method) : Type 0 where
-  pub few : length methods ≤ 16
+  pub few : length methods ≤ MOST_METHODS
   pub different : AllPairs (λ x y. x ≢ y) (names_of methods)
   pub each : All IsMethod methods
 
@@ -40,19 +41,19 @@ slots_at methods number = unwrap_or (option_map (λ method. length method.variab
 
 -- the formula of a pair, where it is set
 abbrev pub formula_at : SpecifiedKind → ℕ → ℕ → Option Tree
-formula_at kind first second = if nat_le first second then slice_index_or kind.pairs (16 * second + first) None else None
+formula_at kind first second = if nat_le first second then slice_index_or kind.pairs (MOST_METHODS * second + first) None else None
 
 -- a formula that a pair may have, of methods with m and n slots
 pub record IsPair (formula : Tree) (m n : ℕ) : Type 0 where
   pub fits : Fits formula m n
   pub slots : IsTrue (has_slots formula)
   pub inside : InFragment formula
-  pub few : nodes formula ≤ 64
-  pub shallow : levels formula ≤ 32
+  pub few : nodes formula ≤ MOST_NODES
+  pub shallow : levels formula ≤ MOST_LEVELS
 
 -- each two numbers that the methods of a pair may have, by the first, then by the second
 unfoldable pub all_pairs : List (ℕ × ℕ)
-all_pairs = flat_map (λ first. map (λ second. (first, second)) (range_with_len first (16 - first))) (range_with_len 0 16)
+all_pairs = flat_map (λ first. map (λ second. (first, second)) (range_with_len first (MOST_METHODS - first))) (range_with_len 0 MOST_METHODS)
 
 -- what a pair's formula says of the method with this number alone
 abbrev pub predicates_at : SpecifiedKind → ℕ → ℕ × ℕ → List Predicate
@@ -64,9 +65,9 @@ method_predicates kind method = distinct (flat_map (predicates_at kind method) a
 
 -- the formulas of a kind's pairs
 pub record ArePairs (kind : SpecifiedKind) : Type 0 where
-  pub rows : length kind.pairs ≡ 16 * length kind.methods
+  pub rows : length kind.pairs ≡ MOST_METHODS * length kind.methods
   pub each : (first second : ℕ) (formula : Tree) → formula_at kind first second ≡ Some formula → IsPair formula (slots_at kind.methods first) (slots_at kind.methods second)
-  pub few : (method : ℕ) → length (method_predicates kind method) ≤ 5
+  pub few : (method : ℕ) → length (method_predicates kind method) ≤ MOST_PREDICATES
 
 -- a kind that is being made
 pub record IsDraft (kind : SpecifiedKind) : Type 0 where
@@ -84,20 +85,20 @@ pub record IsKind (kind : SpecifiedKind) : Type 0 where
 
 -- a method of this name, with these variables, may stand behind those of the kind
 pub record MayAdd (kind : SpecifiedKind) (name : List ℕ) (variables : List (List ℕ)) : Type 0 where
-  pub room : length kind.methods < 16
+  pub room : length kind.methods < MOST_METHODS
   pub fresh : IsTrue (not (is_among name (names_of kind.methods)))
   pub some : 1 ≤ length variables
-  pub few : length variables ≤ 7
+  pub few : length variables ≤ MOST_ARGUMENTS + 1
   pub different : IsTrue (are_different variables)
   pub each : IsTrue (list_all is_variable variables)
 
 -- the kind with one method more, of which no pair is set
 abbrev pub with_method : SpecifiedKind → Method → SpecifiedKind
-with_method kind method = record kind { methods = kind.methods ++ method ∷ []; pairs = kind.pairs ++ replicate 16 None }
+with_method kind method = record kind { methods = kind.methods ++ method ∷ []; pairs = kind.pairs ++ replicate MOST_METHODS None }
 
 -- the kind with the formula of one pair more
 abbrev pub with_pair : SpecifiedKind → ℕ → ℕ → Tree → SpecifiedKind
-with_pair kind first second formula = record kind { pairs = set kind.pairs (16 * second + first) (Some formula) }
+with_pair kind first second formula = record kind { pairs = set kind.pairs (MOST_METHODS * second + first) (Some formula) }
 
 -- this may be the formula of that pair of the kind
 pub record MayPair (kind : SpecifiedKind) (first second : ℕ) (formula : Tree) : Type 0 where
@@ -105,21 +106,21 @@ pub record MayPair (kind : SpecifiedKind) (first second : ℕ) (formula : Tree) 
   pub known : second < length kind.methods
   pub unset : formula_at kind first second ≡ None
   pub pair : IsPair formula (slots_at kind.methods first) (slots_at kind.methods second)
-  pub few_first : length (method_predicates (with_pair kind first second formula) first) ≤ 5
-  pub few_second : length (method_predicates (with_pair kind first second formula) second) ≤ 5
+  pub few_first : length (method_predicates (with_pair kind first second formula) first) ≤ MOST_PREDICATES
+  pub few_second : length (method_predicates (with_pair kind first second formula) second) ≤ MOST_PREDICATES
 
 -- the test of what a pair's formula may be, for kinds that are written out
 abbrev pub is_pair : Tree → ℕ → ℕ → Bool
 is_pair formula m n =
     formula_fits formula m n && (has_slots formula && (is_none (first_offence 0 (post_order formula))
-    && (nat_le (nodes formula) 64 && nat_le (levels formula) 32)))
+    && (nat_le (nodes formula) MOST_NODES && nat_le (levels formula) MOST_LEVELS)))
 
 abbrev pub may_pair : SpecifiedKind → ℕ → ℕ → Tree → Bool
 may_pair kind first second formula =
     nat_le first second && (nat_lt second (length kind.methods) && (is_none (formula_at kind first second)
     && (is_pair formula (slots_at kind.methods first) (slots_at kind.methods second)
-    && (nat_le (length (method_predicates (with_pair kind first second formula) first)) 5
-    && nat_le (length (method_predicates (with_pair kind first second formula) second)) 5))))
+    && (nat_le (length (method_predicates (with_pair kind first second formula) first)) MOST_PREDICATES
+    && nat_le (length (method_predicates (with_pair kind first second formula) second)) MOST_PREDICATES))))
 
 -- the formula of two methods, in the order in which they are declared, holds of two calls
 abbrev pub pair_holds : SpecifiedKind → ℕ → ℕ → List Value → List Value → Bool

@@ -1,8 +1,9 @@
 -- The variables of a method: this project's profile.
-use Rattle.std.specs.Prelude.{ℕ, ◌<◌, ◌≤◌, ◌==◌, ◌||◌, ◌&&◌, Bool, true, not, nat_lt, nat_le, nat_eq, List, [], ◌∷◌, length, codes, slice_index, IsTrue, All, AllPairs, Contains, ◌≢◌}
+use Rattle.std.specs.Prelude.{ℕ, ◌<◌, ◌≤◌, ◌==◌, ◌||◌, ◌&&◌, Bool, true, not, nat_lt, nat_le, nat_eq, List, [], ◌∷◌, length, codes, slice_index, IsTrue, All, AllPairs, Contains, ◌≢◌, ◌+◌}
 use Rattle.std.specs.List.{AllPass, list_all, list_any}
 use Rattle.std.specs.Cmp.Lexicographic.{pointwise}
 use Rattle.rd_base.specs.Names.{is_letter_or_digit}
+use Rattle.rd_base.specs.declared.limits.TheConstants.{MOST_ARGUMENTS, MOST_NAME_BYTES}
 
 -- a letter of ASCII
 abbrev pub is_letter : ℕ → Bool
@@ -19,7 +20,7 @@ kept_words = codes "true" ∷ codes "false" ∷ codes "nil" ∷ codes "not" ∷ 
 -- the bytes of a variable
 pub record IsVariable (bytes : List ℕ) : Type 0 where
   pub some : 0 < length bytes
-  pub few : length bytes ≤ 64
+  pub few : length bytes ≤ MOST_NAME_BYTES
   pub letter : IsTrue (is_letter (slice_index bytes 0))
   pub each : AllPass is_variable_byte bytes
   pub free : ¬ (Contains kept_words bytes)
@@ -27,7 +28,7 @@ pub record IsVariable (bytes : List ℕ) : Type 0 where
 -- the variables of a method: 1 to 7, no two of them alike
 pub record AreVariables (variables : List (List ℕ)) : Type 0 where
   pub some : 1 ≤ length variables
-  pub few : length variables ≤ 7
+  pub few : length variables ≤ MOST_ARGUMENTS + 1
   pub different : AllPairs (λ x y. x ≢ y) variables
   pub each : All IsVariable variables
 
@@ -43,5 +44,5 @@ are_different (name ∷ names) = not (is_among name names) && are_different name
 -- the test of a variable
 abbrev pub is_variable : List ℕ → Bool
 is_variable bytes =
-    nat_lt 0 (length bytes) && (nat_le (length bytes) 64 && (is_letter (slice_index bytes 0)
+    nat_lt 0 (length bytes) && (nat_le (length bytes) MOST_NAME_BYTES && (is_letter (slice_index bytes 0)
     && (list_all is_variable_byte bytes && not (is_among bytes kept_words))))

@@ -9,7 +9,7 @@ ghost use Rattle.rd_ecl.specs.Specified.{IsDraft, IsKind, IsPair, IsWhole, MayAd
 use crate::formulas::Formula;
 use crate::names::Names;
 use crate::relations::Relations;
-use rd_base::{Name, NoMemory, Value};
+use rd_base::{MOST_METHODS, MOST_PREDICATES, Name, NoMemory, Value};
 use std::alloc::Global;
 use std::marker::Model;
 
@@ -95,18 +95,18 @@ impl KindSpec {
 
 // Where the formula of two methods stands.
 fn place(first: u8, second: u8) -> usize
-    ensures { result ≡ 16 * second + first }
+    ensures { result ≡ MOST_METHODS * second + first }
 {
-    16 * usize::from(second) + usize::from(first)
+    MOST_METHODS * usize::from(second) + usize::from(first)
 }
 
 // Puts 16 pairs last that aren't set. After want of memory the pairs are as before.
 fn add_pairs(pairs: &mut Vec<Option<Formula>>) -> Result<(), NoMemory>
-    ensures ok { OnOk result (pairs.new.items ≡ pairs.old.items ++ replicate 16 None) }
+    ensures ok { OnOk result (pairs.new.items ≡ pairs.old.items ++ replicate MOST_METHODS None) }
     ensures err { OnErr result (pairs.new.items ≡ pairs.old.items) }
 {
-    pairs.reserve(16)?;
-    for _ in 0..16_usize {
+    pairs.reserve(MOST_METHODS)?;
+    for _ in 0..MOST_METHODS {
         pairs.push_reserved(None);
     }
     Ok(())
@@ -243,7 +243,7 @@ impl KindDraft {
             × (method < length self.now.methods) }
         ensures { IsTrue result
             ↔ (length (method_predicates
-            (with_pair self.now first second (tree_of formula.now)) method) ≤ 5) }
+            (with_pair self.now first second (tree_of formula.now)) method) ≤ MOST_PREDICATES) }
     {
         let mut seen = Relations::none();
         let count = self.methods().len() as u8;

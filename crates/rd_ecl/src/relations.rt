@@ -5,6 +5,7 @@ ghost use Rattle.rd_ecl.specs.Formulas.{tree_of, predicates_of, same_predicate};
 ghost use Rattle.rd_ecl.specs.Relations.{Gathers, IsCounted, kept, predicate_of};
 
 use crate::formulas::{Formula, Rel, Side, Term};
+use rd_base::MOST_PREDICATES;
 
 // A relation on one side, without its side, as a formula has it.
 #[derive(Clone, Copy)]
@@ -17,7 +18,7 @@ struct Relation<'a> {
 // Relations, each once: at most 5.
 #[derive(Clone, Copy)]
 pub(crate) struct Relations<'a> {
-    places: [Option<Relation<'a>>; 5],
+    places: [Option<Relation<'a>>; MOST_PREDICATES],
     // the first places have one
     taken: usize,
 }
@@ -36,7 +37,7 @@ impl<'a> Relations<'a> {
         ensures value { kept result ≡ [] }
     {
         Relations {
-            places: [None; 5],
+            places: [None; MOST_PREDICATES],
             taken: 0,
         }
     }
@@ -64,7 +65,7 @@ impl<'a> Relations<'a> {
         if self.has(&relation) {
             return Some(self);
         }
-        if self.taken == 5 {
+        if self.taken == MOST_PREDICATES {
             return None;
         }
         let mut places = self.places;

@@ -2,8 +2,8 @@
 ghost use Rattle.std.specs.Prelude.{◌≤◌, length};
 
 use crate::rows::gives;
-use rd_base::NoMemory;
-use rd_grammar::{MOST_TOKENS, Mark, Parsed, Sign, Symbol, parse_formula};
+use rd_base::{MOST_TOKENS, NoMemory};
+use rd_grammar::{Mark, Parsed, Sign, Symbol, parse_formula};
 use rd_samples::{push_number, push_times, repeated};
 use std::alloc::Global;
 use std::process::Abort;

@@ -24,6 +24,7 @@ use Rattle.rd_tokens.specs.Tokens.{IsTokenOf, bytes_behind, bytes_of}
 use Rattle.rd_tokens.specs.Words.{AreMarks}
 use Rattle.rd_tokens.proofs.MarkLemmas.{numbered}
 use Rattle.rd_tokens.proofs.WordLemmas.{token_said}
+use Rattle.rd_base.specs.declared.limits.TheConstants.{MOST_TOKENS}
 
 -- the first node that offends is one of the nodes
 later_within : (number : ℕ) (x : Option Reason) (later : Option Outside) (count : ℕ) (o : Outside) → or_later number x later ≡ Some o
@@ -86,7 +87,7 @@ given_few Means (read_or g token h) f (k, l, e, left, right) =
       length-append (named_by g) (token ∷ named_by h),
     ))
 
-pub few_nodes : (Means : ℕ → Meant → Type 0) (read : Read) (f : Tree) → Gives Means read f → length (named_by read) ≤ 512 → nodes f ≤ 512
+pub few_nodes : (Means : ℕ → Meant → Type 0) (read : Read) (f : Tree) → Gives Means read f → length (named_by read) ≤ MOST_TOKENS → nodes f ≤ MOST_TOKENS
 few_nodes Means read f given few = omega (arith, given_few Means read f given, given_nodes Means read f given, few)
 
 keep_few : (b : Bool) (count rest : ℕ) (m : Mark) (kept : List Mark) → length kept ≤ rest → length (if b then m ∷ kept else kept) ≤ rest + 1
@@ -97,7 +98,7 @@ filter_few : (p : Mark → Bool) (marks : List Mark) → length (filter p marks)
 filter_few p [] = omega arith
 filter_few p (m ∷ marks) = let h = keep_few (p m) 0 (length marks) m (filter p marks) (filter_few p marks) in omega (arith, h)
 
-pub few_named : (marks : List Mark) (read : Read) → Says disj marks read → length marks ≤ 512 → length (named_by read) ≤ 512
+pub few_named : (marks : List Mark) (read : Read) → Says disj marks read → length marks ≤ MOST_TOKENS → length (named_by read) ≤ MOST_TOKENS
 few_named marks read says few =
     let same : length (numbers_of marks) ≡ length (named_by read) = ap length (in_order says) in
     omega (arith, same, few, length-map (filter (λ m. not (is_parenthesis m.symbol)) marks) (λ m. m.token), filter_few (λ m. not (is_parenthesis m.symbol)) marks)
@@ -131,7 +132,7 @@ has_terms scope marks read is are says =
     terms_of scope marks read is are (names_marks marks read (numbered scope.line.now scope.tokens.now marks are) says)
 
 -- what was built is a formula
-pub is_formula : (scope : Scope) (read : Read) (f : Tree) → Gives (MeansAt scope) read f → InFragment f → length (named_by read) ≤ 512 → IsFormula scope f
+pub is_formula : (scope : Scope) (read : Read) (f : Tree) → Gives (MeansAt scope) read f → InFragment f → length (named_by read) ≤ MOST_TOKENS → IsFormula scope f
 is_formula scope read f given inside few =
     let of = given_of scope read f given in
     record { fits = of.0; slots = of.1; inside = inside; few = few_nodes (MeansAt scope) read f given few }

@@ -10,6 +10,7 @@ use Rattle.rd_grammar.specs.declared.marks.Mark.{Mark}
 use Rattle.rd_grammar.specs.FirstWrong.{WrongAt}
 use Rattle.rd_grammar.specs.Grammar.{Tree as Read, Says, disj}
 use Rattle.rd_tokens.specs.Words.{AreMarks}
+use Rattle.rd_base.specs.declared.limits.TheConstants.{MOST_TOKENS}
 
 -- what the tokens say by the grammar alone
 abbrev pub Reads : Scope → Read → Type 0
@@ -24,7 +25,7 @@ pub record IsFormula (scope : Scope) (formula : Tree) : Type 0 where
   pub fits : Fits formula (length scope.first.now) (length scope.second.now)
   pub slots : has_slots formula ≡ true
   pub inside : InFragment formula
-  pub few : nodes formula ≤ 512
+  pub few : nodes formula ≤ MOST_TOKENS
 
 -- what is wrong with a formula that is right by the grammar: the first variable that isn't one of its side's method; where there
 -- is none, the first relation without a variable; where there is none of these, the first node outside the fragment

@@ -10,13 +10,14 @@ use Rattle.rd_grammar.specs.Grammar.{Tree as Read, truth, relation, negation, bo
 use Rattle.rd_tokens.specs.Tokens.{IsTokenOf, LiesIn, bytes_of}
 use Rattle.rd_tokens.specs.declared.words.terms.Said.TheVariants.{Variable, Value as ValueSaid}
 use Rattle.rd_tokens.specs.Words.{IsTerm, SaysTerm}
+use Rattle.rd_base.specs.declared.limits.TheConstants.{MOST_ARGUMENTS}
 
 -- the tokens are tokens of the line, and the methods have at most 7 variables
 pub record IsScope (scope : Scope) : Type 0 where
   pub within : All (LiesIn scope.line.now) scope.tokens.now
   pub sorts : All (IsTokenOf scope.line.now) scope.tokens.now
-  pub first : length scope.first.now ≤ 7
-  pub second : length scope.second.now ≤ 7
+  pub first : length scope.first.now ≤ MOST_ARGUMENTS + 1
+  pub second : length scope.second.now ≤ MOST_ARGUMENTS + 1
 
 -- the bytes of the token with this number; none where there is no such token
 abbrev pub word_at : Scope → ℕ → List ℕ

@@ -12,7 +12,7 @@ use crate::building::build;
 use crate::finding::{first_bare, first_unknown};
 use crate::places::token_of_node;
 use crate::scope::Scope;
-use rd_base::NoMemory;
+use rd_base::{MOST_TOKENS, NoMemory};
 use rd_ecl::{Formula, Outside, Reason};
 use rd_grammar::{ParseRefused, Parsed, parse_formula};
 use rd_tokens::marks;
@@ -71,7 +71,7 @@ fn built(alloc: Global, scope: &Scope, parsed: &Parsed) -> Result<Formula, Formu
     requires scope { IsScope scope.now × (length scope.now.line.now < 2 ^ 32 - 1) }
     requires ready { HasTerms scope.now (tree_of parsed.now)
         × IsReady scope.now (tree_of parsed.now) }
-    requires few { length (named_by (tree_of parsed.now)) ≤ 512 }
+    requires few { length (named_by (tree_of parsed.now)) ≤ MOST_TOKENS }
     ensures gives { IfOk result
         (λ formula. Gives (MeansAt scope.now) (tree_of parsed.now) (formula_of formula)) }
     ensures formula { IfOk result (λ formula. IsFormula scope.now (formula_of formula)) }
@@ -88,7 +88,7 @@ fn built(alloc: Global, scope: &Scope, parsed: &Parsed) -> Result<Formula, Formu
 pub fn resolve(alloc: Global, scope: &Scope, parsed: &Parsed) -> Result<Formula, FormulaRefused>
     requires scope { IsScope scope.now × (length scope.now.line.now < 2 ^ 32 - 1) }
     requires terms { HasTerms scope.now (tree_of parsed.now) }
-    requires few { length (named_by (tree_of parsed.now)) ≤ 512 }
+    requires few { length (named_by (tree_of parsed.now)) ≤ MOST_TOKENS }
     ensures gives { IfOk result
         (λ formula. Gives (MeansAt scope.now) (tree_of parsed.now) (formula_of formula)) }
     ensures formula { IfOk result (λ formula. IsFormula scope.now (formula_of formula)) }
@@ -110,7 +110,7 @@ pub fn resolve(alloc: Global, scope: &Scope, parsed: &Parsed) -> Result<Formula,
 /// The formula that tokens say, at most 512 of them; else the first thing that is wrong with them.
 pub fn read_formula(alloc: Global, scope: &Scope) -> Result<Formula, FormulaRefused>
     requires scope { IsScope scope.now × (length scope.now.line.now < 2 ^ 32 - 1) }
-    requires few { length scope.now.tokens.now ≤ 512 }
+    requires few { length scope.now.tokens.now ≤ MOST_TOKENS }
     ensures says { IfOk result (λ formula. SaysFormula scope.now (formula_of formula)) }
     ensures formula { IfOk result (λ formula. IsFormula scope.now (formula_of formula)) }
     ensures refused { IfErr result (IsRefused scope.now) }

@@ -1,9 +1,9 @@
 //! Where the words of a formula stand, and what its variables are.
-ghost use Rattle.std.specs.Prelude.{◌≡◌, ◌<◌, ◌≤◌, ◌↔◌, ◌-◌, ◌^◌, ℕ, List, length, IsTrue, IfSome, IfNone, Contains, slice_get, Some};
+ghost use Rattle.std.specs.Prelude.{◌≡◌, ◌<◌, ◌≤◌, ◌↔◌, ◌+◌, ◌-◌, ◌^◌, ℕ, List, length, IsTrue, IfSome, IfNone, Contains, slice_get, Some};
 ghost use Rattle.rd_ecl.specs.declared.formulas.Side.{Side};
 ghost use Rattle.rd_formulas.specs.Scope.{IsBare, IsScope, IsTermAt, IsUnknown, IsVariableAt, place_at, variables_of, word_at};
 
-use rd_base::Name;
+use rd_base::{MOST_ARGUMENTS, Name};
 use rd_ecl::Side;
 use rd_tokens::{Token, read_variable};
 
@@ -21,7 +21,7 @@ pub struct Scope<'a> {
 
 // The place of a name among others.
 fn place_of(names: &[Name], name: &[u8]) -> Option<u8>
-    requires { length names.now ≤ 7 }
+    requires { length names.now ≤ MOST_ARGUMENTS + 1 }
     ensures some { IfSome result (λ place. slice_get names.now place ≡ Some name.now) }
     ensures none { IfNone result (¬ (Contains names.now name.now)) }
 {

@@ -9,4 +9,4 @@ mod reader;
 pub use laws::{law_of_grammar, law_of_numbers};
 pub use marks::{Mark, Sign, Symbol};
 pub use parsed::{ParseRefused, Parsed};
-pub use reader::{MOST_TOKENS, parse_formula};
+pub use reader::parse_formula;

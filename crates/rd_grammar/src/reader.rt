@@ -6,11 +6,8 @@ ghost use Rattle.rd_grammar.specs.declared.parsed.ParseRefused.TheVariants.{Synt
 
 use crate::marks::{Mark, Sign, Symbol};
 use crate::parsed::{ParseRefused, Parsed};
-use rd_base::NoMemory;
+use rd_base::{MOST_TOKENS, NoMemory};
 use std::alloc::Global;
-
-/// How many marks a formula has at most.
-pub const MOST_TOKENS: usize = 512;
 
 // A formula that stands before an `and` or an `or`, and the number of that word.
 #[derive(Drop)]

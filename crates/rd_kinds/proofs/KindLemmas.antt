@@ -9,25 +9,26 @@ use Rattle.rd_ecl.specs.Specified.{SpecifiedKind, IsDraft, IsKind, IsWhole, MayA
 use Rattle.rd_ecl.proofs.PairLemmas.{no_draft, draft_more, draft_set}
 use Rattle.rd_ecl.proofs.TestLemmas.{may_by}
 use Rattle.rd_kinds.specs.Shipped.{Pair, with_pairs}
+use Rattle.rd_base.specs.declared.limits.TheConstants.{MOST_ARGUMENTS, MOST_METHODS}
 
 -- may a method of this name, with these variables, stand behind those of the kind?
 abbrev pub may_add : SpecifiedKind → Method → Bool
 may_add kind method =
-    nat_lt (length kind.methods) 16 && (not (is_among method.name (names_of kind.methods)) && (nat_le 1 (length method.variables)
-    && (nat_le (length method.variables) 7 && (are_different method.variables && list_all is_variable method.variables))))
+    nat_lt (length kind.methods) MOST_METHODS && (not (is_among method.name (names_of kind.methods)) && (nat_le 1 (length method.variables)
+    && (nat_le (length method.variables) (MOST_ARGUMENTS + 1) && (are_different method.variables && list_all is_variable method.variables))))
 
 add_by : (kind : SpecifiedKind) (method : Method) → may_add kind method ≡ true → MayAdd kind method.name method.variables
 add_by kind method e =
-    let room = and_parts (nat_lt (length kind.methods) 16) _ e in
+    let room = and_parts (nat_lt (length kind.methods) MOST_METHODS) _ e in
     let fresh = and_parts (not (is_among method.name (names_of kind.methods))) _ room.1 in
     let some = and_parts (nat_le 1 (length method.variables)) _ fresh.1 in
-    let few = and_parts (nat_le (length method.variables) 7) _ some.1 in
+    let few = and_parts (nat_le (length method.variables) (MOST_ARGUMENTS + 1)) _ some.1 in
     let each = and_parts (are_different method.variables) (list_all is_variable method.variables) few.1 in
     record {
-      room = ltb-true (length kind.methods) 16 room.0;
+      room = ltb-true (length kind.methods) MOST_METHODS room.0;
       fresh = fresh.0;
       some = leb-true 1 (length method.variables) some.0;
-      few = leb-true (length method.variables) 7 few.0;
+      few = leb-true (length method.variables) (MOST_ARGUMENTS + 1) few.0;
       different = each.0;
       each = each.1;
     }

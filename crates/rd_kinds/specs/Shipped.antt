@@ -9,6 +9,7 @@ use Rattle.rd_ecl.specs.declared.formulas.Term.TheVariants.{Slot, Const}
 use Rattle.rd_ecl.specs.declared.kinds.Method.{Method}
 use Rattle.rd_ecl.specs.Formulas.{Tree, truth, atom, cross, negation, both, either}
 use Rattle.rd_ecl.specs.Specified.{SpecifiedKind, with_pair}
+use Rattle.rd_base.specs.declared.limits.TheConstants.{MOST_METHODS}
 
 -- a method, by its name, and its variables, of which the last names the result
 abbrev pub method : List ℕ → List (List ℕ) → Method
@@ -25,7 +26,7 @@ with_pairs kind (pair ∷ pairs) = with_pairs (with_pair kind pair.0 pair.1 pair
 
 -- a kind of which no pair is set
 abbrev pub no_pairs : List ℕ → List Method → SpecifiedKind
-no_pairs name methods = record { name = name; methods = methods; pairs = replicate (16 * length methods) None }
+no_pairs name methods = record { name = name; methods = methods; pairs = replicate (MOST_METHODS * length methods) None }
 
 -- a slot of a side equals a term
 abbrev pub equals : Side → ℕ → Term → Tree

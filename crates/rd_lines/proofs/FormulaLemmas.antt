@@ -20,6 +20,7 @@ use Rattle.rd_grammar.specs.declared.parsed.Parsed.{Parsed}
 use Rattle.rd_grammar.specs.declared.parsed.ParseRefused.{ParseRefused}
 use Rattle.rd_grammar.specs.declared.parsed.ParseRefused.TheVariants.{Syntax, NoMemory}
 use Rattle.rd_lines.proofs.LawLemmas.{one_marks}
+use Rattle.rd_base.specs.declared.limits.TheConstants.{MOST_TOKENS}
 
 -- marks of tokens are marks of their words
 marks_from : (line : List ℕ) (k : ℕ) (tokens : List Token) (marks : List Mark) → length marks ≡ length tokens
@@ -245,8 +246,8 @@ words_refused line tokens marks (Err (Syntax count)) are refused =
     formula_wrong (words_of line tokens) marks count (words_marked line tokens marks are) refused.0 refused.1
 words_refused line tokens marks (Err NoMemory) are refused = tt
 
-pub count_bound : (line : List ℕ) (tokens : List Token) (result : Result Parsed ParseRefused) → length tokens ≤ 512
-    → IfErr result (IsFormulaRefused (words_of line tokens)) → IfErr result (λ refused. count_of refused ≤ 512)
+pub count_bound : (line : List ℕ) (tokens : List Token) (result : Result Parsed ParseRefused) → length tokens ≤ MOST_TOKENS
+    → IfErr result (IsFormulaRefused (words_of line tokens)) → IfErr result (λ refused. count_of refused ≤ MOST_TOKENS)
 count_bound line tokens (Ok parsed) few refused = tt
 count_bound line tokens (Err (Syntax count)) few refused = omega (arith, refused.0, length-map tokens (word_at line))
 count_bound line tokens (Err NoMemory) few refused = omega arith

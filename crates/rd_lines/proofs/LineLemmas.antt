@@ -9,7 +9,8 @@ use Rattle.std.proofs.lemmas.List.{length-map}
 use Rattle.rd_tokens.specs.declared.sorts.Token.{Token}
 use Rattle.rd_lines.specs.Lines.{Word, plain, word_at, words_of, IsShort, BeginsKind, RightLine, said_of}
 use Rattle.rd_lines.specs.declared.forms.FormRefused.TheVariants.{NoMemory}
-use Rattle.std.specs.Prelude.{IfErr}
+use Rattle.std.specs.Prelude.{IfErr, ◌+◌}
+use Rattle.rd_base.specs.declared.limits.TheConstants.{MOST_TOKENS}
 
 pub kind_right : (stage : Stage) (methods : List (List ℕ)) (words rest : List Word) (word : Word) (result : Result Form FormRefused)
     → words ≡ word ∷ rest → word ≡ plain (codes "kind")
@@ -33,7 +34,7 @@ commute_right stage methods words rest word (Ok form) same (stands, is) right = 
 commute_right stage methods words rest word (Err refused) same (stands, is) right = tt
 
 -- a line of at most 516 tokens is short
-pub short_line : (line : List ℕ) (tokens : List Token) → length tokens ≤ 516 → IsShort (words_of line tokens)
+pub short_line : (line : List ℕ) (tokens : List Token) → length tokens ≤ MOST_TOKENS + 4 → IsShort (words_of line tokens)
 short_line line tokens few = record {
   few = λ first second behind same.
       let count : length (words_of line tokens) ≡ length (plain (codes "commute") ∷ first ∷ second ∷ plain (codes "when") ∷ behind) = ap length same in

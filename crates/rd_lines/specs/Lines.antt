@@ -17,6 +17,7 @@ use Rattle.rd_tokens.specs.declared.sorts.Sort.TheVariants.{Word as PlainWord}
 use Rattle.rd_tokens.specs.declared.sorts.Token.{Token}
 use Rattle.rd_tokens.specs.Tokens.{bytes_of}
 use Rattle.rd_tokens.specs.Words.{IsSymbol}
+use Rattle.rd_base.specs.declared.limits.TheConstants.{MOST_TOKENS}
 
 -- a token of a line without its place
 pub record Word : Type 0 where
@@ -98,7 +99,7 @@ BeginsKind words = (behind : List Word) × (words ≡ plain (codes "kind") ∷ b
 -- a formula has at most 512 words
 pub record IsShort (words : List Word) : Type 0 where
   pub few : (first second : Word) (behind : List Word) → words ≡ plain (codes "commute") ∷ first ∷ second ∷ plain (codes "when") ∷ behind
-      → length behind ≤ 512
+      → length behind ≤ MOST_TOKENS
 
 -- the first wrong word has so many words before it; all of them where the line ends too early
 abbrev pub IsWrongBehind : {R : Type 0} → (List Word → R → Type 0) → List Word → ℕ → Type 0

@@ -11,7 +11,7 @@ ghost use Rattle.rd_lines.specs.Reading.{IsFormulaRefused, IsPairInFront, SaysFo
 use crate::forms::{Form, FormRefused};
 use crate::order::is_out_of_order;
 use crate::words::{is, name_of};
-use rd_base::Name;
+use rd_base::{MOST_TOKENS, Name};
 use rd_ecl::Method;
 use rd_grammar::{ParseRefused, Parsed, parse_formula};
 use rd_tokens::{Token, marks};
@@ -59,11 +59,11 @@ fn read_pair<'a>(
 // The formula that the tokens say.
 fn read_formula(alloc: Global, line: &[u8], tokens: &[Token]) -> Result<Parsed, ParseRefused>
     requires within { All (LiesIn line.now) tokens.now }
-    requires few { length tokens.now ≤ 512 }
+    requires few { length tokens.now ≤ MOST_TOKENS }
     ensures ok { IfOk result
         (λ parsed. SaysFormula (words_of line.now tokens.now) (tree_of parsed)) }
     ensures refused { IfErr result (IsFormulaRefused (words_of line.now tokens.now)) }
-    ensures bound { IfErr result (λ refused. count_of refused ≤ 512) }
+    ensures bound { IfErr result (λ refused. count_of refused ≤ MOST_TOKENS) }
 {
     let marks = marks(alloc, line, tokens)?;
     parse_formula(alloc, marks.items())
@@ -71,7 +71,7 @@ fn read_formula(alloc: Global, line: &[u8], tokens: &[Token]) -> Result<Parsed, 
 
 // The refusal of what stands behind `when`, as one of the line.
 fn behind_when(refused: ParseRefused) -> FormRefused
-    requires { count_of refused ≤ 512 }
+    requires { count_of refused ≤ MOST_TOKENS }
     ensures { result ≡ behind_when refused }
 {
     match refused {

@@ -4,7 +4,7 @@ ghost use Rattle.rd_print.specs.Printed.{HasValues, PairHasValues, commute_words
 ghost use Rattle.rd_print.specs.Writing.{RowHasValues, pairs_text, row_text};
 
 use crate::{append_text, words};
-use rd_base::{Bytes, NoMemory};
+use rd_base::{Bytes, MOST_METHODS, NoMemory};
 use rd_ecl::{KindSpec, Method};
 use std::alloc::Global;
 
@@ -19,7 +19,7 @@ fn method_at(kind: &KindSpec, number: u8) -> &Method
 // How many methods a kind has.
 fn count(kind: &KindSpec) -> u8
     ensures value { result ≡ length kind.now.methods }
-    ensures bound { result ≤ 16 }
+    ensures bound { result ≤ MOST_METHODS }
 {
     kind.methods().len() as u8
 }

@@ -16,6 +16,7 @@ use Rattle.rd_lines.specs.declared.forms.Stage.{Stage}
 use Rattle.rd_lines.specs.Lines.{IsMethodLine, Word, commute, plain, word_at, words_of}
 use Rattle.rd_tokens.specs.declared.sorts.Token.{Token}
 use Rattle.rd_reading.proofs.RepeatLemmas.{Different}
+use Rattle.rd_base.specs.declared.limits.TheConstants.{MOST_ARGUMENTS, MOST_METHODS}
 
 both_hold : (a b : Bool) → a ≡ true → b ≡ true → (a && b) ≡ true
 both_hold true b h k = k
@@ -37,7 +38,7 @@ argument_count stage line tokens name arguments value right =
 -- the method of a right line may be added
 pub may_add : (kind : SpecifiedKind) (stage : Stage) (words : List Word) (name : List ℕ) (arguments : List (List ℕ)) (value : List ℕ)
     (held variables : List (List ℕ)) → held ≡ arguments → variables ≡ arguments ++ value ∷ [] → IsMethodLine stage words name arguments value
-    → (length kind.methods < 16) × (length held ≤ 6) → is_among name (names_of kind.methods) ≡ false → Different (held ++ value ∷ [])
+    → (length kind.methods < MOST_METHODS) × (length held ≤ MOST_ARGUMENTS) → is_among name (names_of kind.methods) ≡ false → Different (held ++ value ∷ [])
     → MayAdd kind name variables
 may_add kind stage words name arguments value held variables same are right room fresh different =
     subst (λ (l : List (List ℕ)). MayAdd kind name l) (sym are)

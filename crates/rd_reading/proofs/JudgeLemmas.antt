@@ -25,6 +25,7 @@ use Rattle.rd_reading.specs.Pairs.{IsRefused}
 use Rattle.rd_reading.proofs.MeaningLemmas.{known_relations, known_terms, no_first, no_first_sign, one_formula}
 use Rattle.rd_reading.proofs.NumberLemmas.{AreDifferent, contained, number_within, one_pair}
 use Rattle.rd_reading.proofs.ScopeLemmas.{slots_are, variables_are}
+use Rattle.rd_base.specs.declared.limits.TheConstants.{MOST_LEVELS, MOST_NODES, MOST_PREDICATES}
 
 no_offence : (o : Option Outside) (found : Outside) → IsNone o → o ≡ Some found → ⊥
 no_offence None found none is = absurd (cc)
@@ -147,8 +148,8 @@ module _ (kind : SpecifiedKind) (line : List ℕ) (tokens : List Token) (first s
           let found = sym (ap (λ (t : Tree). first_offence 0 (post_order t)) same) ∙ troubled.4 in
           absurd (no_offence (first_offence 0 (post_order f)) _ ((fragment_is f).1 inside) found)
       late Duplicate place (i, j, others, some, is) = (here (λ x y. IsSome (formula_at kind x y)) i j others some, is)
-      late (Limit Nodes number) place (h, is) = let passes = passes_here (λ x y g. 64 < nodes g) place h in ((passes.0, is), passes.1)
-      late (Limit FormulaDepth number) place (h, is) = let passes = passes_here (λ x y g. 32 < levels g) place h in ((passes.0, is), passes.1)
+      late (Limit Nodes number) place (h, is) = let passes = passes_here (λ x y g. MOST_NODES < nodes g) place h in ((passes.0, is), passes.1)
+      late (Limit FormulaDepth number) place (h, is) = let passes = passes_here (λ x y g. MOST_LEVELS < levels g) place h in ((passes.0, is), passes.1)
       late (Limit Predicates number) place (h, is) = let passes = passes_here (HasManyPredicates kind) place h in ((passes.0, is), passes.1)
       late cause place h = absurd h
 
@@ -189,11 +190,11 @@ may_pair kind line tokens m n f ordered known is none = record {
     fits = rw (← slots_are kind m, ← slots_are kind n) is.fits;
     slots = is.slots;
     inside = is.inside;
-    few = at_most 64 (nodes f) (λ large. none (Limit Nodes 64) (place_at line tokens 3) ((large, refl), refl));
-    shallow = at_most 32 (levels f) (λ large. none (Limit FormulaDepth 32) (place_at line tokens 3) ((large, refl), refl));
+    few = at_most MOST_NODES (nodes f) (λ large. none (Limit Nodes MOST_NODES) (place_at line tokens 3) ((large, refl), refl));
+    shallow = at_most MOST_LEVELS (levels f) (λ large. none (Limit FormulaDepth MOST_LEVELS) (place_at line tokens 3) ((large, refl), refl));
   };
-  few_first = at_most 5 _ (λ large. none (Limit Predicates 5) (place_at line tokens 3) ((inl large, refl), refl));
-  few_second = at_most 5 _ (λ large. none (Limit Predicates 5) (place_at line tokens 3) ((inr large, refl), refl));
+  few_first = at_most MOST_PREDICATES _ (λ large. none (Limit Predicates MOST_PREDICATES) (place_at line tokens 3) ((inl large, refl), refl));
+  few_second = at_most MOST_PREDICATES _ (λ large. none (Limit Predicates MOST_PREDICATES) (place_at line tokens 3) ((inr large, refl), refl));
 }
 
 -- the same, of a kind that is being made

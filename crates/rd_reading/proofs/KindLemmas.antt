@@ -13,6 +13,7 @@ use Rattle.rd_ecl.proofs.VariableLemmas.{among_decides}
 use Rattle.rd_tokens.specs.declared.sorts.Token.{Token}
 use Rattle.rd_reading.specs.Parts.{IsMissing}
 use Rattle.rd_reading.proofs.MissingLemmas.{whole_lacks}
+use Rattle.rd_base.specs.declared.limits.TheConstants.{MOST_KINDS}
 
 -- a test that fails
 lacks : (name : List ℕ) (names : List (List ℕ)) → is_among name names ≡ false → ¬ (Contains names name)
@@ -71,10 +72,10 @@ module _ (taken : List (List ℕ)) (known : Known) (line : List ℕ) (tokens : L
         least_limit cause place has = absurd has
 
         -- then the limit
-        pub many_kinds : (place : ℕ) → place ≡ place_at line tokens 1 → 32 ≤ length (kinds_so_far known) → IsFirstOf Wrong (Limit Kinds 32) place
+        pub many_kinds : (place : ℕ) → place ≡ place_at line tokens 1 → MOST_KINDS ≤ length (kinds_so_far known) → IsFirstOf Wrong (Limit Kinds MOST_KINDS) place
         many_kinds place at many = record { has = (many, refl, at); first = least_limit }
 
-        pub right_kind : length (kinds_so_far known) < 32 → HasNone Wrong
+        pub right_kind : length (kinds_so_far known) < MOST_KINDS → HasNone Wrong
         right_kind few Duplicate place has = lacks name _ fresh has.0
         right_kind few (MissingPair first second) place has = whole_lacks (kind_in known.block) first second whole has.0
         right_kind few KindTaken place has = lacks name taken free has.0

@@ -20,6 +20,7 @@ use Rattle.rd_tokens.specs.Tokens.{AreTokens}
 use Rattle.rd_reading.specs.declared.judging.refused.LineRefused.{LineRefused}
 use Rattle.rd_reading.specs.declared.judging.refused.LineRefused.TheVariants.{Fault, NoMemory}
 use Rattle.rd_reading.specs.Judging.{LineRefuses, Refuses}
+use Rattle.rd_base.specs.declared.limits.TheConstants.{MOST_TOKENS}
 
 at_most : (n m : ℕ) → ¬ (m < n) → n ≤ m
 at_most n m above = let below : n < m + 1 = lt_of_not-le (λ (h : m + 1 ≤ n). above (omega (arith, h))) in omega (arith, below)
@@ -28,7 +29,7 @@ at_most n m above = let below : n < m + 1 = lt_of_not-le (λ (h : m + 1 ≤ n). 
 pub short_words : (words : List Word) → ¬ (HasManyTokens words) → IsShort words
 short_words words few = record {
   few = λ first second behind written.
-      at_most (length behind) 512 (λ many. few (record { first = first; second = second; behind = behind; written = written; many = many }));
+      at_most (length behind) MOST_TOKENS (λ many. few (record { first = first; second = second; behind = behind; written = written; many = many }));
 }
 
 short_few : (words : List Word) → IsShort words → ¬ (HasManyTokens words)
@@ -112,7 +113,7 @@ module _ (taken : List (List ℕ)) (known : Known) (line : List ℕ) (tokens : L
     least_many cause place (form_has form right has) = let least = least_form taken known line tokens form cause place has in omega (arith, least)
 
     -- too many tokens are told first
-    pub many_tokens : (place : ℕ) → place ≡ place_at line tokens 3 → HasManyTokens (words_of line tokens) → IsFirstOf Wrong (Limit Tokens 512) place
+    pub many_tokens : (place : ℕ) → place ≡ place_at line tokens 3 → HasManyTokens (words_of line tokens) → IsFirstOf Wrong (Limit Tokens MOST_TOKENS) place
     many_tokens place at many = record { has = line_has (many, refl, at); first = least_many }
 
     module _ (short : IsShort (words_of line tokens)) where

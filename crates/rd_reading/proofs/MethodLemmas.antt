@@ -12,6 +12,7 @@ use Rattle.rd_ecl.proofs.VariableLemmas.{among_decides}
 use Rattle.rd_tokens.specs.declared.sorts.Token.{Token}
 use Rattle.rd_reading.specs.Parts.{IsPassed}
 use Rattle.rd_reading.proofs.RepeatLemmas.{Different, none_repeated}
+use Rattle.rd_base.specs.declared.limits.TheConstants.{MOST_ARGUMENTS, MOST_METHODS}
 
 -- a test that fails
 lacks : (name : List ℕ) (names : List (List ℕ)) → is_among name names ≡ false → ¬ (Contains names name)
@@ -50,7 +51,7 @@ module _ (kind : SpecifiedKind) (line : List ℕ) (tokens : List Token) (name : 
       least_limit (Limit Arguments number) place has = omega arith
       least_limit cause place has = absurd has
 
-      least_arguments : length kind.methods < 16 → (cause : SpecCause) (place : ℕ) → Wrong cause place → 12 ≤ rank cause
+      least_arguments : length kind.methods < MOST_METHODS → (cause : SpecCause) (place : ℕ) → Wrong cause place → 12 ≤ rank cause
       least_arguments few Duplicate place has = absurd (no_duplicate place has)
       least_arguments few (Limit Methods number) place has = let many = has.0 in absurd (omega (arith, few, many))
       least_arguments few (Limit Arguments number) place has = omega arith
@@ -61,13 +62,13 @@ module _ (kind : SpecifiedKind) (line : List ℕ) (tokens : List Token) (name : 
       passes fault (inl (many, is)) = rw is (record { has = (many, refl, refl); first = least_limit })
       passes fault (inr (few, many, is)) = rw is (record { has = (many, refl, refl); first = least_arguments few })
 
-      right_method : length kind.methods < 16 → length arguments ≤ 6 → HasNone Wrong
+      right_method : length kind.methods < MOST_METHODS → length arguments ≤ MOST_ARGUMENTS → HasNone Wrong
       right_method room few Duplicate place has = no_duplicate place has
       right_method room few (Limit Methods number) place has = let many = has.0 in omega (arith, room, many)
       right_method room few (Limit Arguments number) place has = let many = has.0 in omega (arith, few, many)
       right_method room few cause place has = has
 
       pub judged_method : (found : Option Fault) → IfSome found (IsPassed kind line tokens arguments)
-          → IfNone found ((length kind.methods < 16) × (length arguments ≤ 6)) → Judged Wrong found
+          → IfNone found ((length kind.methods < MOST_METHODS) × (length arguments ≤ MOST_ARGUMENTS)) → Judged Wrong found
       judged_method None passed room = right_method room.0 room.1
       judged_method (Some fault) passed room = passes fault passed

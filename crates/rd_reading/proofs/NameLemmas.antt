@@ -18,10 +18,11 @@ use Rattle.rd_reading.proofs.NumberLemmas.{AreDifferent}
 use Rattle.rd_tokens.specs.declared.sorts.Token.{Token}
 use Rattle.rd_reading.specs.Texts.{HasNewNames, Reads, SpecSays, no_more, skips, takes}
 use Rattle.rd_reading.proofs.OneLemmas.{name_more}
+use Rattle.rd_base.specs.declared.limits.TheConstants.{MOST_KINDS}
 
 -- at most 32 names, no two the same, and none that is taken
 record AreNew (taken : List (List ℕ)) (names : List (List ℕ)) : Type 0 where
-  few : length names ≤ 32
+  few : length names ≤ MOST_KINDS
   different : AreDifferent names
   free : All (λ name. ¬ (Contains taken name)) names
 
@@ -36,7 +37,7 @@ none_new taken = record {
 }
 
 -- a name more
-new_more : (taken names : List (List ℕ)) (name : List ℕ) → AreNew taken names → length names < 32 → ¬ (Contains names name) → ¬ (Contains taken name)
+new_more : (taken names : List (List ℕ)) (name : List ℕ) → AreNew taken names → length names < MOST_KINDS → ¬ (Contains names name) → ¬ (Contains taken name)
     → AreNew taken (names ++ name ∷ [])
 new_more taken names name new room fresh free = record {
   few = let count = length-append names (name ∷ []) in omega (arith, count, room);
@@ -70,10 +71,10 @@ kind_new : (taken : List (List ℕ)) (known : Known) (line : List ℕ) (tokens :
 kind_new taken known line tokens name new clean =
     subst (AreNew taken) (sym (names_last (kinds_so_far known) (kind_without name)))
     (new_more taken (names_so_far known) name new room (λ among. clean Duplicate _ (among, refl)) (λ reserved. clean KindTaken _ (reserved, refl))) where
-      room : length (names_so_far known) < 32
+      room : length (names_so_far known) < MOST_KINDS
       room =
           let count = count_names (kinds_so_far known) in
-          let never : ¬ (32 ≤ length (kinds_so_far known)) = λ full. clean (Limit Kinds 32) _ (full, refl, refl) in
+          let never : ¬ (MOST_KINDS ≤ length (kinds_so_far known)) = λ full. clean (Limit Kinds MOST_KINDS) _ (full, refl, refl) in
           omega (arith, count, never)
 
 -- an accepted line keeps the names new

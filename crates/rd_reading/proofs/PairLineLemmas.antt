@@ -9,6 +9,7 @@ use Rattle.rd_tokens.specs.declared.sorts.Token.{Token}
 use Rattle.rd_tokens.specs.Tokens.{IsTokenOf, LiesIn}
 use Rattle.rd_reading.specs.PairJudging.{HasFormula}
 use Rattle.rd_reading.proofs.MarkLemmas.{are_marks, behind_four}
+use Rattle.rd_base.specs.declared.limits.TheConstants.{MOST_TOKENS}
 
 pub has_formula : (stage : Stage) (methods : List (List ℕ)) (line : List ℕ) (tokens : List Token) (first second : List ℕ) (read : Tree)
     → All (LiesIn line) tokens → All (IsTokenOf line) tokens → length line < 4294967295 → IsShort (words_of line tokens)
@@ -17,7 +18,7 @@ has_formula stage methods line tokens first second read within sorts short few r
     let parts = behind_four line tokens (plain (codes "commute")) (plain first) (plain second) (plain (codes "when")) right.behind right.written in
     let marked = subst (λ (words : List Word). AreMarksFrom 0 words right.marks) parts.1 right.marked in
     let bound = few.few (plain first) (plain second) right.behind right.written in
-    let words : length (words_of line (drop 4 tokens)) ≤ 512 = subst (λ (words : List Word). length words ≤ 512) parts.1 bound in
+    let words : length (words_of line (drop 4 tokens)) ≤ MOST_TOKENS = subst (λ (words : List Word). length words ≤ MOST_TOKENS) parts.1 bound in
     record {
       within = within;
       sorts = sorts;

@@ -14,6 +14,7 @@ use Rattle.rd_reading.specs.declared.judging.refused.LineRefused.{LineRefused}
 use Rattle.rd_reading.specs.declared.judging.refused.LineRefused.TheVariants.{Fault, NoMemory}
 use Rattle.rd_reading.specs.Reading.{Takes, Stops, IsHalfRead, IsRead, at_line}
 use Rattle.rd_reading.specs.Texts.{AreLines, Reads, Refuses, SpecSays, no_line, no_more, skips, takes}
+use Rattle.rd_base.specs.declared.limits.TheConstants.{MOST_SPEC_BYTES}
 
 module _ (taken : List (List ℕ)) where
   one_more : {line : List ℕ} {mid next : Known} → Takes taken mid line next → Reads taken mid (line ∷ []) next
@@ -55,7 +56,7 @@ module _ (taken : List (List ℕ)) where
   all_read text (b ∷ rest) number known none half = absurd (omega (arith, none))
 
   -- a line is refused
-  pub stopped : (text rest line behind : List ℕ) (number : ℕ) (known : Known) (refused : LineRefused) → length text ≤ 1048576
+  pub stopped : (text rest line behind : List ℕ) (number : ℕ) (known : Known) (refused : LineRefused) → length text ≤ MOST_SPEC_BYTES
       → IsHalfRead taken text rest number known
       → ((lines : List (List ℕ)) → AreLines behind lines → AreLines rest (line ∷ lines)) → Stops taken known line refused
       → Refuses text taken (at_line (number + 1) refused)
@@ -82,7 +83,7 @@ module _ (taken : List (List ℕ)) where
       })
 
 -- the end is refused
-pub end_stopped : (taken : List (List ℕ)) (text : List ℕ) (number : ℕ) (known : Known) (refused : LineRefused) → length text ≤ 1048576
+pub end_stopped : (taken : List (List ℕ)) (text : List ℕ) (number : ℕ) (known : Known) (refused : LineRefused) → length text ≤ MOST_SPEC_BYTES
     → IsRead taken text number known → EndRefuses known refused → Refuses text taken (at_line (number + 1) refused)
 end_stopped taken text number known NoMemory short read stops = tt
 end_stopped taken text number known (Fault fault) short read first =
@@ -94,7 +95,7 @@ end_stopped taken text number known (Fault fault) short read first =
     })
 
 -- the text is a specification's
-pub said_whole : (taken : List (List ℕ)) (text : List ℕ) (number : ℕ) (known : Known) (kinds : List SpecifiedKind) → length text ≤ 1048576
+pub said_whole : (taken : List (List ℕ)) (text : List ℕ) (number : ℕ) (known : Known) (kinds : List SpecifiedKind) → length text ≤ MOST_SPEC_BYTES
     → IsRead taken text number known → HasNone (EndHas known) → kinds ≡ kinds_so_far known → SpecSays text taken kinds
 said_whole taken text number known kinds short read whole said = record {
   short = short;
@@ -107,6 +108,6 @@ said_whole taken text number known kinds short read whole said = record {
 }
 
 -- the text is too long
-pub too_long : (text : List ℕ) (taken : List (List ℕ)) → 1048576 < length text
-    → Refuses text taken (Spec (record { line = 0; place = 0; cause = Limit SpecText 1048576 }))
+pub too_long : (text : List ℕ) (taken : List (List ℕ)) → MOST_SPEC_BYTES < length text
+    → Refuses text taken (Spec (record { line = 0; place = 0; cause = Limit SpecText MOST_SPEC_BYTES }))
 too_long text taken long = inl (record { long = long; number = refl; place = refl; cause = refl })

@@ -1,6 +1,6 @@
 -- What the tokens of a line are.
 use Rattle.std.proofs.Common.{◌≡◌, ◌<◌, ◌≤◌, ℕ, List, [], ◌∷◌, codes, get_or, length, ◌∙◌, ap, arith, length-append}
-use Rattle.std.specs.Prelude.{All}
+use Rattle.std.specs.Prelude.{All, ◌+◌}
 use Rattle.std.specs.List.{AllByRecursion}
 use Rattle.std.proofs.lemmas.List.{length-map}
 use Rattle.rd_base.proofs.FoundLemmas.{each_by_recursion}
@@ -8,6 +8,7 @@ use Rattle.rd_reading.specs.Causes.{HasManyTokens}
 use Rattle.rd_lines.specs.Lines.{Word, plain, word_at, words_of}
 use Rattle.rd_tokens.specs.declared.sorts.Token.{Token}
 use Rattle.rd_tokens.specs.Tokens.{AreTokens, Cuts, LiesIn, nothing_left, space_first, token_first}
+use Rattle.rd_base.specs.declared.limits.TheConstants.{MOST_TOKENS}
 
 count_from : {place : ℕ} {line : List ℕ} {tokens : List Token} (whole : List ℕ) → Cuts place line tokens → AllByRecursion (LiesIn whole) tokens
     → length tokens ≤ length line
@@ -23,7 +24,7 @@ pub token_count : (line : List ℕ) (tokens : List Token) → AreTokens line tok
 token_count line tokens cut each = count_from line cut (each_by_recursion (LiesIn line) tokens each)
 
 -- a line of many tokens, by its first token and the fourth
-pub many_from : (line : List ℕ) (tokens : List Token) (d e : Token) → 516 < length tokens → word_at line (get_or tokens 0 d) ≡ plain (codes "commute")
+pub many_from : (line : List ℕ) (tokens : List Token) (d e : Token) → MOST_TOKENS + 4 < length tokens → word_at line (get_or tokens 0 d) ≡ plain (codes "commute")
     → word_at line (get_or tokens 3 e) ≡ plain (codes "when") → HasManyTokens (words_of line tokens)
 many_from line [] d e many is when = absurd (omega (arith, many))
 many_from line (a ∷ []) d e many is when = absurd (omega (arith, many))
@@ -38,7 +39,7 @@ many_from line (a ∷ b ∷ c ∷ f ∷ rest) d e many is when = record {
   many = omega (arith, many, length-map rest (word_at line));
 }
 
-pub many_count : (line : List ℕ) (tokens : List Token) → HasManyTokens (words_of line tokens) → 516 < length tokens
+pub many_count : (line : List ℕ) (tokens : List Token) → HasManyTokens (words_of line tokens) → MOST_TOKENS + 4 < length tokens
 many_count line tokens has =
     let count : length (words_of line tokens) ≡ length (plain (codes "commute") ∷ has.first ∷ has.second ∷ plain (codes "when") ∷ has.behind) = ap length has.written in
     let many = has.many in

@@ -19,6 +19,7 @@ use Rattle.rd_formulas.specs.Scope.{MeansAt}
 use Rattle.rd_grammar.specs.Grammar.{Tree as Read}
 use Rattle.rd_lines.specs.Lines.{IsWrongBehind, RightLine, SaidForm, Word, kind as kind_said, method as method_said, commute as commute_said, plain, words_of}
 use Rattle.rd_tokens.specs.declared.sorts.Token.{Token}
+use Rattle.rd_base.specs.declared.limits.TheConstants.{MOST_ARGUMENTS, MOST_KINDS, MOST_LEVELS, MOST_METHODS, MOST_NODES, MOST_PREDICATES, MOST_TOKENS}
 
 -- ---- the parts of a line
 
@@ -36,7 +37,7 @@ pub record HasManyTokens (words : List Word) : Type 0 where
   pub second : Word
   pub behind : List Word
   pub written : words ≡ plain (codes "commute") ∷ first ∷ second ∷ plain (codes "when") ∷ behind
-  pub many : 512 < length behind
+  pub many : MOST_TOKENS < length behind
 
 -- ---- what may be wrong with any line
 
@@ -45,7 +46,7 @@ abbrev pub LineHas : Known → List ℕ → List Token → SpecCause → ℕ →
 LineHas known line tokens Header place = (known.begun ≡ false) × (words_of line tokens ≢ header_words) × (place ≡ 0)
 -- the place is that of the word `when`
 LineHas known line tokens (Limit Tokens number) place =
-    HasManyTokens (words_of line tokens) × (number ≡ 512) × (place ≡ place_at line tokens 3)
+    HasManyTokens (words_of line tokens) × (number ≡ MOST_TOKENS) × (place ≡ place_at line tokens 3)
 -- no right line begins with the tokens up to this one, or the line ends too early
 LineHas known line tokens Syntax place =
     (count : ℕ) × (known.begun ≡ true) × IsWrongBehind (RightLine (stage_of known) (methods_of known)) (words_of line tokens) count
@@ -74,7 +75,7 @@ KindHas taken known line tokens name Duplicate place = Contains (kind_names (kin
 KindHas taken known line tokens name (MissingPair first second) place = LacksPair (kind_in known.block) first second × (place ≡ 0)
 KindHas taken known line tokens name KindTaken place = Contains taken name × (place ≡ place_at line tokens 1)
 KindHas taken known line tokens name (Limit Kinds number) place =
-    (32 ≤ length (kinds_so_far known)) × (number ≡ 32) × (place ≡ place_at line tokens 1)
+    (MOST_KINDS ≤ length (kinds_so_far known)) × (number ≡ MOST_KINDS) × (place ≡ place_at line tokens 1)
 KindHas taken known line tokens name cause place = ⊥
 
 -- ---- what may be wrong with the line of a method
@@ -101,10 +102,10 @@ abbrev pub MethodHas : SpecifiedKind → List ℕ → List Token → List ℕ �
 MethodHas kind line tokens name arguments result Duplicate place =
     RepeatsAt (names_of kind.methods) name line tokens arguments result place
 MethodHas kind line tokens name arguments result (Limit MethodLimit number) place =
-    (16 ≤ length kind.methods) × (number ≡ 16) × (place ≡ place_at line tokens 1)
+    (MOST_METHODS ≤ length kind.methods) × (number ≡ MOST_METHODS) × (place ≡ place_at line tokens 1)
 -- the place is that of the seventh
 MethodHas kind line tokens name arguments result (Limit Arguments number) place =
-    (6 < length arguments) × (number ≡ 6) × (place ≡ place_at line tokens 8)
+    (MOST_ARGUMENTS < length arguments) × (number ≡ MOST_ARGUMENTS) × (place ≡ place_at line tokens 8)
 MethodHas kind line tokens name arguments result cause place = ⊥
 
 -- ---- what may be wrong with the line of a pair
@@ -142,7 +143,7 @@ FormulaHas kind line tokens first second read refused =
 -- with the formula, a method of the pair has more than 5 distinct relations on its side alone
 abbrev pub HasManyPredicates : SpecifiedKind → ℕ → ℕ → Tree → Type 0
 HasManyPredicates kind m n f =
-    (5 < length (method_predicates (with_pair kind m n f) m)) ⊎ (5 < length (method_predicates (with_pair kind m n f) n))
+    (MOST_PREDICATES < length (method_predicates (with_pair kind m n f) m)) ⊎ (MOST_PREDICATES < length (method_predicates (with_pair kind m n f) n))
 
 -- the formula is too large in this way; the place is that of the word `when`
 abbrev pub FormulaPasses : (ℕ → ℕ → Tree → Type 0) → SpecifiedKind → List ℕ → List Token → List ℕ → List ℕ → Read → ℕ → Type 0
@@ -159,11 +160,11 @@ PairHas kind line tokens first second read (OutsideFragment reason) place =
 PairHas kind line tokens first second read Duplicate place =
     (m : ℕ) × (n : ℕ) × AreNumbers kind first second m n × IsSome (formula_at kind m n) × (place ≡ place_at line tokens 1)
 PairHas kind line tokens first second read (Limit Nodes number) place =
-    FormulaPasses (λ m n f. 64 < nodes f) kind line tokens first second read place × (number ≡ 64)
+    FormulaPasses (λ m n f. MOST_NODES < nodes f) kind line tokens first second read place × (number ≡ MOST_NODES)
 PairHas kind line tokens first second read (Limit FormulaDepth number) place =
-    FormulaPasses (λ m n f. 32 < levels f) kind line tokens first second read place × (number ≡ 32)
+    FormulaPasses (λ m n f. MOST_LEVELS < levels f) kind line tokens first second read place × (number ≡ MOST_LEVELS)
 PairHas kind line tokens first second read (Limit Predicates number) place =
-    FormulaPasses (HasManyPredicates kind) kind line tokens first second read place × (number ≡ 5)
+    FormulaPasses (HasManyPredicates kind) kind line tokens first second read place × (number ≡ MOST_PREDICATES)
 PairHas kind line tokens first second read cause place = ⊥
 
 -- ---- the causes of a line, and their order

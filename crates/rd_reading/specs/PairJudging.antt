@@ -17,6 +17,7 @@ use Rattle.rd_tokens.specs.Tokens.{IsTokenOf, LiesIn}
 use Rattle.rd_tokens.specs.Words.{AreMarks}
 use Rattle.rd_reading.specs.declared.pairs.answers.PairRefused.{PairRefused}
 use Rattle.rd_reading.specs.declared.pairs.answers.PairRefused.TheVariants.{Fault as Faulted, NoMemory}
+use Rattle.rd_base.specs.declared.limits.TheConstants.{MOST_LEVELS, MOST_NODES, MOST_PREDICATES, MOST_TOKENS}
 
 -- the tokens of a line, of which those behind the fourth say this by the grammar
 pub record HasFormula (line : List ℕ) (tokens : List Token) (read : Read) : Type 0 where
@@ -24,7 +25,7 @@ pub record HasFormula (line : List ℕ) (tokens : List Token) (read : Read) : Ty
   pub sorts : All (IsTokenOf line) tokens
   pub short : length line < 2 ^ 32 - 1
   pub behind : 4 ≤ length tokens
-  pub few : length (drop 4 tokens) ≤ 512
+  pub few : length (drop 4 tokens) ≤ MOST_TOKENS
   pub marks : List Mark
   pub marked : AreMarks line (drop 4 tokens) marks
   pub says : Says disj marks read
@@ -48,9 +49,9 @@ refusal_of formula.NoMemory = NoMemory
 
 -- the formula is too large for the pair of two methods
 abbrev pub Passes : SpecifiedKind → ℕ → ℕ → Tree → SpecCause → Type 0
-Passes kind m n f (Limit Nodes number) = (64 < nodes f) × (number ≡ 64)
-Passes kind m n f (Limit FormulaDepth number) = (32 < levels f) × (number ≡ 32)
-Passes kind m n f (Limit Predicates number) = HasManyPredicates kind m n f × (number ≡ 5)
+Passes kind m n f (Limit Nodes number) = (MOST_NODES < nodes f) × (number ≡ MOST_NODES)
+Passes kind m n f (Limit FormulaDepth number) = (MOST_LEVELS < levels f) × (number ≡ MOST_LEVELS)
+Passes kind m n f (Limit Predicates number) = HasManyPredicates kind m n f × (number ≡ MOST_PREDICATES)
 Passes kind m n f cause = ⊥
 
 -- no limit before this one is passed

@@ -7,6 +7,7 @@ use Rattle.rd_reading.specs.declared.causes.SpecCause.TheVariants.{Limit, Missin
 use Rattle.rd_reading.specs.Causes.{LacksPair, place_at}
 use Rattle.rd_ecl.specs.Specified.{SpecifiedKind}
 use Rattle.rd_tokens.specs.declared.sorts.Token.{Token}
+use Rattle.rd_base.specs.declared.limits.TheConstants.{MOST_ARGUMENTS, MOST_METHODS}
 
 -- the kind has a pair missing, and the cause names the first
 abbrev pub IsMissing : SpecifiedKind → SpecCause → Type 0
@@ -15,5 +16,5 @@ IsMissing kind cause = (first : List ℕ) × (second : List ℕ) × (cause ≡ M
 -- the line of a method with these arguments passes a limit, that of the methods first
 abbrev pub IsPassed : SpecifiedKind → List ℕ → List Token → List (List ℕ) → Fault → Type 0
 IsPassed kind line tokens arguments fault =
-    ((16 ≤ length kind.methods) × (fault ≡ record { place = place_at line tokens 1; cause = Limit Methods 16 }))
-    ⊎ ((length kind.methods < 16) × (6 < length arguments) × (fault ≡ record { place = place_at line tokens 8; cause = Limit Arguments 6 }))
+    ((MOST_METHODS ≤ length kind.methods) × (fault ≡ record { place = place_at line tokens 1; cause = Limit Methods MOST_METHODS }))
+    ⊎ ((length kind.methods < MOST_METHODS) × (MOST_ARGUMENTS < length arguments) × (fault ≡ record { place = place_at line tokens 8; cause = Limit Arguments MOST_ARGUMENTS }))

@@ -13,6 +13,7 @@ use Rattle.rd_reading.specs.declared.parsing.ParseRefused.TheVariants.{Spec, NoM
 use Rattle.rd_reading.specs.declared.parsing.SpecRefused.{SpecRefused}
 use Rattle.rd_tokens.specs.declared.sorts.Token.{Token}
 use Rattle.rd_tokens.specs.Tokens.{AreTokens}
+use Rattle.rd_base.specs.declared.limits.TheConstants.{MOST_KINDS, MOST_SPEC_BYTES}
 
 -- ---- lines
 
@@ -48,7 +49,7 @@ pub data Reads (taken : List (List ℕ)) : Known → List (List ℕ) → Known �
 
 -- the text says these kinds, where these names of kinds are taken
 pub record SpecSays (text : List ℕ) (taken : List (List ℕ)) (kinds : List SpecifiedKind) : Type 0 where
-  pub short : length text ≤ 1048576
+  pub short : length text ≤ MOST_SPEC_BYTES
   pub lines : List (List ℕ)
   pub cut : AreLines text lines
   pub known : Known
@@ -58,7 +59,7 @@ pub record SpecSays (text : List ℕ) (taken : List (List ℕ)) (kinds : List Sp
 
 -- at most 32 kinds, no two of one name, and none of a taken one
 pub record HasNewNames (taken : List (List ℕ)) (kinds : List SpecifiedKind) : Type 0 where
-  pub few : length kinds ≤ 32
+  pub few : length kinds ≤ MOST_KINDS
   pub different : AllPairs (λ x y. x ≢ y) (map (λ kind. kind.name) kinds)
   pub free : All (λ kind. ¬ (Contains taken kind.name)) kinds
 
@@ -87,14 +88,14 @@ pub record IsRefusedEnd (taken : List (List ℕ)) (lines : List (List ℕ)) (ref
 
 -- the text is too long, which is asked before all else
 pub record IsTooLong (text : List ℕ) (refused : SpecRefused) : Type 0 where
-  pub long : 1048576 < length text
+  pub long : MOST_SPEC_BYTES < length text
   pub number : refused.line ≡ 0
   pub place : refused.place ≡ 0
-  pub cause : refused.cause ≡ Limit SpecText 1048576
+  pub cause : refused.cause ≡ Limit SpecText MOST_SPEC_BYTES
 
 -- the text is refused at the first line with a cause
 pub record IsRefusedAt (text : List ℕ) (taken : List (List ℕ)) (refused : SpecRefused) : Type 0 where
-  pub short : length text ≤ 1048576
+  pub short : length text ≤ MOST_SPEC_BYTES
   pub lines : List (List ℕ)
   pub cut : AreLines text lines
   pub first : IsRefusedLine taken lines refused ⊎ IsRefusedEnd taken lines refused

@@ -7,7 +7,7 @@ ghost use Rattle.rd_reading.specs.declared.parsing.ParseRefused.TheVariants.{NoM
 
 use crate::cutting::{cut_line, is_skipped};
 use crate::{Known, LineRefused, SpecCause, finish, read_line};
-use rd_base::{LimitName, Name, NoMemory};
+use rd_base::{LimitName, MOST_SPEC_BYTES, Name, NoMemory};
 use rd_ecl::Spec as Specification;
 use std::alloc::Global;
 use thiserror::Error;
@@ -62,7 +62,7 @@ fn take_line(
     known: &mut Known,
     line: &[u8],
 ) -> Result<(), LineRefused>
-    requires { length line.now ≤ 1048576 }
+    requires { length line.now ≤ MOST_SPEC_BYTES }
     ensures ok { OnOk result (Takes taken.now known.old line.now known.new) }
     ensures refused { IfErr result (Stops taken.now known.old line.now) }
 {
@@ -79,10 +79,10 @@ fn read_lines(
     taken: &[Name],
     known: &mut Known,
 ) -> Result<u32, ParseRefused>
-    requires short { length text.now ≤ 1048576 }
+    requires short { length text.now ≤ MOST_SPEC_BYTES }
     requires fresh { known.old ≡ nothing }
     ensures ok { IfOk result (λ number. IsRead taken.now text.now number known.new) }
-    ensures few { IfOk result (λ number. number ≤ 1048576) }
+    ensures few { IfOk result (λ number. number ≤ MOST_SPEC_BYTES) }
     ensures refused { IfErr result (Refuses text.now taken.now) }
 {
     let mut number = 0;
@@ -105,11 +105,11 @@ pub fn parse(alloc: Global, text: &[u8], taken: &[Name]) -> Result<Specification
     ensures ok { IfOk result (SpecSays text.now taken.now) }
     ensures refused { IfErr result (Refuses text.now taken.now) }
 {
-    if text.len() > 1_048_576 {
+    if text.len() > MOST_SPEC_BYTES as usize {
         return Err(ParseRefused::Spec(SpecRefused {
             line: 0,
             place: 0,
-            cause: SpecCause::Limit(LimitName::SpecText, 1_048_576),
+            cause: SpecCause::Limit(LimitName::SpecText, MOST_SPEC_BYTES),
         }));
     }
     let mut known = Known::new(alloc);

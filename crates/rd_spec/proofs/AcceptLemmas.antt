@@ -16,6 +16,7 @@ use Rattle.rd_lines.proofs.LawLemmas.{one_form, right_line, same_bytes}
 use Rattle.rd_lines.specs.declared.forms.Stage.{Stage}
 use Rattle.rd_tokens.specs.declared.sorts.Token.{Token}
 use Rattle.rd_tokens.specs.Tokens.{AreTokens}
+use Rattle.rd_base.specs.declared.limits.TheConstants.{MOST_ARGUMENTS, MOST_KINDS, MOST_METHODS}
 
 module _ (taken : List (List ℕ)) (known : Known) (line : List ℕ) (tokens : List Token) where
   -- a line that is right and not too long has nothing that any line may have
@@ -130,7 +131,7 @@ module _ (taken : List (List ℕ)) (line : List ℕ) (tokens : List Token) (word
 
 -- ---- the line of a kind
 
-no_kind_limit : (taken : List (List ℕ)) (known : Known) (line : List ℕ) (tokens : List Token) (name : List ℕ) → length (kinds_so_far known) < 32
+no_kind_limit : (taken : List (List ℕ)) (known : Known) (line : List ℕ) (tokens : List Token) (name : List ℕ) → length (kinds_so_far known) < MOST_KINDS
     → (limit : LimitName) (number place : ℕ) → ¬ (KindHas taken known line tokens name (Limit limit number) place)
 no_kind_limit taken known line tokens name few Bytes number place has = has
 no_kind_limit taken known line tokens name few Line number place has = has
@@ -158,7 +159,7 @@ lacks_none kind first second whole lacks =
     let never : is_some (formula_at kind lacks.first_number lacks.second_number) ≡ false = ap is_some none in absurd (cc)
 
 pub kind_clean : (taken : List (List ℕ)) (known : Known) (line : List ℕ) (tokens : List Token) (name : List ℕ)
-    → ¬ (Contains (kind_names (kinds_so_far known)) name) → IsWhole (kind_in known.block) → ¬ (Contains taken name) → length (kinds_so_far known) < 32
+    → ¬ (Contains (kind_names (kinds_so_far known)) name) → IsWhole (kind_in known.block) → ¬ (Contains taken name) → length (kinds_so_far known) < MOST_KINDS
     → HasNone (KindHas taken known line tokens name)
 kind_clean taken known line tokens name new whole free few Header place has = has
 kind_clean taken known line tokens name new whole free few Syntax place has = has
@@ -174,7 +175,7 @@ kind_clean taken known line tokens name new whole free few (Limit limit number) 
 -- ---- the line of a method
 
 no_method_limit : (kind : SpecifiedKind) (line : List ℕ) (tokens : List Token) (name : List ℕ) (arguments : List (List ℕ)) (result : List ℕ)
-    → length kind.methods < 16 → length arguments ≤ 6 → (limit : LimitName) (number place : ℕ) → ¬ (MethodHas kind line tokens name arguments result (Limit limit number) place)
+    → length kind.methods < MOST_METHODS → length arguments ≤ MOST_ARGUMENTS → (limit : LimitName) (number place : ℕ) → ¬ (MethodHas kind line tokens name arguments result (Limit limit number) place)
 no_method_limit kind line tokens name arguments result room few Bytes number place has = has
 no_method_limit kind line tokens name arguments result room few Line number place has = has
 no_method_limit kind line tokens name arguments result room few Events number place has = has
@@ -192,7 +193,7 @@ no_method_limit kind line tokens name arguments result room few FormulaDepth num
 no_method_limit kind line tokens name arguments result room few Predicates number place has = has
 
 pub method_clean : (kind : SpecifiedKind) (line : List ℕ) (tokens : List Token) (name : List ℕ) (arguments : List (List ℕ)) (result : List ℕ)
-    → ¬ (Contains (names_of kind.methods) name) → ((n : ℕ) → ¬ (IsFirstRepeated (arguments ++ result ∷ []) n)) → length kind.methods < 16 → length arguments ≤ 6
+    → ¬ (Contains (names_of kind.methods) name) → ((n : ℕ) → ¬ (IsFirstRepeated (arguments ++ result ∷ []) n)) → length kind.methods < MOST_METHODS → length arguments ≤ MOST_ARGUMENTS
     → HasNone (MethodHas kind line tokens name arguments result)
 method_clean kind line tokens name arguments result new once room few Header place has = has
 method_clean kind line tokens name arguments result new once room few Syntax place has = has

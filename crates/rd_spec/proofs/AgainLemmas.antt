@@ -28,6 +28,7 @@ use Rattle.rd_spec.proofs.MethodLines.{IsUnset, IsWritten, at, kind_read, fresh_
 use Rattle.rd_spec.proofs.PairLines.{IsPrinted}
 use Rattle.rd_spec.proofs.RowLines.{IsBefore, IsPart, IsSource, RowRead, pairs_read, unset_at}
 use Rattle.rd_spec.proofs.TextLemmas.{kept_line, lines_cut}
+use Rattle.rd_base.specs.declared.limits.TheConstants.{MOST_METHODS}
 
 -- ---- one kind
 
@@ -93,12 +94,12 @@ module _ (kind : SpecifiedKind) (is : IsKind kind) (values : HasValues kind) (na
       record {
         name = name_kept (kind_without kind.name) kind.methods;
         methods = methods;
-        rows = unset.rows ∙ ap (λ (ms : List Method). 16 * length ms) methods;
+        rows = unset.rows ∙ ap (λ (ms : List Method). MOST_METHODS * length ms) methods;
         done = λ m n up low before. elim before [
           | inl less ↦ absurd (omega (arith, less))
           | inr same ↦ absurd (let less = same.1 in omega (arith, less))
         ];
-        left = λ m n up low behind. unset_at (nat_le m n) empty.pairs (16 * n + m) (unset.none (16 * n + m));
+        left = λ m n up low behind. unset_at (nat_le m n) empty.pairs (MOST_METHODS * n + m) (unset.none (MOST_METHODS * n + m));
       }
 
   -- its methods and pairs are read

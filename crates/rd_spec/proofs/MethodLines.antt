@@ -27,6 +27,7 @@ use Rattle.rd_reading.specs.Texts.{IsSkipped, Reads, no_more, takes}
 use Rattle.rd_spec.proofs.AcceptLemmas.{accepted, kind_clean, method_clean, other_first}
 use Rattle.rd_reading.proofs.ParsingLemmas.{reads_on}
 use Rattle.rd_spec.proofs.TextLemmas.{kept_line, lift, words_read}
+use Rattle.rd_base.specs.declared.limits.TheConstants.{MOST_ARGUMENTS, MOST_KINDS, MOST_METHODS}
 
 -- behind the header, where these kinds are closed and this one is open
 abbrev pub at : List SpecifiedKind → SpecifiedKind → Bool → Known
@@ -48,7 +49,7 @@ method_no_commute e = cc
 
 -- the line of a kind
 pub kind_read : (taken : List (List ℕ)) (known : Known) (kind : SpecifiedKind) → known.begun ≡ true → ¬ (Contains (kind_names (kinds_so_far known)) kind.name)
-    → IsWhole (kind_in known.block) → ¬ (Contains taken kind.name) → length (kinds_so_far known) < 32 → IsName kind.name → All IsSound (kind_words kind)
+    → IsWhole (kind_in known.block) → ¬ (Contains taken kind.name) → length (kinds_so_far known) < MOST_KINDS → IsName kind.name → All IsSound (kind_words kind)
     → Reads taken known (text_of (kind_words kind) ∷ []) (with_kind known kind.name)
 kind_read taken known kind begun new whole free few named sound =
     let line = text_of (kind_words kind) in
@@ -99,14 +100,14 @@ front_each P (b ∷ before) last (here, rest) = let (all, one) = front_each P be
 
 -- the line of a method
 pub method_read : (taken : List (List ℕ)) (closed : List SpecifiedKind) (kind : SpecifiedKind) (method : Method) → ¬ (Contains (names_of kind.methods) method.name)
-    → length kind.methods < 16 → AreVariables method.variables → AllByRecursion IsVariable method.variables → IsName method.name → All IsSound (method_words method)
+    → length kind.methods < MOST_METHODS → AreVariables method.variables → AllByRecursion IsVariable method.variables → IsName method.name → All IsSound (method_words method)
     → Reads taken (at closed kind false) (text_of (method_words method) ∷ []) (at closed (with_method kind method) false)
 method_read taken closed kind method new room variables each named sound =
     let line = text_of (method_words method) in
     let parts : Split method.variables = split method.variables variables.some in
     let arguments : List (List ℕ) = parts.arguments in
     let sides = front_each IsVariable arguments parts.result (subst (AllByRecursion IsVariable) parts.is each) in
-    let count : length arguments + 1 ≤ 7 = (let few = variables.few in let same = ap length parts.is in let sum = length-append arguments (parts.result ∷ []) in omega (arith, few, same, sum)) in
+    let count : length arguments + 1 ≤ MOST_ARGUMENTS + 1 = (let few = variables.few in let same = ap length parts.is in let sum = length-append arguments (parts.result ∷ []) in omega (arith, few, same, sum)) in
     let whole : record { name = method.name; variables = arguments ++ parts.result ∷ [] } ≡ method = ap (λ (vs : List (List ℕ)). record { name = method.name; variables = vs }) (sym parts.is) in
     line_read taken (at closed kind false) (at closed (with_method kind method) false) (method_words method) sound
     (kept_line 109 (codes "ethod") (printed method.name ∷ slot_words method.variables) (λ e. omega (arith, e)) (λ e. omega (arith, e)))
@@ -141,7 +142,7 @@ pub record IsWritten (method : Method) : Type 0 where
 
 -- the lines of methods
 pub methods_read : (taken : List (List ℕ)) (closed : List SpecifiedKind) (kind : SpecifiedKind) (methods : List Method)
-    → AllPairs (λ x y. x ≢ y) (names_of (kind.methods ++ methods)) → length (kind.methods ++ methods) ≤ 16 → AllByRecursion IsWritten methods
+    → AllPairs (λ x y. x ≢ y) (names_of (kind.methods ++ methods)) → length (kind.methods ++ methods) ≤ MOST_METHODS → AllByRecursion IsWritten methods
     → Reads taken (at closed kind false) (map text_of (map method_words methods)) (at closed (with_methods kind methods) false)
 unfolding with_methods
 methods_read taken closed kind [] different few each = no_more
@@ -153,7 +154,7 @@ methods_read taken closed kind (one ∷ methods) different few (here, rest) =
     (fresh_behind (names_of kind.methods) one.name (names_of methods) (subst (λ (l : List (List ℕ)). AllPairs (λ x y. x ≢ y) l) (names_split kind.methods one methods) different))
     (omega (arith, few, room)) here.variables here.each here.named here.sound)
     (methods_read taken closed (with_method kind one) methods (subst (λ (ms : List Method). AllPairs (λ x y. x ≢ y) (names_of ms)) (sym more) different)
-    (subst (λ (ms : List Method). length ms ≤ 16) (sym more) few) rest)
+    (subst (λ (ms : List Method). length ms ≤ MOST_METHODS) (sym more) few) rest)
 
 pub methods_more : (kind : SpecifiedKind) (methods : List Method) → (with_methods kind methods).methods ≡ kind.methods ++ methods
 unfolding with_methods
@@ -167,7 +168,7 @@ name_kept kind (one ∷ methods) = name_kept (with_method kind one) methods
 
 -- no pair of them is set
 pub record IsUnset (kind : SpecifiedKind) : Type 0 where
-  pub rows : length kind.pairs ≡ 16 * length kind.methods
+  pub rows : length kind.pairs ≡ MOST_METHODS * length kind.methods
   pub none : (k : ℕ) → slice_index_or kind.pairs k None ≡ None
 
 abbrev nones : ℕ → List (Option Tree)
@@ -178,8 +179,8 @@ none_there zero k = refl
 none_there (suc n) zero = refl
 none_there (suc n) (suc k) = none_there n k
 
-none_behind : (pairs : List (Option Tree)) (k : ℕ) → ((j : ℕ) → slice_index_or pairs j None ≡ None) → slice_index_or (pairs ++ replicate 16 None) k None ≡ None
-none_behind [] k none = none_there 16 k
+none_behind : (pairs : List (Option Tree)) (k : ℕ) → ((j : ℕ) → slice_index_or pairs j None ≡ None) → slice_index_or (pairs ++ replicate MOST_METHODS None) k None ≡ None
+none_behind [] k none = none_there MOST_METHODS k
 none_behind (p ∷ pairs) zero none = none 0
 none_behind (p ∷ pairs) (suc k) none = none_behind pairs k (λ j. none (suc j))
 
@@ -187,7 +188,7 @@ unset_more : (kind : SpecifiedKind) (one : Method) → IsUnset kind → IsUnset 
 unset_more kind one is = record {
   rows =
       let rows = is.rows in
-      let no_pairs : List (Option Tree) = nones 16 in
+      let no_pairs : List (Option Tree) = nones MOST_METHODS in
       let pairs = length-append kind.pairs no_pairs in
       let methods = length-append kind.methods (one ∷ []) in
       omega (arith, rows, pairs, methods);

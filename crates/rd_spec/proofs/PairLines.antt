@@ -41,6 +41,7 @@ use Rattle.rd_reading.specs.Texts.{Reads}
 use Rattle.rd_spec.proofs.AcceptLemmas.{accepted}
 use Rattle.rd_spec.proofs.MethodLines.{at, line_read}
 use Rattle.rd_spec.proofs.TextLemmas.{kept_line, lift}
+use Rattle.rd_base.specs.declared.limits.TheConstants.{MOST_LEVELS, MOST_NODES}
 
 -- ---- what a pair's line may have, and this one hasn't
 
@@ -49,7 +50,7 @@ pub record IsReady (kind : SpecifiedKind) (m n : ℕ) (f : Tree) : Type 0 where
   pub names : AreDifferent (names_of kind.methods)
   pub variables : (i : ℕ) → AreDifferent (variables_at kind i)
   pub inside : InFragment f
-  pub few : nodes f ≤ 64
+  pub few : nodes f ≤ MOST_NODES
   pub shallow : levels f ≤ 32
   pub unset : formula_at kind m n ≡ None
   pub room : ¬ (HasManyPredicates kind m n f)
@@ -82,9 +83,9 @@ module _ (kind : SpecifiedKind) (line : List ℕ) (tokens : List Token) (first s
   pair_limit Kinds number place has = has
   pair_limit MethodLimit number place has = has
   pair_limit Arguments number place has = has
-  pair_limit Nodes number place ((i, j, g, says, large, at), is) = not_large (λ x y h. 64 < nodes h) (λ many. let few = ready.few in omega (arith, many, few)) i j g says large
+  pair_limit Nodes number place ((i, j, g, says, large, at), is) = not_large (λ x y h. MOST_NODES < nodes h) (λ many. let few = ready.few in omega (arith, many, few)) i j g says large
   pair_limit FormulaDepth number place ((i, j, g, says, large, at), is) =
-      not_large (λ x y h. 32 < levels h) (λ many. let few = ready.shallow in omega (arith, many, few)) i j g says large
+      not_large (λ x y h. MOST_LEVELS < levels h) (λ many. let few = ready.shallow in omega (arith, many, few)) i j g says large
   pair_limit Predicates number place ((i, j, g, says, large, at), is) = not_large (HasManyPredicates kind) ready.room i j g says large
 
   offends : (g : Tree) (node : ℕ) {reason : Reason} → g ≡ f → ¬ (first_offence 0 (post_order g) ≡ Some (record { node = node; reason = reason }))

@@ -18,6 +18,7 @@ use Rattle.rd_spec.proofs.FewLemmas.{few_parts}
 use Rattle.rd_reading.proofs.ParsingLemmas.{reads_on}
 use Rattle.rd_spec.proofs.MethodLines.{at}
 use Rattle.rd_spec.proofs.PairLines.{IsPrinted, IsReady, pair_read}
+use Rattle.rd_base.specs.declared.limits.TheConstants.{MOST_METHODS, MOST_PREDICATES}
 
 -- a pair stands before another, by the first method, then by the second
 unfoldable pub IsBefore : ℕ → ℕ → ℕ → ℕ → Type 0
@@ -46,16 +47,16 @@ is_before m n i j = elim (cases_lt m i) [
 pub record IsPart (kind part : SpecifiedKind) (i j : ℕ) : Type 0 where
   pub name : part.name ≡ kind.name
   pub methods : part.methods ≡ kind.methods
-  pub rows : length part.pairs ≡ 16 * length kind.methods
+  pub rows : length part.pairs ≡ MOST_METHODS * length kind.methods
   pub done : (m n : ℕ) → m ≤ n → n < length kind.methods → IsBefore m n i j → formula_at part m n ≡ formula_at kind m n
   pub left : (m n : ℕ) → m ≤ n → n < length kind.methods → ¬ (IsBefore m n i j) → formula_at part m n ≡ None
 
 -- what is asked of the printed kind
 pub record IsSource (kind : SpecifiedKind) : Type 0 where
-  pub few : length kind.methods ≤ 16
+  pub few : length kind.methods ≤ MOST_METHODS
   pub names : AreDifferent (names_of kind.methods)
   pub variables : (n : ℕ) → AreDifferent (variables_at kind n)
-  pub predicates : (method : ℕ) → length (method_predicates kind method) ≤ 5
+  pub predicates : (method : ℕ) → length (method_predicates kind method) ≤ MOST_PREDICATES
   pub pairs : (m n : ℕ) → m ≤ n → n < length kind.methods → (f : Tree) × IsPrinted kind m n f
 
 pub unset_at : (b : Bool) (pairs : List (Option Tree)) (k : ℕ) → slice_index_or pairs k None ≡ None → (if b then slice_index_or pairs k None else None) ≡ None
@@ -73,27 +74,27 @@ kept_none false pairs k past = refl
 -- each pair is the kind's, or isn't set
 some_of : (kind part : SpecifiedKind) (i j : ℕ) → IsPart kind part i j → (m n : ℕ) → (formula_at part m n ≡ None) ⊎ (formula_at part m n ≡ formula_at kind m n)
 some_of kind part i j is m n = elim (cases_lt n m) [
-  | inl turned ↦ inl (turned_none (nat_le m n) part.pairs (16 * n + m) (lt-leb m n turned))
+  | inl turned ↦ inl (turned_none (nat_le m n) part.pairs (MOST_METHODS * n + m) (lt-leb m n turned))
   | inr ordered ↦ elim (cases_lt n (length kind.methods)) [
     | inl known ↦ elim (is_before m n i j) [
       | inl before ↦ inr (is.done m n ordered known before)
       | inr behind ↦ inl (is.left m n ordered known behind)
     ]
-    | inr past ↦ inl (kept_none (nat_le m n) part.pairs (16 * n + m) (let rows = is.rows in omega (arith, past, rows)))
+    | inr past ↦ inl (kept_none (nat_le m n) part.pairs (MOST_METHODS * n + m) (let rows = is.rows in omega (arith, past, rows)))
   ]
 ]
 
 -- one pair more
-apart : (m n i j : ℕ) → m ≤ n → i ≤ j → n < 16 → j < 16 → ((m ≡ i) → (n ≡ j) → ⊥) → 16 * n + m ≢ 16 * j + i
+apart : (m n i j : ℕ) → m ≤ n → i ≤ j → n < MOST_METHODS → j < MOST_METHODS → ((m ≡ i) → (n ≡ j) → ⊥) → MOST_METHODS * n + m ≢ MOST_METHODS * j + i
 apart m n i j ordered also known few other same = other (omega (arith, same, known, few, ordered, also)) (omega (arith, same, known, few, ordered, also))
 
-next_part : (kind part : SpecifiedKind) (i j : ℕ) (f : Tree) → length kind.methods ≤ 16 → i ≤ j → j < length kind.methods → formula_at kind i j ≡ Some f
+next_part : (kind part : SpecifiedKind) (i j : ℕ) (f : Tree) → length kind.methods ≤ MOST_METHODS → i ≤ j → j < length kind.methods → formula_at kind i j ≡ Some f
     → IsPart kind part i j → IsPart kind (with_pair part i j f) i (j + 1)
 unfolding IsBefore
 next_part kind part i j f few ordered known there is = record {
   name = is.name;
   methods = is.methods;
-  rows = length-set part.pairs (16 * j + i) (Some f) ∙ is.rows;
+  rows = length-set part.pairs (MOST_METHODS * j + i) (Some f) ∙ is.rows;
   done = λ m n up low before. elim before [
     | inl less ↦ at_other part i j m n f (apart m n i j up ordered (omega (arith, low, few)) (omega (arith, known, few)) (λ e h. omega (arith, less, e))) ∙ is.done m n up low (inl less)
     | inr same ↦ elim (cases_lt n j) [
@@ -119,7 +120,7 @@ few_with kind part i j f source ordered known there is many = elim many [
   | inl first ↦ too_many i first
   | inr second ↦ too_many j second
 ] where
-  too_many : (method : ℕ) → ¬ (5 < length (method_predicates (with_pair part i j f) method))
+  too_many : (method : ℕ) → ¬ (MOST_PREDICATES < length (method_predicates (with_pair part i j f) method))
   too_many method over =
       let fewer = few_parts (with_pair part i j f) kind method (some_of kind (with_pair part i j f) i (j + 1) (next_part kind part i j f source.few ordered known there is)) in
       let few = source.predicates method in

@@ -3,6 +3,7 @@ use Rattle.std.specs.Prelude.{◌≡◌, ◌≢◌, ◌<◌, ◌≤◌, ℕ, Lis
 use Rattle.rd_reading.specs.Known.{kind_names}
 use Rattle.rd_ecl.specs.Specified.{IsKind, SpecifiedKind, formula_at}
 use Rattle.rd_print.specs.Printed.{AreNames, HaveValues, spec_text}
+use Rattle.rd_base.specs.declared.limits.TheConstants.{MOST_KINDS, MOST_SPEC_BYTES}
 
 -- two kinds have one name, the same methods, and one formula for each pair of them
 pub record IsSame (kind other : SpecifiedKind) : Type 0 where
@@ -22,7 +23,7 @@ pub record MayBeRead (kinds : List SpecifiedKind) (taken : List (List ℕ)) : Ty
   -- what printing finds of them
   pub values : HaveValues kinds
   pub names : AreNames kinds
-  pub few : length kinds ≤ 32
+  pub few : length kinds ≤ MOST_KINDS
   pub different : AllPairs (λ x y. x ≢ y) (kind_names kinds)
   pub free : (name : List ℕ) → Contains taken name → ¬ (Contains (kind_names kinds) name)
-  pub short : length (spec_text kinds) ≤ 1048576
+  pub short : length (spec_text kinds) ≤ MOST_SPEC_BYTES

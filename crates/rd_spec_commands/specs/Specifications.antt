@@ -1,5 +1,5 @@
 -- What `spec` writes for the bytes of a specification, and its status. This project's profile.
-use Rattle.std.specs.Prelude.{◌≡◌, ◌⊎◌, ℕ, List, [], ◌++◌, codes, decimal}
+use Rattle.std.specs.Prelude.{◌≡◌, ◌⊎◌, ◌+◌, ℕ, List, [], ◌++◌, codes, decimal}
 use Rattle.rd_reading.specs.declared.causes.SpecCause.{SpecCause}
 use Rattle.rd_reading.specs.declared.causes.SpecCause.TheVariants.{Header, Syntax, UnknownMethod, UnknownVariable, NoVariable, OutsideFragment, Duplicate, MissingPair, KindTaken, Limit}
 use Rattle.rd_ecl.specs.Specified.{SpecifiedKind}
@@ -15,6 +15,7 @@ use Rattle.rd_spec_commands.specs.declared.specifications.Unread.{Unread}
 use Rattle.rd_spec_commands.specs.declared.specifications.Unread.TheVariants.{Fault, Refused, NoMemory}
 use Rattle.rd_walk.specs.declared.status.Status.{Status}
 use Rattle.rd_walk.specs.declared.status.Status.TheVariants.{Clean, SpecRefused, InputFault, OutputFault, LimitReached, NoMemory as MemoryRanOut}
+use Rattle.rd_base.specs.declared.limits.TheConstants.{MOST_SPEC_BYTES}
 
 -- ---- texts
 
@@ -66,7 +67,7 @@ IsSpecOutcome bytes outcome =
 
 -- how many bytes of a file are read at most: one more than a text may have
 abbrev pub most_bytes : ℕ
-most_bytes = 1048577
+most_bytes = MOST_SPEC_BYTES + 1
 
 -- ---- a specification that isn't there
 

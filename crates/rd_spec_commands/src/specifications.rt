@@ -12,7 +12,7 @@ ghost use Rattle.rd_walk.specs.Meanings.{Runs};
 ghost use Rattle.rd_spec_commands.specs.Specifications.{TellsUnread, accepted_outcome, refused_outcome, spec_status};
 
 use crate::spec_texts::spec_refused_line;
-use rd_base::Word;
+use rd_base::{MOST_SPEC_BYTES, Word};
 use rd_ecl::Spec;
 use rd_io::{FrontRefused, Inputs, Sink, read_front};
 use rd_kinds::reserved;
@@ -22,7 +22,7 @@ use rd_walk::{Status, status_of, write_fault, write_line, write_lines};
 use std::alloc::Global;
 
 /// How many bytes of a file are read at most: one more than a text may have.
-const MOST_BYTES: u32 = 1_048_577;
+const MOST_BYTES: u32 = MOST_SPEC_BYTES + 1;
 
 /// Why a specification isn't there.
 #[derive(Debug, Drop)]

@@ -8,7 +8,7 @@ ghost use Rattle.rd_ecl.specs.Variables.{is_among};
 use crate::judging::missing::missing_in;
 use crate::judging::places::place_at;
 use crate::{Fault, Known, SpecCause};
-use rd_base::{LimitName, Name};
+use rd_base::{LimitName, MOST_KINDS, Name};
 use rd_ecl::KindSpec;
 use rd_tokens::Token;
 
@@ -92,10 +92,10 @@ pub(crate) fn judge_kind(
             cause: SpecCause::KindTaken,
         });
     }
-    if kind_count(known) >= 32 {
+    if kind_count(known) >= MOST_KINDS {
         return Some(Fault {
             place,
-            cause: SpecCause::Limit(LimitName::Kinds, 32),
+            cause: SpecCause::Limit(LimitName::Kinds, MOST_KINDS as u32),
         });
     }
     None

@@ -12,7 +12,7 @@ use crate::judging::missing::missing_in;
 use crate::judging::places::place_at;
 use crate::judging::refused::LineRefused;
 use crate::{Fault, Known, SpecCause};
-use rd_base::{LimitName, Name};
+use rd_base::{LimitName, MOST_SPEC_BYTES, MOST_TOKENS, Name};
 use rd_ecl::{Method, Spec};
 use rd_lines::{FormRefused, Stage, read_form};
 use rd_tokens::{Sort, Token, tokens};
@@ -42,7 +42,9 @@ fn has_many_tokens(line: &[u8], tokens: &[Token]) -> bool
     requires { All (LiesIn line.now) tokens.now }
     ensures { IsTrue result ↔ HasManyTokens (words_of line.now tokens.now) }
 {
-    tokens.len() > 516 && is(line, &tokens[0], "commute") && is(line, &tokens[3], "when")
+    tokens.len() > MOST_TOKENS + 4
+        && is(line, &tokens[0], "commute")
+        && is(line, &tokens[3], "when")
 }
 
 // Where the next line stands.
@@ -109,7 +111,7 @@ fn read_behind_header(
     if has_many_tokens(line, tokens) {
         return Err(LineRefused::Fault(Fault {
             place: place_at(line, tokens, 3),
-            cause: SpecCause::Limit(LimitName::Tokens, 512),
+            cause: SpecCause::Limit(LimitName::Tokens, MOST_TOKENS as u32),
         }));
     }
     match read_form(alloc, stage(known), methods(known), line, tokens) {
@@ -130,7 +132,7 @@ pub fn read_line(
     known: &mut Known,
     line: &[u8],
 ) -> Result<(), LineRefused>
-    requires { length line.now ≤ 1048576 }
+    requires { length line.now ≤ MOST_SPEC_BYTES }
     ensures ok { OnOk result (Accepts taken.now known.old line.now known.new) }
     ensures refused { IfErr result (LineRefuses taken.now known.old line.now) }
 {

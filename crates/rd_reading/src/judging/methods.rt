@@ -8,7 +8,7 @@ ghost use Rattle.rd_reading.specs.Parts.{IsPassed};
 use crate::judging::places::place_at;
 use crate::judging::repeated::first_repeated;
 use crate::{Fault, SpecCause};
-use rd_base::{LimitName, Name, NoMemory};
+use rd_base::{LimitName, MOST_ARGUMENTS, MOST_METHODS, Name, NoMemory};
 use rd_ecl::{KindDraft, Method};
 use rd_tokens::Token;
 use std::alloc::Global;
@@ -42,18 +42,18 @@ fn variable_token(count: usize, number: usize) -> usize
 fn passed(kind: &KindDraft, line: &[u8], tokens: &[Token], arguments: &[Name]) -> Option<Fault>
     requires { length line.now < 2 ^ 32 - 1 }
     ensures some { IfSome result (IsPassed kind.now line.now tokens.now arguments.now) }
-    ensures none { IfNone result ((length kind.now.methods < 16) × (length arguments.now ≤ 6)) }
+    ensures none { IfNone result ((length kind.now.methods < MOST_METHODS) × (length arguments.now ≤ MOST_ARGUMENTS)) }
 {
-    if kind.methods().len() >= 16 {
+    if kind.methods().len() >= MOST_METHODS {
         return Some(Fault {
             place: place_at(line, tokens, 1),
-            cause: SpecCause::Limit(LimitName::Methods, 16),
+            cause: SpecCause::Limit(LimitName::Methods, MOST_METHODS as u32),
         });
     }
-    if arguments.len() > 6 {
+    if arguments.len() > MOST_ARGUMENTS {
         return Some(Fault {
             place: place_at(line, tokens, 8),
-            cause: SpecCause::Limit(LimitName::Arguments, 6),
+            cause: SpecCause::Limit(LimitName::Arguments, MOST_ARGUMENTS as u32),
         });
     }
     None
@@ -74,7 +74,7 @@ pub(crate) fn judge_method(
     ensures judged { IfOk result
         (Judged (MethodHas kind.now line.now tokens.now name.now arguments.now value.now)) }
     ensures room { IfOk result
-        (λ found. IfNone found ((length kind.now.methods < 16) × (length arguments.now ≤ 6))) }
+        (λ found. IfNone found ((length kind.now.methods < MOST_METHODS) × (length arguments.now ≤ MOST_ARGUMENTS))) }
     ensures fresh { IfOk result
         (λ found. IfNone found (is_among name.now (names_of kind.now.methods) ≡ false)) }
     ensures different { IfOk result

@@ -8,7 +8,7 @@ ghost use Rattle.rd_reading.specs.PairJudging.{IsFirstPassed, LateHas, Passes};
 
 use crate::pairs::numbers::place_at;
 use crate::{Fault, SpecCause};
-use rd_base::LimitName;
+use rd_base::{LimitName, MOST_LEVELS, MOST_NODES, MOST_PREDICATES, MOST_TOKENS};
 use rd_ecl::{Formula, KindDraft};
 use rd_tokens::Token;
 
@@ -33,19 +33,19 @@ fn has_room(kind: &KindDraft, first: u8, second: u8, formula: &Formula) -> bool
 fn passed(kind: &KindDraft, first: u8, second: u8, formula: &Formula) -> Option<SpecCause>
     requires known { (first ≤ second) × (second < length kind.now.methods) }
     requires unset { formula_at kind.now first second ≡ None }
-    requires few { nodes (tree_of formula.now) ≤ 512 }
+    requires few { nodes (tree_of formula.now) ≤ MOST_TOKENS }
     ensures first { IfSome result (IsFirstPassed kind.now first second (tree_of formula.now)) }
     ensures none { IfNone result
         ((cause : SpecCause) → ¬ (Passes kind.now first second (tree_of formula.now) cause)) }
 {
-    if formula.nodes() > 64 {
-        return Some(SpecCause::Limit(LimitName::Nodes, 64));
+    if formula.nodes() > MOST_NODES {
+        return Some(SpecCause::Limit(LimitName::Nodes, MOST_NODES));
     }
-    if formula.levels() > 32 {
-        return Some(SpecCause::Limit(LimitName::FormulaDepth, 32));
+    if formula.levels() > MOST_LEVELS {
+        return Some(SpecCause::Limit(LimitName::FormulaDepth, MOST_LEVELS));
     }
     if !has_room(kind, first, second, formula) {
-        return Some(SpecCause::Limit(LimitName::Predicates, 5));
+        return Some(SpecCause::Limit(LimitName::Predicates, MOST_PREDICATES as u32));
     }
     None
 }
@@ -60,7 +60,7 @@ pub(crate) fn judge_right(
     formula: &Formula,
 ) -> Option<Fault>
     requires known { (first ≤ second) × (second < length kind.now.methods) }
-    requires few { nodes (tree_of formula.now) ≤ 512 }
+    requires few { nodes (tree_of formula.now) ≤ MOST_TOKENS }
     requires short { length line.now < 2 ^ 32 - 1 }
     ensures { Judged
         (LateHas kind.now line.now tokens.now first second (tree_of formula.now)) result }

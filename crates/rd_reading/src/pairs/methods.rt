@@ -5,7 +5,7 @@ ghost use Rattle.rd_reading.specs.PairJudging.{IsUnknownFault};
 
 use crate::pairs::numbers::{number_of, place_at};
 use crate::{Fault, SpecCause};
-use rd_base::Name;
+use rd_base::{MOST_METHODS, Name};
 use rd_ecl::Method;
 use rd_tokens::Token;
 
@@ -17,7 +17,7 @@ pub(crate) fn numbers_of(
     first: &Name,
     second: &Name,
 ) -> Result<(u8, u8), Fault>
-    requires few { length methods.now ≤ 16 }
+    requires few { length methods.now ≤ MOST_METHODS }
     requires short { length line.now < 2 ^ 32 - 1 }
     ensures first { IfOk result
         (λ numbers. slice_get (names_of methods.now) numbers.0 ≡ Some first.now) }

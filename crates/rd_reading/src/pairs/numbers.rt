@@ -3,13 +3,13 @@ ghost use Rattle.std.specs.Prelude.{◌≡◌, ◌<◌, ◌≤◌, ◌-◌, ◌^
 ghost use Rattle.rd_reading.specs.Causes.{place_at};
 ghost use Rattle.rd_ecl.specs.Specified.{names_of};
 
-use rd_base::Name;
+use rd_base::{MOST_METHODS, Name};
 use rd_ecl::Method;
 use rd_tokens::Token;
 
 // The number of the method with this name.
 pub(crate) fn number_of(methods: &[Method], name: &Name) -> Option<u8>
-    requires { length methods.now ≤ 16 }
+    requires { length methods.now ≤ MOST_METHODS }
     ensures some { IfSome result
         (λ number. slice_get (names_of methods.now) number ≡ Some name.now) }
     ensures none { IfNone result (¬ (Contains (names_of methods.now) name.now)) }

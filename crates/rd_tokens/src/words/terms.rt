@@ -10,7 +10,7 @@ ghost use Rattle.rd_tokens.specs.declared.words.terms.Said.TheVariants.{Variable
 ghost use Rattle.rd_tokens.specs.ReadingWords.{side_of, variable_of, term_of};
 ghost use Rattle.rd_tokens.specs.Words.{SaysTerm};
 
-use rd_base::{Name, NoMemory, Value, ValueRefused, is_value, read_value};
+use rd_base::{MOST_NAME_BYTES, Name, NoMemory, Value, ValueRefused, is_value, read_value};
 use rd_ecl::Side;
 use std::alloc::Global;
 
@@ -66,7 +66,7 @@ fn is_kept(bytes: &[u8]) -> bool
 pub fn is_variable(bytes: &[u8]) -> bool
     ensures { result ≡ is_variable bytes.now }
 {
-    if bytes.is_empty() || bytes.len() > 64 {
+    if bytes.is_empty() || bytes.len() > MOST_NAME_BYTES {
         return false;
     }
     is_letter(bytes[0]) && are_variable_bytes(bytes) && !is_kept(bytes)

@@ -6,6 +6,7 @@ use Rattle.rd_ecl.specs.Specified.{with_pair}
 use Rattle.rd_ecl.specs.declared.relations.Relations.{Relations}
 use Rattle.rd_ecl.proofs.WalkLemmas.{kept_all, kept_full, kept_more}
 use Rattle.rd_ecl.proofs.kinds.KindDraft.has_room.Goals as goal
+use Rattle.rd_base.specs.declared.limits.TheConstants.{MOST_METHODS}
 
 pub returns-in-None : goal.returns-in-None
 returns-in-None c =
@@ -13,7 +14,7 @@ returns-in-None c =
     let kind = with_pair c.args.self.now c.args.first c.args.second formula in
     let seen : Relations = record { places = c.loop-other.seen.0; taken = c.loop-other.seen.1.0 } in
     let draft = c.methods.ensures.valid in
-    let rows = length-set c.args.self.now.pairs (16 * c.args.second + c.args.first) (Some formula) ∙ draft.pairs.rows in
+    let rows = length-set c.args.self.now.pairs (MOST_METHODS * c.args.second + c.args.first) (Some formula) ∙ draft.pairs.rows in
     let count = c.loop-other.invariant.1 in
     let below = c.loop-other-test.true in
     let full = rw c.in-None.is at c.gather.ensures in
@@ -33,7 +34,7 @@ returns c =
     let kind = with_pair c.args.self.now c.args.first c.args.second formula in
     let seen : Relations = record { places = c.loop-other.seen.0; taken = c.loop-other.seen.1.0 } in
     let draft = c.methods.ensures.valid in
-    let rows = length-set c.args.self.now.pairs (16 * c.args.second + c.args.first) (Some formula) ∙ draft.pairs.rows in
+    let rows = length-set c.args.self.now.pairs (MOST_METHODS * c.args.second + c.args.first) (Some formula) ∙ draft.pairs.rows in
     let count = c.loop-other.invariant.1 in
     let few = c.loop-other.auto.other-end in
     let end = c.loop-other-test.false in
