@@ -1,15 +1,20 @@
 -- Names: this project's profile.
-use Rattle.std.specs.Prelude.{ℕ, ◌<◌, ◌≤◌, ◌==◌, ◌||◌, ◌&&◌, Bool, nat_lt, nat_le, List, length}
-use Rattle.std.specs.List.{AllPass, list_all}
+use Rattle.std.specs.Prelude.{ℕ, ◌<◌, ◌≤◌, ◌||◌, ◌&&◌, Bool, nat_eq, nat_lt, nat_le, List, length, codes}
+use Rattle.std.specs.Char.{is_ascii_alphanumeric}
+use Rattle.std.specs.List.{AllPass, list_all, list_any}
 use Rattle.rd_base.specs.declared.limits.TheConstants.{MOST_NAME_BYTES}
 
 -- a letter or a digit of ASCII
 abbrev pub is_letter_or_digit : ℕ → Bool
-is_letter_or_digit b = nat_le 97 b && nat_le b 122 || nat_le 65 b && nat_le b 90 || nat_le 48 b && nat_le b 57
+is_letter_or_digit b = is_ascii_alphanumeric b
 
--- a letter, a digit or one of _ . : $ # @ -
+-- the bytes of names that are no letters and no digits
+abbrev pub name_marks : List ℕ
+name_marks = codes "_.:$#@-"
+
+-- a letter, a digit or one of these
 abbrev pub is_name_byte : ℕ → Bool
-is_name_byte b = is_letter_or_digit b || b == 95 || b == 46 || b == 58 || b == 36 || b == 35 || b == 64 || b == 45
+is_name_byte b = is_letter_or_digit b || list_any (nat_eq b) name_marks
 
 -- the bytes of a name
 pub record IsName (bytes : List ℕ) : Type 0 where

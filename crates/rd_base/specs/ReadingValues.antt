@@ -8,6 +8,7 @@ use Rattle.std.specs.Str.Parse.{signed_digits_value}
 use Rattle.rd_base.specs.declared.values.Value.{Value}
 use Rattle.rd_base.specs.declared.values.Value.TheVariants.{Nil, Bool as Truth, Int, Text}
 use Rattle.rd_base.specs.Spelling.{byte_spelling}
+use Rattle.rd_base.specs.Bytes.{quote, backslash, letter_x}
 
 -- a number of 64 bits with a sign
 abbrev pub has_64_bits : ℤ → Bool
@@ -30,12 +31,12 @@ hex_value b =
 -- what stands behind a `\`: two hexadecimal digits behind an `x`, or the byte itself
 abbrev pub byte_behind_slash : List ℕ → ℕ
 byte_behind_slash bytes =
-    if slice_index bytes 1 == 120 then hex_value (slice_index bytes 2) * 16 + hex_value (slice_index bytes 3)
+    if slice_index bytes 1 == letter_x then hex_value (slice_index bytes 2) * 16 + hex_value (slice_index bytes 3)
     else slice_index bytes 1
 
 -- if the bytes begin with the spelling of a byte, that byte
 unfoldable pub first_byte : List ℕ → ℕ
-first_byte bytes = if slice_index bytes 0 == 92 then byte_behind_slash bytes else slice_index bytes 0
+first_byte bytes = if slice_index bytes 0 == backslash then byte_behind_slash bytes else slice_index bytes 0
 
 -- the byte whose spelling the bytes begin with, and the bytes behind it
 unfoldable pub next_of : List ℕ → Option (ℕ × List ℕ)
@@ -53,7 +54,7 @@ inside_of (suc room) (b ∷ bytes) =
 -- two bytes or more, the first and the last of them `"`
 abbrev pub is_quoted : List ℕ → Bool
 is_quoted bytes =
-    nat_le 2 (length bytes) && slice_index bytes 0 == 34 && slice_index bytes (length bytes - 1) == 34
+    nat_le 2 (length bytes) && slice_index bytes 0 == quote && slice_index bytes (length bytes - 1) == quote
 
 -- what stands between the first and the last byte
 abbrev pub between_quotes : List ℕ → List ℕ

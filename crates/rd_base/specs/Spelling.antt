@@ -5,6 +5,7 @@ use Rattle.std.specs.Fmt.{digit_glyph, signed_decimal}
 use Rattle.std.specs.List.{All, flat_map}
 use Rattle.rd_base.specs.declared.values.Value.{Value}
 use Rattle.rd_base.specs.declared.values.Value.TheVariants.{Nil, Bool as Truth, Int, Text}
+use Rattle.rd_base.specs.Bytes.{quote, backslash, letter_x}
 
 -- a byte from 0x20, the space, to 0x7E, the last visible byte of ASCII
 abbrev pub is_plain : ℕ → Bool
@@ -13,10 +14,10 @@ is_plain b = nat_le 32 b && nat_le b 126
 -- the spelling of a byte of a text: `\"`, `\\`, a plain byte itself, or `\x` and two hexadecimal digits in lower case
 unfoldable pub byte_spelling : ℕ → List ℕ
 byte_spelling b =
-    if b == 34 then 92 ∷ 34 ∷ []
-    else if b == 92 then 92 ∷ 92 ∷ []
+    if b == quote then backslash ∷ quote ∷ []
+    else if b == backslash then backslash ∷ backslash ∷ []
     else if is_plain b then b ∷ []
-    else 92 ∷ 120 ∷ digit_glyph false (b / 16) ∷ digit_glyph false (b % 16) ∷ []
+    else backslash ∷ letter_x ∷ digit_glyph false (b / 16) ∷ digit_glyph false (b % 16) ∷ []
 
 -- the bytes of a text, each spelled
 abbrev pub bytes_spelling : List ℕ → List ℕ
@@ -28,7 +29,7 @@ spelling Nil = codes "nil"
 spelling (Truth true) = codes "true"
 spelling (Truth false) = codes "false"
 spelling (Int z) = signed_decimal z
-spelling (Text text) = 34 ∷ bytes_spelling text ++ 34 ∷ []
+spelling (Text text) = quote ∷ bytes_spelling text ++ quote ∷ []
 
 -- the bytes of a text: 0 to 255 of them
 pub record IsText (text : List ℕ) : Type 0 where

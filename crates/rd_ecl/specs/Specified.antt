@@ -126,7 +126,11 @@ may_pair kind first second formula =
 abbrev pub pair_holds : SpecifiedKind → ℕ → ℕ → List Value → List Value → Bool
 pair_holds kind first second a b = unwrap_or (option_map (λ formula. holds formula a b) (formula_at kind first second)) false
 
--- two calls commute, of the methods m and n: the formula holds with the call of the method declared first on side 1, and for
--- one method with either call there
+-- if the first call may stand on side 1, since its method isn't declared behind the other's, the formula holds with it there
+abbrev pub holds_on_side_1 : SpecifiedKind → ℕ → List Value → ℕ → List Value → Bool
+holds_on_side_1 kind m a n b = not (nat_le m n) || pair_holds kind m n a b
+
+-- two calls commute, of the methods m and n with the slots a and b: the formula holds with either on side 1, if it may stand there.
+-- So of different methods the one declared first is on side 1, and of one method each call in turn
 abbrev pub commutes : SpecifiedKind → ℕ → List Value → ℕ → List Value → Bool
-commutes kind m a n b = (not (nat_le m n) || pair_holds kind m n a b) && (not (nat_le n m) || pair_holds kind n m b a)
+commutes kind m a n b = holds_on_side_1 kind m a n b && holds_on_side_1 kind n b m a

@@ -1,17 +1,19 @@
 -- The variables of a method: this project's profile.
 use Rattle.std.specs.Prelude.{ℕ, ◌<◌, ◌≤◌, ◌==◌, ◌||◌, ◌&&◌, Bool, true, not, nat_lt, nat_le, nat_eq, List, [], ◌∷◌, length, codes, slice_index, IsTrue, All, AllPairs, Contains, ◌≢◌, ◌+◌}
+use Rattle.std.specs.Char.{is_ascii_alphabetic}
 use Rattle.std.specs.List.{AllPass, list_all, list_any}
 use Rattle.std.specs.Cmp.Lexicographic.{pointwise}
 use Rattle.rd_base.specs.Names.{is_letter_or_digit}
 use Rattle.rd_base.specs.declared.limits.TheConstants.{MOST_ARGUMENTS, MOST_NAME_BYTES}
+use Rattle.rd_base.specs.Bytes.{underscore}
 
 -- a letter of ASCII
 abbrev pub is_letter : ℕ → Bool
-is_letter b = nat_le 97 b && nat_le b 122 || nat_le 65 b && nat_le b 90
+is_letter b = is_ascii_alphabetic b
 
 -- a letter, a digit or _
 abbrev pub is_variable_byte : ℕ → Bool
-is_variable_byte b = is_letter_or_digit b || b == 95
+is_variable_byte b = is_letter_or_digit b || b == underscore
 
 -- the words of formulas, which name no variable
 abbrev pub kept_words : List (List ℕ)

@@ -8,6 +8,7 @@ use Rattle.rd_event.specs.declared.items.Line.{Line}
 use Rattle.rd_event.specs.declared.items.Line.TheVariants.{Skip, Header, Thread, Object, Event}
 use Rattle.rd_event.specs.declared.items.LineEvent.{LineEvent}
 use Rattle.rd_event.specs.declared.items.LineEvent.TheVariants.{Fork, Join, Acquire, Release, Call}
+use Rattle.rd_base.specs.Bytes.{hash, space}
 
 -- the arguments of a call, at most 6, then its result
 pub record AreSlots (slots : List Value) : Type 0 where
@@ -47,7 +48,7 @@ IsSpellable (Event event) = HasFewSlots event
 
 -- two names or other words, one space apart
 abbrev pub words_apart : List ℕ → List ℕ → List ℕ
-words_apart first second = first ++ 32 ∷ second
+words_apart first second = first ++ space ∷ second
 
 -- each argument and a space, then an arrow, a space and the result
 abbrev pub slots_spelling : List Value → List ℕ
@@ -77,7 +78,7 @@ spelling (Event event) = event_spelling event
 -- an empty line, or one whose first byte is #
 abbrev pub is_skipped : List ℕ → Bool
 is_skipped [] = true
-is_skipped (byte ∷ bytes) = byte == 35
+is_skipped (byte ∷ bytes) = byte == hash
 
 -- the bytes are a spelling of the item
 abbrev pub Says : List ℕ → Line → Type 0

@@ -6,17 +6,18 @@ use Rattle.rd_base.specs.declared.values.Value.{Value}
 use Rattle.rd_base.specs.ReadingValues.{value_of}
 use Rattle.rd_event.specs.declared.slots.Place.{Place}
 use Rattle.rd_event.specs.declared.slots.Place.TheVariants.{Outside, Quoted, Escaped}
+use Rattle.rd_base.specs.Bytes.{backslash, quote, space}
 
 -- a value ends before a space that stands outside its quotes
 abbrev pub is_end : Place → ℕ → Bool
-is_end Outside b = b == 32
+is_end Outside b = b == space
 is_end Quoted b = false
 is_end Escaped b = false
 
 -- the place behind a byte
 abbrev pub next_place : Place → ℕ → Place
-next_place Outside b = if b == 34 then Quoted else Outside
-next_place Quoted b = if b == 34 then Outside else if b == 92 then Escaped else Quoted
+next_place Outside b = if b == quote then Quoted else Outside
+next_place Quoted b = if b == quote then Outside else if b == backslash then Escaped else Quoted
 next_place Escaped b = Quoted
 
 -- how many bytes stand before the first space outside quotes

@@ -14,15 +14,16 @@ use Rattle.rd_io.specs.declared.lines.Found.TheVariants as found
 use Rattle.rd_io.specs.declared.lines.Look.TheVariants as look
 use Rattle.rd_io.specs.declared.lines.Next.TheVariants as next
 use Rattle.rd_io.specs.declared.lines.ReadEnd.TheVariants as read_end
+use Rattle.rd_base.specs.Bytes.{line_feed}
 
 -- no byte is a line feed
 abbrev pub HasNoFeed : List ℕ → Type 0
-HasNoFeed bytes = EachIndex bytes (λ k. slice_index bytes k ≢ 10)
+HasNoFeed bytes = EachIndex bytes (λ k. slice_index bytes k ≢ line_feed)
 
 -- the first line feed of the bytes stands there
 pub record IsFirstFeed (bytes : List ℕ) (at : ℕ) : Type 0 where
   pub within : at < length bytes
-  pub feed : slice_index bytes at ≡ 10
+  pub feed : slice_index bytes at ≡ line_feed
   pub before : HasNoFeed (take at bytes)
 
 abbrev pub FindsFeed : List ℕ → Option ℕ → Type 0
@@ -68,7 +69,7 @@ left r stop bytes = reading r.limit r.room stop (r.pending ++ bytes)
 
 -- a line was cut off the front of the pending bytes
 pub record GivesLine (old new : Reader) : Type 0 where
-  pub pending : old.pending ≡ new.line ++ 10 ∷ new.pending
+  pub pending : old.pending ≡ new.line ++ line_feed ∷ new.pending
   pub clean : HasNoFeed new.line
   pub short : length new.line < old.limit
   pub room : old.room ≡ length new.line + 1 + new.room
@@ -133,7 +134,7 @@ Finds old new found.Faulted = (new ≡ old) × IsShort old
 
 -- the pending bytes hold a further whole line within the limit on bytes
 abbrev pub HasLine : Reader → Type 0
-HasLine r = Contains (take r.room r.pending) 10
+HasLine r = Contains (take r.room r.pending) line_feed
 
 -- What an answer says of the lines that were still to come, where these bytes were taken in the call. A line is the next of
 -- them and leaves the others to come, whatever comes behind the bytes; so do bytes that hold no line when a read fails.

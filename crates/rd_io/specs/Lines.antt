@@ -1,5 +1,6 @@
 -- The lines of bytes, and how they end. This project's profile.
 use Rattle.std.specs.Prelude.{◌≡◌, ℕ, Bool, ◌==◌, nat_lt, nat_le, List, [], ◌∷◌, take, length, if◌then◌else◌}
+use Rattle.rd_base.specs.Bytes.{line_feed}
 
 -- why the bytes go no further: the input ended, or a read of it failed
 pub data Stop : Type 0 where
@@ -31,7 +32,7 @@ with_byte byte (part bytes more) = part (byte ∷ bytes) more
 
 abbrev pub parts_of : List ℕ → Parts
 parts_of [] = rest []
-parts_of (byte ∷ bytes) = if byte == 10 then part [] (parts_of bytes) else with_byte byte (parts_of bytes)
+parts_of (byte ∷ bytes) = if byte == line_feed then part [] (parts_of bytes) else with_byte byte (parts_of bytes)
 
 -- how lines end behind which this rest is left, where no limit is passed
 abbrev pub rest_ending : Stop → List ℕ → Ending

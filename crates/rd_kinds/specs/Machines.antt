@@ -9,7 +9,7 @@ use Rattle.std.specs.BTreeMap.{is_at, insert_entry}
 use Rattle.std.specs.BTreeSet.{insert_key}
 use Rattle.rd_base.specs.Order.{value_cmp}
 use Rattle.rd_base.specs.declared.values.Value.{Value}
-use Rattle.rd_base.specs.declared.values.Value.TheVariants.{Nil, Bool as Boolean, Int, Text}
+use Rattle.rd_base.specs.declared.values.Value.TheVariants.{Nil, Bool as Boolean, Int}
 use Rattle.rd_object.specs.Machines.{Machine, Step}
 use Rattle.rd_object.specs.Machines.Step.{goes, refuses, unknown}
 use Rattle.rd_object.specs.declared.shapes.Shape.{Shape}
@@ -92,12 +92,10 @@ Entries = List (Value × Value)
 abbrev pub value_at : Value → Entries → Value
 value_at key entries = unwrap_or (lookup (is_at (value_cmp key)) entries) Nil
 
--- the entries where the key has the value; nil takes the key away
+-- the entries where the key has the value: nil takes the key away, and any other value takes the place of the one that it had
 abbrev pub put_at : Value → Value → Entries → Entries
 put_at key Nil entries = remove_entry (is_at (value_cmp key)) entries
-put_at key (Boolean value) entries = insert_entry value_cmp entries key (Boolean value)
-put_at key (Int value) entries = insert_entry value_cmp entries key (Int value)
-put_at key (Text value) entries = insert_entry value_cmp entries key (Text value)
+put_at key value entries = insert_entry value_cmp entries key value
 
 abbrev pub dictionary_row : ℕ → List Value → Entries → Step
 -- put

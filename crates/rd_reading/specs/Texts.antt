@@ -14,25 +14,26 @@ use Rattle.rd_reading.specs.declared.parsing.SpecRefused.{SpecRefused}
 use Rattle.rd_tokens.specs.declared.sorts.Token.{Token}
 use Rattle.rd_tokens.specs.Tokens.{AreTokens}
 use Rattle.rd_base.specs.declared.limits.TheConstants.{MOST_KINDS, MOST_SPEC_BYTES}
+use Rattle.rd_base.specs.Bytes.{hash, line_feed, space}
 
 -- ---- lines
 
 -- the bytes are one line: none is a line feed
 abbrev pub IsLine : List ℕ → Type 0
-IsLine bytes = EachIndex bytes (λ k. slice_index bytes k ≢ 10)
+IsLine bytes = EachIndex bytes (λ k. slice_index bytes k ≢ line_feed)
 
 -- the lines of a text, which is cut at line feeds; the last line may lack its line feed
 pub data AreLines : List ℕ → List (List ℕ) → Type 0 where
   no_line : AreLines [] []
   last_line : {line : List ℕ} → line ≢ [] → IsLine line → AreLines line (line ∷ [])
-  line_first : {line more : List ℕ} {lines : List (List ℕ)} → IsLine line → AreLines more lines → AreLines (line ++ 10 ∷ more) (line ∷ lines)
+  line_first : {line more : List ℕ} {lines : List (List ℕ)} → IsLine line → AreLines more lines → AreLines (line ++ line_feed ∷ more) (line ∷ lines)
 
 abbrev pub is_space : ℕ → Bool
-is_space b = b == 32
+is_space b = b == space
 
 -- the line says nothing: it begins with #, or has only spaces, or no byte
 abbrev pub BeginsComment : List ℕ → Type 0
-BeginsComment line = (bytes : List ℕ) × (line ≡ 35 ∷ bytes)
+BeginsComment line = (bytes : List ℕ) × (line ≡ hash ∷ bytes)
 
 abbrev pub IsSkipped : List ℕ → Type 0
 IsSkipped line = BeginsComment line ⊎ AllPass is_space line

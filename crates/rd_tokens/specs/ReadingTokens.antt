@@ -6,14 +6,15 @@ use Rattle.rd_tokens.specs.declared.sorts.Sort.{Sort}
 use Rattle.rd_tokens.specs.declared.sorts.Sort.TheVariants.{Open, Close, Word, Text, Wrong}
 use Rattle.rd_tokens.specs.declared.sorts.Token.{Token}
 use Rattle.rd_tokens.specs.Tokens.{is_word_byte}
+use Rattle.rd_base.specs.Bytes.{backslash, quote}
 
 -- a quote that no `\` took with it
 abbrev pub is_end : Bool → ℕ → Bool
-is_end taken b = not taken && b == 34
+is_end taken b = not taken && b == quote
 
 -- a `\` that no other took with it
 abbrev pub takes_next : Bool → ℕ → Bool
-takes_next taken b = not taken && b == 92
+takes_next taken b = not taken && b == backslash
 
 -- how many bytes stand before the quote that ends them
 unfoldable pub inside_length : Bool → List ℕ → ℕ
@@ -23,7 +24,7 @@ inside_length taken (b ∷ bytes) = if is_end taken b then 0 else suc (inside_le
 -- how long the first token of bytes is that begin with no space
 unfoldable pub first_length : List ℕ → ℕ
 first_length bytes =
-    if slice_index bytes 0 == 34 then min (inside_length false (drop 1 bytes) + 2) (length bytes)
+    if slice_index bytes 0 == quote then min (inside_length false (drop 1 bytes) + 2) (length bytes)
     else if is_word_byte (slice_index bytes 0) then prefix_len is_word_byte bytes
     else 1
 
@@ -32,7 +33,7 @@ unfoldable pub sort_of : List ℕ → Sort
 sort_of bytes =
     if slice_index bytes 0 == 40 then Open
     else if slice_index bytes 0 == 41 then Close
-    else if slice_index bytes 0 == 34 then (if is_some (value_of bytes) then Text else Wrong)
+    else if slice_index bytes 0 == quote then (if is_some (value_of bytes) then Text else Wrong)
     else if is_word_byte (slice_index bytes 0) then Word
     else Wrong
 

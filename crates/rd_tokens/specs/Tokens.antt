@@ -1,15 +1,17 @@
 -- The tokens of a line of a specification's text: this project's profile.
-use Rattle.std.specs.Prelude.{◌≡◌, ◌≢◌, ℕ, ◌+◌, ◌-◌, ◌<◌, ◌≤◌, ◌==◌, ◌||◌, ◌&&◌, Bool, false, not, nat_le, List, [], ◌∷◌, ◌++◌, length, take, drop}
-use Rattle.std.specs.List.{AllPass}
+use Rattle.std.specs.Prelude.{◌≡◌, ◌≢◌, ℕ, ◌+◌, ◌-◌, ◌<◌, ◌≤◌, ◌&&◌, Bool, false, not, List, [], ◌∷◌, ◌++◌, length, take, drop, codes, nat_eq}
+use Rattle.std.specs.Char.{is_ascii_graphic}
+use Rattle.std.specs.List.{AllPass, list_any}
 use Rattle.rd_base.specs.declared.values.Value.TheVariants.{Text as TextValue}
 use Rattle.rd_base.specs.Spelling.{is_plain, spelling, IsText}
 use Rattle.rd_tokens.specs.declared.sorts.Sort.{Sort}
 use Rattle.rd_tokens.specs.declared.sorts.Sort.TheVariants.{Open, Close, Word, Text, Wrong}
 use Rattle.rd_tokens.specs.declared.sorts.Token.{Token}
+use Rattle.rd_base.specs.Bytes.{backslash, quote, space}
 
--- a byte from 0x21 to 0x7E, but no parenthesis and no quote
+-- a visible byte of ASCII, but no parenthesis and no quote
 abbrev pub is_word_byte : ℕ → Bool
-is_word_byte b = nat_le 33 b && nat_le b 126 && not (b == 40 || b == 41 || b == 34)
+is_word_byte b = is_ascii_graphic b && not (list_any (nat_eq b) (codes "()\""))
 
 -- what stands behind a word: nothing, or first another byte
 abbrev pub EndsWord : List ℕ → Type 0
@@ -19,16 +21,16 @@ EndsWord (b ∷ bytes) = is_word_byte b ≡ false
 -- what stands between two quotes, read in pairs from the left: a `\` takes the next byte with it, and no other byte is a quote
 pub data IsInside : List ℕ → Type 0 where
   nothing_inside : IsInside []
-  pair_first : {b : ℕ} {bytes : List ℕ} → IsInside bytes → IsInside (92 ∷ b ∷ bytes)
-  other_first : {b : ℕ} {bytes : List ℕ} → b ≢ 34 → b ≢ 92 → IsInside bytes → IsInside (b ∷ bytes)
+  pair_first : {b : ℕ} {bytes : List ℕ} → IsInside bytes → IsInside (backslash ∷ b ∷ bytes)
+  other_first : {b : ℕ} {bytes : List ℕ} → b ≢ quote → b ≢ backslash → IsInside bytes → IsInside (b ∷ bytes)
 
 -- the bytes with a quote before and after them
 abbrev pub quoted : List ℕ → List ℕ
-quoted inside = 34 ∷ inside ++ 34 ∷ []
+quoted inside = quote ∷ inside ++ quote ∷ []
 
 -- behind a quote, the bytes have no quote that ends what it begins
 abbrev pub HasNoEnd : List ℕ → Type 0
-HasNoEnd bytes = (inside behind : List ℕ) → IsInside inside → ¬ (bytes ≡ inside ++ 34 ∷ behind)
+HasNoEnd bytes = (inside behind : List ℕ) → IsInside inside → ¬ (bytes ≡ inside ++ quote ∷ behind)
 
 -- the spelling of a text
 abbrev pub SpellsText : List ℕ → Type 0
@@ -38,12 +40,12 @@ SpellsText bytes = (text : List ℕ) × IsText text × (bytes ≡ spelling (Text
 pub data IsWrong : List ℕ → List ℕ → Type 0 where
   wrong_byte : {b : ℕ} {behind : List ℕ} → is_plain b ≡ false → IsWrong (b ∷ []) behind
   wrong_text : (inside : List ℕ) {behind : List ℕ} → IsInside inside → ¬ (SpellsText (quoted inside)) → IsWrong (quoted inside) behind
-  no_end : {bytes : List ℕ} → HasNoEnd bytes → IsWrong (34 ∷ bytes) []
+  no_end : {bytes : List ℕ} → HasNoEnd bytes → IsWrong (quote ∷ bytes) []
 
 -- the bytes are a token of the sort, where others stand behind them
 abbrev pub IsToken : Sort → List ℕ → List ℕ → Type 0
-IsToken Open bytes behind = bytes ≡ 40 ∷ []
-IsToken Close bytes behind = bytes ≡ 41 ∷ []
+IsToken Open bytes behind = bytes ≡ codes "("
+IsToken Close bytes behind = bytes ≡ codes ")"
 IsToken Word bytes behind = (0 < length bytes) × AllPass is_word_byte bytes × EndsWord behind
 IsToken Text bytes behind = SpellsText bytes
 IsToken Wrong bytes behind = IsWrong bytes behind
@@ -51,7 +53,7 @@ IsToken Wrong bytes behind = IsWrong bytes behind
 -- the tokens of bytes of which the first stands at the place: spaces are passed over
 pub data Cuts : ℕ → List ℕ → List Token → Type 0 where
   nothing_left : {place : ℕ} → Cuts place [] []
-  space_first : {place : ℕ} {bytes : List ℕ} {tokens : List Token} → Cuts (place + 1) bytes tokens → Cuts place (32 ∷ bytes) tokens
+  space_first : {place : ℕ} {bytes : List ℕ} {tokens : List Token} → Cuts (place + 1) bytes tokens → Cuts place (space ∷ bytes) tokens
   token_first : {place : ℕ} (sort : Sort) (bytes behind : List ℕ) {tokens : List Token} → IsToken sort bytes behind
       → Cuts (place + length bytes) behind tokens
       → Cuts place (bytes ++ behind) (record { place = place; length = length bytes; sort = sort } ∷ tokens)

@@ -1,6 +1,7 @@
 //! Cutting a line into tokens.
 ghost use Rattle.std.specs.Prelude.{◌≡◌, ◌≢◌, ◌==◌, ℕ, ◌+◌, ◌-◌, ◌<◌, ◌≤◌, ◌^◌, List, false, not, length, take, drop, slice_index, All, AllPairs, Any, IfOk, is_some, if◌then◌else◌};
 ghost use Rattle.std.specs.List.{position, prefix_len};
+ghost use Rattle.rd_base.specs.Bytes.{space};
 ghost use Rattle.rd_base.specs.ReadingValues.{value_of};
 ghost use Rattle.rd_tokens.specs.declared.sorts.Sort.TheVariants.{Text, Wrong, Word};
 ghost use Rattle.rd_tokens.specs.declared.sorts.Token.{Token};
@@ -12,7 +13,7 @@ use rd_base::{NoMemory, is_value};
 use std::alloc::Global;
 
 fn is_space(byte: u8) -> bool
-    ensures { result ≡ (byte == 32) }
+    ensures { result ≡ (byte == space) }
 {
     byte == b' '
 }
@@ -176,5 +177,5 @@ pub fn law_of_tokens()
     ensures rise { (line : List ℕ) (tokens : List Token) → AreTokens line tokens →
         AllPairs ComesAfter tokens }
     ensures whole { (line : List ℕ) (tokens : List Token) → AreTokens line tokens → (k : ℕ) →
-        k < length line → slice_index line k ≢ 32 → Any (HasByte (k + 1)) tokens }
+        k < length line → slice_index line k ≢ space → Any (HasByte (k + 1)) tokens }
 {}
