@@ -1,6 +1,10 @@
 //! The limits of a run.
-ghost use Rattle.std.specs.Prelude.{◌≡◌};
-ghost use Rattle.rd_base.specs.Limits.{AreUsable, standard};
+ghost use Rattle.std.specs.Prelude.{◌≡◌, ◌++◌, OnOk};
+ghost use Rattle.rd_base.specs.Limits.{AreUsable, limit_cause_text, limit_text, standard};
+
+use crate::byte_lists::Bytes;
+use crate::memory::NoMemory;
+use crate::numbers::append_number;
 
 /// What a limit counts. Those up to `Depth` are of traces, and the others of specifications.
 #[derive(Clone, Copy, Debug, PartialEq, Eq)]
@@ -85,4 +89,37 @@ impl Limits {
             depth: 65535,
         }
     }
+}
+
+#[tactic(auto, unfolding(crate::specs::Limits::limit_text))]
+fn limit_text(name: LimitName) -> &'static [u8]
+    ensures { result.now ≡ limit_text name }
+{
+    match name {
+        LimitName::Bytes => b"bytes",
+        LimitName::Line => b"line",
+        LimitName::Events => b"events",
+        LimitName::Threads => b"threads",
+        LimitName::Locks => b"locks",
+        LimitName::Objects => b"objects",
+        LimitName::Depth => b"depth",
+        LimitName::SpecText => b"text",
+        LimitName::Tokens => b"tokens",
+        LimitName::Kinds => b"kinds",
+        LimitName::Methods => b"methods",
+        LimitName::Arguments => b"arguments",
+        LimitName::Nodes => b"nodes",
+        LimitName::FormulaDepth => b"depth",
+        LimitName::Predicates => b"predicates",
+    }
+}
+
+/// Puts a limit that was passed behind the text.
+pub fn append_limit(text: &mut Bytes, name: LimitName, number: u64) -> Result<(), NoMemory>
+    ensures { OnOk result (text.new ≡ text.old ++ limit_cause_text name number) }
+{
+    text.append(b"limit ")?;
+    text.append(limit_text(name))?;
+    text.append(b" ")?;
+    append_number(text, number)
 }

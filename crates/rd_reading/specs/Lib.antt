@@ -6,4 +6,5 @@ pub mod PairJudging
 pub mod Pairs
 pub mod Parts
 pub mod Reading
+pub mod RefusedTexts
 pub mod Texts

@@ -1,4 +1,5 @@
-//! Reading the text of a specification: which kinds it says, or the first line that is wrong, its place and its cause.
+//! Reading the text of a specification: which kinds it says, or the first line that is wrong, its place and its cause, and the
+//! line that tells them.
 //!
 //! A text has a header and blocks. A block is a kind, its methods, and for each pair of them the formula by which their calls
 //! commute. `docs/specifications.md` has the format and each cause.
@@ -10,9 +11,11 @@ mod judging;
 mod known;
 mod pairs;
 mod parsing;
+mod refused_texts;
 
 pub use causes::{Fault, SpecCause};
 pub use judging::{LineRefused, finish, read_line};
 pub use known::{Block, Known};
 pub use pairs::{Pair, PairRefused, judge_pair};
 pub use parsing::{ParseRefused, SpecRefused, parse};
+pub use refused_texts::spec_refused_line;

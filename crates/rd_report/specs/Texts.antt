@@ -1,7 +1,6 @@
 -- How a trace ends, in words, and the names by which a report tells of threads and objects: this project's profile.
 use Rattle.std.specs.Prelude.{ℕ, ◌+◌, List, [], ◌++◌, codes, decimal, slice_index_or}
-use Rattle.rd_base.specs.declared.limits.LimitName.{LimitName}
-use Rattle.rd_base.specs.declared.limits.LimitName.TheVariants.{Bytes, Line, Events, Threads, Locks, Objects, Depth, SpecText, Tokens, Kinds, Methods, Arguments, Nodes, FormulaDepth, Predicates}
+use Rattle.rd_base.specs.Limits.{limit_cause_text}
 use Rattle.rd_base.specs.Spelling.{spelling}
 use Rattle.rd_event.specs.declared.items.Line.{Line as Item}
 use Rattle.rd_io.specs.Inputs.{fault_line}
@@ -38,27 +37,6 @@ abbrev pub naming : List Item → Naming
 naming lines = record { threads = threads_of lines; objects = objects_of lines }
 
 -- ---- causes
-
--- the name of a limit
-unfoldable pub limit_text : LimitName → List ℕ
-limit_text Bytes = codes "bytes"
-limit_text Line = codes "line"
-limit_text Events = codes "events"
-limit_text Threads = codes "threads"
-limit_text Locks = codes "locks"
-limit_text Objects = codes "objects"
-limit_text Depth = codes "depth"
-limit_text SpecText = codes "text"
-limit_text Tokens = codes "tokens"
-limit_text Kinds = codes "kinds"
-limit_text Methods = codes "methods"
-limit_text Arguments = codes "arguments"
-limit_text Nodes = codes "nodes"
-limit_text FormulaDepth = codes "depth"
-limit_text Predicates = codes "predicates"
-
-abbrev pub limit_cause_text : LimitName → ℕ → List ℕ
-limit_cause_text name number = codes "limit " ++ limit_text name ++ codes " " ++ decimal number
 
 -- the text of a cause by which a line may not follow, by the names of the threads
 unfoldable pub wf_text : List (List ℕ) → WfCause → List ℕ

@@ -1,47 +1,13 @@
 //! How a trace ends, in words.
 ghost use Rattle.std.specs.Prelude.{◌≡◌, ◌++◌, codes, decimal, IfOk, OnOk};
-ghost use Rattle.rd_report.specs.Texts.{limit_text, cause_text, limit_cause_text, wf_text, races_line, refused_line, ending_text, name_of};
+ghost use Rattle.rd_report.specs.Texts.{cause_text, wf_text, races_line, refused_line, ending_text, name_of};
 ghost use Rattle.rd_wf.specs.Roster.{names_in};
 
 use crate::endings::Ending;
-use crate::numbers::append_number;
 use crate::replays::append_replay;
-use rd_base::{Bytes, LimitName, NoMemory};
+use rd_base::{Bytes, NoMemory, append_limit, append_number};
 use rd_wf::{Roster, TraceCause, WfCause};
 use std::alloc::Global;
-
-#[tactic(auto, unfolding(crate::specs::Texts::limit_text))]
-fn limit_text(name: LimitName) -> &'static [u8]
-    ensures { result.now ≡ limit_text name }
-{
-    match name {
-        LimitName::Bytes => b"bytes",
-        LimitName::Line => b"line",
-        LimitName::Events => b"events",
-        LimitName::Threads => b"threads",
-        LimitName::Locks => b"locks",
-        LimitName::Objects => b"objects",
-        LimitName::Depth => b"depth",
-        LimitName::SpecText => b"text",
-        LimitName::Tokens => b"tokens",
-        LimitName::Kinds => b"kinds",
-        LimitName::Methods => b"methods",
-        LimitName::Arguments => b"arguments",
-        LimitName::Nodes => b"nodes",
-        LimitName::FormulaDepth => b"depth",
-        LimitName::Predicates => b"predicates",
-    }
-}
-
-/// Puts a limit that was passed behind the text.
-pub fn append_limit(text: &mut Bytes, name: LimitName, number: u64) -> Result<(), NoMemory>
-    ensures { OnOk result (text.new ≡ text.old ++ limit_cause_text name number) }
-{
-    text.append(b"limit ")?;
-    text.append(limit_text(name))?;
-    text.append(b" ")?;
-    append_number(text, number)
-}
 
 // Puts the name of a thread behind the text, and nothing where no thread has the number.
 fn append_thread(text: &mut Bytes, names: &Roster, thread: u32) -> Result<(), NoMemory>

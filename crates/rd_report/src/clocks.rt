@@ -6,8 +6,7 @@ ghost use Rattle.rd_report.specs.Texts.{name_of};
 ghost use Rattle.rd_report.specs.Writing.{comma, part_text};
 ghost use Rattle.rd_wf.specs.Roster.{names_in, thread_count};
 
-use crate::numbers::append_number;
-use rd_base::{Bytes, NoMemory, Steps};
+use rd_base::{Bytes, NoMemory, Steps, append_number};
 use rd_clock::Clock;
 use rd_wf::Roster;
 use std::sync::ledger::Ledger;

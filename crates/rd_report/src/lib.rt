@@ -6,16 +6,14 @@ mod clocks;
 mod endings;
 mod formulas;
 mod laws;
-mod numbers;
 mod races;
 mod replays;
 mod states;
 
-pub use causes::{append_limit, ending_text, refused_text};
+pub use causes::{ending_text, refused_text};
 pub use endings::Ending;
 pub use formulas::Formulas;
 pub use laws::law_of_shipped_texts;
-pub use numbers::append_number;
 pub use races::{append_race, formula_line, race_text};
 pub use rd_wf::TraceCause;
 pub use replays::{append_replay, replay_text};

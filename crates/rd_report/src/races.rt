@@ -9,8 +9,7 @@ ghost use Rattle.rd_report.specs.Texts.{name_of, naming_in};
 ghost use Rattle.rd_wf.specs.Roster.{names_in, object_names_in};
 
 use crate::clocks::append_clock;
-use crate::numbers::append_number;
-use rd_base::{Bytes, Name, NoMemory, Steps};
+use rd_base::{Bytes, Name, NoMemory, Steps, append_number};
 use rd_clock::Clock;
 use rd_ecl::{KindSpec, Spec};
 use rd_event::{Call, append_call};

@@ -2,8 +2,7 @@
 ghost use Rattle.std.specs.Prelude.{◌≡◌, ◌++◌, codes, decimal, IfOk, OnOk};
 ghost use Rattle.rd_report.specs.Texts.{expected_text, replay_line};
 
-use crate::numbers::append_number;
-use rd_base::{Bytes, NoMemory, append_value};
+use rd_base::{Bytes, NoMemory, append_number, append_value};
 use rd_object::{Expected, ReplayEnd};
 use std::alloc::Global;
 

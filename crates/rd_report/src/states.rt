@@ -2,8 +2,7 @@
 ghost use Rattle.std.specs.Prelude.{◌≡◌, ◌++◌, OnOk};
 ghost use Rattle.rd_report.specs.States.{count_text, counts_text, pair_text, pairs_text, shape_text, state_line, value_text, values_text};
 
-use crate::numbers::append_number;
-use rd_base::{Bytes, Name, NoMemory, Value, append_value};
+use rd_base::{Bytes, Name, NoMemory, Value, append_number, append_value};
 use rd_object::Shape;
 
 // Puts a value behind the text, behind a blank.

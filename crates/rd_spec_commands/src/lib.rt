@@ -2,7 +2,6 @@
 #![tactic(auto)]
 
 mod kinds;
-mod spec_texts;
 mod specifications;
 
 pub use kinds::kind;

@@ -11,13 +11,12 @@ ghost use Rattle.rd_walk.specs.Output.{IsOutput, StatusTellsFault};
 ghost use Rattle.rd_walk.specs.Meanings.{Runs};
 ghost use Rattle.rd_spec_commands.specs.Specifications.{TellsUnread, accepted_outcome, refused_outcome, spec_status};
 
-use crate::spec_texts::spec_refused_line;
 use rd_base::{MOST_SPEC_BYTES, Word};
 use rd_ecl::Spec;
 use rd_io::{FrontRefused, Inputs, Sink, read_front};
 use rd_kinds::reserved;
 use rd_print::print;
-use rd_reading::{ParseRefused, SpecCause, SpecRefused, parse};
+use rd_reading::{ParseRefused, SpecCause, SpecRefused, parse, spec_refused_line};
 use rd_walk::{Status, status_of, write_fault, write_line, write_lines};
 use std::alloc::Global;
 

@@ -1,14 +1,13 @@
 //! The line that tells where and why a specification is refused.
 ghost use Rattle.std.specs.Prelude.{◌≡◌, ◌++◌, codes, IfOk, OnOk};
-ghost use Rattle.rd_spec_commands.specs.Specifications.{reason_text, spec_cause_text, spec_refused_line};
+ghost use Rattle.rd_reading.specs.RefusedTexts.{reason_text, spec_cause_text, spec_refused_line};
 
-use rd_base::{Bytes, Name, NoMemory};
+use crate::{SpecCause, SpecRefused};
+use rd_base::{Bytes, Name, NoMemory, append_limit, append_number};
 use rd_ecl::Reason;
-use rd_reading::{SpecCause, SpecRefused};
-use rd_report::{append_limit, append_number};
 use std::alloc::Global;
 
-#[tactic(auto, unfolding(crate::specs::Specifications::reason_text))]
+#[tactic(auto, unfolding(crate::specs::RefusedTexts::reason_text))]
 fn reason_text(reason: Reason) -> &'static [u8]
     ensures { result.now ≡ reason_text reason }
 {
@@ -36,7 +35,7 @@ fn append_missing(text: &mut Bytes, first: &Name, second: &Name) -> Result<(), N
     text.append(second.items())
 }
 
-#[tactic(auto, unfolding(crate::specs::Specifications::spec_cause_text))]
+#[tactic(auto, unfolding(crate::specs::RefusedTexts::spec_cause_text))]
 fn append_cause(text: &mut Bytes, cause: &SpecCause) -> Result<(), NoMemory>
     ensures { OnOk result (text.new ≡ text.old ++ spec_cause_text cause.now) }
 {

@@ -1,8 +1,9 @@
 //! Numbers in texts.
 ghost use Rattle.std.specs.Prelude.{◌≡◌, ◌++◌, decimal, OnOk};
 
+use crate::byte_lists::Bytes;
+use crate::memory::NoMemory;
 use itoa::Buffer;
-use rd_base::{Bytes, NoMemory};
 
 /// Puts a number behind the text.
 pub fn append_number(text: &mut Bytes, number: u64) -> Result<(), NoMemory>
