@@ -1,5 +1,5 @@
-pub mod CheckLaws
 pub mod Checked
 pub mod Checking
 pub mod Meanings
 pub mod Reports
+pub mod laws

@@ -219,7 +219,7 @@ impl<'a> Check<'a> {
 }
 
 impl<'a> Analysis for Check<'a> {
-    ghost use Rattle.rd_check.specs.CheckLaws.{leads_none, no_text};
+    ghost use Rattle.rd_check.specs.laws.CheckLaws.{leads_none, no_text};
     ghost use Rattle.rd_check.specs.Checking.{Begins, Leads};
     ghost use Rattle.rd_check.specs.Checked.{race_texts};
 

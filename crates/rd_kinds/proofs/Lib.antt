@@ -1,4 +1,5 @@
 pub mod CounterLemmas
+pub mod EntryLemmas
 pub mod KindLemmas
 pub mod NameLemmas
 pub mod ObjectKinds

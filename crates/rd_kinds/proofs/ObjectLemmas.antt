@@ -10,7 +10,8 @@ use Rattle.rd_base.specs.Order.{value_cmp}
 use Rattle.rd_object.specs.declared.shapes.Shape.TheVariants.{Items, Map}
 use Rattle.rd_object.specs.Machines.{IsTaken}
 use Rattle.rd_object.specs.Machines.Step.{goes}
-use Rattle.rd_kinds.specs.EntryLists.{find, written_over}
+use Rattle.rd_kinds.specs.laws.EntryLists.{find}
+use Rattle.rd_kinds.proofs.EntryLemmas.{written_over}
 use Rattle.rd_kinds.specs.Shipped.{dictionary_kind, set_kind}
 use Rattle.rd_kinds.specs.Machines.{Entries, dictionary_machine, dictionary_row, has, put_at, set_machine, set_row, value_at}
 

@@ -143,7 +143,8 @@ FormulaHas kind line tokens first second read refused =
 -- with the formula, a method of the pair has more than 5 distinct relations on its side alone
 abbrev pub HasManyPredicates : SpecifiedKind → ℕ → ℕ → Tree → Type 0
 HasManyPredicates kind m n f =
-    (MOST_PREDICATES < length (method_predicates (with_pair kind m n f) m)) ⊎ (MOST_PREDICATES < length (method_predicates (with_pair kind m n f) n))
+    (MOST_PREDICATES < length (method_predicates (with_pair kind m n f) m))
+    ⊎ (MOST_PREDICATES < length (method_predicates (with_pair kind m n f) n))
 
 -- the formula is too large in this way; the place is that of the word `when`
 abbrev pub FormulaPasses : (ℕ → ℕ → Tree → Type 0) → SpecifiedKind → List ℕ → List Token → List ℕ → List ℕ → Read → ℕ → Type 0

@@ -17,4 +17,5 @@ IsMissing kind cause = (first : List ℕ) × (second : List ℕ) × (cause ≡ M
 abbrev pub IsPassed : SpecifiedKind → List ℕ → List Token → List (List ℕ) → Fault → Type 0
 IsPassed kind line tokens arguments fault =
     ((MOST_METHODS ≤ length kind.methods) × (fault ≡ record { place = place_at line tokens 1; cause = Limit Methods MOST_METHODS }))
-    ⊎ ((length kind.methods < MOST_METHODS) × (MOST_ARGUMENTS < length arguments) × (fault ≡ record { place = place_at line tokens 8; cause = Limit Arguments MOST_ARGUMENTS }))
+    ⊎ ((length kind.methods < MOST_METHODS) × (MOST_ARGUMENTS < length arguments)
+    × (fault ≡ record { place = place_at line tokens 8; cause = Limit Arguments MOST_ARGUMENTS }))

@@ -26,7 +26,8 @@ IsLine bytes = EachIndex bytes (λ k. slice_index bytes k ≢ line_feed)
 pub data AreLines : List ℕ → List (List ℕ) → Type 0 where
   no_line : AreLines [] []
   last_line : {line : List ℕ} → line ≢ [] → IsLine line → AreLines line (line ∷ [])
-  line_first : {line more : List ℕ} {lines : List (List ℕ)} → IsLine line → AreLines more lines → AreLines (line ++ line_feed ∷ more) (line ∷ lines)
+  line_first : {line more : List ℕ} {lines : List (List ℕ)} → IsLine line → AreLines more lines
+      → AreLines (line ++ line_feed ∷ more) (line ∷ lines)
 
 abbrev pub is_space : ℕ → Bool
 is_space b = b == space

@@ -1,8 +1,6 @@
 -- What the part of each command keeps of the accepted lines, and writes.
-use Rattle.std.specs.Prelude.{◌≡◌, ⊤, ℕ, List, []}
-use Rattle.std.proofs.Common.{refl}
+use Rattle.std.specs.Prelude.{⊤, ℕ, List, []}
 use Rattle.rd_ecl.specs.Kinds.{Kind}
-use Rattle.rd_check.specs.CheckLaws.{leads_none, no_text}
 use Rattle.rd_check.specs.Checking.{Begins, Leads}
 use Rattle.rd_walk.specs.Output.{Outcome}
 use Rattle.rd_check.specs.Checked.{check_outcome, race_texts}
@@ -31,11 +29,3 @@ part_text Replay entries = []
 abbrev pub part_outcome : List Kind → Part → Walked → Outcome
 part_outcome kinds (Check start) walked = check_outcome start.spec.now walked
 part_outcome kinds Replay walked = replay_outcome kinds walked
-
-pub part_starts : (kinds : List Kind) (start : Part) → PartBegins kinds start → PartLeads kinds start [] start
-part_starts kinds (Check start) begins = leads_none kinds start begins
-part_starts kinds Replay begins = tt
-
-pub part_silent : (start : Part) → part_text start [] ≡ []
-part_silent (Check start) = no_text start
-part_silent Replay = refl

@@ -23,7 +23,8 @@ pub enum Part<'a> {
 }
 
 impl<'a> Analysis for Part<'a> {
-    ghost use Rattle.rd_run.specs.Parts.{PartBegins, PartLeads, part_silent, part_starts, part_text};
+    ghost use Rattle.rd_run.specs.Parts.{PartBegins, PartLeads, part_text};
+    ghost use Rattle.rd_run.specs.laws.PartLaws.{part_silent, part_starts};
 
     ghost begins = { PartBegins };
 

@@ -25,7 +25,7 @@ use Rattle.rd_wf.proofs.FollowLemmas.{Meets, met}
 use Rattle.rd_wf.proofs.UseLemmas.{none_and, once, one_for, used_acquire, used_free, used_held, used_release, used_still, used_thread}
 use Rattle.rd_wf.proofs.PlaceLemmas.{OnePlace, got_left, got_push, one_place_more, place_below, place_named, place_new}
 use Rattle.rd_wf.specs.declared.causes.Accepted.TheVariants as accepted
-use Rattle.rd_wf.specs.NoLines.{told_none}
+use Rattle.rd_wf.specs.laws.NoLines.{told_none}
 use Rattle.rd_wf.specs.Events.{AreAccepted, AreAcceptedFrom, AreTold, AreUsed, IsTold, event_of, events_from, events_of, root_count, roots_of}
 use Rattle.rd_ecl.specs.Kinds.{Kind, Method, kind_names, method_names}
 use Rattle.rd_wf.specs.MayFollow.{MayFollow, accepted_of, acquired_name, acquires, acting_name, begun_name, declared_kind, events, is_acquire_of, is_event, is_release_of, is_root, is_skip, joined_name, joined_of, kind_number, locks_of, method_number, methods_of, numbered_event, object_kinds, objects_of, passes, place, released_name, releases, same_name, threads_of, with_lock, with_locks}

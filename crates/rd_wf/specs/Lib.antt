@@ -1,5 +1,5 @@
 pub mod Events
 pub mod MayFollow
-pub mod NoLines
 pub mod Roster
+pub mod laws
 pub use Rattle.rd_ecl.specs.Kinds

@@ -22,7 +22,7 @@ impl Model for Counter {
 impl RefObject for Counter {
     ghost use Rattle.rd_object.specs.declared.shapes.Shape.TheVariants.{Number};
     ghost use Rattle.rd_kinds.specs.Machines.{counter_machine};
-    ghost use Rattle.rd_kinds.specs.CounterLaws.{counter_sound, counter_keeps};
+    ghost use Rattle.rd_kinds.specs.laws.CounterLaws.{counter_sound, counter_keeps};
 
     ghost machine = { counter_machine };
 

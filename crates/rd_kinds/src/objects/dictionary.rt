@@ -103,7 +103,7 @@ impl Dictionary {
 impl RefObject for Dictionary {
     ghost use Rattle.rd_object.specs.declared.shapes.Shape.TheVariants.{Map};
     ghost use Rattle.rd_kinds.specs.Machines.{dictionary_machine};
-    ghost use Rattle.rd_kinds.specs.DictionaryLaws.{dictionary_sound, dictionary_keeps};
+    ghost use Rattle.rd_kinds.specs.laws.DictionaryLaws.{dictionary_sound, dictionary_keeps};
 
     ghost machine = { dictionary_machine };
 

@@ -23,7 +23,7 @@ impl Model for Register {
 impl RefObject for Register {
     ghost use Rattle.rd_object.specs.declared.shapes.Shape.TheVariants.{One};
     ghost use Rattle.rd_kinds.specs.Machines.{register_machine};
-    ghost use Rattle.rd_kinds.specs.RegisterLaws.{register_sound, register_keeps};
+    ghost use Rattle.rd_kinds.specs.laws.RegisterLaws.{register_sound, register_keeps};
 
     ghost machine = { register_machine };
 

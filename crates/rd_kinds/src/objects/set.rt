@@ -95,7 +95,7 @@ impl Set {
 impl RefObject for Set {
     ghost use Rattle.rd_object.specs.declared.shapes.Shape.TheVariants.{Items};
     ghost use Rattle.rd_kinds.specs.Machines.{set_machine};
-    ghost use Rattle.rd_kinds.specs.SetLaws.{set_sound, set_keeps};
+    ghost use Rattle.rd_kinds.specs.laws.SetLaws.{set_sound, set_keeps};
 
     ghost machine = { set_machine };
 

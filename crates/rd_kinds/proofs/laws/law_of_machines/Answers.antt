@@ -1,11 +1,11 @@
 use Rattle.std.proofs.Common.{[], ◌∷◌, refl}
 use Rattle.std.proofs.lemmas.List.Elements.{All-cons, All-nil}
 use Rattle.rd_object.specs.Machines.{IsSound, KeepsShapes}
-use Rattle.rd_kinds.specs.CounterLaws.{counter_keeps, counter_sound}
-use Rattle.rd_kinds.specs.DictionaryLaws.{dictionary_keeps, dictionary_sound}
+use Rattle.rd_kinds.specs.laws.CounterLaws.{counter_keeps, counter_sound}
+use Rattle.rd_kinds.specs.laws.DictionaryLaws.{dictionary_keeps, dictionary_sound}
 use Rattle.rd_kinds.specs.Machines.{counter_machine, dictionary_machine, register_machine, set_machine}
-use Rattle.rd_kinds.specs.RegisterLaws.{register_keeps, register_sound}
-use Rattle.rd_kinds.specs.SetLaws.{set_keeps, set_sound}
+use Rattle.rd_kinds.specs.laws.RegisterLaws.{register_keeps, register_sound}
+use Rattle.rd_kinds.specs.laws.SetLaws.{set_keeps, set_sound}
 use Rattle.rd_kinds.proofs.ObjectKinds.{machine_of_kind}
 use Rattle.rd_kinds.proofs.laws.law_of_machines.Goals as goal
 

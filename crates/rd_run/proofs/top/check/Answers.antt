@@ -2,7 +2,7 @@ use Rattle.std.specs.Prelude.{nat_lt}
 use Rattle.std.proofs.Common.{[], refl, ◌∙◌, subst, sym, ap}
 use Rattle.rd_io.proofs.SinkLemmas.{appends_none}
 use Rattle.rd_ecl.specs.Kinds.{kinds_of}
-use Rattle.rd_wf.specs.NoLines.{told_none}
+use Rattle.rd_wf.specs.laws.NoLines.{told_none}
 use Rattle.rd_wf.specs.Roster.{kinds_in}
 use Rattle.rd_run.specs.Parts.{PartBegins, part_outcome}
 use Rattle.rd_check.specs.Checked.{check_outcome}

@@ -1,5 +1,5 @@
 use Rattle.std.proofs.Common.{sym, ◌∙◌}
-use Rattle.rd_kinds.specs.ItemLists.{with_same}
+use Rattle.rd_kinds.specs.laws.ItemLists.{with_same}
 use Rattle.rd_kinds.proofs.objects.set.Set.add.Goals as goal
 
 pub returns-then-has-clause-items : goal.returns-then-has-clause-items

@@ -7,7 +7,7 @@ use Rattle.rd_hb.specs.Tracker.{StandsFor, Tracking}
 use Rattle.rd_detect.specs.Detect.{StandsFor as Detects}
 use Rattle.rd_wf.specs.Events.{events_of, roots_of}
 use Rattle.rd_ecl.specs.Kinds.{Kind, kinds_of}
-use Rattle.rd_wf.specs.NoLines.{told_none}
+use Rattle.rd_wf.specs.laws.NoLines.{told_none}
 use Rattle.rd_check.specs.Checking.{Begins, Leads}
 use Rattle.rd_check.specs.Checked.{race_texts, races_before, races_of, texts_before}
 use Rattle.rd_check.specs.declared.checking.Check.{Check}

@@ -10,8 +10,8 @@ use Rattle.rd_object.specs.Machines.{IsShape, IsSound, KeepsShapes, Next}
 use Rattle.rd_object.specs.Machines.Step.{goes}
 use Rattle.rd_object.specs.declared.shapes.Shape.{Shape}
 use Rattle.rd_object.specs.declared.shapes.Shape.TheVariants.{One, Number, Items, Map, Counts, Row}
-use Rattle.rd_kinds.specs.Commuting.{both_hold, either_holds, first_on_1, goes_result, goes_shape, lost, second_on_1, values_differ, values_same}
-use Rattle.rd_kinds.specs.ItemLists.{Rise, is_item, item_other, item_same, has-with, has-without, rise-with, rise-without, same_items, with_same, without_same}
+use Rattle.rd_kinds.specs.laws.Commuting.{both_hold, either_holds, first_on_1, goes_result, goes_shape, lost, second_on_1, values_differ, values_same}
+use Rattle.rd_kinds.specs.laws.ItemLists.{Rise, is_item, item_other, item_same, has-with, has-without, rise-with, rise-without, same_items, with_same, without_same}
 use Rattle.rd_kinds.specs.Machines.{has, with_item, without_item, set_machine, set_row, set_step}
 use Rattle.rd_kinds.specs.Shipped.{set_kind}
 

@@ -15,9 +15,9 @@ use Rattle.rd_object.specs.Machines.{IsShape, IsSound, KeepsShapes, Next}
 use Rattle.rd_object.specs.Machines.Step.{goes}
 use Rattle.rd_object.specs.declared.shapes.Shape.{Shape}
 use Rattle.rd_object.specs.declared.shapes.Shape.TheVariants.{One, Number, Items, Map, Counts, Row}
-use Rattle.rd_kinds.specs.Commuting.{both_hold, either_holds, first_on_1, goes_result, goes_shape, lost, second_on_1, values_differ, values_same}
-use Rattle.rd_kinds.specs.EntryLists.{IsValued, cond_turned, find, find-with, find-without, length-with, rise-keys_with, rise-keys_without, same_entries, valued-with, valued-without}
-use Rattle.rd_kinds.specs.ItemLists.{Rise, is_item, item_other, item_same}
+use Rattle.rd_kinds.specs.laws.Commuting.{both_hold, either_holds, first_on_1, goes_result, goes_shape, lost, second_on_1, values_differ, values_same}
+use Rattle.rd_kinds.specs.laws.EntryLists.{IsValued, cond_turned, find, find-with, find-without, length-with, rise-keys_with, rise-keys_without, same_entries, valued-with, valued-without}
+use Rattle.rd_kinds.specs.laws.ItemLists.{Rise, is_item, item_other, item_same}
 use Rattle.rd_kinds.specs.Machines.{Entries, dictionary_machine, dictionary_row, dictionary_step, put_at, value_at}
 use Rattle.rd_kinds.specs.Shipped.{dictionary_kind}
 
