@@ -1,12 +1,12 @@
 -- Relations that are gathered, each once.
-use Rattle.std.proofs.Common.{◌≡◌, ℕ, ◌+◌, ◌<◌, ◌≤◌, Bool, true, false, ◌||◌, List, [], ◌∷◌, ◌++◌, length, if◌then◌else◌, refl, ap, sym, ◌∙◌, arith, length-append, Option, Some, None}
+use Rattle.std.proofs.Common.{◌≡◌, ◌+◌, ◌<◌, Bool, true, false, ◌||◌, List, [], ◌∷◌, ◌++◌, length, if◌then◌else◌, refl, ap, sym, ◌∙◌, arith, length-append, Option, Some, None}
 use Rattle.std.specs.List.{list_any}
 use Rattle.std.proofs.lemmas.List.{append_assoc, append-nil}
 use Rattle.std.proofs.lemmas.List.Folds.{list_any-append}
 use Rattle.rd_ecl.specs.declared.formulas.Predicate.{Predicate}
 use Rattle.rd_ecl.specs.declared.relations.Relations.{Relations}
 use Rattle.rd_ecl.specs.Formulas.{same_predicate, distinct_from}
-use Rattle.rd_ecl.specs.Relations.{Gathers, IsCounted, kept}
+use Rattle.rd_ecl.specs.Relations.{Gathers, kept}
 use Rattle.rd_base.specs.declared.limits.TheConstants.{MOST_PREDICATES}
 
 abbrev among : Predicate → List Predicate → Bool

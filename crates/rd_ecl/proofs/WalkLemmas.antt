@@ -1,17 +1,16 @@
 -- The pairs of a method, one for each method of the kind, say all that the pairs say of it.
-use Rattle.std.proofs.Common.{◌≡◌, ◌≢◌, ℕ, ◌+◌, ◌-◌, ◌*◌, ◌<◌, ◌≤◌, zero, suc, Bool, true, false, if◌then◌else◌, List, [], ◌∷◌, ◌++◌, length, Option, Some, None, refl, ap, sym, ◌⊎◌, inl, inr, ⊎_elim, ◌∙◌, arith, length-append, get_or}
-use Rattle.std.specs.Prelude.{flat_map, map, min, max, nat_le, option_map, unwrap_or, set, ◌↔◌, IsTrue}
+use Rattle.std.proofs.Common.{◌≡◌, ◌≢◌, ℕ, ◌+◌, ◌-◌, ◌*◌, ◌<◌, ◌≤◌, zero, suc, Bool, true, false, if◌then◌else◌, List, [], ◌∷◌, ◌++◌, length, Option, Some, None, refl, ap, sym, ◌∙◌, arith, length-append, get_or}
+use Rattle.std.specs.Prelude.{flat_map, map, min, max, nat_le}
 use Rattle.std.specs.List.{range_with_len}
 use Rattle.std.proofs.Math.ListN.{get_or-eq_default}
-use Rattle.std.proofs.lemmas.Bool.{cases_eq}
-use Rattle.std.proofs.lemmas.List.{append_assoc, append-nil, length-set}
+use Rattle.std.proofs.lemmas.List.{append-nil}
 use Rattle.std.proofs.lemmas.List.Concat.{flat_map-append}
 use Rattle.std.proofs.lemmas.List.Folds.{flat_map-map}
 use Rattle.rd_ecl.specs.declared.formulas.Predicate.{Predicate}
-use Rattle.rd_ecl.specs.Formulas.{Tree, distinct, distinct_from, predicates_of}
+use Rattle.rd_ecl.specs.Formulas.{Tree, distinct, distinct_from}
 use Rattle.rd_ecl.specs.declared.relations.Relations.{Relations}
 use Rattle.rd_ecl.specs.Relations.{Gathers, IsCounted, kept, part_of}
-use Rattle.rd_ecl.specs.Specified.{SpecifiedKind, IsDraft, all_pairs, formula_at, method_predicates, predicates_at, with_pair}
+use Rattle.rd_ecl.specs.Specified.{SpecifiedKind, all_pairs, formula_at, method_predicates, predicates_at}
 use Rattle.rd_ecl.proofs.PairLemmas.{none_of, not_asked, some_of}
 use Rattle.rd_ecl.proofs.RoomLemmas.{distinct_both}
 use Rattle.rd_base.specs.declared.limits.TheConstants.{MOST_METHODS, MOST_PREDICATES}

@@ -1,7 +1,6 @@
-use Rattle.std.proofs.Common.{◌+◌, ◌*◌, ◌≡◌, ◌≤◌, ◌<◌, length, true, false, Some, None, refl, arith, ◌∙◌}
+use Rattle.std.proofs.Common.{◌+◌, ◌*◌, ◌≡◌, length, true, false, Some, refl, arith, ◌∙◌}
 use Rattle.std.proofs.lemmas.List.{length-set}
 use Rattle.rd_ecl.specs.Formulas.{tree_of}
-use Rattle.rd_ecl.specs.Relations.{Gathers, kept, part_of}
 use Rattle.rd_ecl.specs.Specified.{with_pair}
 use Rattle.rd_ecl.specs.declared.relations.Relations.{Relations}
 use Rattle.rd_ecl.proofs.WalkLemmas.{kept_all, kept_full, kept_more}
