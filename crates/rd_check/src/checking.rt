@@ -27,11 +27,11 @@ pub struct Check<'a> {
     text: Bytes,
     tracker: Tracker,
     detector: Detector<'a>,
-    pub races: u64,
+    pub(crate) races: u64,
 }
 
 impl<'a> Check<'a> {
-    ghost use Rattle.std.specs.Prelude.{◌≡◌, ◌+◌, ◌<◌, ◌≤◌, ◌^◌, ℕ, List, ◌∷◌, [], ◌++◌, Option, is_some, if◌then◌else◌, length, IfOk, IfErr, OnOk, OnErr};
+    ghost use Rattle.std.specs.Prelude.{◌≡◌, ◌+◌, ◌<◌, ◌≤◌, ◌^◌, ℕ, List, ◌∷◌, [], ◌++◌, Option, is_some, if◌then◌else◌, length, IfOk, OnOk, OnErr};
     ghost use Rattle.rd_io.specs.Sinks.{Appends};
     ghost use Rattle.rd_event.specs.declared.events.Event.{Event as EventOf};
     ghost use Rattle.rd_event.specs.declared.events.Event.TheVariants as event;
@@ -46,14 +46,11 @@ impl<'a> Check<'a> {
     ghost use Rattle.rd_ecl.specs.Kinds.{kinds_of};
 
     /// A check of no lines.
-    pub fn new(alloc: Global, spec: &'a Spec) -> Result<Check<'a>, Halt>
+    pub fn new(alloc: Global, spec: &'a Spec) -> Result<Check<'a>, NoMemory>
         ensures new { IfOk result IsNew }
         ensures spec { IfOk result (λ check. check.spec.now ≡ spec.now) }
-        ensures memory { IfErr result (λ halt. halt ≡ Halt.NoMemory) }
     {
-        let Ok(detector) = Detector::new(alloc, spec) else {
-            return Err(Halt::NoMemory);
-        };
+        let detector = Detector::new(alloc, spec)?;
         Ok(Check {
             alloc,
             spec,
@@ -73,7 +70,7 @@ impl<'a> Check<'a> {
         call: &Call,
         stamp: &Stamp,
         steps: &mut Steps<L>,
-    ) -> Result<Option<Race>, Halt>
+    ) -> Result<Option<Race>, NoMemory>
         requires next { (numbers : List ℕ) × (es : List EventOf)
             × IsNextCall self.old.detector.kinds self.old.detector.calls numbers es place call.now stamp.now }
         requires few { self.old.races + 1 < 2 ^ 64 }
@@ -94,18 +91,14 @@ impl<'a> Check<'a> {
         ensures held { OnOk result
             (length self.new.detector.calls ≡ length self.old.detector.calls + 1) }
 
-        // races are counted, only memory can stop it, and the steps are bounded
+        // races are counted, and the steps are bounded
         ensures races { IfOk result
             (λ answer. self.new.races ≡ self.old.races + (if is_some answer then 1 else 0)) }
-        ensures memory { IfErr result (λ halt. halt ≡ Halt.NoMemory) }
         ensures cost { steps.new ≤ steps.old + length self.old.detector.calls }
     {
-        let Ok(answer) = self
+        let answer = self
             .detector
-            .call(line, place, call, stamp, &self.tracker, steps)
-        else {
-            return Err(Halt::NoMemory);
-        };
+            .call(line, place, call, stamp, &self.tracker, steps)?;
         self.races += u64::from(answer.is_some());
         Ok(answer)
     }
@@ -147,28 +140,22 @@ impl<'a> Check<'a> {
         ensures fault { TellsFault (S.faults out.old) (S.faults out.new) (S.at_fault out.new)
             (S.written out.new) result }
     {
-        match self.set_text(race, names) {
-            Ok(()) => write_lines(out, self.text.items()),
-            Err(_) => Err(Halt::NoMemory),
-        }
+        self.set_text(race, names)?;
+        write_lines(out, self.text.items())
     }
 
     /// Hands the next root to the tracker.
-    fn root(&mut self, thread: u32) -> Result<(), Halt>
+    fn root(&mut self, thread: u32) -> Result<(), NoMemory>
         requires { (start : Check) × (before : List Entry) × (item : LineOf)
             × Checks start before self.old
             × IsNextLine (kinds_of start.spec.now) self.old.tracker (items before) item
             (Accepted.Root thread) }
-        ensures checks { OnOk result
+        ensures { OnOk result
             ((start : Check) (before : List Entry) (entry : Entry) → Checks start before self.old →
             IsNextLine (kinds_of start.spec.now) self.old.tracker (items before) entry.item
             (Accepted.Root thread) → Checks start (before ++ entry ∷ []) self.new) }
-        ensures memory { IfErr result (λ halt. halt ≡ Halt.NoMemory) }
     {
-        match self.tracker.root(thread) {
-            Ok(()) => Ok(()),
-            Err(_) => Err(Halt::NoMemory),
-        }
+        self.tracker.root(thread)
     }
 
     /// Hands the event at this place, which is the next one, to the tracker, and a call to the detector, and writes the race that it tells
@@ -202,18 +189,13 @@ impl<'a> Check<'a> {
             (S.written out.new) result }
     {
         let Event::Call(call) = event else {
-            return match self.tracker.pass(event, steps) {
-                Ok(()) => Ok(()),
-                Err(_) => Err(Halt::NoMemory),
-            };
+            self.tracker.pass(event, steps)?;
+            return Ok(());
         };
-        let Ok(stamp) = self.tracker.event(event, steps) else {
-            return Err(Halt::NoMemory);
-        };
-        match self.detect(number, place, call, &stamp, steps) {
-            Ok(None) => Ok(()),
-            Ok(Some(race)) => self.report(&race, names, out),
-            Err(halt) => Err(halt),
+        let stamp = self.tracker.event(event, steps)?;
+        match self.detect(number, place, call, &stamp, steps)? {
+            None => Ok(()),
+            Some(race) => self.report(&race, names, out),
         }
     }
 }
@@ -244,7 +226,10 @@ impl<'a> Analysis for Check<'a> {
     ) -> Result<(), Halt> {
         match accepted {
             Accepted::Nothing | Accepted::Object { .. } => Ok(()),
-            Accepted::Root(thread) => self.root(*thread),
+            Accepted::Root(thread) => {
+                self.root(*thread)?;
+                Ok(())
+            }
             Accepted::Event(event) => {
                 self.event(number, roster.events() - 1, event, roster, out, steps)
             }

@@ -1,42 +1,58 @@
 //! What `check` writes behind the races.
-ghost use Rattle.std.specs.Prelude.{◌≡◌, ◌≢◌, ℕ, List};
+ghost use Rattle.std.specs.Prelude.{◌≡◌, ◌↔◌, ℕ, List, ◌++◌, IfOk};
 ghost use Rattle.rd_io.specs.Sinks.{Appends};
 ghost use Rattle.rd_report.specs.Texts.{ending_text};
-ghost use Rattle.rd_walk.specs.Output.{IsOutput, StatusTellsFault};
+ghost use Rattle.rd_walk.specs.Analysis.{TellsFault};
+ghost use Rattle.rd_walk.specs.Output.{IsOutput, report_status};
 ghost use Rattle.rd_replaying.specs.Endings.{check_status};
 ghost use Rattle.rd_wf.specs.Roster.{names_in};
 
+use crate::checking::Check;
 use rd_io::Sink;
-use rd_replaying::check_status;
+use rd_replay::Replayer;
+use rd_replaying::{ReplayedReport, check_status, reported};
 use rd_report::{Ending, ending_text};
-use rd_walk::{Status, status_of, write_lines};
+use rd_walk::{Halt, TraceStatus, WalkEnd, write_lines};
 use rd_wf::Roster;
 use std::alloc::Global;
 
-/// Writes how a report ends, and gives the status of `check`. The roster has the names of the threads.
-pub fn write_ending<S: Sink>(
+/// Writes how a report of `check` ends, and says how it did. The roster has the names of the threads.
+fn write_ending<S: Sink>(
     alloc: Global,
     names: &Roster,
     races: u64,
     ending: &Ending,
     out: &mut S,
-) -> Status
+) -> Result<TraceStatus, Halt>
     ensures output { (part : List ℕ) × Appends (S.written out.old) (S.written out.new) part
-        × IsOutput result part
+        × IsOutput (report_status result) part
         (record { text = ending_text (names_in names.now) races ending.now; status = check_status races ending.now }) }
-    ensures input { result ≡ Status.InputFault → ending.now ≡ Ending.Fault }
-    ensures calm { result ≢ Status.InputFault → result ≢ Status.OutputFault →
-        result ≢ Status.NoMemory → ending.now ≢ Ending.Fault }
-    ensures fault { StatusTellsFault (S.faults out.old) (S.faults out.new) (S.at_fault out.new)
+    ensures input { IfOk result
+        (λ status. (status ≡ TraceStatus.InputFault) ↔ (ending.now ≡ Ending.Fault)) }
+    ensures fault { TellsFault (S.faults out.old) (S.faults out.new) (S.at_fault out.new)
         (S.written out.new) result }
-    ensures no_usage { result ≢ Status.Usage }
-    ensures no_spec { result ≢ Status.SpecRefused }
 {
-    let Ok(text) = ending_text(alloc, races, ending, names) else {
-        return Status::NoMemory;
-    };
-    match write_lines(out, text.items()) {
-        Ok(()) => check_status(races, ending),
-        Err(halt) => status_of(halt),
+    let text = ending_text(alloc, races, ending, names)?;
+    write_lines(out, text.items())?;
+    Ok(check_status(races, ending))
+}
+
+impl<'a> ReplayedReport for Check<'a> {
+    ghost use Rattle.rd_check.specs.Checked.{check_outcome};
+
+    ghost outcome = { λ _ start walked. check_outcome start.spec.now walked };
+
+    fn conclude<S: Sink>(
+        &self,
+        alloc: Global,
+        names: &Roster,
+        replayer: &Replayer,
+        ending: WalkEnd,
+        out: &mut S,
+    ) -> Result<TraceStatus, Halt> {
+        let ending = reported(replayer, ending)?;
+        write_ending(alloc, names, self.races, &ending, out)
     }
+
+    fn law_of_outcomes(&self) {}
 }

@@ -6,5 +6,4 @@ mod endings;
 mod laws;
 
 pub use checking::Check;
-pub use endings::write_ending;
 pub use laws::{law_of_checks, law_of_faults, law_of_reports};

@@ -1,5 +1,6 @@
 //! How a report ends, and its status.
-ghost use Rattle.std.specs.Prelude.{◌≡◌, ◌↔◌, ℕ, List, IfOk};
+ghost use Rattle.std.specs.Prelude.{◌≡◌, ◌≢◌, ◌↔◌, ℕ, List, Ok, IfOk};
+ghost use Rattle.rd_walk.specs.Output.{report_status};
 ghost use Rattle.rd_replay.specs.Replays.{Recorded, replay_end};
 ghost use Rattle.rd_replay.specs.Replayer.{StandsFor as Replays};
 ghost use Rattle.rd_replaying.specs.Endings.{check_status, is_limit, replay_status, reported};
@@ -8,7 +9,7 @@ use rd_base::NoMemory;
 use rd_object::ReplayEnd;
 use rd_replay::Replayer;
 use rd_report::Ending;
-use rd_walk::{Status, WalkEnd};
+use rd_walk::{TraceStatus, WalkEnd};
 use rd_wf::{TraceCause, WfCause};
 
 fn is_limit(cause: TraceCause) -> bool
@@ -20,13 +21,14 @@ fn is_limit(cause: TraceCause) -> bool
     )
 }
 
-/// The status of a replay that was written.
-fn replay_status(replay: &ReplayEnd) -> Status
-    ensures { result ≡ replay_status replay.now }
+/// How a replay ended that was written.
+fn replay_status(replay: &ReplayEnd) -> TraceStatus
+    ensures status { report_status (Ok result) ≡ replay_status replay.now }
+    ensures read { result ≢ TraceStatus.InputFault }
 {
     match replay {
-        ReplayEnd::Differs { .. } => Status::ReplayDiffers,
-        ReplayEnd::Exact | ReplayEnd::NotShipped => Status::Clean,
+        ReplayEnd::Differs { .. } => TraceStatus::ReplayDiffers,
+        ReplayEnd::Exact | ReplayEnd::NotShipped => TraceStatus::Clean,
     }
 }
 
@@ -46,26 +48,27 @@ pub fn reported(replayer: &Replayer, ending: WalkEnd) -> Result<Ending, NoMemory
     })
 }
 
-/// The status of a check that wrote all, or of a replay, which reports no call.
+/// How a check ended that wrote all, or a replay, which reports no call.
 #[tactic(auto, unfolding(crate::specs::Endings::check_status))]
-pub fn check_status(races: u64, ending: &Ending) -> Status
-    ensures { result ≡ check_status races ending.now }
+pub fn check_status(races: u64, ending: &Ending) -> TraceStatus
+    ensures status { report_status (Ok result) ≡ check_status races ending.now }
+    ensures input { (result ≡ TraceStatus.InputFault) ↔ (ending.now ≡ Ending.Fault) }
 {
     match ending {
         Ending::End { replay } => {
             if races == 0 {
                 replay_status(replay)
             } else {
-                Status::Raced
+                TraceStatus::Raced
             }
         }
         Ending::Refused { line: _, cause } => {
             if is_limit(*cause) {
-                Status::LimitReached
+                TraceStatus::LimitReached
             } else {
-                Status::TraceRefused
+                TraceStatus::Refused
             }
         }
-        Ending::Fault => Status::InputFault,
+        Ending::Fault => TraceStatus::InputFault,
     }
 }

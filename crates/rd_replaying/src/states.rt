@@ -1,25 +1,28 @@
 //! The report of `replay`: how the replay ended, and what the objects hold.
-ghost use Rattle.std.specs.Prelude.{◌≡◌, ◌≢◌, ◌↔◌, ◌<◌, ℕ, true, List, [], length, IfOk, OnOk, OnErr};
+ghost use Rattle.std.specs.Prelude.{◌≡◌, ◌↔◌, ◌<◌, ℕ, true, List, [], length, IfOk, OnOk, OnErr};
 ghost use Rattle.rd_io.specs.Sinks.{Appends};
 ghost use Rattle.rd_object.specs.declared.shapes.ReplayEnd.TheVariants.{Exact};
 ghost use Rattle.rd_replay.specs.Replays.{Recorded, held, replay_end};
 ghost use Rattle.rd_replay.specs.Replayer.{StandsFor};
 ghost use Rattle.rd_report.specs.Texts.{name_of};
 ghost use Rattle.rd_walk.specs.Analysis.{TellsFault, WritesFront};
-ghost use Rattle.rd_walk.specs.Output.{IsOutput, StatusTellsFault};
+ghost use Rattle.rd_walk.specs.Output.{IsOutput, report_status};
 ghost use Rattle.rd_replaying.specs.Endings.{check_status};
 ghost use Rattle.rd_replaying.specs.States.{held_text, replayed_text, states_before};
 ghost use Rattle.rd_wf.specs.Roster.{names_in, object_names_in};
 
-use crate::endings::check_status;
-use rd_base::{Bytes, NoMemory};
+use crate::endings::{check_status, reported};
+use crate::reports::ReplayedReport;
+use rd_base::{Bytes, NoMemory, Steps};
+use rd_event::Line;
 use rd_io::Sink;
 use rd_object::ReplayEnd;
 use rd_replay::Replayer;
 use rd_report::{Ending, append_state, refused_text, replay_text};
-use rd_walk::{Halt, Status, status_of, write_line};
-use rd_wf::Roster;
+use rd_walk::{Analysis, Halt, TraceStatus, WalkEnd, write_line};
+use rd_wf::{Accepted, Roster};
 use std::alloc::Global;
+use std::sync::ledger::Ledger;
 
 /// Makes the text the line that tells what an object holds, by its number.
 fn set_state(
@@ -68,10 +71,8 @@ fn write_state<S: Sink>(
     ensures fault { TellsFault (S.faults out.old) (S.faults out.new) (S.at_fault out.new)
         (S.written out.new) result }
 {
-    match set_state(text, names, replayer, object) {
-        Ok(()) => write_line(out, text.items()),
-        Err(_) => Err(Halt::NoMemory),
-    }
+    set_state(text, names, replayer, object)?;
+    write_line(out, text.items())
 }
 
 /// Writes what the objects hold, in order of their numbers, each in a line.
@@ -101,9 +102,7 @@ fn write_states<S: Sink>(
 {
     let mut text = Bytes::new(alloc);
     for object in 0..names.objects() {
-        if let Err(halt) = write_state(&mut text, names, replayer, object, out) {
-            return Err(halt);
-        }
+        write_state(&mut text, names, replayer, object, out)?;
     }
     Ok(())
 }
@@ -139,10 +138,8 @@ fn write_end<S: Sink>(
     ensures fault { TellsFault (S.faults out.old) (S.faults out.new) (S.at_fault out.new)
         (S.written out.new) result }
 {
-    match end_line(alloc, names, ending) {
-        Ok(line) => write_line(out, line.items()),
-        Err(_) => Err(Halt::NoMemory),
-    }
+    let line = end_line(alloc, names, ending)?;
+    write_line(out, line.items())
 }
 
 /// Did the replay of all calls give what was recorded?
@@ -185,45 +182,89 @@ fn write_replayed<S: Sink>(
     ensures fault { TellsFault (S.faults out.old) (S.faults out.new) (S.at_fault out.new)
         (S.written out.new) result }
 {
-    if let Err(halt) = write_end(alloc, names, ending, out) {
-        return Err(halt);
-    }
+    write_end(alloc, names, ending, out)?;
     if is_exact(ending) {
         return write_states(alloc, names, replayer, out);
     }
     Ok(())
 }
 
-/// Writes how a report of `replay` ends, and gives its status.
+/// Writes how a report of `replay` ends, and says how it did.
 pub fn write_replay<S: Sink>(
     alloc: Global,
     names: &Roster,
     replayer: &Replayer,
     ending: &Ending,
     out: &mut S,
-) -> Status
+) -> Result<TraceStatus, Halt>
     requires { ending.now ≡ Ending.End Exact → (kinds : List ℕ) × (calls : List Recorded)
         × StandsFor replayer.now kinds calls
         × (length kinds ≡ length (object_names_in names.now)) × (replay_end kinds calls ≡ Exact) }
     ensures output { (kinds : List ℕ) (calls : List Recorded) → StandsFor replayer.now kinds calls →
         length kinds ≡ length (object_names_in names.now) →
         (part : List ℕ) × Appends (S.written out.old) (S.written out.new) part
-        × IsOutput result part (record {
+        × IsOutput (report_status result) part (record {
           text = replayed_text (names_in names.now)
               (states_before (object_names_in names.now) kinds calls
               (length (object_names_in names.now))) ending.now;
           status = check_status 0 ending.now;
         }) }
-    ensures input { result ≡ Status.InputFault → ending.now ≡ Ending.Fault }
-    ensures calm { result ≢ Status.InputFault → result ≢ Status.OutputFault →
-        result ≢ Status.NoMemory → ending.now ≢ Ending.Fault }
-    ensures fault { StatusTellsFault (S.faults out.old) (S.faults out.new) (S.at_fault out.new)
+    ensures input { IfOk result
+        (λ status. (status ≡ TraceStatus.InputFault) ↔ (ending.now ≡ Ending.Fault)) }
+    ensures fault { TellsFault (S.faults out.old) (S.faults out.new) (S.at_fault out.new)
         (S.written out.new) result }
-    ensures no_usage { result ≢ Status.Usage }
-    ensures no_spec { result ≢ Status.SpecRefused }
 {
-    match write_replayed(alloc, names, replayer, ending, out) {
-        Ok(()) => check_status(0, ending),
-        Err(halt) => status_of(halt),
+    write_replayed(alloc, names, replayer, ending, out)?;
+    Ok(check_status(0, ending))
+}
+
+/// What `replay` does with each accepted line beside the replay of the calls: nothing.
+#[derive(Debug, Drop)]
+pub struct ReplayAlone;
+
+impl Analysis for ReplayAlone {
+    ghost use Rattle.std.specs.Prelude.{◌≡◌, ◌+◌, ◌≤◌, List, [], ◌∷◌, ◌++◌, ⊤};
+    ghost use Rattle.std.proofs.Common.{refl};
+
+    ghost begins = { λ _ _. ⊤ };
+
+    ghost leads = { λ _ _ _ _. ⊤ };
+
+    ghost text = { λ _ _ _. [] };
+
+    ghost starts = { λ _ _ _. tt };
+
+    ghost silent = { λ _ _. refl };
+
+    fn accept<S: Sink, L: Ledger>(
+        &mut self,
+        _number: u64,
+        _line: &Line,
+        _accepted: &Accepted,
+        _roster: &Roster,
+        _out: &mut S,
+        _steps: &mut Steps<L>,
+    ) -> Result<(), Halt> {
+        Ok(())
     }
+}
+
+impl ReplayedReport for ReplayAlone {
+    ghost use Rattle.rd_replaying.specs.States.{replay_outcome};
+
+    ghost outcome = { λ kinds _ walked. replay_outcome kinds walked };
+
+    fn conclude<S: Sink>(
+        &self,
+        alloc: Global,
+        names: &Roster,
+        replayer: &Replayer,
+        ending: WalkEnd,
+        out: &mut S,
+    ) -> Result<TraceStatus, Halt> {
+        let ending = reported(replayer, ending)?;
+        write_replay(alloc, names, replayer, &ending, out)
+    }
+
+    fn law_of_outcomes(&self) {}
 }

@@ -1,5 +1,3 @@
-pub mod ConcludeLemmas
 pub mod KindLemmas
-pub mod PartLemmas
 pub mod RunLemmas
 pub mod WholeLemmas

@@ -1,8 +1,6 @@
 //! A run of the program: `check` and `replay` over a trace, `spec` over a specification, `kind`.
 #![tactic(auto)]
 
-mod parts;
-mod replaying;
 mod top;
 
 pub use rd_check::{law_of_checks, law_of_faults, law_of_reports};

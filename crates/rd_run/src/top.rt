@@ -8,26 +8,32 @@ ghost use Rattle.rd_io.specs.Inputs.{Source, Rose};
 ghost use Rattle.rd_io.specs.Sinks.{Appends};
 ghost use Rattle.rd_kinds.specs.Shipped.{shipped_kinds};
 ghost use Rattle.rd_run.specs.Commands.{asked, named_number, command_of, meaning_of, usage_outcome};
-ghost use Rattle.rd_walk.specs.Output.{IsOutput, StatusTellsFault};
+ghost use Rattle.rd_walk.specs.Analysis.{TellsFaults};
+ghost use Rattle.rd_walk.specs.Output.{IsOutput, StatusTellsFault, report_status};
 ghost use Rattle.rd_check.specs.Checked.{check_outcome};
 ghost use Rattle.rd_replaying.specs.Replaying.{AreNumbered};
 ghost use Rattle.rd_walk.specs.Traces.{ReportsTrace};
 ghost use Rattle.rd_walk.specs.Meanings.{Runs, WritesAll};
 ghost use Rattle.rd_run.specs.Commands.Command.{check, replay};
 
-use crate::parts::Part;
-use crate::replaying::Replaying;
+use either::Either;
 use rd_base::{Limits, NoMemory, Steps, Word};
 use rd_check::Check;
 use rd_ecl::Spec;
 use rd_event::Line;
 use rd_io::{Inputs, Sink};
 use rd_kinds::shipped;
-use rd_spec_commands::{kind, read_spec, refuse_unread, spec};
-use rd_walk::{Status, Walker, report_trace, status_of, write_line};
+use rd_replaying::{ReplayAlone, Replaying};
+use rd_spec_commands::{kind, read_spec, refuse_unread, spec, spec_command_status};
+use rd_walk::{
+    Halt, Status, TraceStatus, Walker, report_status, report_trace, status_of, write_line,
+};
 use rd_wf::Roster;
 use std::alloc::Global;
 use std::sync::ledger::Ledger;
+
+/// What a command does with each accepted line of a trace: one type for all commands, so that the program has one walk.
+type Part<'a> = Either<Check<'a>, ReplayAlone>;
 
 /// What the words of the command line ask for.
 pub enum Command<'a> {
@@ -92,7 +98,7 @@ fn check<I: Inputs, S: Sink, L: Ledger>(
     out: &mut S,
     limits: &Limits,
     steps: &mut Steps<L>,
-) -> Status
+) -> Result<TraceStatus, Halt>
     requires usable { AreUsable limits.now }
     requires few { length spec.now < 2 ^ 32 }
     requires different { AllPairs (λ x y. x ≢ y) (kind_names (kinds_of spec.now)) }
@@ -105,32 +111,22 @@ fn check<I: Inputs, S: Sink, L: Ledger>(
         × Appends (S.written out.old) (S.written out.new) part
         × ReportsTrace (check_outcome spec.now) (kinds_of spec.now) trace.now limits.now
         (nat_lt (I.faults inputs.old)
-        (I.faults inputs.new)) old new part result steps.old steps.new }
-    ensures input_fault { result ≡ Status.InputFault →
-        Rose (I.faults inputs.old) (I.faults inputs.new) }
-    ensures calm { result ≢ Status.InputFault → result ≢ Status.OutputFault →
-        result ≢ Status.NoMemory → I.faults inputs.new ≡ I.faults inputs.old }
-    ensures fault { StatusTellsFault (S.faults out.old) (S.faults out.new) (S.at_fault out.new)
-        (S.written out.new) result }
-
-    // two endings never come
-    ensures no_usage { result ≢ Status.Usage }
-    ensures no_spec { result ≢ Status.SpecRefused }
+        (I.faults inputs.new)) old new part
+        (report_status result) steps.old steps.new }
+    ensures faults { TellsFaults TraceStatus.InputFault (I.faults inputs.old) (I.faults inputs.new)
+        (S.faults out.old) (S.faults out.new) (S.at_fault out.new) (S.written out.new) result }
 {
-    let Ok(roster) = Roster::new(alloc, spec) else {
-        return Status::NoMemory;
-    };
-    let Ok(analysis) = Check::new(alloc, spec) else {
-        return Status::NoMemory;
-    };
-    let walker = Walker {
+    let roster = Roster::new(alloc, spec)?;
+    let analysis = Check::new(alloc, spec)?;
+    let part: Part<'_> = Either::Left(analysis);
+    let mut walker = Walker {
         alloc,
         limits: *limits,
         roster,
-        analysis: Replaying::new(alloc, Part::Check(analysis)),
+        analysis: Replaying::new(alloc, part),
         line: Line::Skip,
     };
-    report_trace(walker, trace, inputs, out, steps)
+    report_trace(&mut walker, trace, inputs, out, steps)
 }
 
 /// `check TRACE`
@@ -141,7 +137,7 @@ fn check_shipped<I: Inputs, S: Sink, L: Ledger>(
     out: &mut S,
     limits: &Limits,
     steps: &mut Steps<L>,
-) -> Status
+) -> Result<TraceStatus, Halt>
     requires { AreUsable limits.now }
 
     // the report, and each fault is told as one
@@ -151,22 +147,13 @@ fn check_shipped<I: Inputs, S: Sink, L: Ledger>(
         × Appends (S.written out.old) (S.written out.new) part
         × Runs (check_meaning trace.now None) limits.now
         (nat_lt (I.faults inputs.old)
-        (I.faults inputs.new)) old new part result steps.old steps.new }
-    ensures input_fault { result ≡ Status.InputFault →
-        Rose (I.faults inputs.old) (I.faults inputs.new) }
-    ensures calm { result ≢ Status.InputFault → result ≢ Status.OutputFault →
-        result ≢ Status.NoMemory → I.faults inputs.new ≡ I.faults inputs.old }
-    ensures fault { StatusTellsFault (S.faults out.old) (S.faults out.new) (S.at_fault out.new)
-        (S.written out.new) result }
-
-    // two endings never come
-    ensures no_usage { result ≢ Status.Usage }
-    ensures no_spec { result ≢ Status.SpecRefused }
+        (I.faults inputs.new)) old new part
+        (report_status result) steps.old steps.new }
+    ensures faults { TellsFaults TraceStatus.InputFault (I.faults inputs.old) (I.faults inputs.new)
+        (S.faults out.old) (S.faults out.new) (S.at_fault out.new) (S.written out.new) result }
 {
-    match shipped(alloc) {
-        Ok(spec) => check(alloc, &spec, trace, inputs, out, limits, steps),
-        Err(_) => Status::NoMemory,
-    }
+    let spec = shipped(alloc)?;
+    check(alloc, &spec, trace, inputs, out, limits, steps)
 }
 
 /// The shipped kinds, then those of a specification.
@@ -207,10 +194,10 @@ fn check_with<I: Inputs, S: Sink, L: Ledger>(
 {
     let said = match read_spec(alloc, file, inputs) {
         Ok(said) => said,
-        Err(unread) => return refuse_unread(alloc, &unread, out),
+        Err(unread) => return spec_command_status(refuse_unread(alloc, &unread, out)),
     };
     match with_shipped(alloc, said) {
-        Ok(spec) => check(alloc, &spec, trace, inputs, out, limits, steps),
+        Ok(spec) => report_status(check(alloc, &spec, trace, inputs, out, limits, steps)),
         Err(_) => Status::NoMemory,
     }
 }
@@ -223,7 +210,7 @@ fn replay<I: Inputs, S: Sink, L: Ledger>(
     out: &mut S,
     limits: &Limits,
     steps: &mut Steps<L>,
-) -> Status
+) -> Result<TraceStatus, Halt>
     requires { AreUsable limits.now }
 
     // the report, and each fault is told as one
@@ -233,32 +220,22 @@ fn replay<I: Inputs, S: Sink, L: Ledger>(
         × Appends (S.written out.old) (S.written out.new) part
         × Runs (replay_meaning trace.now) limits.now
         (nat_lt (I.faults inputs.old)
-        (I.faults inputs.new)) old new part result steps.old steps.new }
-    ensures input_fault { result ≡ Status.InputFault →
-        Rose (I.faults inputs.old) (I.faults inputs.new) }
-    ensures calm { result ≢ Status.InputFault → result ≢ Status.OutputFault →
-        result ≢ Status.NoMemory → I.faults inputs.new ≡ I.faults inputs.old }
-    ensures fault { StatusTellsFault (S.faults out.old) (S.faults out.new) (S.at_fault out.new)
-        (S.written out.new) result }
-
-    // two endings never come
-    ensures no_usage { result ≢ Status.Usage }
-    ensures no_spec { result ≢ Status.SpecRefused }
+        (I.faults inputs.new)) old new part
+        (report_status result) steps.old steps.new }
+    ensures faults { TellsFaults TraceStatus.InputFault (I.faults inputs.old) (I.faults inputs.new)
+        (S.faults out.old) (S.faults out.new) (S.at_fault out.new) (S.written out.new) result }
 {
-    let Ok(spec) = shipped(alloc) else {
-        return Status::NoMemory;
-    };
-    let Ok(roster) = Roster::new(alloc, &spec) else {
-        return Status::NoMemory;
-    };
-    let walker = Walker {
+    let spec = shipped(alloc)?;
+    let roster = Roster::new(alloc, &spec)?;
+    let part: Part<'_> = Either::Right(ReplayAlone);
+    let mut walker = Walker {
         alloc,
         limits: *limits,
         roster,
-        analysis: Replaying::new(alloc, Part::Replay),
+        analysis: Replaying::new(alloc, part),
         line: Line::Skip,
     };
-    report_trace(walker, trace, inputs, out, steps)
+    report_trace(&mut walker, trace, inputs, out, steps)
 }
 
 /// Says that the words match no command.
@@ -337,12 +314,16 @@ pub fn run<I: Inputs, S: Sink, L: Ledger>(
 {
     match command_of(words) {
         None => refuse_usage(out),
-        Some(Command::Check(trace)) => check_shipped(alloc, trace, inputs, out, limits, steps),
+        Some(Command::Check(trace)) => {
+            report_status(check_shipped(alloc, trace, inputs, out, limits, steps))
+        }
         Some(Command::CheckWith(trace, file)) => {
             check_with(alloc, trace, file, inputs, out, limits, steps)
         }
-        Some(Command::Replay(trace)) => replay(alloc, trace, inputs, out, limits, steps),
-        Some(Command::Spec(file)) => spec(alloc, file, inputs, out),
-        Some(Command::Kind(number)) => kind(alloc, number, out),
+        Some(Command::Replay(trace)) => {
+            report_status(replay(alloc, trace, inputs, out, limits, steps))
+        }
+        Some(Command::Spec(file)) => spec_command_status(spec(alloc, file, inputs, out)),
+        Some(Command::Kind(number)) => spec_command_status(kind(alloc, number, out)),
     }
 }

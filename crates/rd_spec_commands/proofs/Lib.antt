@@ -1,3 +1,4 @@
 pub mod RefusalLemmas
 pub mod SpecLemmas
+pub mod StatusLemmas
 pub mod WholeLemmas

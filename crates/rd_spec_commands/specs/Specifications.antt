@@ -1,5 +1,5 @@
 -- What `spec` writes for the bytes of a specification, and its status. This project's profile.
-use Rattle.std.specs.Prelude.{◌≡◌, ◌⊎◌, ◌+◌, ℕ, List, []}
+use Rattle.std.specs.Prelude.{◌≡◌, ◌⊎◌, ◌+◌, ℕ, List, [], Result, Ok, Err}
 use Rattle.rd_reading.specs.declared.causes.SpecCause.{SpecCause}
 use Rattle.rd_reading.specs.declared.causes.SpecCause.TheVariants.{Limit}
 use Rattle.rd_ecl.specs.Specified.{SpecifiedKind}
@@ -8,7 +8,10 @@ use Rattle.rd_print.specs.Printed.{spec_text}
 use Rattle.rd_reading.specs.Texts.{IsSpecRefused, SpecSays}
 use Rattle.rd_reading.specs.declared.parsing.SpecRefused.{SpecRefused as Refusal}
 use Rattle.rd_reading.specs.RefusedTexts.{spec_refused_line}
-use Rattle.rd_walk.specs.Output.{IsOutput, Outcome, fault_outcome}
+use Rattle.rd_walk.specs.Output.{IsOutput, Outcome, fault_outcome, halted_with}
+use Rattle.rd_walk.specs.declared.analysis.Halt.{Halt}
+use Rattle.rd_spec_commands.specs.declared.specifications.SpecStatus.{SpecStatus}
+use Rattle.rd_spec_commands.specs.declared.specifications.SpecStatus.TheVariants as spec
 use Rattle.rd_spec_commands.specs.declared.specifications.Unread.{Unread}
 use Rattle.rd_spec_commands.specs.declared.specifications.Unread.TheVariants.{Fault, Refused, NoMemory}
 use Rattle.rd_walk.specs.declared.status.Status.{Status}
@@ -21,6 +24,14 @@ use Rattle.rd_base.specs.declared.limits.TheConstants.{MOST_SPEC_BYTES}
 abbrev pub spec_status : SpecCause → Status
 spec_status (Limit name number) = LimitReached
 spec_status _ = SpecRefused
+
+-- the status of a run that is a command on a specification
+abbrev pub spec_command_status : Result SpecStatus Halt → Status
+spec_command_status (Ok spec.Clean) = Clean
+spec_command_status (Ok spec.Refused) = SpecRefused
+spec_command_status (Ok spec.LimitReached) = LimitReached
+spec_command_status (Ok spec.InputFault) = InputFault
+spec_command_status (Err halt) = halted_with halt
 
 -- where these kinds are said
 abbrev pub accepted_outcome : List SpecifiedKind → Outcome

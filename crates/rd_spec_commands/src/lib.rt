@@ -5,4 +5,4 @@ mod kinds;
 mod specifications;
 
 pub use kinds::kind;
-pub use specifications::{Unread, read_spec, refuse_unread, spec};
+pub use specifications::{SpecStatus, Unread, read_spec, refuse_unread, spec, spec_command_status};

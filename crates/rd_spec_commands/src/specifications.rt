@@ -1,15 +1,16 @@
 //! Specifications from files, and the command `spec`.
 ghost use Rattle.rd_spec_commands.specs.Meanings.{spec_meaning, LeavesSpec, ReadsSpec};
-ghost use Rattle.std.specs.Prelude.{◌≡◌, ◌≢◌, ℕ, ◌<◌, ◌^◌, nat_lt, List, Err, Some, IfOk, IfErr};
+ghost use Rattle.std.specs.Prelude.{◌≡◌, ◌≢◌, ◌↔◌, Ok, ℕ, ◌<◌, ◌^◌, nat_lt, List, Err, Some, IfOk, IfErr};
 ghost use Rattle.rd_base.specs.declared.limits.Limits.{Limits};
 ghost use Rattle.rd_io.specs.Inputs.{Source, Goes, Rose};
 ghost use Rattle.rd_io.specs.Sinks.{Appends};
 ghost use Rattle.rd_kinds.specs.Shipped.{reserved_names};
 ghost use Rattle.rd_reading.specs.Texts.{HasNewNames, IsSpecRefused, SpecSays};
 ghost use Rattle.rd_reading.specs.declared.parsing.SpecRefused.{SpecRefused as Refusal};
-ghost use Rattle.rd_walk.specs.Output.{IsOutput, StatusTellsFault};
+ghost use Rattle.rd_walk.specs.Analysis.{TellsFault, TellsFaults};
+ghost use Rattle.rd_walk.specs.Output.{IsOutput};
 ghost use Rattle.rd_walk.specs.Meanings.{Runs};
-ghost use Rattle.rd_spec_commands.specs.Specifications.{TellsUnread, accepted_outcome, refused_outcome, spec_status};
+ghost use Rattle.rd_spec_commands.specs.Specifications.{TellsUnread, accepted_outcome, refused_outcome, spec_command_status, spec_status};
 
 use rd_base::{MOST_SPEC_BYTES, Word};
 use rd_ecl::Spec;
@@ -17,7 +18,7 @@ use rd_io::{FrontRefused, Inputs, Sink, read_front};
 use rd_kinds::reserved;
 use rd_print::print;
 use rd_reading::{ParseRefused, SpecCause, SpecRefused, parse, spec_refused_line};
-use rd_walk::{Status, status_of, write_fault, write_line, write_lines};
+use rd_walk::{Halt, Status, status_of, write_fault, write_line, write_lines};
 use std::alloc::Global;
 
 /// How many bytes of a file are read at most: one more than a text may have.
@@ -32,6 +33,32 @@ pub enum Unread {
     Refused(SpecRefused),
     /// memory ran out
     NoMemory,
+}
+
+/// How a command on a specification ended of which all was written.
+#[derive(Clone, Copy, Debug, PartialEq, Eq)]
+pub enum SpecStatus {
+    /// a specification was written
+    Clean,
+    /// the specification was refused, for a cause other than a limit
+    Refused,
+    /// a limit was reached
+    LimitReached,
+    /// opening or reading the file failed
+    InputFault,
+}
+
+/// The status of a run that is a command on a specification.
+pub fn spec_command_status(ended: Result<SpecStatus, Halt>) -> Status
+    ensures { result ≡ spec_command_status ended }
+{
+    match ended {
+        Ok(SpecStatus::Clean) => Status::Clean,
+        Ok(SpecStatus::Refused) => Status::SpecRefused,
+        Ok(SpecStatus::LimitReached) => Status::LimitReached,
+        Ok(SpecStatus::InputFault) => Status::InputFault,
+        Err(halt) => status_of(halt),
+    }
 }
 
 /// Reads and judges the specification in a file, where the names of the shipped kinds and of those to come are taken.
@@ -73,86 +100,88 @@ pub fn read_spec<I: Inputs>(alloc: Global, file: &Word, inputs: &mut I) -> Resul
 }
 
 /// Writes the canonical text of an accepted specification.
-fn accept<S: Sink>(alloc: Global, said: &Spec, out: &mut S) -> Status
+fn accept<S: Sink>(alloc: Global, said: &Spec, out: &mut S) -> Result<SpecStatus, Halt>
     ensures output { (part : List ℕ) × Appends (S.written out.old) (S.written out.new) part
-        × IsOutput result part (accepted_outcome said.now) }
-    ensures fault { StatusTellsFault (S.faults out.old) (S.faults out.new) (S.at_fault out.new)
+        × IsOutput (spec_command_status result) part (accepted_outcome said.now) }
+    ensures clean { IfOk result (λ status. status ≡ SpecStatus.Clean) }
+    ensures fault { TellsFault (S.faults out.old) (S.faults out.new) (S.at_fault out.new)
         (S.written out.new) result }
-    ensures no_input { result ≢ Status.InputFault }
-    ensures no_usage { result ≢ Status.Usage }
 {
-    let Ok(text) = print(alloc, said) else {
-        return Status::NoMemory;
-    };
-    match write_lines(out, text.items()) {
-        Ok(()) => Status::Clean,
-        Err(halt) => status_of(halt),
-    }
+    let text = print(alloc, said)?;
+    write_lines(out, text.items())?;
+    Ok(SpecStatus::Clean)
 }
 
-fn spec_status(cause: &SpecCause) -> Status
-    ensures { result ≡ spec_status cause.now }
+/// How a command on a specification ended that told this cause against it.
+fn refusal_status(cause: &SpecCause) -> SpecStatus
+    ensures status { spec_command_status (Ok result) ≡ spec_status cause.now }
+    ensures read { result ≢ SpecStatus.InputFault }
 {
     match cause {
-        SpecCause::Limit(_, _) => Status::LimitReached,
-        _ => Status::SpecRefused,
+        SpecCause::Limit(_, _) => SpecStatus::LimitReached,
+        _ => SpecStatus::Refused,
     }
 }
 
 /// Writes where and why a specification is refused.
-fn refuse<S: Sink>(alloc: Global, refused: &SpecRefused, out: &mut S) -> Status
+fn refuse<S: Sink>(alloc: Global, refused: &SpecRefused, out: &mut S) -> Result<SpecStatus, Halt>
     ensures output { (part : List ℕ) × Appends (S.written out.old) (S.written out.new) part
-        × IsOutput result part (refused_outcome refused.now) }
-    ensures fault { StatusTellsFault (S.faults out.old) (S.faults out.new) (S.at_fault out.new)
+        × IsOutput (spec_command_status result) part (refused_outcome refused.now) }
+    ensures read { IfOk result (λ status. status ≢ SpecStatus.InputFault) }
+    ensures fault { TellsFault (S.faults out.old) (S.faults out.new) (S.at_fault out.new)
         (S.written out.new) result }
-    ensures no_input { result ≢ Status.InputFault }
-    ensures no_usage { result ≢ Status.Usage }
 {
-    let Ok(line) = spec_refused_line(alloc, refused) else {
-        return Status::NoMemory;
-    };
-    match write_line(out, line.items()) {
-        Ok(()) => spec_status(&refused.cause),
-        Err(halt) => status_of(halt),
-    }
+    let line = spec_refused_line(alloc, refused)?;
+    write_line(out, line.items())?;
+    Ok(refusal_status(&refused.cause))
 }
 
 /// Says why a specification isn't there.
-pub fn refuse_unread<S: Sink>(alloc: Global, unread: &Unread, out: &mut S) -> Status
+pub fn refuse_unread<S: Sink>(
+    alloc: Global,
+    unread: &Unread,
+    out: &mut S,
+) -> Result<SpecStatus, Halt>
     ensures output { (part : List ℕ) × Appends (S.written out.old) (S.written out.new) part
-        × TellsUnread unread.now result part }
-    ensures fault { StatusTellsFault (S.faults out.old) (S.faults out.new) (S.at_fault out.new)
+        × TellsUnread unread.now (spec_command_status result) part }
+
+    // each fault is told as one, and memory runs out only where the file was read
+    ensures input { IfOk result
+        (λ status. (status ≡ SpecStatus.InputFault) ↔ (unread.now ≡ Unread.Fault)) }
+    ensures memory { result ≡ Err Halt.NoMemory → unread.now ≢ Unread.Fault }
+    ensures fault { TellsFault (S.faults out.old) (S.faults out.new) (S.at_fault out.new)
         (S.written out.new) result }
-    ensures input { result ≡ Status.InputFault → unread.now ≡ Unread.Fault }
-    ensures calm { result ≢ Status.InputFault → result ≢ Status.OutputFault →
-        unread.now ≢ Unread.Fault }
-    ensures no_usage { result ≢ Status.Usage }
 {
     match unread {
-        Unread::Fault => write_fault(out),
+        Unread::Fault => {
+            write_fault(out)?;
+            Ok(SpecStatus::InputFault)
+        }
         Unread::Refused(refused) => refuse(alloc, refused, out),
-        Unread::NoMemory => Status::NoMemory,
+        Unread::NoMemory => Err(Halt::NoMemory),
     }
 }
 
 /// `spec SPEC`
-pub fn spec<I: Inputs, S: Sink>(alloc: Global, file: &Word, inputs: &mut I, out: &mut S) -> Status
+pub fn spec<I: Inputs, S: Sink>(
+    alloc: Global,
+    file: &Word,
+    inputs: &mut I,
+    out: &mut S,
+) -> Result<SpecStatus, Halt>
     // what is written and the status are the defined ones, whatever the limits on traces, and no step is counted
     ensures runs { (limits : Limits) (steps : ℕ) (old : Source) → I.told inputs.old ≡ Some old →
         I.faults inputs.old < 2 ^ 63 → old.opens < 2 ^ 63 →
         (new : Source) × (part : List ℕ) × (I.told inputs.new ≡ Some new)
         × Appends (S.written out.old) (S.written out.new) part
         × Runs (spec_meaning file.now) limits
-        (nat_lt (I.faults inputs.old) (I.faults inputs.new)) old new part result steps steps }
+        (nat_lt (I.faults inputs.old) (I.faults inputs.new)) old new part
+        (spec_command_status result) steps steps }
 
-    // each fault is told as one
-    ensures input_fault { result ≡ Status.InputFault →
-        Rose (I.faults inputs.old) (I.faults inputs.new) }
-    ensures calm { result ≢ Status.InputFault → result ≢ Status.OutputFault →
-        I.faults inputs.new ≡ I.faults inputs.old }
-    ensures fault { StatusTellsFault (S.faults out.old) (S.faults out.new) (S.at_fault out.new)
-        (S.written out.new) result }
-    ensures no_usage { result ≢ Status.Usage }
+    // each fault is told as one, and where memory runs out the file was read
+    ensures faults { TellsFaults SpecStatus.InputFault (I.faults inputs.old) (I.faults inputs.new)
+        (S.faults out.old) (S.faults out.new) (S.at_fault out.new) (S.written out.new) result }
+    ensures memory { result ≡ Err Halt.NoMemory → I.faults inputs.new ≡ I.faults inputs.old }
 {
     match read_spec(alloc, file, inputs) {
         Ok(said) => accept(alloc, &said, out),

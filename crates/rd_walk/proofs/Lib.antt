@@ -1,8 +1,10 @@
 pub mod AcceptedLemmas
+pub mod AlternativeLemmas
 pub mod ContinueLemmas
 pub mod FileLemmas
 pub mod OutputLemmas
 pub mod ProgressLemmas
+pub mod StatusLemmas
 pub mod TraceLemmas
 pub mod WalkLemmas
 pub mod WholeLemmas

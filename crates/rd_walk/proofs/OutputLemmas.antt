@@ -1,10 +1,11 @@
 -- What is written, and the status.
-use Rattle.rd_walk.specs.Analysis.{TellsFault}
-use Rattle.rd_walk.specs.Output.{halted_with, HasOutcome, IsOutput, IsWell, Outcome, StatusTellsFault}
+use Rattle.rd_walk.specs.Output.{halted_with, HasOutcome, IsOutput, IsWell, Outcome, report_status}
 use Rattle.rd_walk.specs.declared.analysis.Halt.TheVariants as halt
 use Rattle.rd_walk.specs.declared.analysis.Halt.{Halt}
 use Rattle.rd_walk.specs.declared.status.Status.TheVariants.{Clean, Raced, Usage, SpecRefused, TraceRefused, ReplayDiffers, InputFault, OutputFault, NoMemory, LimitReached}
 use Rattle.rd_walk.specs.declared.status.Status.{Status}
+use Rattle.rd_walk.specs.declared.status.TraceStatus.{TraceStatus}
+use Rattle.std.specs.Result.{IsErr, IsErrAnd}
 use Rattle.std.proofs.Common.{◌≡◌, ◌≢◌, ℕ, List, [], ◌++◌, Option, Result, Ok, Err, OnOk, OnErr, refl, sym, ap, subst, ◌∙◌, inl, inr}
 use Rattle.std.proofs.lemmas.List.{append_assoc, append-nil}
 
@@ -69,14 +70,6 @@ behind OutputFault front part text given is = (is.0, ap (λ t. front ++ t) is.1 
 behind NoMemory front part text given is = (is.0, ap (λ t. front ++ t) is.1 ∙ sym (append_assoc front part is.0))
 behind LimitReached front part text given is = (ap (λ t. front ++ t) is.0, is.1)
 
-pub halted_no_usage : (halt : Halt) → halted_with halt ≢ Usage
-halted_no_usage halt.OutputFault = λ e. cc
-halted_no_usage halt.NoMemory = λ e. cc
-
-pub halted_no_input : (halt : Halt) → halted_with halt ≢ InputFault
-halted_no_input halt.OutputFault = λ e. cc
-halted_no_input halt.NoMemory = λ e. cc
-
 -- no fault is such a status, nor is want of memory
 pub well_written : (status : Status) (part : List ℕ) (outcome : Outcome) → IsWell status → IsOutput status part outcome → IsWell outcome.status
 well_written status part outcome (inl is) output = inl (sym (subst (λ s. IsOutput s part outcome) is output).1)
@@ -96,21 +89,6 @@ fault_no_well (inl e) = cc
 fault_no_well (inr (inl e)) = cc
 fault_no_well (inr (inr e)) = cc
 
--- and where it was cut short, it is told as the halt tells it
-pub halted_tells : (before now : ℕ) (point written : Option (List ℕ)) (T : Type 0) (halt : Halt) → TellsFault {T = T} before now point written (Err halt)
-    → StatusTellsFault before now point written (halted_with halt)
-halted_tells before now point written T halt.OutputFault tells = tells
-halted_tells before now point written T halt.NoMemory tells = tells
-
--- a call behind others that told no fault
-pub tells_behind : {T : Type 0} (before middle now : ℕ) (point written : Option (List ℕ)) (result : Result T Halt) → middle ≡ before
-    → TellsFault middle now point written result → TellsFault before now point written result
-tells_behind before middle now point written result same tells = subst (λ n. TellsFault n now point written result) same tells
-
-pub status_behind : (before middle now : ℕ) (point written : Option (List ℕ)) (status : Status) → middle ≡ before
-    → StatusTellsFault middle now point written status → StatusTellsFault before now point written status
-status_behind before middle now point written status same tells = subst (λ n. StatusTellsFault n now point written status) same tells
-
 -- what holds whatever a function answers
 pub always_ok : {T E : Type 0} (P : Type 0) (r : Result T E) → P → OnOk r P
 always_ok P (Ok x) p = p
@@ -119,3 +97,17 @@ always_ok P (Err e) p = tt
 pub always_err : {T E : Type 0} (P : Type 0) (r : Result T E) → P → OnErr r P
 always_err P (Ok x) p = tt
 always_err P (Err e) p = p
+
+-- what `?` hands on
+pub failed_with : {T E : Type 0} (r : Result T E) (P : E → Type 0) → IsErr r × IsErrAnd r P → (e : E) × (r ≡ Err e) × P e
+failed_with (Ok x) P is = absurd is.1
+failed_with (Err e) P is = (e, refl, is.1)
+
+-- a report for which memory ran out, or which was cut short in this text
+pub report_without : (report : Result TraceStatus Halt) → IsErr report × IsErrAnd report (λ e. e ≡ halt.NoMemory) → report_status report ≡ NoMemory
+report_without report is = let (e, same, ran_out) = failed_with report (λ e. e ≡ halt.NoMemory) is in ap report_status (same ∙ ap Err ran_out)
+
+pub report_cut : (report : Result TraceStatus Halt) (P : Halt → Type 0) → IsErr report × IsErrAnd report P → (part rest : List ℕ) (outcome : Outcome) → outcome.text ≡ part ++ rest
+    → IsOutput (report_status report) part outcome
+report_cut report P is part rest outcome whole =
+    let (e, same, gives) = failed_with report P is in subst (λ r. IsOutput (report_status r) part outcome) (sym same) (front_only e part rest outcome whole)

@@ -1,5 +1,5 @@
 -- What a report leaves of a trace whose objects are of some kinds.
-use Rattle.std.proofs.Common.{◌≡◌, ◌≢◌, ℕ, ◌+◌, ◌^◌, ◌<◌, ◌≤◌, Bool, true, false, ltb, List, [], ◌++◌, length, Some, refl, sym, ap, ◌∙◌, subst, arith, inl, inr}
+use Rattle.std.proofs.Common.{◌≡◌, ◌≢◌, ℕ, ◌+◌, ◌^◌, ◌<◌, ◌≤◌, Bool, true, false, ltb, List, [], ◌++◌, length, Some, Result, refl, sym, ap, ◌∙◌, subst, arith, inl, inr}
 use Rattle.std.specs.Prelude.{option_map}
 use Rattle.std.proofs.lemmas.Bool.Decides.{nat_tests}
 use Rattle.std.proofs.lemmas.List.{append_assoc, append-nil}
@@ -13,19 +13,22 @@ use Rattle.rd_walk.specs.declared.walk.WalkEnd.{WalkEnd}
 use Rattle.rd_walk.specs.declared.walk.WalkEnd.TheVariants.{End, Refused, Fault}
 use Rattle.rd_wf.specs.Events.{AreAccepted}
 use Rattle.rd_walk.specs.Traces.{HasReported, IsReadWhole, IsTraceOutcome, ReportsTrace, walk_of, walk_on}
-use Rattle.rd_walk.specs.Output.{IsFront, IsOutput, IsWell, Outcome, fault_outcome}
+use Rattle.rd_walk.specs.Output.{IsFront, IsOutput, IsWell, Outcome, fault_outcome, report_status}
+use Rattle.rd_walk.specs.declared.analysis.Halt.{Halt}
+use Rattle.rd_walk.specs.declared.status.TraceStatus.{TraceStatus}
+use Rattle.std.specs.Result.{IsErr, IsErrAnd}
 use Rattle.rd_walk.specs.Progress.{IsRead}
 use Rattle.rd_walk.specs.Walk.{Entry, Walked, after, ending_of, ends, entries_of, items, step_bound, trace_of}
 use Rattle.rd_walk.specs.declared.status.Status.{Status}
 use Rattle.rd_walk.specs.declared.status.Status.TheVariants.{NoMemory}
 use Rattle.rd_walk.proofs.AcceptedLemmas.{trace_accepted}
-use Rattle.rd_walk.proofs.OutputLemmas.{fault_no_well, front_only, halted_no_well, has_outcome, well_written}
+use Rattle.rd_walk.proofs.OutputLemmas.{fault_no_well, front_only, halted_no_well, has_outcome, report_without, well_written}
 use Rattle.rd_walk.proofs.ProgressLemmas.{read_more}
 use Rattle.rd_walk.proofs.FileLemmas.{bound_at, count_at, ending_at, file_is, opens_none, opens_once, opens_only, rest_is, taken_is}
 
 module _ (report : Walked → Outcome) (kinds : List Kind) (name : List ℕ) (limits : Limits) where
   -- nothing was opened, and nothing written
-  pub reports_before : (faults : ℕ) (old : Source) (steps : ℕ) → ReportsTrace report kinds name limits (ltb faults faults) old old [] NoMemory steps steps
+  reports_before : (faults : ℕ) (old : Source) (steps : ℕ) → ReportsTrace report kinds name limits (ltb faults faults) old old [] NoMemory steps steps
   reports_before faults old steps =
       record {
         output = inl refl;
@@ -34,6 +37,12 @@ module _ (report : Walked → Outcome) (kinds : List Kind) (name : List ℕ) (li
         unopened = λ same. (refl, refl, refl);
         read = λ well. absurd (halted_no_well halt.NoMemory well);
       }
+
+  -- memory ran out before that
+  pub reports_without : (ended : Result TraceStatus Halt) → IsErr ended × IsErrAnd ended (λ e. e ≡ halt.NoMemory) → (faults : ℕ) (old : Source) (steps : ℕ)
+      → ReportsTrace report kinds name limits (ltb faults faults) old old [] (report_status ended) steps steps
+  reports_without ended is faults old steps =
+      subst (λ status. ReportsTrace report kinds name limits (ltb faults faults) old old [] status steps steps) (sym (report_without ended is)) (reports_before faults old steps)
 
   -- the trace could not be opened
   pub reports_unopened : (before now : ℕ) (old new : Source) (part : List ℕ) (status : Status) (steps : ℕ) → before < 2 ^ 63 → Rose before now

@@ -1,9 +1,9 @@
 -- What a command does with each accepted line, and what stands when it is cut short.
-use Rattle.std.specs.Prelude.{◌≡◌, ◌≤◌, ℕ, List, [], ◌∷◌, ◌++◌, length, Option, Result, Ok, Err}
+use Rattle.std.specs.Prelude.{◌≡◌, ◌≢◌, ◌≤◌, ℕ, IfOk, List, [], ◌∷◌, ◌++◌, length, Option, Result, Ok, Err}
 use Rattle.rd_base.specs.Limits.{AreUsable}
 use Rattle.rd_base.specs.declared.limits.Limits.{Limits}
 use Rattle.rd_event.specs.declared.items.Line.{Line}
-use Rattle.rd_io.specs.Inputs.{next_count}
+use Rattle.rd_io.specs.Inputs.{next_count, Rose}
 use Rattle.rd_io.specs.Sinks.{Appends}
 use Rattle.rd_ecl.specs.Kinds.{Kind}
 use Rattle.rd_wf.specs.MayFollow.{MayFollow, accepted_of, threads_of}
@@ -37,3 +37,10 @@ abbrev pub TellsFault : {T : Type 0} → ℕ → ℕ → Option (List ℕ) → O
 TellsFault before now point written (Ok _) = now ≡ before
 TellsFault before now point written (Err halt.OutputFault) = (now ≡ next_count before) × (point ≡ written)
 TellsFault before now point written (Err halt.NoMemory) = now ≡ before
+
+-- Each fault is told as one: the inputs' count of faults rose where the answer is this one, and stays for any other that tells no failure;
+-- and a failed write is told as one.
+pub record TellsFaults {T : Type 0} (input_fault : T) (inputs_before inputs_now before now : ℕ) (point written : Option (List ℕ)) (result : Result T Halt) : Type 0 where
+  pub input : result ≡ Ok input_fault → Rose inputs_before inputs_now
+  pub calm : IfOk result (λ answer. answer ≢ input_fault → inputs_now ≡ inputs_before)
+  pub output : TellsFault before now point written result

@@ -4,3 +4,4 @@ pub mod Output
 pub mod Progress
 pub mod Traces
 pub mod Walk
+pub mod laws

@@ -4,7 +4,9 @@ use Rattle.rd_walk.specs.declared.analysis.Halt.TheVariants as halt
 use Rattle.rd_walk.specs.declared.analysis.Halt.{Halt}
 use Rattle.rd_walk.specs.declared.status.Status.TheVariants.{Clean, Raced, Usage, SpecRefused, TraceRefused, ReplayDiffers, InputFault, OutputFault, NoMemory, LimitReached}
 use Rattle.rd_walk.specs.declared.status.Status.{Status}
-use Rattle.std.specs.Prelude.{◌≡◌, ◌⊎◌, ℕ, List, ◌++◌, Option, ◌+◌, []}
+use Rattle.rd_walk.specs.declared.status.TraceStatus.TheVariants as trace
+use Rattle.rd_walk.specs.declared.status.TraceStatus.{TraceStatus}
+use Rattle.std.specs.Prelude.{◌≡◌, ◌⊎◌, ℕ, List, ◌++◌, Option, ◌+◌, [], Result, Ok, Err}
 
 -- the number of a status
 abbrev pub code_of : Status → ℕ
@@ -54,6 +56,16 @@ StatusTellsFault before now point written status = now ≡ before
 abbrev pub halted_with : Halt → Status
 halted_with halt.OutputFault = OutputFault
 halted_with halt.NoMemory = NoMemory
+
+-- the status of a run that is a report on a trace
+abbrev pub report_status : Result TraceStatus Halt → Status
+report_status (Ok trace.Clean) = Clean
+report_status (Ok trace.Raced) = Raced
+report_status (Ok trace.ReplayDiffers) = ReplayDiffers
+report_status (Ok trace.Refused) = TraceRefused
+report_status (Ok trace.LimitReached) = LimitReached
+report_status (Ok trace.InputFault) = InputFault
+report_status (Err halt) = halted_with halt
 
 -- where the file could not be opened, or not be read
 abbrev pub fault_outcome : Outcome

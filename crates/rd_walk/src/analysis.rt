@@ -4,7 +4,7 @@ ghost use Rattle.rd_walk.specs.Analysis.{IsNextEntry, TellsFault, WritesBetween,
 ghost use Rattle.rd_walk.specs.Walk.{Entry, items, line_bound};
 ghost use Rattle.rd_ecl.specs.Kinds.{Kind};
 
-use rd_base::Steps;
+use rd_base::{NoMemory, Steps};
 use rd_event::Line;
 use rd_io::Sink;
 use rd_wf::{Accepted, Roster};
@@ -17,6 +17,17 @@ pub enum Halt {
     OutputFault,
     /// memory ran out
     NoMemory,
+}
+
+impl From<NoMemory> for Halt {
+    ghost use Rattle.std.specs.Prelude.{◌≡◌};
+    ghost use Rattle.rd_walk.specs.declared.analysis.Halt.TheVariants.{NoMemory as MemoryRanOut};
+
+    ghost from_gives = { λ _ halt. halt ≡ MemoryRanOut };
+
+    fn from(_error: NoMemory) -> Halt {
+        Halt::NoMemory
+    }
 }
 
 /// What a command does with each accepted line of a trace, one after another. The kinds are those of the trace's objects.

@@ -1,22 +1,20 @@
 //! What is told where a file can't be opened or read.
-ghost use Rattle.std.specs.Prelude.{◌≡◌, ◌⊎◌, ℕ, ◌<◌, List, Err};
+ghost use Rattle.std.specs.Prelude.{◌≡◌, [], OnOk, OnErr, IfErr};
+ghost use Rattle.rd_io.specs.Inputs.{fault_line};
 ghost use Rattle.rd_io.specs.Sinks.{Appends};
-ghost use Rattle.rd_walk.specs.Output.{IsOutput, StatusTellsFault, fault_outcome};
+ghost use Rattle.rd_walk.specs.Analysis.{TellsFault, WritesFront};
 
-use crate::status::Status;
-use crate::writing::{status_of, write_line};
+use crate::analysis::Halt;
+use crate::writing::write_line;
 use rd_io::Sink;
 
 /// Says that the file could not be opened or read.
-pub fn write_fault<S: Sink>(out: &mut S) -> Status
-    ensures output { (part : List ℕ) × Appends (S.written out.old) (S.written out.new) part
-        × IsOutput result part fault_outcome }
-    ensures status { (result ≡ Status.InputFault) ⊎ (result ≡ Status.OutputFault) }
-    ensures fault { StatusTellsFault (S.faults out.old) (S.faults out.new) (S.at_fault out.new)
+pub fn write_fault<S: Sink>(out: &mut S) -> Result<(), Halt>
+    ensures ok { OnOk result (Appends (S.written out.old) (S.written out.new) fault_line) }
+    ensures front { OnErr result (WritesFront (S.written out.old) (S.written out.new) [] fault_line) }
+    ensures fault { TellsFault (S.faults out.old) (S.faults out.new) (S.at_fault out.new)
         (S.written out.new) result }
+    ensures only { IfErr result (λ halt. halt ≡ Halt.OutputFault) }
 {
-    match write_line(out, b"fault input\n") {
-        Ok(()) => Status::InputFault,
-        Err(halt) => status_of(halt),
-    }
+    write_line(out, b"fault input\n")
 }

@@ -1,6 +1,7 @@
 //! The walk over the lines of a trace for any command: judging a line, what a command does with it, writing, reporting, the status of a run.
 #![tactic(auto)]
 
+mod alternatives;
 mod analysis;
 mod faults;
 mod judging;
@@ -15,6 +16,6 @@ pub use faults::write_fault;
 pub use judging::{Refusal, judge};
 pub use laws::law_of_walks;
 pub use reporting::{Report, report_trace};
-pub use status::Status;
+pub use status::{Status, TraceStatus, report_status};
 pub use walk::{WalkEnd, Walker, walk_lines};
 pub use writing::{status_of, write_line, write_lines};

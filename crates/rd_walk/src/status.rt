@@ -1,4 +1,9 @@
 //! How a run ended.
+ghost use Rattle.std.specs.Prelude.{◌≡◌};
+ghost use Rattle.rd_walk.specs.Output.{report_status};
+
+use crate::analysis::Halt;
+use crate::writing::status_of;
 
 /// How a run ended. The numbers are those that the program ends with.
 #[derive(Clone, Copy, Debug, PartialEq, Eq)]
@@ -34,5 +39,37 @@ impl Status {
         ensures { result ≡ code_of self.now }
     {
         *self as u8
+    }
+}
+
+/// How a report on a trace ended of which all was written.
+#[derive(Clone, Copy, Debug, PartialEq, Eq)]
+pub enum TraceStatus {
+    /// the trace was read to its end, and no call is reported, or under `replay` none differs
+    Clean,
+    /// the trace was read to its end, and some call is reported
+    Raced,
+    /// the trace was read to its end, no call is reported, and the recorded results are not those of the objects
+    ReplayDiffers,
+    /// the trace was refused at a line, for a cause other than a limit
+    Refused,
+    /// a limit was reached
+    LimitReached,
+    /// opening or reading the trace failed
+    InputFault,
+}
+
+/// The status of a run that is a report on a trace.
+pub fn report_status(report: Result<TraceStatus, Halt>) -> Status
+    ensures { result ≡ report_status report }
+{
+    match report {
+        Ok(TraceStatus::Clean) => Status::Clean,
+        Ok(TraceStatus::Raced) => Status::Raced,
+        Ok(TraceStatus::ReplayDiffers) => Status::ReplayDiffers,
+        Ok(TraceStatus::Refused) => Status::TraceRefused,
+        Ok(TraceStatus::LimitReached) => Status::LimitReached,
+        Ok(TraceStatus::InputFault) => Status::InputFault,
+        Err(halt) => status_of(halt),
     }
 }

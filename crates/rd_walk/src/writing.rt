@@ -46,9 +46,7 @@ pub fn write_lines<S: Sink>(out: &mut S, text: &[u8]) -> Result<(), Halt>
     let mut rest = text;
     while !rest.is_empty() {
         let (line, behind) = cut_line(rest);
-        if let Err(halt) = write_line(out, line) {
-            return Err(halt);
-        }
+        write_line(out, line)?;
         rest = behind;
     }
     Ok(())

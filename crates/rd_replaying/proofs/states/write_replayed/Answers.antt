@@ -10,15 +10,16 @@ use Rattle.rd_replay.specs.Replayer.{StandsFor}
 use Rattle.rd_walk.specs.Analysis.{WritesFront}
 use Rattle.rd_replaying.specs.States.{replayed_text, states_before}
 use Rattle.rd_wf.specs.Roster.{names_in, object_names_in}
+use Rattle.rd_walk.proofs.OutputLemmas.{always_err}
 use Rattle.rd_replaying.proofs.StateLemmas.{replayed_exact, replayed_front}
 use Rattle.rd_replaying.proofs.states.write_replayed.Goals as goal
 
-pub returns-in-Err-clause-front : goal.returns-in-Err-clause-front
-returns-in-Err-clause-front g c = λ kinds calls stands same.
+pub returns-in_err-write_end-clause-front : goal.returns-in_err-write_end-clause-front
+returns-in_err-write_end-clause-front g c = always_err _ c.from_residual.result (λ kinds calls stands same.
     let objects = object_names_in c.args.names.now in
-    let (part, rest, is, writes) = c.in-Err.ensures.front in
+    let (part, rest, is, writes) = c.in_err-write_end.ensures.front in
     let (more, whole) = replayed_front (names_in c.args.names.now) (states_before objects kinds calls (length objects)) c.args.ending.now in
-    (part, rest ++ more, whole ∙ ap (λ t. t ++ more) is ∙ append_assoc part rest more, writes)
+    (part, rest ++ more, whole ∙ ap (λ t. t ++ more) is ∙ append_assoc part rest more, writes))
 
 pub returns-then-is_exact-clause-front : goal.returns-then-is_exact-clause-front
 returns-then-is_exact-clause-front g c =
@@ -38,6 +39,6 @@ returns-then-is_exact-clause-front g c =
       line ++ part,
       rest,
       replayed_exact names states ∙ ap (λ t. line ++ t) is ∙ sym (append_assoc line part rest),
-      appends_on _ _ _ line part (subst (λ e. Appends old middle (replayed_text names [] e)) ended c.in_default.ensures.ok) writes,
+      appends_on _ _ _ line part (subst (λ e. Appends old middle (replayed_text names [] e)) ended c.in_ok-write_end.ensures.ok) writes,
     ))
     c.write_states.ensures.front

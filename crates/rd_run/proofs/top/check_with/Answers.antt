@@ -6,6 +6,11 @@ use Rattle.rd_ecl.specs.Kinds.{kind_names, kinds_of}
 use Rattle.rd_kinds.specs.Shipped.{shipped_kinds}
 use Rattle.rd_check.specs.Checked.{check_outcome}
 use Rattle.rd_spec_commands.specs.Meanings.{ReadsSpec}
+use Rattle.rd_io.specs.Inputs.{Rose}
+use Rattle.rd_spec_commands.specs.Specifications.{TellsUnread}
+use Rattle.rd_spec_commands.proofs.StatusLemmas.{spec_no_usage, spec_wrote, unread_calm, unread_failed}
+use Rattle.rd_walk.specs.Output.{StatusTellsFault, report_status}
+use Rattle.rd_walk.proofs.StatusLemmas.{report_calm, report_no_usage, report_rose, report_wrote}
 use Rattle.rd_walk.specs.Traces.{ReportsTrace}
 use Rattle.rd_walk.specs.declared.status.Status.TheVariants.{NoMemory}
 use Rattle.rd_check.proofs.CombinedLemmas.{runs_said, unread_told, unread_without}
@@ -21,7 +26,8 @@ returns-in-Err-clause-runs g c = λ old told few few_opens.
       now,
       writes,
       unread_told c.args.trace.now c.args.file.now c.args.limits.now (g.I.Inputs.faults c.args.inputs.now) (g.I.Inputs.faults c.read_spec.new.inputs) old new part
-          c.refuse_unread.result c.args.steps.now few (leaves few_opens) c.in-Err.unread tells
+          c.spec_command_status.result c.args.steps.now few (leaves few_opens) c.in-Err.unread
+          (subst (λ status. TellsUnread c.in-Err.unread status part) (sym c.spec_command_status.ensures) tells)
           (λ e. c.read_spec.ensures.fault (c.in-Err.is ∙ ap Err e))
           (λ other. c.read_spec.ensures.calm (λ e. other (let is = c.in-Err.is in cc)))
           (λ refused e.
@@ -54,11 +60,12 @@ returns-in-Ok-with_shipped-clause-runs g c = λ old told few few_opens.
       part,
       now,
       writes,
-      runs_said c.args.trace.now c.args.file.now c.args.limits.now (nat_lt before after) old mid new part c.check.result c.args.steps.now c.check.new.steps
+      runs_said c.args.trace.now c.args.file.now c.args.limits.now (nat_lt before after) old mid new part c.report_status.result c.args.steps.now c.check.new.steps
           left bytes c.in-Ok.said was says
-          (subst (λ faults. ReportsTrace (check_outcome (shipped_kinds ++ c.in-Ok.said)) (kinds_of (shipped_kinds ++ c.in-Ok.said)) c.args.trace.now c.args.limits.now (nat_lt faults after) mid new part c.check.result c.args.steps.now c.check.new.steps) calm
-          (subst (λ kinds. ReportsTrace (check_outcome kinds) (kinds_of kinds) c.args.trace.now c.args.limits.now (nat_lt (g.I.Inputs.faults c.read_spec.new.inputs) after) mid new part c.check.result c.args.steps.now c.check.new.steps)
-          c.in-Ok-with_shipped.ensures reports)),
+          (subst (λ status. ReportsTrace (check_outcome (shipped_kinds ++ c.in-Ok.said)) (kinds_of (shipped_kinds ++ c.in-Ok.said)) c.args.trace.now c.args.limits.now (nat_lt before after) mid new part status c.args.steps.now c.check.new.steps) (sym c.report_status.ensures)
+          (subst (λ faults. ReportsTrace (check_outcome (shipped_kinds ++ c.in-Ok.said)) (kinds_of (shipped_kinds ++ c.in-Ok.said)) c.args.trace.now c.args.limits.now (nat_lt faults after) mid new part (report_status c.check.result) c.args.steps.now c.check.new.steps) calm
+          (subst (λ kinds. ReportsTrace (check_outcome kinds) (kinds_of kinds) c.args.trace.now c.args.limits.now (nat_lt (g.I.Inputs.faults c.read_spec.new.inputs) after) mid new part (report_status c.check.result) c.args.steps.now c.check.new.steps)
+          c.in-Ok-with_shipped.ensures reports))),
     )
 
 pub returns-in-Err-with_shipped-clause-runs : goal.returns-in-Err-with_shipped-clause-runs
@@ -72,3 +79,35 @@ returns-in-Err-with_shipped-clause-runs g c = λ old told few few_opens.
       unread_without c.args.trace.now c.args.file.now c.args.limits.now (g.I.Inputs.faults c.args.inputs.now) (g.I.Inputs.faults c.read_spec.new.inputs) old new [] NoMemory
           c.args.steps.now few (leaves few_opens) refl refl,
     )
+
+-- ---- each status has its cause
+
+pub returns-in-Err-clause-input_fault : goal.returns-in-Err-clause-input_fault
+returns-in-Err-clause-input_fault g c = λ e. c.read_spec.ensures.fault (c.in-Err.is ∙ ap Err (unread_failed c.refuse_unread.result c.in-Err.unread c.refuse_unread.ensures.input (sym c.spec_command_status.ensures ∙ e)))
+
+pub returns-in-Err-clause-calm : goal.returns-in-Err-clause-calm
+returns-in-Err-clause-calm g c = λ input output memory.
+    c.read_spec.ensures.calm (λ e. unread_calm c.refuse_unread.result c.in-Err.unread c.refuse_unread.ensures.input (λ e. input (c.spec_command_status.ensures ∙ e)) (λ e. output (c.spec_command_status.ensures ∙ e))
+    (λ e. memory (c.spec_command_status.ensures ∙ e)) (let is = c.in-Err.is in cc))
+
+pub returns-in-Err-clause-fault : goal.returns-in-Err-clause-fault
+returns-in-Err-clause-fault g c = subst (StatusTellsFault _ _ _ _) (sym c.spec_command_status.ensures) (spec_wrote _ _ _ _ c.refuse_unread.result c.refuse_unread.ensures.fault)
+
+pub returns-in-Err-clause-no_usage : goal.returns-in-Err-clause-no_usage
+returns-in-Err-clause-no_usage g c = λ e. spec_no_usage c.refuse_unread.result (sym c.spec_command_status.ensures ∙ e)
+
+pub returns-in-Ok-with_shipped-clause-input_fault : goal.returns-in-Ok-with_shipped-clause-input_fault
+returns-in-Ok-with_shipped-clause-input_fault g c = λ e.
+    let calm = c.in-Ok.ensures.calm (λ e. let is = c.in-Ok.is in cc) in
+    subst (λ faults. Rose faults (g.I.Inputs.faults c.check.new.inputs)) calm (report_rose c.check.result c.check.ensures.faults (sym c.report_status.ensures ∙ e))
+
+pub returns-in-Ok-with_shipped-clause-calm : goal.returns-in-Ok-with_shipped-clause-calm
+returns-in-Ok-with_shipped-clause-calm g c = λ input output memory.
+    report_calm c.check.result c.check.ensures.faults (λ e. input (c.report_status.ensures ∙ e)) (λ e. output (c.report_status.ensures ∙ e)) (λ e. memory (c.report_status.ensures ∙ e))
+    ∙ c.in-Ok.ensures.calm (λ e. let is = c.in-Ok.is in cc)
+
+pub returns-in-Ok-with_shipped-clause-fault : goal.returns-in-Ok-with_shipped-clause-fault
+returns-in-Ok-with_shipped-clause-fault g c = subst (StatusTellsFault _ _ _ _) (sym c.report_status.ensures) (report_wrote _ _ _ _ c.check.result c.check.ensures.faults.output)
+
+pub returns-in-Ok-with_shipped-clause-no_usage : goal.returns-in-Ok-with_shipped-clause-no_usage
+returns-in-Ok-with_shipped-clause-no_usage g c = λ e. report_no_usage c.check.result (sym c.report_status.ensures ∙ e)

@@ -1,5 +1,5 @@
 use Rattle.std.proofs.Common.{◌≢◌, [], refl, ◌∙◌, subst, sym, ap, arith}
-use Rattle.std.specs.Prelude.{AllPairs, nat_lt}
+use Rattle.std.specs.Prelude.{AllPairs, nat_lt, ⊤}
 use Rattle.std.proofs.lemmas.List.{append-nil}
 use Rattle.rd_io.proofs.SinkLemmas.{appends_none}
 use Rattle.rd_ecl.specs.Kinds.{kind_names, kinds_of}
@@ -8,18 +8,21 @@ use Rattle.rd_kinds.proofs.NameLemmas.{listed_differ}
 use Rattle.rd_wf.specs.laws.NoLines.{told_none}
 use Rattle.rd_wf.specs.Roster.{kinds_in}
 use Rattle.rd_replaying.specs.States.{replay_outcome, built_in_kinds}
-use Rattle.rd_run.specs.Parts.{PartBegins, part_outcome}
+use Rattle.either.specs.Either.{MatchEither}
+use Rattle.rd_check.specs.Checking.{Begins}
+use Rattle.rd_walk.specs.Output.{report_status}
+use Rattle.rd_run.proofs.RunLemmas.{part_outcome}
 use Rattle.rd_replaying.specs.Replaying.{recorded_of}
 use Rattle.rd_walk.specs.Traces.{ReportsTrace}
 use Rattle.rd_replaying.proofs.ReplayLemmas.{runs_replay}
-use Rattle.rd_walk.proofs.TraceLemmas.{reports_before}
+use Rattle.rd_walk.proofs.TraceLemmas.{reports_without}
 use Rattle.rd_run.proofs.top.replay.Goals as goal
 
 pub new-requires-clause-different : goal.new-requires-clause-different
-new-requires-clause-different g c = subst (λ kinds. AllPairs (λ x y. x ≢ y) (kind_names (kinds_of kinds))) (sym c.in-Ok.ensures) listed_differ
+new-requires-clause-different g c = subst (λ kinds. AllPairs (λ x y. x ≢ y) (kind_names (kinds_of kinds))) (sym c.in_ok-spec.ensures) listed_differ
 
-pub returns-in_default-clause-runs : goal.returns-in_default-clause-runs
-returns-in_default-clause-runs g c = λ old told few few_opens.
+pub returns-in_err-spec-clause-runs : goal.returns-in_err-spec-clause-runs
+returns-in_err-spec-clause-runs g c = λ old told few few_opens.
     let wrote = g.S.Sink.written c.args.out.now in
     let faults = g.I.Inputs.faults c.args.inputs.now in (
       old,
@@ -27,11 +30,11 @@ returns-in_default-clause-runs g c = λ old told few few_opens.
       told,
       appends_none wrote wrote refl,
       runs_replay c.args.trace.now c.args.limits.now (nat_lt faults faults) old old [] _ c.args.steps.now c.args.steps.now
-          (reports_before (replay_outcome built_in_kinds) built_in_kinds c.args.trace.now c.args.limits.now faults old c.args.steps.now),
+          (reports_without (replay_outcome built_in_kinds) built_in_kinds c.args.trace.now c.args.limits.now c.from_residual.result c.from_residual.ensures faults old c.args.steps.now),
     )
 
-pub returns-in_default-new-clause-runs : goal.returns-in_default-new-clause-runs
-returns-in_default-new-clause-runs g c = λ old told few few_opens.
+pub returns-in_err-roster-clause-runs : goal.returns-in_err-roster-clause-runs
+returns-in_err-roster-clause-runs g c = λ old told few few_opens.
     let wrote = g.S.Sink.written c.args.out.now in
     let faults = g.I.Inputs.faults c.args.inputs.now in (
       old,
@@ -39,16 +42,16 @@ returns-in_default-new-clause-runs g c = λ old told few few_opens.
       told,
       appends_none wrote wrote refl,
       runs_replay c.args.trace.now c.args.limits.now (nat_lt faults faults) old old [] _ c.args.steps.now c.args.steps.now
-          (reports_before (replay_outcome built_in_kinds) built_in_kinds c.args.trace.now c.args.limits.now faults old c.args.steps.now),
+          (reports_without (replay_outcome built_in_kinds) built_in_kinds c.args.trace.now c.args.limits.now c.from_residual-in_err-roster.result c.from_residual-in_err-roster.ensures faults old c.args.steps.now),
     )
 
 pub report_trace-requires-clause-begins : goal.report_trace-requires-clause-begins
 unfolding recorded_of
 report_trace-requires-clause-begins g c = (
-  subst (PartBegins (kinds_in c.in-Ok-new.roster)) (sym c.new-2.ensures.inner) tt,
+  subst (λ part. MatchEither part (Begins (kinds_in c.in_ok-roster.roster)) (λ _. ⊤)) (sym c.new-2.ensures.inner) tt,
   record {
-    numbered = ([], c.in-Ok-new.ensures.kind_entries ∙ ap kinds_of (c.in-Ok.ensures ∙ sym (append-nil shipped_kinds)));
-    told = told_none (kinds_in c.in-Ok-new.roster);
+    numbered = ([], c.in_ok-roster.ensures.kind_entries ∙ ap kinds_of (c.in_ok-spec.ensures ∙ sym (append-nil shipped_kinds)));
+    told = told_none (kinds_in c.in_ok-roster.roster);
     stands = c.new-2.ensures.none;
   },
 )
@@ -56,14 +59,15 @@ report_trace-requires-clause-begins g c = (
 pub returns-clause-runs : goal.returns-clause-runs
 returns-clause-runs g c = λ old told few few_opens.
     let (new, part, now, writes, reports) = c.report_trace.ensures.reports old told few (omega (arith, few_opens)) in
-    let kinds = c.in-Ok-new.ensures.kind_entries ∙ ap kinds_of c.in-Ok.ensures in
+    let kinds = c.in_ok-roster.ensures.kind_entries ∙ ap kinds_of c.in_ok-spec.ensures in
+    let status = report_status c.report_trace.result in
     let rose = nat_lt (g.I.Inputs.faults c.args.inputs.now) (g.I.Inputs.faults c.report_trace.new.inputs) in (
       new,
       part,
       now,
       writes,
-      runs_replay c.args.trace.now c.args.limits.now rose old new part c.report_trace.result c.args.steps.now c.report_trace.new.steps
-          (subst (λ k. ReportsTrace (replay_outcome k) k c.args.trace.now c.args.limits.now rose old new part c.report_trace.result c.args.steps.now c.report_trace.new.steps) kinds
-          (subst (λ inner. ReportsTrace (part_outcome (kinds_in c.in-Ok-new.roster) inner) (kinds_in c.in-Ok-new.roster) c.args.trace.now c.args.limits.now rose old new part
-          c.report_trace.result c.args.steps.now c.report_trace.new.steps) c.new-2.ensures.inner reports)),
+      runs_replay c.args.trace.now c.args.limits.now rose old new part status c.args.steps.now c.report_trace.new.steps
+          (subst (λ k. ReportsTrace (replay_outcome k) k c.args.trace.now c.args.limits.now rose old new part status c.args.steps.now c.report_trace.new.steps) kinds
+          (subst (λ inner. ReportsTrace (part_outcome (kinds_in c.in_ok-roster.roster) inner) (kinds_in c.in_ok-roster.roster) c.args.trace.now c.args.limits.now rose old new part
+          status c.args.steps.now c.report_trace.new.steps) c.new-2.ensures.inner reports)),
     )

@@ -1,5 +1,10 @@
 use Rattle.std.proofs.Common.{[], ◌∷◌, None, Some, refl, sym, ap, ◌∙◌, subst}
 use Rattle.std.specs.Prelude.{nat_lt, option_map}
+use Rattle.rd_walk.specs.Output.{IsOutput, StatusTellsFault, report_status}
+use Rattle.rd_walk.proofs.StatusLemmas.{report_calm, report_no_spec, report_no_usage, report_rose, report_wrote}
+use Rattle.rd_spec_commands.specs.Meanings.{kind_outcome}
+use Rattle.rd_spec_commands.specs.Specifications.{spec_command_status}
+use Rattle.rd_spec_commands.proofs.StatusLemmas.{spec_calm, spec_failed, spec_no_usage, spec_wrote, written_no_input, written_no_spec}
 use Rattle.rd_run.specs.Commands.{asked, meaning_of}
 use Rattle.rd_walk.specs.Meanings.{Runs, WritesAll}
 use Rattle.rd_run.specs.Commands.Command.{check, kind, replay, spec}
@@ -22,23 +27,6 @@ returns-in-None-clause-runs g c = λ old told few few_opens.
           (runs_usage c.args.limits.now (nat_lt faults faults) old part c.refuse_usage.result c.args.steps.now output),
     )
 
-pub returns-in-Some-Spec-clause-runs : goal.returns-in-Some-Spec-clause-runs
-returns-in-Some-Spec-clause-runs g c = λ old told few few_opens.
-    let (new, part, now, writes, runs) = c.spec.ensures.runs c.args.limits.now c.args.steps.now old told few few_opens in
-    let rose = nat_lt (g.I.Inputs.faults c.args.inputs.now) (g.I.Inputs.faults c.spec.new.inputs) in
-    let words = ap (λ (command : Asked). asked (Some command)) (sym c.in-Some-Spec.field-0-is) ∙ c.in-Some-Spec.ensures.asked in (
-      new,
-      part,
-      now,
-      writes,
-      subst (λ command. Runs (meaning_of command) c.args.limits.now rose old new part c.spec.result c.args.steps.now c.args.steps.now) words runs,
-    )
-
-pub returns-in-Some-Spec-clause-spec_refused : goal.returns-in-Some-Spec-clause-spec_refused
-returns-in-Some-Spec-clause-spec_refused g c = λ refused.
-    let words = ap (λ (command : Asked). asked (Some command)) (sym c.in-Some-Spec.field-0-is) ∙ c.in-Some-Spec.ensures.asked in
-    (c.in-Some-Spec.file.now, ap (λ command. (meaning_of command).specification) (sym words))
-
 pub returns-in-None-clause-whole : goal.returns-in-None-clause-whole
 returns-in-None-clause-whole g c = λ old told few few_opens few_faults calm silent.
     let (part, writes, output) = c.refuse_usage.ensures.output in
@@ -53,100 +41,6 @@ returns-in-None-clause-whole g c = λ old told few few_opens few_faults calm sil
           (λ _. usage_or_fault status c.refuse_usage.ensures.status)),
     )
 
-pub returns-in-Some-Check-clause-whole : goal.returns-in-Some-Check-clause-whole
-returns-in-Some-Check-clause-whole g c = λ old told few few_opens few_faults calm silent.
-    let (new, part, now, writes, runs) = c.check_shipped.ensures.runs old told few few_opens in
-    let words = ap (λ (command : Asked). asked (Some command)) (sym c.in-Some-Check.field-0-is) ∙ c.in-Some-Check.ensures.asked in (
-      part,
-      writes,
-      subst (λ command. WritesAll (meaning_of command) c.args.limits.now old part c.check_shipped.result) words
-          (whole_run (Some (check c.in-Some-Check.trace.now None)) c.args.limits.now _ old new part c.check_shipped.result _ _ runs (not_risen _ _ calm)
-          (none_failed _ _ _ _ c.check_shipped.result c.check_shipped.ensures.fault few_faults silent) (λ none. absurd (some≢none none))),
-    )
-
-pub returns-in-Some-CheckWith-clause-whole : goal.returns-in-Some-CheckWith-clause-whole
-returns-in-Some-CheckWith-clause-whole g c = λ old told few few_opens few_faults calm silent.
-    let (new, part, now, writes, runs) = c.check_with.ensures.runs old told few few_opens in
-    let words = ap (λ (command : Asked). asked (Some command)) (sym c.in-Some-CheckWith.field-0-is) ∙ c.in-Some-CheckWith.ensures.asked in (
-      part,
-      writes,
-      subst (λ command. WritesAll (meaning_of command) c.args.limits.now old part c.check_with.result) words
-          (whole_run (Some (check c.in-Some-CheckWith.trace.now (Some c.in-Some-CheckWith.file.now))) c.args.limits.now _ old new part c.check_with.result _ _ runs
-          (not_risen _ _ calm) (none_failed _ _ _ _ c.check_with.result c.check_with.ensures.fault few_faults silent) (λ none. absurd (some≢none none))),
-    )
-
-pub returns-in-Some-Spec-clause-whole : goal.returns-in-Some-Spec-clause-whole
-returns-in-Some-Spec-clause-whole g c = λ old told few few_opens few_faults calm silent.
-    let (new, part, now, writes, runs) = c.spec.ensures.runs c.args.limits.now c.args.steps.now old told few few_opens in
-    let words = ap (λ (command : Asked). asked (Some command)) (sym c.in-Some-Spec.field-0-is) ∙ c.in-Some-Spec.ensures.asked in (
-      part,
-      writes,
-      subst (λ command. WritesAll (meaning_of command) c.args.limits.now old part c.spec.result) words
-          (whole_run (Some (spec c.in-Some-Spec.file.now)) c.args.limits.now _ old new part c.spec.result _ _ runs (not_risen _ _ calm)
-          (none_failed _ _ _ _ c.spec.result c.spec.ensures.fault few_faults silent) (λ none. absurd (some≢none none))),
-    )
-
-pub returns-in-Some-Replay-clause-whole : goal.returns-in-Some-Replay-clause-whole
-returns-in-Some-Replay-clause-whole g c = λ old told few few_opens few_faults calm silent.
-    let (new, part, now, writes, runs) = c.replay.ensures.runs old told few few_opens in
-    let words = ap (λ (command : Asked). asked (Some command)) (sym c.in-Some-Replay.field-0-is) ∙ c.in-Some-Replay.ensures.asked in (
-      part,
-      writes,
-      subst (λ command. WritesAll (meaning_of command) c.args.limits.now old part c.replay.result) words
-          (whole_run (Some (replay c.in-Some-Replay.trace.now)) c.args.limits.now _ old new part c.replay.result _ _ runs (not_risen _ _ calm)
-          (none_failed _ _ _ _ c.replay.result c.replay.ensures.fault few_faults silent) (λ none. absurd (some≢none none))),
-    )
-
-pub returns-in-Some-Kind-clause-runs : goal.returns-in-Some-Kind-clause-runs
-returns-in-Some-Kind-clause-runs g c = λ old told few few_opens.
-    let number = c.in-Some-Kind.number in
-    let (built_in, at) = shipped_at number (c.in-Some-Kind.ensures.known number c.in-Some-Kind.field-0-is) in
-    let (part, writes, output) = c.kind.ensures.output built_in at in
-    let faults = g.I.Inputs.faults c.args.inputs.now in
-    let words = ap (option_map kind) (sym at) ∙ (ap (λ (command : Asked). asked (Some command)) (sym c.in-Some-Kind.field-0-is) ∙ c.in-Some-Kind.ensures.asked) in (
-      old,
-      part,
-      told,
-      writes,
-      subst (λ command. Runs (meaning_of command) c.args.limits.now (nat_lt faults faults) old old part c.kind.result c.args.steps.now c.args.steps.now) words
-          (runs_kind built_in c.args.limits.now (nat_lt faults faults) old part c.kind.result c.args.steps.now output),
-    )
-
-pub returns-in-Some-Kind-clause-whole : goal.returns-in-Some-Kind-clause-whole
-returns-in-Some-Kind-clause-whole g c = λ old told few few_opens few_faults calm silent.
-    let number = c.in-Some-Kind.number in
-    let (built_in, at) = shipped_at number (c.in-Some-Kind.ensures.known number c.in-Some-Kind.field-0-is) in
-    let (part, writes, output) = c.kind.ensures.output built_in at in
-    let faults = g.I.Inputs.faults c.args.inputs.now in
-    let words = ap (option_map kind) (sym at) ∙ (ap (λ (command : Asked). asked (Some command)) (sym c.in-Some-Kind.field-0-is) ∙ c.in-Some-Kind.ensures.asked) in (
-      part,
-      writes,
-      subst (λ command. WritesAll (meaning_of command) c.args.limits.now old part c.kind.result) words
-          (whole_run (Some (kind built_in)) c.args.limits.now (nat_lt faults faults) old old part c.kind.result c.args.steps.now c.args.steps.now
-          (runs_kind built_in c.args.limits.now (nat_lt faults faults) old part c.kind.result c.args.steps.now output) (not_risen faults faults refl)
-          (none_failed _ _ _ _ c.kind.result c.kind.ensures.fault few_faults silent) (λ none. absurd (some≢none none))),
-    )
-
-pub returns-in-Some-Check-clause-untouched : goal.returns-in-Some-Check-clause-untouched
-returns-in-Some-Check-clause-untouched g c = λ none.
-    let words = ap (λ (command : Asked). asked (Some command)) (sym c.in-Some-Check.field-0-is) ∙ c.in-Some-Check.ensures.asked in
-    absurd (some_file c.in-Some-Check.trace.now [] (ap (λ command. (meaning_of command).files) words ∙ none))
-
-pub returns-in-Some-CheckWith-clause-untouched : goal.returns-in-Some-CheckWith-clause-untouched
-returns-in-Some-CheckWith-clause-untouched g c = λ none.
-    let words = ap (λ (command : Asked). asked (Some command)) (sym c.in-Some-CheckWith.field-0-is) ∙ c.in-Some-CheckWith.ensures.asked in
-    absurd (some_file c.in-Some-CheckWith.file.now (c.in-Some-CheckWith.trace.now ∷ []) (ap (λ command. (meaning_of command).files) words ∙ none))
-
-pub returns-in-Some-Replay-clause-untouched : goal.returns-in-Some-Replay-clause-untouched
-returns-in-Some-Replay-clause-untouched g c = λ none.
-    let words = ap (λ (command : Asked). asked (Some command)) (sym c.in-Some-Replay.field-0-is) ∙ c.in-Some-Replay.ensures.asked in
-    absurd (some_file c.in-Some-Replay.trace.now [] (ap (λ command. (meaning_of command).files) words ∙ none))
-
-pub returns-in-Some-Spec-clause-untouched : goal.returns-in-Some-Spec-clause-untouched
-returns-in-Some-Spec-clause-untouched g c = λ none.
-    let words = ap (λ (command : Asked). asked (Some command)) (sym c.in-Some-Spec.field-0-is) ∙ c.in-Some-Spec.ensures.asked in
-    absurd (some_file c.in-Some-Spec.file.now [] (ap (λ command. (meaning_of command).files) words ∙ none))
-
 pub returns-in-Some-Check-clause-runs : goal.returns-in-Some-Check-clause-runs
 returns-in-Some-Check-clause-runs g c = λ old told few few_opens.
     let (new, part, now, writes, runs) = c.check_shipped.ensures.runs old told few few_opens in
@@ -156,8 +50,44 @@ returns-in-Some-Check-clause-runs g c = λ old told few few_opens.
       part,
       now,
       writes,
-      subst (λ command. Runs (meaning_of command) c.args.limits.now rose old new part c.check_shipped.result c.args.steps.now c.check_shipped.new.steps) words runs,
+      subst (λ command. Runs (meaning_of command) c.args.limits.now rose old new part c.report_status.result c.args.steps.now c.check_shipped.new.steps) words
+          (subst (λ status. Runs (meaning_of (Some (check c.in-Some-Check.trace.now None))) c.args.limits.now rose old new part status c.args.steps.now c.check_shipped.new.steps) (sym c.report_status.ensures) runs),
     )
+
+pub returns-in-Some-Check-clause-whole : goal.returns-in-Some-Check-clause-whole
+returns-in-Some-Check-clause-whole g c = λ old told few few_opens few_faults calm silent.
+    let (new, part, now, writes, runs) = c.check_shipped.ensures.runs old told few few_opens in
+    let words = ap (λ (command : Asked). asked (Some command)) (sym c.in-Some-Check.field-0-is) ∙ c.in-Some-Check.ensures.asked in
+    let wrote = report_wrote _ _ _ _ c.check_shipped.result c.check_shipped.ensures.faults.output in (
+      part,
+      writes,
+      subst (λ command. WritesAll (meaning_of command) c.args.limits.now old part c.report_status.result) words
+          (subst (λ status. WritesAll (meaning_of (Some (check c.in-Some-Check.trace.now None))) c.args.limits.now old part status) (sym c.report_status.ensures)
+          (whole_run (Some (check c.in-Some-Check.trace.now None)) c.args.limits.now _ old new part (report_status c.check_shipped.result) _ _ runs (not_risen _ _ calm)
+          (none_failed _ _ _ _ (report_status c.check_shipped.result) wrote few_faults silent) (λ none. absurd (some≢none none)))),
+    )
+
+pub returns-in-Some-Check-clause-usage : goal.returns-in-Some-Check-clause-usage
+returns-in-Some-Check-clause-usage g c = λ e. absurd (report_no_usage c.check_shipped.result (sym c.report_status.ensures ∙ e))
+
+pub returns-in-Some-Check-clause-untouched : goal.returns-in-Some-Check-clause-untouched
+returns-in-Some-Check-clause-untouched g c = λ none.
+    let words = ap (λ (command : Asked). asked (Some command)) (sym c.in-Some-Check.field-0-is) ∙ c.in-Some-Check.ensures.asked in
+    absurd (some_file c.in-Some-Check.trace.now [] (ap (λ command. (meaning_of command).files) words ∙ none))
+
+pub returns-in-Some-Check-clause-spec_refused : goal.returns-in-Some-Check-clause-spec_refused
+returns-in-Some-Check-clause-spec_refused g c = λ e. absurd (report_no_spec c.check_shipped.result (sym c.report_status.ensures ∙ e))
+
+pub returns-in-Some-Check-clause-input_fault : goal.returns-in-Some-Check-clause-input_fault
+returns-in-Some-Check-clause-input_fault g c = λ e. report_rose c.check_shipped.result c.check_shipped.ensures.faults (sym c.report_status.ensures ∙ e)
+
+pub returns-in-Some-Check-clause-calm : goal.returns-in-Some-Check-clause-calm
+returns-in-Some-Check-clause-calm g c = λ input output memory.
+    report_calm c.check_shipped.result c.check_shipped.ensures.faults (λ e. input (c.report_status.ensures ∙ e)) (λ e. output (c.report_status.ensures ∙ e)) (λ e. memory (c.report_status.ensures ∙ e))
+
+pub returns-in-Some-Check-clause-output_fault : goal.returns-in-Some-Check-clause-output_fault
+returns-in-Some-Check-clause-output_fault g c =
+    subst (StatusTellsFault _ _ _ _) (sym c.report_status.ensures) (report_wrote _ _ _ _ c.check_shipped.result c.check_shipped.ensures.faults.output)
 
 pub returns-in-Some-CheckWith-clause-runs : goal.returns-in-Some-CheckWith-clause-runs
 returns-in-Some-CheckWith-clause-runs g c = λ old told few few_opens.
@@ -171,7 +101,167 @@ returns-in-Some-CheckWith-clause-runs g c = λ old told few few_opens.
       subst (λ command. Runs (meaning_of command) c.args.limits.now rose old new part c.check_with.result c.args.steps.now c.check_with.new.steps) words runs,
     )
 
+pub returns-in-Some-CheckWith-clause-whole : goal.returns-in-Some-CheckWith-clause-whole
+returns-in-Some-CheckWith-clause-whole g c = λ old told few few_opens few_faults calm silent.
+    let (new, part, now, writes, runs) = c.check_with.ensures.runs old told few few_opens in
+    let words = ap (λ (command : Asked). asked (Some command)) (sym c.in-Some-CheckWith.field-0-is) ∙ c.in-Some-CheckWith.ensures.asked in (
+      part,
+      writes,
+      subst (λ command. WritesAll (meaning_of command) c.args.limits.now old part c.check_with.result) words
+          (whole_run (Some (check c.in-Some-CheckWith.trace.now (Some c.in-Some-CheckWith.file.now))) c.args.limits.now _ old new part c.check_with.result _ _ runs
+          (not_risen _ _ calm) (none_failed _ _ _ _ c.check_with.result c.check_with.ensures.fault few_faults silent) (λ none. absurd (some≢none none))),
+    )
+
+pub returns-in-Some-CheckWith-clause-untouched : goal.returns-in-Some-CheckWith-clause-untouched
+returns-in-Some-CheckWith-clause-untouched g c = λ none.
+    let words = ap (λ (command : Asked). asked (Some command)) (sym c.in-Some-CheckWith.field-0-is) ∙ c.in-Some-CheckWith.ensures.asked in
+    absurd (some_file c.in-Some-CheckWith.file.now (c.in-Some-CheckWith.trace.now ∷ []) (ap (λ command. (meaning_of command).files) words ∙ none))
+
 pub returns-in-Some-CheckWith-clause-spec_refused : goal.returns-in-Some-CheckWith-clause-spec_refused
 returns-in-Some-CheckWith-clause-spec_refused g c = λ refused.
     let words = ap (λ (command : Asked). asked (Some command)) (sym c.in-Some-CheckWith.field-0-is) ∙ c.in-Some-CheckWith.ensures.asked in
     (c.in-Some-CheckWith.file.now, ap (λ command. (meaning_of command).specification) (sym words))
+
+pub returns-in-Some-Replay-clause-runs : goal.returns-in-Some-Replay-clause-runs
+returns-in-Some-Replay-clause-runs g c = λ old told few few_opens.
+    let (new, part, now, writes, runs) = c.replay.ensures.runs old told few few_opens in
+    let rose = nat_lt (g.I.Inputs.faults c.args.inputs.now) (g.I.Inputs.faults c.replay.new.inputs) in
+    let words = ap (λ (command : Asked). asked (Some command)) (sym c.in-Some-Replay.field-0-is) ∙ c.in-Some-Replay.ensures.asked in (
+      new,
+      part,
+      now,
+      writes,
+      subst (λ command. Runs (meaning_of command) c.args.limits.now rose old new part c.report_status-in-Some-Replay.result c.args.steps.now c.replay.new.steps) words
+          (subst (λ status. Runs (meaning_of (Some (replay c.in-Some-Replay.trace.now))) c.args.limits.now rose old new part status c.args.steps.now c.replay.new.steps) (sym c.report_status-in-Some-Replay.ensures) runs),
+    )
+
+pub returns-in-Some-Replay-clause-whole : goal.returns-in-Some-Replay-clause-whole
+returns-in-Some-Replay-clause-whole g c = λ old told few few_opens few_faults calm silent.
+    let (new, part, now, writes, runs) = c.replay.ensures.runs old told few few_opens in
+    let words = ap (λ (command : Asked). asked (Some command)) (sym c.in-Some-Replay.field-0-is) ∙ c.in-Some-Replay.ensures.asked in
+    let wrote = report_wrote _ _ _ _ c.replay.result c.replay.ensures.faults.output in (
+      part,
+      writes,
+      subst (λ command. WritesAll (meaning_of command) c.args.limits.now old part c.report_status-in-Some-Replay.result) words
+          (subst (λ status. WritesAll (meaning_of (Some (replay c.in-Some-Replay.trace.now))) c.args.limits.now old part status) (sym c.report_status-in-Some-Replay.ensures)
+          (whole_run (Some (replay c.in-Some-Replay.trace.now)) c.args.limits.now _ old new part (report_status c.replay.result) _ _ runs (not_risen _ _ calm)
+          (none_failed _ _ _ _ (report_status c.replay.result) wrote few_faults silent) (λ none. absurd (some≢none none)))),
+    )
+
+pub returns-in-Some-Replay-clause-usage : goal.returns-in-Some-Replay-clause-usage
+returns-in-Some-Replay-clause-usage g c = λ e. absurd (report_no_usage c.replay.result (sym c.report_status-in-Some-Replay.ensures ∙ e))
+
+pub returns-in-Some-Replay-clause-untouched : goal.returns-in-Some-Replay-clause-untouched
+returns-in-Some-Replay-clause-untouched g c = λ none.
+    let words = ap (λ (command : Asked). asked (Some command)) (sym c.in-Some-Replay.field-0-is) ∙ c.in-Some-Replay.ensures.asked in
+    absurd (some_file c.in-Some-Replay.trace.now [] (ap (λ command. (meaning_of command).files) words ∙ none))
+
+pub returns-in-Some-Replay-clause-spec_refused : goal.returns-in-Some-Replay-clause-spec_refused
+returns-in-Some-Replay-clause-spec_refused g c = λ e. absurd (report_no_spec c.replay.result (sym c.report_status-in-Some-Replay.ensures ∙ e))
+
+pub returns-in-Some-Replay-clause-input_fault : goal.returns-in-Some-Replay-clause-input_fault
+returns-in-Some-Replay-clause-input_fault g c = λ e. report_rose c.replay.result c.replay.ensures.faults (sym c.report_status-in-Some-Replay.ensures ∙ e)
+
+pub returns-in-Some-Replay-clause-calm : goal.returns-in-Some-Replay-clause-calm
+returns-in-Some-Replay-clause-calm g c = λ input output memory.
+    report_calm c.replay.result c.replay.ensures.faults (λ e. input (c.report_status-in-Some-Replay.ensures ∙ e)) (λ e. output (c.report_status-in-Some-Replay.ensures ∙ e)) (λ e. memory (c.report_status-in-Some-Replay.ensures ∙ e))
+
+pub returns-in-Some-Replay-clause-output_fault : goal.returns-in-Some-Replay-clause-output_fault
+returns-in-Some-Replay-clause-output_fault g c =
+    subst (StatusTellsFault _ _ _ _) (sym c.report_status-in-Some-Replay.ensures) (report_wrote _ _ _ _ c.replay.result c.replay.ensures.faults.output)
+
+pub returns-in-Some-Spec-clause-runs : goal.returns-in-Some-Spec-clause-runs
+returns-in-Some-Spec-clause-runs g c = λ old told few few_opens.
+    let (new, part, now, writes, runs) = c.spec.ensures.runs c.args.limits.now c.args.steps.now old told few few_opens in
+    let rose = nat_lt (g.I.Inputs.faults c.args.inputs.now) (g.I.Inputs.faults c.spec.new.inputs) in
+    let words = ap (λ (command : Asked). asked (Some command)) (sym c.in-Some-Spec.field-0-is) ∙ c.in-Some-Spec.ensures.asked in (
+      new,
+      part,
+      now,
+      writes,
+      subst (λ command. Runs (meaning_of command) c.args.limits.now rose old new part c.spec_command_status.result c.args.steps.now c.args.steps.now) words
+          (subst (λ status. Runs (meaning_of (Some (spec c.in-Some-Spec.file.now))) c.args.limits.now rose old new part status c.args.steps.now c.args.steps.now) (sym c.spec_command_status.ensures) runs),
+    )
+
+pub returns-in-Some-Spec-clause-whole : goal.returns-in-Some-Spec-clause-whole
+returns-in-Some-Spec-clause-whole g c = λ old told few few_opens few_faults calm silent.
+    let (new, part, now, writes, runs) = c.spec.ensures.runs c.args.limits.now c.args.steps.now old told few few_opens in
+    let words = ap (λ (command : Asked). asked (Some command)) (sym c.in-Some-Spec.field-0-is) ∙ c.in-Some-Spec.ensures.asked in
+    let wrote = spec_wrote _ _ _ _ c.spec.result c.spec.ensures.faults.output in (
+      part,
+      writes,
+      subst (λ command. WritesAll (meaning_of command) c.args.limits.now old part c.spec_command_status.result) words
+          (subst (λ status. WritesAll (meaning_of (Some (spec c.in-Some-Spec.file.now))) c.args.limits.now old part status) (sym c.spec_command_status.ensures)
+          (whole_run (Some (spec c.in-Some-Spec.file.now)) c.args.limits.now _ old new part (spec_command_status c.spec.result) _ _ runs (not_risen _ _ calm)
+          (none_failed _ _ _ _ (spec_command_status c.spec.result) wrote few_faults silent) (λ none. absurd (some≢none none)))),
+    )
+
+pub returns-in-Some-Spec-clause-usage : goal.returns-in-Some-Spec-clause-usage
+returns-in-Some-Spec-clause-usage g c = λ e. absurd (spec_no_usage c.spec.result (sym c.spec_command_status.ensures ∙ e))
+
+pub returns-in-Some-Spec-clause-untouched : goal.returns-in-Some-Spec-clause-untouched
+returns-in-Some-Spec-clause-untouched g c = λ none.
+    let words = ap (λ (command : Asked). asked (Some command)) (sym c.in-Some-Spec.field-0-is) ∙ c.in-Some-Spec.ensures.asked in
+    absurd (some_file c.in-Some-Spec.file.now [] (ap (λ command. (meaning_of command).files) words ∙ none))
+
+pub returns-in-Some-Spec-clause-spec_refused : goal.returns-in-Some-Spec-clause-spec_refused
+returns-in-Some-Spec-clause-spec_refused g c = λ refused.
+    let words = ap (λ (command : Asked). asked (Some command)) (sym c.in-Some-Spec.field-0-is) ∙ c.in-Some-Spec.ensures.asked in
+    (c.in-Some-Spec.file.now, ap (λ command. (meaning_of command).specification) (sym words))
+
+pub returns-in-Some-Spec-clause-input_fault : goal.returns-in-Some-Spec-clause-input_fault
+returns-in-Some-Spec-clause-input_fault g c = λ e. c.spec.ensures.faults.input (spec_failed c.spec.result (sym c.spec_command_status.ensures ∙ e))
+
+pub returns-in-Some-Spec-clause-calm : goal.returns-in-Some-Spec-clause-calm
+returns-in-Some-Spec-clause-calm g c = λ input output memory.
+    spec_calm c.spec.result c.spec.ensures.faults (λ e. input (c.spec_command_status.ensures ∙ e)) (λ e. output (c.spec_command_status.ensures ∙ e)) (λ e. memory (c.spec_command_status.ensures ∙ e))
+
+pub returns-in-Some-Spec-clause-output_fault : goal.returns-in-Some-Spec-clause-output_fault
+returns-in-Some-Spec-clause-output_fault g c =
+    subst (StatusTellsFault _ _ _ _) (sym c.spec_command_status.ensures) (spec_wrote _ _ _ _ c.spec.result c.spec.ensures.faults.output)
+
+pub returns-in-Some-Kind-clause-runs : goal.returns-in-Some-Kind-clause-runs
+returns-in-Some-Kind-clause-runs g c = λ old told few few_opens.
+    let number = c.in-Some-Kind.number in
+    let (built_in, at) = shipped_at number (c.in-Some-Kind.ensures.known number c.in-Some-Kind.field-0-is) in
+    let (part, writes, output) = c.kind.ensures.output built_in at in
+    let faults = g.I.Inputs.faults c.args.inputs.now in
+    let words = ap (option_map kind) (sym at) ∙ (ap (λ (command : Asked). asked (Some command)) (sym c.in-Some-Kind.field-0-is) ∙ c.in-Some-Kind.ensures.asked) in (
+      old,
+      part,
+      told,
+      writes,
+      subst (λ command. Runs (meaning_of command) c.args.limits.now (nat_lt faults faults) old old part c.spec_command_status-in-Some-Kind.result c.args.steps.now c.args.steps.now) words
+          (runs_kind built_in c.args.limits.now (nat_lt faults faults) old part c.spec_command_status-in-Some-Kind.result c.args.steps.now
+          (subst (λ status. IsOutput status part (kind_outcome built_in)) (sym c.spec_command_status-in-Some-Kind.ensures) output)),
+    )
+
+pub returns-in-Some-Kind-clause-whole : goal.returns-in-Some-Kind-clause-whole
+returns-in-Some-Kind-clause-whole g c = λ old told few few_opens few_faults calm silent.
+    let number = c.in-Some-Kind.number in
+    let (built_in, at) = shipped_at number (c.in-Some-Kind.ensures.known number c.in-Some-Kind.field-0-is) in
+    let (part, writes, output) = c.kind.ensures.output built_in at in
+    let faults = g.I.Inputs.faults c.args.inputs.now in
+    let status = spec_command_status c.kind.result in
+    let words = ap (option_map kind) (sym at) ∙ (ap (λ (command : Asked). asked (Some command)) (sym c.in-Some-Kind.field-0-is) ∙ c.in-Some-Kind.ensures.asked) in (
+      part,
+      writes,
+      subst (λ command. WritesAll (meaning_of command) c.args.limits.now old part c.spec_command_status-in-Some-Kind.result) words
+          (subst (λ status. WritesAll (meaning_of (Some (kind built_in))) c.args.limits.now old part status) (sym c.spec_command_status-in-Some-Kind.ensures)
+          (whole_run (Some (kind built_in)) c.args.limits.now (nat_lt faults faults) old old part status c.args.steps.now c.args.steps.now
+          (runs_kind built_in c.args.limits.now (nat_lt faults faults) old part status c.args.steps.now output) (not_risen faults faults refl)
+          (none_failed _ _ _ _ status (spec_wrote _ _ _ _ c.kind.result c.kind.ensures.fault) few_faults silent) (λ none. absurd (some≢none none)))),
+    )
+
+pub returns-in-Some-Kind-clause-usage : goal.returns-in-Some-Kind-clause-usage
+returns-in-Some-Kind-clause-usage g c = λ e. absurd (spec_no_usage c.kind.result (sym c.spec_command_status-in-Some-Kind.ensures ∙ e))
+
+pub returns-in-Some-Kind-clause-spec_refused : goal.returns-in-Some-Kind-clause-spec_refused
+returns-in-Some-Kind-clause-spec_refused g c = λ e. absurd (written_no_spec c.kind.result c.kind.ensures.clean (sym c.spec_command_status-in-Some-Kind.ensures ∙ e))
+
+pub returns-in-Some-Kind-clause-input_fault : goal.returns-in-Some-Kind-clause-input_fault
+returns-in-Some-Kind-clause-input_fault g c = λ e. absurd (written_no_input c.kind.result c.kind.ensures.clean (sym c.spec_command_status-in-Some-Kind.ensures ∙ e))
+
+pub returns-in-Some-Kind-clause-output_fault : goal.returns-in-Some-Kind-clause-output_fault
+returns-in-Some-Kind-clause-output_fault g c =
+    subst (StatusTellsFault _ _ _ _) (sym c.spec_command_status-in-Some-Kind.ensures) (spec_wrote _ _ _ _ c.kind.result c.kind.ensures.fault)

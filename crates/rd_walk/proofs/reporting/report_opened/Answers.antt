@@ -1,30 +1,28 @@
-use Rattle.std.proofs.Common.{◌≡◌, ◌++◌, subst, ap, inl, inr, Result, Ok, Err}
+use Rattle.std.proofs.Common.{◌≡◌, ◌≢◌, ◌++◌, subst, ap, inl, inr, Result, Ok, Err}
 use Rattle.rd_io.proofs.SinkLemmas.{appends_on}
 use Rattle.rd_walk.specs.declared.walk.WalkEnd.{WalkEnd}
 use Rattle.rd_walk.specs.declared.walk.WalkEnd.TheVariants.{Fault}
 use Rattle.rd_walk.specs.declared.analysis.Halt.{Halt}
 use Rattle.rd_wf.specs.Roster.{kinds_in}
-use Rattle.rd_walk.specs.Output.{StatusTellsFault}
+use Rattle.rd_walk.proofs.OutputLemmas.{failed_with}
+use Rattle.rd_walk.specs.Output.{report_status}
 use Rattle.rd_walk.proofs.reporting.report_opened.Goals as goal
 
 same_ending : (a b : WalkEnd) → ◌≡◌ {A = Result WalkEnd Halt} (Ok a) (Ok b) → a ≡ b
 same_ending a b e = cc
 
-no_halt : (halt : Halt) (ending : WalkEnd) → ◌≡◌ {A = Result WalkEnd Halt} (Err halt) (Ok ending) → ⊥
-no_halt halt ending e = cc
-
 pub conclude-requires : goal.conclude-requires
 conclude-requires g c =
-    let (entries, taken, leads, stands, text, cost, read, goes) = c.in-Ok.ensures.walked in
-    (kinds_in c.args.walker.roster, c.args.walker.analysis, entries, leads, stands)
+    let (entries, taken, leads, stands, text, cost, read, goes) = c.in_ok-ending.ensures.walked in
+    (kinds_in c.args.walker.now.roster, c.args.walker.now.analysis, entries, leads, stands)
 
-pub returns-in-Ok-clause-reported : goal.returns-in-Ok-clause-reported
-returns-in-Ok-clause-reported g c =
-    let kinds = kinds_in c.args.walker.roster in
-    let start = c.args.walker.analysis in
-    let (entries, taken, leads, stands, text, cost, read, goes) = c.in-Ok.ensures.walked in
+pub returns-clause-reported : goal.returns-clause-reported
+returns-clause-reported g c =
+    let kinds = kinds_in c.args.walker.now.roster in
+    let start = c.args.walker.now.analysis in
+    let (entries, taken, leads, stands, text, cost, read, goes) = c.in_ok-ending.ensures.walked in
     let (part, writes, output) = c.conclude.ensures.output kinds start entries leads stands in
-    let ending = c.in-Ok.ending in
+    let ending = c.in_ok-ending.ending in
     let front = g.A.Analysis.text kinds start entries in (
       entries,
       taken,
@@ -41,17 +39,18 @@ returns-in-Ok-clause-reported g c =
             ending,
             walks,
             output,
-            λ e. c.in-Ok.ensures.input_fault (ap Ok e),
-            λ other. c.in-Ok.ensures.calm (λ e. other (same_ending ending Fault e)),
+            λ e. c.in_ok-ending.ensures.input_fault (ap Ok e),
+            λ other. c.in_ok-ending.ensures.calm (λ e. other (same_ending ending Fault e)),
           ),
         ),
       ),
     )
 
-pub returns-clause-reported : goal.returns-clause-reported
-returns-clause-reported g c =
-    let (entries, taken, front, cost, read, on, goes) = c.in-Err.ensures.halted in
-    let (part, rest, is, writes) = front in (
+pub returns-in_err-ending-clause-reported : goal.returns-in_err-ending-clause-reported
+returns-in_err-ending-clause-reported g c =
+    let (entries, taken, front, cost, read, on, goes) = c.in_err-ending.ensures.halted in
+    let (part, rest, is, writes) = front in
+    let (halt, failed, gives) = failed_with c.from_residual.result _ c.from_residual.ensures in (
       entries,
       taken,
       part,
@@ -61,20 +60,6 @@ returns-clause-reported g c =
       λ old told. let (new, now, takes) = goes old told in (
         new,
         now,
-        (
-          takes,
-          inr (c.in-Err.halt, rest, on, is, c.status_of.ensures, c.in-Err.ensures.calm (λ e. no_halt c.in-Err.halt Fault e)),
-        ),
+        (takes, inr (halt, rest, on, is, ap report_status failed, c.in_err-ending.ensures.calm (λ e. cc))),
       ),
     )
-
-pub returns-in-Ok-clause-calm : goal.returns-in-Ok-clause-calm
-returns-in-Ok-clause-calm g c = λ no_input no_output no_memory.
-    c.in-Ok.ensures.calm (λ e. c.conclude.ensures.calm no_input no_output no_memory (same_ending c.in-Ok.ending Fault e))
-
-pub returns-in-Ok-clause-fault : goal.returns-in-Ok-clause-fault
-returns-in-Ok-clause-fault g c =
-    let now = g.S.Sink.faults c.conclude.new.out in
-    let point = g.S.Sink.at_fault c.conclude.new.out in
-    let written = g.S.Sink.written c.conclude.new.out in
-    subst (λ before. StatusTellsFault before now point written c.conclude.result) c.in-Ok.ensures.fault c.conclude.ensures.fault
