@@ -21,7 +21,7 @@ impl From<NoMemory> for WordsRefused {
 
 /// The word at a place, the program's own name at place 0, or None behind the last. Its bytes need not be text. A word of
 /// more than 2^30 bytes isn't given.
-fn word_at<E: Env>(env: &E, alloc: Global, place: usize) -> Result<Option<Word>, WordsRefused> {
+fn argument_at<E: Env>(env: &E, alloc: Global, place: usize) -> Result<Option<Word>, WordsRefused> {
     for power in 8u32..31 {
         let Ok(mut bytes) = vec![in alloc; 0u8; 1usize << power] else {
             return Err(WordsRefused::NoMemory);
@@ -38,11 +38,11 @@ fn word_at<E: Env>(env: &E, alloc: Global, place: usize) -> Result<Option<Word>,
 /// The words of the command line, without the program's own name.
 pub fn words<E: Env>(env: &E, alloc: Global) -> Result<Vec<Word>, WordsRefused> {
     let mut words = Vec::new(alloc);
-    if word_at(env, alloc, 0)?.is_none() {
+    if argument_at(env, alloc, 0)?.is_none() {
         return Err(WordsRefused::NotGiven);
     }
     for place in 1..usize::MAX {
-        let Some(word) = word_at(env, alloc, place)? else {
+        let Some(word) = argument_at(env, alloc, place)? else {
             break;
         };
         if words.push(word).is_err() {

@@ -11,7 +11,7 @@ use Rattle.rd_base.specs.declared.values.Value.{Value}
 use Rattle.rd_base.specs.declared.values.Value.TheVariants.{Nil, Bool as Truth, Int, Text}
 use Rattle.rd_base.specs.declared.spelling.ValueRefused.{ValueRefused}
 use Rattle.rd_base.specs.declared.spelling.ValueRefused.TheVariants.{NotAValue}
-use Rattle.rd_base.specs.Spelling.{bytes_spelling, spelling, IsValue}
+use Rattle.rd_base.specs.Spelling.{bytes_spelling, value_spelling, IsValue}
 use Rattle.rd_base.specs.ReadingValues.{inside_of, is_quoted, value_of}
 use Rattle.rd_base.proofs.FoundLemmas.{if_some, map_found, each_by_recursion, each_from_recursion}
 use Rattle.rd_base.proofs.IntegerLemmas.{first_is_digit, integer_found, integer_said}
@@ -71,7 +71,7 @@ other_word bytes byte word other =
     false_from_ne_true _ (λ same. other (ap (λ (xs : List ℕ). get_or xs 0 0) ((bytes_decides bytes (byte ∷ word)).0 same)))
 
 -- a value is found in its spelling
-pub value_found : (value : Value) → IsValue value → value_of (spelling value) ≡ Some value
+pub value_found : (value : Value) → IsValue value → value_of (value_spelling value) ≡ Some value
 unfolding value_of
 value_found Nil range = refl
 value_found (Truth true) range = refl
@@ -89,7 +89,7 @@ value_found (Text text) range =
 
 -- what is found is a value, and the bytes are its spelling
 abbrev ValueSaid : List ℕ → Value → Type 0
-ValueSaid bytes value = IsValue value × (bytes ≡ spelling value)
+ValueSaid bytes value = IsValue value × (bytes ≡ value_spelling value)
 
 text_said : (bytes text : List ℕ) → is_quoted bytes ≡ true → inside_of 255 (slice_range bytes 1 (length bytes - 1)) ≡ Some text
     → ValueSaid bytes (Text text)
@@ -110,21 +110,21 @@ value_said bytes =
     (λ test. map_found Said (λ text. Text text) _ (λ text found. text_said bytes text test found))
     (map_found Said (λ z. Int z) _ (λ z found. let said = integer_said bytes z found in (said.0, sym said.1))))))
 
-pub found_said : (bytes : List ℕ) (value : Value) → value_of bytes ≡ Some value → IsValue value × (bytes ≡ spelling value)
+pub found_said : (bytes : List ℕ) (value : Value) → value_of bytes ≡ Some value → IsValue value × (bytes ≡ value_spelling value)
 found_said bytes value found = MatchOption-at_some ⊤ (ValueSaid bytes) value found (value_said bytes)
 
 -- no bytes spell two values
-pub one_value : (v w : Value) → IsValue v → IsValue w → spelling v ≡ spelling w → v ≡ w
+pub one_value : (v w : Value) → IsValue v → IsValue w → value_spelling v ≡ value_spelling w → v ≡ w
 one_value v w v_range w_range same =
     same_Some v w (sym (value_found v v_range) ∙ ap value_of same ∙ value_found w w_range)
 
 -- where none is found, the bytes spell none
-none_said : (bytes : List ℕ) → value_of bytes ≡ None → (value : Value) → IsValue value → ¬ (bytes ≡ spelling value)
+none_said : (bytes : List ℕ) → value_of bytes ≡ None → (value : Value) → IsValue value → ¬ (bytes ≡ value_spelling value)
 none_said bytes none value range is = none-some value (sym none ∙ ap value_of is ∙ value_found value range)
 
 -- the same of what a call answers
 pub ok_spelled : (bytes : List ℕ) (result : Result Value ValueRefused) → IfOk result (λ value. value_of bytes ≡ Some value)
-    → IfOk result (λ value. bytes ≡ spelling value)
+    → IfOk result (λ value. bytes ≡ value_spelling value)
 ok_spelled bytes result = IfOk-weaker result _ _ (λ value found. (found_said bytes value found).1)
 
 pub ok_in_range : (bytes : List ℕ) (result : Result Value ValueRefused) → IfOk result (λ value. value_of bytes ≡ Some value)
@@ -133,7 +133,7 @@ ok_in_range bytes result = IfOk-weaker result _ _ (λ value found. (found_said b
 
 pub err_spelled : (bytes : List ℕ) (result : Result Value ValueRefused)
     → IfErr result (λ e. e ≡ NotAValue → value_of bytes ≡ None)
-    → IfErr result (λ e. e ≡ NotAValue → (value : Value) → IsValue value → ¬ (bytes ≡ spelling value))
+    → IfErr result (λ e. e ≡ NotAValue → (value : Value) → IsValue value → ¬ (bytes ≡ value_spelling value))
 err_spelled bytes (Ok value) none = none
 err_spelled bytes (Err e) none = λ bad. none_said bytes (none bad)
 

@@ -24,12 +24,12 @@ abbrev pub bytes_spelling : List ℕ → List ℕ
 bytes_spelling text = flat_map byte_spelling text
 
 -- the one spelling of a value
-abbrev pub spelling : Value → List ℕ
-spelling Nil = codes "nil"
-spelling (Truth true) = codes "true"
-spelling (Truth false) = codes "false"
-spelling (Int z) = signed_decimal z
-spelling (Text text) = quote ∷ bytes_spelling text ++ quote ∷ []
+abbrev pub value_spelling : Value → List ℕ
+value_spelling Nil = codes "nil"
+value_spelling (Truth true) = codes "true"
+value_spelling (Truth false) = codes "false"
+value_spelling (Int z) = signed_decimal z
+value_spelling (Text text) = quote ∷ bytes_spelling text ++ quote ∷ []
 
 -- the bytes of a text: 0 to 255 of them
 pub record IsText (text : List ℕ) : Type 0 where

@@ -5,7 +5,7 @@ ghost use Rattle.std.specs.Str.{bytes_eq};
 ghost use Rattle.std.specs.Fmt.{digit_glyph, decimal, signed_decimal};
 ghost use Rattle.std.specs.Option.{option_map};
 ghost use Rattle.rd_base.specs.declared.values.Value.{Value};
-ghost use Rattle.rd_base.specs.Spelling.{is_plain, byte_spelling, bytes_spelling, spelling, IsValue};
+ghost use Rattle.rd_base.specs.Spelling.{is_plain, byte_spelling, bytes_spelling, value_spelling, IsValue};
 ghost use Rattle.rd_base.specs.ReadingValues.{hex_value, first_byte, next_of, inside_of, integer_of, is_quoted, text_of, value_of};
 
 use crate::byte_lists::Bytes;
@@ -32,7 +32,7 @@ pub enum ValueRefused {
 const LONGEST: usize = 255;
 
 // Are the bytes those of the word?
-fn is(bytes: &[u8], word: &str) -> bool
+fn bytes_are(bytes: &[u8], word: &str) -> bool
     ensures { result ≡ bytes_eq bytes.now word.now }
 {
     bytes == word.as_bytes()
@@ -267,13 +267,13 @@ fn is_text(bytes: &[u8]) -> bool
 pub fn is_value(bytes: &[u8]) -> bool
     ensures { result ≡ is_some (value_of bytes.now) }
 {
-    if is(bytes, "nil") {
+    if bytes_are(bytes, "nil") {
         return true;
     }
-    if is(bytes, "true") {
+    if bytes_are(bytes, "true") {
         return true;
     }
-    if is(bytes, "false") {
+    if bytes_are(bytes, "false") {
         return true;
     }
     if is_quoted(bytes) {
@@ -294,13 +294,13 @@ fn value(alloc: Global, bytes: &[u8]) -> Result<Value, ValueRefused>
     if let Some(number) = short_number(bytes) {
         return Ok(Value::Int(number as i64));
     }
-    if is(bytes, "nil") {
+    if bytes_are(bytes, "nil") {
         return Ok(Value::Nil);
     }
-    if is(bytes, "true") {
+    if bytes_are(bytes, "true") {
         return Ok(Value::Bool(true));
     }
-    if is(bytes, "false") {
+    if bytes_are(bytes, "false") {
         return Ok(Value::Bool(false));
     }
     if is_quoted(bytes) {
@@ -315,11 +315,11 @@ fn value(alloc: Global, bytes: &[u8]) -> Result<Value, ValueRefused>
 /// Reads a value from its spelling. The answer is `NotAValue` exactly if the bytes spell none. Only a
 /// text takes memory, so `NoMemory` comes only for bytes that spell a text.
 pub fn read_value(alloc: Global, bytes: &[u8]) -> Result<Value, ValueRefused>
-    ensures value { IfOk result (λ value. bytes.now ≡ spelling value) }
+    ensures value { IfOk result (λ value. bytes.now ≡ value_spelling value) }
     ensures range { IfOk result IsValue }
     ensures only { IfErr result
         (λ e. e ≡ ValueRefused.NotAValue → (value : Value) → IsValue value →
-        ¬ (bytes.now ≡ spelling value)) }
+        ¬ (bytes.now ≡ value_spelling value)) }
     ensures found { IfOk result (λ value. value_of bytes.now ≡ Some value) }
     ensures none { IfErr result (λ e. e ≡ ValueRefused.NotAValue → value_of bytes.now ≡ None) }
     ensures memory { IfErr result
@@ -347,7 +347,7 @@ fn quoted(text: &[u8]) -> ArrayVec<u8, 1022>
 
 /// Puts the spelling of a value behind a text. After want of memory the text is as before. Each value that code holds is in its range.
 pub fn append_value(text: &mut Bytes, value: &Value) -> Result<(), NoMemory>
-    ensures ok { OnOk result (text.new ≡ text.old ++ spelling value.now) }
+    ensures ok { OnOk result (text.new ≡ text.old ++ value_spelling value.now) }
     ensures err { OnErr result (text.new ≡ text.old) }
     ensures range { IsValue value.now }
 {
@@ -362,7 +362,7 @@ pub fn append_value(text: &mut Bytes, value: &Value) -> Result<(), NoMemory>
 
 /// The spelling of a value.
 pub fn spell_value(alloc: Global, value: &Value) -> Result<Bytes, NoMemory>
-    ensures { IfOk result (λ text. text ≡ spelling value.now) }
+    ensures { IfOk result (λ text. text ≡ value_spelling value.now) }
 {
     let mut text = Bytes::new(alloc);
     append_value(&mut text, value)?;
@@ -372,8 +372,8 @@ pub fn spell_value(alloc: Global, value: &Value) -> Result<Bytes, NoMemory>
 /// The law of the spelling of values: each value has one spelling of its own, `value_of` finds exactly the values that the
 /// bytes spell, and what it finds is in its range.
 pub fn law_of_values()
-    ensures one_spelling { (v w : Value) → IsValue v → IsValue w → spelling v ≡ spelling w → v ≡ w }
+    ensures one_spelling { (v w : Value) → IsValue v → IsValue w → value_spelling v ≡ value_spelling w → v ≡ w }
     ensures test { (bytes : List ℕ) (value : Value) → IsValue value →
-        (value_of bytes ≡ Some value ↔ (bytes ≡ spelling value)) }
+        (value_of bytes ≡ Some value ↔ (bytes ≡ value_spelling value)) }
     ensures range { (bytes : List ℕ) (value : Value) → value_of bytes ≡ Some value → IsValue value }
 {}

@@ -15,17 +15,17 @@ use Rattle.rd_event.specs.declared.items.LineEvent.{LineEvent}
 use Rattle.rd_event.specs.declared.items.LineEvent.TheVariants.{Fork, Join, Acquire, Release, Call}
 use Rattle.rd_order.specs.EventLists.{WellFormed, WellFormedWith, threads_after}
 use Rattle.rd_order.specs.Order.{forked_thread}
-use Rattle.rd_hb.specs.Tracker.{IsNextEvent, IsStamp, StandsFor, Tracking, event_bound}
+use Rattle.rd_hb.specs.Tracker.{IsNextEvent, IsStamp, TrackerStandsFor, Tracking, event_bound}
 use Rattle.rd_clock.specs.declared.clock.Stamp.{Stamp}
 use Rattle.rd_detect.proofs.DetectLemmas.{stands_quiet}
 use Rattle.rd_wf.proofs.EventsLemmas.{all_roots, events_more, no_events, roots_more, threads_more, told_formed, told_more}
 use Rattle.rd_detect.proofs.RaceLemmas.{not_reported}
 use Rattle.rd_check.proofs.ReportLemmas.{answer_text, event_numbers_more, events_all, next_races_is, next_text_is, passing, quiet_events, quiet_numbers, quiet_races, quiet_texts, races_more, races_within, texts_more}
 use Rattle.rd_walk.proofs.WalkLemmas.{items_more}
-use Rattle.rd_check.specs.Checking.{AreNamed, Checks, IsNextEventLine, IsNextLine, Leads, Tracks, next_races, next_text}
+use Rattle.rd_check.specs.Checking.{AreNamed, Checks, IsNextEventLine, IsNextLine, CheckLeads, Tracks, next_races, next_text}
 use Rattle.std.specs.Prelude.{max, min}
-use Rattle.rd_detect.specs.Commuting.{Commute, commuting}
-use Rattle.rd_detect.specs.Detect.{IsAnswer, IsNextCall, StandsFor as Detects}
+use Rattle.rd_detect.specs.Commuting.{Commute, calls_commute}
+use Rattle.rd_detect.specs.Detect.{IsAnswer, IsNextCall, DetectorStandsFor}
 use Rattle.rd_report.specs.Races.{IsKnownRace, IsNamed}
 use Rattle.rd_report.specs.Texts.{Naming, naming}
 use Rattle.rd_store.specs.declared.Race.{Race}
@@ -99,7 +99,7 @@ module _ (kinds : List Kind) where
     root_below = omega (arith, next.few, root_count_more)
 
     -- the tracker has one root more, and no event
-    pub root_tracks : (new : Tracking) → ((roots : ℕ → Bool) → StandsFor tracker roots [] → StandsFor new (λ t. roots t || (t == n)) []) → length new.threads ≡ length tracker.threads + 1
+    pub root_tracks : (new : Tracking) → ((roots : ℕ → Bool) → TrackerStandsFor tracker roots [] → TrackerStandsFor new (λ t. roots t || (t == n)) []) → length new.threads ≡ length tracker.threads + 1
         → Tracks kinds new (before ++ line ∷ [])
     root_tracks new stands count =
         let (name, is, number) = root_line before line n next.told_as in
@@ -110,10 +110,10 @@ module _ (kinds : List Kind) where
         events_more kinds before line ∙ ap (λ l. events_of kinds before ++ cons_option (event_of kinds before l) []) is
         ∙ append-nil (events_of kinds before) ∙ no_event in
         let roots_now : root_count (before ++ line ∷ []) ≡ n + 1 = roots_more before line ∙ ap (λ l. root_count before + cond (is_root l) 1 0) is ∙ ap (λ m. m + 1) total in
-        let was : StandsFor tracker (λ t. ltb t n) [] = subst (λ es. StandsFor tracker (λ t. ltb t n) es) no_event (subst (λ m. StandsFor tracker (λ t. ltb t m) (events_of kinds before)) total next.tracks.stands) in
-        let now : StandsFor new (λ t. ltb t (n + 1)) [] = subst (λ roots. StandsFor new roots []) (λ i t. below_or_last t n i) (stands (λ t. ltb t n) was) in record {
+        let was : TrackerStandsFor tracker (λ t. ltb t n) [] = subst (λ es. TrackerStandsFor tracker (λ t. ltb t n) es) no_event (subst (λ m. TrackerStandsFor tracker (λ t. ltb t m) (events_of kinds before)) total next.tracks.stands) in
+        let now : TrackerStandsFor new (λ t. ltb t (n + 1)) [] = subst (λ roots. TrackerStandsFor new roots []) (λ i t. below_or_last t n i) (stands (λ t. ltb t n) was) in record {
           told = told_next tracker before line (accepted.Root n) next;
-          stands = subst (λ es. StandsFor new (roots_of (before ++ line ∷ [])) es) (sym none_now) (subst (λ m. StandsFor new (λ t. ltb t m) []) (sym roots_now) now);
+          stands = subst (λ es. TrackerStandsFor new (roots_of (before ++ line ∷ [])) es) (sym none_now) (subst (λ m. TrackerStandsFor new (λ t. ltb t m) []) (sym roots_now) now);
           count = count ∙ ap (λ m. m + 1) (sym root_numbered) ∙ sym root_count_more;
         }
 
@@ -172,12 +172,12 @@ module _ (kinds : List Kind) where
           numbered = λ u begins. forked_next before event u (subst (λ x. forked_thread x ≡ Some u) number begins) ∙ sym next.tracks.count;
         }
 
-    pub event_tracks : (new : Tracking) → ((roots : ℕ → Bool) (es : List Numbered) → IsNextEvent tracker roots es e → StandsFor new roots (es ++ e ∷ []))
+    pub event_tracks : (new : Tracking) → ((roots : ℕ → Bool) (es : List Numbered) → IsNextEvent tracker roots es e → TrackerStandsFor new roots (es ++ e ∷ []))
         → length new.threads ≡ threads_after e (length tracker.threads) → Tracks kinds new (before ++ line ∷ [])
     event_tracks new stands count = record {
       told = told_next tracker before line (accepted.Event e) next;
-      stands = subst (λ es. StandsFor new (roots_of (before ++ line ∷ [])) es) (sym event_last)
-          (subst (λ m. StandsFor new (λ t. ltb t m) (events_of kinds before ++ e ∷ [])) (sym same_roots) (stands (roots_of before) (events_of kinds before) event_next));
+      stands = subst (λ es. TrackerStandsFor new (roots_of (before ++ line ∷ [])) es) (sym event_last)
+          (subst (λ m. TrackerStandsFor new (λ t. ltb t m) (events_of kinds before ++ e ∷ [])) (sym same_roots) (stands (roots_of before) (events_of kinds before) event_next));
       count = count ∙ sym event_threads;
     }
 
@@ -201,8 +201,8 @@ module _ (kinds : List Kind) where
       kept : is_root line ≡ false → begun_name line ≡ None → event_of kinds before line ≡ None → Tracks kinds tracker (before ++ line ∷ [])
       kept root begins event = record {
         told = told_next tracker before line numbers next;
-        stands = subst (λ es. StandsFor tracker (roots_of (before ++ line ∷ [])) es) (sym (events_more kinds before line ∙ ap (λ o. events_of kinds before ++ cons_option o []) event ∙ append-nil (events_of kinds before)))
-            (subst (λ m. StandsFor tracker (λ t. ltb t m) (events_of kinds before)) (sym (roots_more before line ∙ ap (λ b. root_count before + cond b 1 0) root ∙ omega arith)) next.tracks.stands);
+        stands = subst (λ es. TrackerStandsFor tracker (roots_of (before ++ line ∷ [])) es) (sym (events_more kinds before line ∙ ap (λ o. events_of kinds before ++ cons_option o []) event ∙ append-nil (events_of kinds before)))
+            (subst (λ m. TrackerStandsFor tracker (λ t. ltb t m) (events_of kinds before)) (sym (roots_more before line ∙ ap (λ b. root_count before + cond b 1 0) root ∙ omega arith)) next.tracks.stands);
         count = next.tracks.count ∙ sym (ap length (threads_more before line ∙ ap (λ o. threads_of before ++ cons_option o []) begins ∙ append-nil (threads_of before)));
       }
 
@@ -221,7 +221,7 @@ module _ (kinds : List Kind) where
 
 -- the line that a check is handed is the next one for its tracker
 pub next_line : (kinds : List Kind) (start now : Check) (entries : List Entry) (roster : Roster) (line : Line) (numbers : Accepted)
-    → Leads kinds start entries now → IsNextEntry kinds roster entries line numbers
+    → CheckLeads kinds start entries now → IsNextEntry kinds roster entries line numbers
     → IsNextLine (kinds_of start.spec.now) now.tracker (items entries) line numbers
 next_line kinds start now entries roster line numbers leads next =
     let same = leads.kinds_are in
@@ -262,7 +262,7 @@ module _ (start now : Check) (tracker : Tracking) (before : List Entry) (entry :
     formulas = checks.formulas;
     asks = checks.asks;
     tracks = tracks_now;
-    detects = subst (λ (T : Type 0). T) (λ i. Detects now.detector.calls (sym (quiet_numbers spec before entry quiet) i) (sym (quiet_events spec before entry quiet) i)) checks.detects;
+    detects = subst (λ (T : Type 0). T) (λ i. DetectorStandsFor now.detector.calls (sym (quiet_numbers spec before entry quiet) i) (sym (quiet_events spec before entry quiet) i)) checks.detects;
     held = checks.held ∙ sym (calls_more no_call);
     races = checks.races ∙ sym (quiet_races spec before entry quiet);
   }
@@ -271,14 +271,14 @@ module _ (start now : Check) (tracker : Tracking) (before : List Entry) (entry :
       → Checks start (before ++ entry ∷ []) new
   checks_other_event event is no_call other =
       let e : Numbered = numbered_event kinds (items before) event in
-      let none : latest_of (commuting spec) (entry_events spec before ++ e ∷ []) (length (entry_events spec before)) ≡ None
-      = not_reported (Commute spec) (commuting spec) (passing spec) (entry_events spec before) e other in record {
+      let none : latest_of (calls_commute spec) (entry_events spec before ++ e ∷ []) (length (entry_events spec before)) ≡ None
+      = not_reported (Commute spec) (calls_commute spec) (passing spec) (entry_events spec before) e other in record {
         starts = checks.starts;
         spec = checks.spec;
         formulas = checks.formulas;
         asks = checks.asks;
         tracks = tracks_now;
-        detects = subst (λ (T : Type 0). T) (λ i. Detects now.detector.calls (sym (event_numbers_more spec before entry event is) i) (sym (events_all spec before entry event is) i))
+        detects = subst (λ (T : Type 0). T) (λ i. DetectorStandsFor now.detector.calls (sym (event_numbers_more spec before entry event is) i) (sym (events_all spec before entry event is) i))
             (stands_quiet now.detector.calls (event_numbers before) (entry_events spec before) entry.number e other checks.detects);
         held = checks.held ∙ sym (calls_more no_call);
         races = checks.races ∙ sym (races_more spec before entry event is ∙ ap (λ o. races_of spec before + cond (is_some o) 1 0) none ∙ omega arith);
@@ -318,7 +318,7 @@ texts_quiet kinds tracker before entry numbers next other = by entry.item refl
         texts_more kinds before entry event is told
         ∙ ap (λ o. race_texts kinds before ++ text_with (race_at kinds (naming (items before ++ entry.item ∷ [])) (event_numbers before ++ entry.number ∷ [])
         (entry_events kinds before ++ numbered_event (kinds_of kinds) (items before) event ∷ [])) (length (entry_events kinds before)) o)
-        (not_reported (Commute kinds) (commuting kinds) (passing kinds) (entry_events kinds before) (numbered_event (kinds_of kinds) (items before) event) no_call)
+        (not_reported (Commute kinds) (calls_commute kinds) (passing kinds) (entry_events kinds before) (numbered_event (kinds_of kinds) (items before) event) no_call)
         ∙ append-nil (race_texts kinds before)
 
     by : (item : Line) → entry.item ≡ item → race_texts kinds (before ++ entry ∷ []) ≡ race_texts kinds before
@@ -431,7 +431,7 @@ module _ (start now : Check) (before : List Entry) (entry : Entry) (e : Numbered
 
   -- what is kept, and what is written
   pub checks_call : (new : Check) → new.spec.now ≡ now.spec.now → new.formulas ≡ now.formulas → new.detector.kinds ≡ now.detector.kinds → Tracks known new.tracker (items before ++ entry.item ∷ [])
-      → Detects new.detector.calls (event_numbers before ++ entry.number ∷ []) (es ++ numbered.Call call ∷ []) → length new.detector.calls ≡ length now.detector.calls + 1
+      → DetectorStandsFor new.detector.calls (event_numbers before ++ entry.number ∷ []) (es ++ numbered.Call call ∷ []) → length new.detector.calls ≡ length now.detector.calls + 1
       → new.races ≡ now.races + next_races asked es (numbered.Call call) → Checks start (before ++ entry ∷ []) new
   checks_call new one_spec one_formulas one_kinds tracks detects held races =
       let (event, is, same) = event_is in record {
@@ -441,7 +441,7 @@ module _ (start now : Check) (before : List Entry) (entry : Entry) (e : Numbered
         asks = one_kinds ∙ checks.asks;
         tracks = subst (Tracks known new.tracker) (sym (items_more before entry)) tracks;
         detects = subst (λ (T : Type 0). T)
-            (λ i. Detects new.detector.calls (sym (event_numbers_more asked before entry event is) i) ((ap (λ e. es ++ e ∷ []) same ∙ sym (events_all asked before entry event is)) i)) detects;
+            (λ i. DetectorStandsFor new.detector.calls (sym (event_numbers_more asked before entry event is) i) ((ap (λ e. es ++ e ∷ []) same ∙ sym (events_all asked before entry event is)) i)) detects;
         held = held ∙ ap (λ n. n + 1) checks.held ∙ ap (λ b. call_count (items before) + cond b 1 0) (sym is_called)
             ∙ sym (ap call_count (items_more before entry) ∙ sum_by_push (λ l. cond (is_call l) 1 0) (items before) entry.item);
         races = races ∙ ap (λ n. n + next_races asked es (numbered.Call call)) checks.races ∙ ap (λ e. races_of asked before + next_races asked es e) same ∙ sym (races_more asked before entry event is);

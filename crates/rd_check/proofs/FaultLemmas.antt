@@ -6,8 +6,8 @@ use Rattle.rd_report.specs.Texts.{ending_text}
 use Rattle.rd_wf.specs.Events.{AreAccepted}
 use Rattle.rd_event.specs.declared.items.Line.{Line}
 use Rattle.rd_io.proofs.FaultLemmas.{front_reading}
-use Rattle.rd_io.specs.Lines.{IsFrontOf, Stop, Reading, reading}
-use Rattle.rd_io.specs.Lines.Ending.{at_end, bytes_limit, faulted, line_too_long, no_final_newline}
+use Rattle.rd_io.specs.Lines.{IsFrontOfReading, Stop, Reading, reading}
+use Rattle.rd_io.specs.Lines.LinesEnding.{at_end, bytes_limit, faulted, line_too_long, no_final_newline}
 use Rattle.rd_io.specs.Lines.Reading.{stops, line}
 use Rattle.rd_io.specs.Lines.Stop.{fault}
 use Rattle.rd_ecl.specs.Kinds.{Kind, kinds_of}
@@ -18,7 +18,7 @@ use Rattle.rd_check.proofs.OutcomeLemmas.{front_outcome}
 use Rattle.rd_walk.specs.Output.{IsFront}
 use Rattle.rd_check.specs.Checked.{check_outcome, entries_ending, race_texts, races_of}
 use Rattle.rd_replaying.specs.Endings.{thread_names}
-use Rattle.rd_walk.specs.Walk.{Entry, Walked, after, ending_of, ends, entries_of, goes, goes_or_ends, items, judged, trace_of, walk}
+use Rattle.rd_walk.specs.Walk.{Entry, Walked, after, ending_of, ends, entries_of, goes, goes_or_ends, items, judgement_of, trace_of, walk}
 use Rattle.rd_walk.specs.declared.walk.WalkEnd.TheVariants.{Fault}
 use Rattle.rd_wf.specs.declared.causes.TraceCause.{TraceCause}
 
@@ -32,7 +32,7 @@ cut_more entry walked whole (inl same) = inl (ap (goes entry) same)
 cut_more entry walked whole (inr (entries, later, cut, is)) = inr (entry ∷ entries, later, ap (goes entry) cut, ap (goes entry) is)
 
 module _ (kinds : List Kind) (limits : Limits) where
-  cut_walk : (before : List Line) (number : ℕ) (lines whole : Reading) → IsFrontOf lines whole
+  cut_walk : (before : List Line) (number : ℕ) (lines whole : Reading) → IsFrontOfReading lines whole
       → IsCutOf (walk kinds limits before number lines) (walk kinds limits before number whole)
   unfolding IsCutOf walk after
   cut_walk before number (stops at_end) whole is = inl (ap (walk kinds limits before number) (sym is))
@@ -42,7 +42,7 @@ module _ (kinds : List Kind) (limits : Limits) where
   cut_walk before number (stops faulted) whole is = inr ([], walk kinds limits before number whole, refl, refl)
   cut_walk before number (line bytes more) whole (later, is, front) =
       subst (IsCutOf (walk kinds limits before number (line bytes more))) (ap (walk kinds limits before number) (sym is))
-      (by (judged kinds limits before bytes) (λ item. cut_walk (before ++ item ∷ []) (number + 1) more later front))
+      (by (judgement_of kinds limits before bytes) (λ item. cut_walk (before ++ item ∷ []) (number + 1) more later front))
     where
       by : (r : Result Line TraceCause)
           → ((item : Line) → IsCutOf (walk kinds limits (before ++ item ∷ []) (number + 1) more) (walk kinds limits (before ++ item ∷ []) (number + 1) later))

@@ -19,12 +19,12 @@ use Rattle.rd_ecl.specs.Specified.{SpecifiedKind}
 use Rattle.rd_wf.specs.MayFollow.{first_broken}
 use Rattle.rd_wf.specs.declared.causes.WfCause.{WfCause}
 use Rattle.rd_walk.proofs.AcceptedLemmas.{trace_accepted}
-use Rattle.rd_detect.specs.Commuting.{Commute, commuting}
+use Rattle.rd_detect.specs.Commuting.{Commute, calls_commute}
 use Rattle.rd_check.proofs.ReportLemmas.{passing, texts_report}
 use Rattle.rd_check.specs.Checked.{check_outcome, entry_events, race_texts, races_before, races_of}
 use Rattle.rd_check.proofs.DeclaredLemmas.{calls_declared}
 use Rattle.rd_check.specs.Reports.{IsAcceptedLine, IsChecked, IsRefusedLine, IsWalk, SaysItem}
-use Rattle.rd_walk.specs.Walk.{Walked, accepted_or, ending_of, entries_of, goes_or_ends, items, judged, judged_item, trace_of, walk}
+use Rattle.rd_walk.specs.Walk.{Walked, accepted_or, ending_of, entries_of, goes_or_ends, items, judgement_of, judgement_of_item, trace_of, walk}
 use Rattle.rd_wf.specs.declared.causes.TraceCause.{TraceCause}
 
 -- ---- the accepted lines
@@ -40,13 +40,13 @@ module _ (kinds : List Kind) (limits : Limits) (before : List Line) (bytes : Lis
   judged_followed item None is said = record { said = said; follows = follows_from_none kinds limits before item is }
   judged_followed item (Some cause) is said = (item, cause, said, broken_from_some kinds limits before item cause is, refl)
 
-  judged_found : (found : Option Line) → item_of bytes ≡ found → IsJudged (judged_item kinds limits before found)
+  judged_found : (found : Option Line) → item_of bytes ≡ found → IsJudged (judgement_of_item kinds limits before found)
   judged_found None is = none_said bytes is
   judged_found (Some item) is =
       judged_followed item (first_broken kinds limits before item) refl (record { range = (found_said bytes item is).0; says = (found_said bytes item is).1 })
 
-  judged_is : IsJudged (judged kinds limits before bytes)
-  unfolding judged
+  judged_is : IsJudged (judgement_of kinds limits before bytes)
+  unfolding judgement_of
   judged_is = judged_found (item_of bytes) refl
 
 walk_is : (kinds : List Kind) (limits : Limits) (before : List Line) (number : ℕ) (lines : Reading)
@@ -54,7 +54,7 @@ walk_is : (kinds : List Kind) (limits : Limits) (before : List Line) (number : �
 unfolding walk entries_of ending_of
 walk_is kinds limits before number (stops end) = (refl, refl)
 walk_is kinds limits before number (line bytes more) =
-    by (λ item. walk kinds limits (before ++ item ∷ []) (number + 1) more) (judged kinds limits before bytes) (judged_is kinds limits before bytes)
+    by (λ item. walk kinds limits (before ++ item ∷ []) (number + 1) more) (judgement_of kinds limits before bytes) (judged_is kinds limits before bytes)
     (λ item. walk_is kinds limits (before ++ item ∷ []) (number + 1) more)
   where
     by : (next : Line → Walked) (r : Result Line TraceCause) → IsJudged kinds limits before bytes r
@@ -66,15 +66,15 @@ walk_is kinds limits before number (line bytes more) =
 -- ---- how many calls are reported
 
 module _ (kinds : List SpecifiedKind) where
-  counted_before : (es : List Event) (n : ℕ) → Counts (Reported (Commute kinds) es) n (races_before (commuting kinds) es n)
+  counted_before : (es : List Event) (n : ℕ) → Counts (Reported (Commute kinds) es) n (races_before (calls_commute kinds) es n)
   unfolding races_before
   counted_before es zero = refl
-  counted_before es (suc n) = by (counted_before es n) (latest_of (commuting kinds) es n) (latest_is (Commute kinds) (commuting kinds) (passing kinds) es n)
+  counted_before es (suc n) = by (counted_before es n) (latest_of (calls_commute kinds) es n) (latest_is (Commute kinds) (calls_commute kinds) (passing kinds) es n)
     where
-      by : Counts (Reported (Commute kinds) es) n (races_before (commuting kinds) es n) → (o : Option ℕ) → MatchOption o (¬ (Reported (Commute kinds) es n)) (IsLatest (Commute kinds) es n)
-          → Counts (Reported (Commute kinds) es) (suc n) (races_before (commuting kinds) es n + cond (is_some o) 1 0)
+      by : Counts (Reported (Commute kinds) es) n (races_before (calls_commute kinds) es n) → (o : Option ℕ) → MatchOption o (¬ (Reported (Commute kinds) es n)) (IsLatest (Commute kinds) es n)
+          → Counts (Reported (Commute kinds) es) (suc n) (races_before (calls_commute kinds) es n + cond (is_some o) 1 0)
       by rest None none = inr (none, subst (Counts (Reported (Commute kinds) es) n) (omega arith) rest)
-      by rest (Some i) is = inl ((i, is.racing), (races_before (commuting kinds) es n, omega arith, rest))
+      by rest (Some i) is = inl ((i, is.racing), (races_before (calls_commute kinds) es n, omega arith, rest))
 
   pub checked : (limits : Limits) → AreUsable limits → limits.threads < 2 ^ 32 → (stop : Stop) (bytes : List ℕ)
       → IsChecked kinds limits stop bytes (check_outcome kinds (trace_of (kinds_of kinds) limits stop bytes))

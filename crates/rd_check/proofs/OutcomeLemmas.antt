@@ -8,10 +8,10 @@ use Rattle.rd_replaying.proofs.EndingLemmas.{well_end}
 use Rattle.rd_check.proofs.ReportLemmas.{texts_front}
 use Rattle.rd_walk.proofs.FileLemmas.{ending_at, entries_at}
 use Rattle.rd_walk.proofs.WalkLemmas.{entries_after}
-use Rattle.rd_check.specs.Checking.{Begins}
+use Rattle.rd_check.specs.Checking.{CheckBegins}
 use Rattle.rd_walk.specs.Output.{IsFront, IsOutput, IsWell, Outcome}
 use Rattle.rd_check.specs.Checked.{check_outcome, entries_ending, race_texts, races_of}
-use Rattle.rd_replaying.specs.Endings.{check_status, reported, thread_names}
+use Rattle.rd_replaying.specs.Endings.{check_status, ending_of_report, thread_names}
 use Rattle.rd_replaying.specs.Replaying.{replay_of}
 use Rattle.rd_walk.specs.Walk.{Entry, Walked, after, ending_of, ends, entries_of, items}
 use Rattle.rd_check.specs.declared.checking.Check.{Check as CheckOf}
@@ -64,10 +64,10 @@ ended_so names races ending = record { text = ending_text names races ending; st
 -- of `check`
 pub check_concluded : (status : Status) (part : List ℕ) (spec : List SpecifiedKind) (kinds : List Kind) (entries : List Entry) (end : WalkEnd)
     (names : List (List ℕ)) (races : ℕ) (ending : Ending) → kinds ≡ kinds_of spec → names ≡ thread_names entries → races ≡ races_of spec entries
-    → ending ≡ reported (replay_of kinds entries) end → IsOutput status part (ended_so names races ending)
+    → ending ≡ ending_of_report (replay_of kinds entries) end → IsOutput status part (ended_so names races ending)
     → IsOutput status (race_texts spec entries ++ part) (check_outcome spec (after entries (ends end)))
 check_concluded status part spec kinds entries end names races ending are named counted ended output =
-    let so : ending ≡ entries_ending spec entries end = ended ∙ ap (λ k. reported (replay_of k entries) end) are in
+    let so : ending ≡ entries_ending spec entries end = ended ∙ ap (λ k. ending_of_report (replay_of k entries) end) are in
     let all = subst (IsOutput status part) (λ i. ended_so (named i) (counted i) (so i)) output in
     subst (IsOutput status (race_texts spec entries ++ part)) (sym (outcome_at spec entries end))
     (behind status (race_texts spec entries) part (ending_text (thread_names entries) (races_of spec entries) (entries_ending spec entries end))
@@ -79,7 +79,7 @@ check_front spec entries end =
     let text = ending_text (thread_names entries) (races_of spec entries) (entries_ending spec entries end) in
     (text, ap (λ o. o.text) (outcome_at spec entries end) ∙ ap (λ t. t ++ text) (sym (append-nil (race_texts spec entries))))
 
-pub check_fronts : (kinds : List Kind) (start : CheckOf) (entries : List Entry) (walked : Walked) → Begins kinds start
+pub check_fronts : (kinds : List Kind) (start : CheckOf) (entries : List Entry) (walked : Walked) → CheckBegins kinds start
     → AreAccepted kinds (items (entries_of (after entries walked))) → IsFront (race_texts start.spec.now entries) (check_outcome start.spec.now (after entries walked)).text
 check_fronts kinds start entries walked begins accepted =
     front_outcome start.spec.now entries walked (subst (λ k. AreAccepted k (items (entries_of (after entries walked)))) begins.kinds_are accepted)

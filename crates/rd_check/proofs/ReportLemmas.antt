@@ -17,7 +17,7 @@ use Rattle.rd_wf.proofs.EventsLemmas.{events_more, told_from}
 use Rattle.rd_detect.proofs.RaceLemmas.{latest_is, latest_longer, latest_none, latest_some}
 use Rattle.rd_walk.proofs.WalkLemmas.{items_more}
 use Rattle.rd_check.specs.Checking.{next_races, next_text}
-use Rattle.rd_detect.specs.Commuting.{Commute, commuting}
+use Rattle.rd_detect.specs.Commuting.{Commute, calls_commute}
 use Rattle.rd_detect.specs.Detect.{IsAnswer}
 use Rattle.rd_wf.specs.Events.{AreAcceptedFrom, AreTold, IsAccepted, event_of, events_from, events_of}
 use Rattle.rd_ecl.specs.Kinds.{Kind, kinds_of}
@@ -65,7 +65,7 @@ told_next : (kinds : List Kind) (lines : List Line) (line : Line) → IsAccepted
 told_next kinds lines line accepted told = told_from kinds lines (line ∷ []) told (accepted, tt)
 
 -- a test of commuting tells which calls commute
-pub passing : (kinds : List SpecifiedKind) (a b : CallOf) → Decides (commuting kinds a b) (Commute kinds a b)
+pub passing : (kinds : List SpecifiedKind) (a b : CallOf) → Decides (calls_commute kinds a b) (Commute kinds a b)
 passing kinds a b = (λ h. h, λ h. h)
 
 module _ (kinds : List SpecifiedKind) where
@@ -73,24 +73,24 @@ module _ (kinds : List SpecifiedKind) where
 
   module _ (text more_text : ℕ → ℕ → List ℕ) (es fs : List Numbered)
       (kept : (n i : ℕ) → n < length es → i < length es → more_text n i ≡ text n i) where
-    text_longer : (n : ℕ) → n < length es → text_with more_text n (latest_of (commuting kinds) (es ++ fs) n) ≡ text_with text n (latest_of (commuting kinds) es n)
+    text_longer : (n : ℕ) → n < length es → text_with more_text n (latest_of (calls_commute kinds) (es ++ fs) n) ≡ text_with text n (latest_of (calls_commute kinds) es n)
     text_longer n inside =
-        ap (text_with more_text n) (latest_longer (Commute kinds) (commuting kinds) (passing kinds) es fs n inside)
-        ∙ by (latest_of (commuting kinds) es n) (latest_is (Commute kinds) (commuting kinds) (passing kinds) es n)
+        ap (text_with more_text n) (latest_longer (Commute kinds) (calls_commute kinds) (passing kinds) es fs n inside)
+        ∙ by (latest_of (calls_commute kinds) es n) (latest_is (Commute kinds) (calls_commute kinds) (passing kinds) es n)
       where
         by : (o : Option ℕ) → MatchOption o (¬ (Reported (Commute kinds) es n)) (IsLatest (Commute kinds) es n) → text_with more_text n o ≡ text_with text n o
         by None none = refl
         by (Some i) is = (let before : i < n = is.racing.unordered.0 in kept n i inside (omega arith))
 
-    texts_longer : (n : ℕ) → n ≤ length es → texts_before (commuting kinds) more_text (es ++ fs) n ≡ texts_before (commuting kinds) text es n
+    texts_longer : (n : ℕ) → n ≤ length es → texts_before (calls_commute kinds) more_text (es ++ fs) n ≡ texts_before (calls_commute kinds) text es n
     unfolding texts_before
     texts_longer zero inside = refl
     texts_longer (suc n) inside = λ i. texts_longer n (omega arith) i ++ text_longer n (omega arith) i
 
-  races_longer : (es fs : List Numbered) (n : ℕ) → n ≤ length es → races_before (commuting kinds) (es ++ fs) n ≡ races_before (commuting kinds) es n
+  races_longer : (es fs : List Numbered) (n : ℕ) → n ≤ length es → races_before (calls_commute kinds) (es ++ fs) n ≡ races_before (calls_commute kinds) es n
   unfolding races_before
   races_longer es fs zero inside = refl
-  races_longer es fs (suc n) inside = λ i. races_longer es fs n (omega arith) i + cond (is_some (latest_longer (Commute kinds) (commuting kinds) (passing kinds) es fs n (omega arith) i)) 1 0
+  races_longer es fs (suc n) inside = λ i. races_longer es fs n (omega arith) i + cond (is_some (latest_longer (Commute kinds) (calls_commute kinds) (passing kinds) es fs n (omega arith) i)) 1 0
 
   -- ---- one line more
 
@@ -132,12 +132,12 @@ module _ (kinds : List SpecifiedKind) where
           = λ n i inside before.
           (λ k. race_at kinds (naming (items_more entries entry k)) ((no_number ∙ sym (append-nil numbers)) k) ((no_event ∙ sym (append-nil es)) k) n i)
           ∙ race_longer kinds (items entries) told entry.item numbers [] [] (numbers_counted kinds entries) n i inside before in
-          (λ k. texts_before (commuting kinds) text ((no_event ∙ sym (append-nil es)) k) (length (no_event k)))
+          (λ k. texts_before (calls_commute kinds) text ((no_event ∙ sym (append-nil es)) k) (length (no_event k)))
           ∙ texts_longer (entries_race kinds entries) text es [] same_text (length es) (omega arith)
 
       pub quiet_races : races_of kinds (entries ++ entry ∷ []) ≡ races_of kinds entries
       unfolding races_of
-      quiet_races = λ i. races_before (commuting kinds) (no_event i) (length (no_event i))
+      quiet_races = λ i. races_before (calls_commute kinds) (no_event i) (length (no_event i))
 
     -- it is an event
     module _ (event : LineEvent) (is : entry.item ≡ Event event) where
@@ -159,8 +159,8 @@ module _ (kinds : List SpecifiedKind) where
           let text = race_at kinds (naming (items entries ++ entry.item ∷ [])) (numbers ++ entry.number ∷ []) (es ++ e ∷ []) in
           let same_text : (n i : ℕ) → n < length es → i < length es → text n i ≡ entries_race kinds entries n i
           = race_longer kinds (items entries) told entry.item numbers (entry.number ∷ []) (e ∷ []) (numbers_counted kinds entries) in
-          (λ k. texts_before (commuting kinds) (race_at kinds (naming (items_more entries entry k)) (event_numbers_more k) (events_all k)) (events_all k) (length (events_all k)))
-          ∙ ap (texts_before (commuting kinds) text (es ++ e ∷ [])) (length_more es e)
+          (λ k. texts_before (calls_commute kinds) (race_at kinds (naming (items_more entries entry k)) (event_numbers_more k) (events_all k)) (events_all k) (length (events_all k)))
+          ∙ ap (texts_before (calls_commute kinds) text (es ++ e ∷ [])) (length_more es e)
           ∙ ap (λ t. t ++ next_text kinds (naming (items entries ++ entry.item ∷ [])) numbers entry.number es e)
           (texts_longer (entries_race kinds entries) text es (e ∷ []) same_text (length es) (omega arith))
 
@@ -168,8 +168,8 @@ module _ (kinds : List SpecifiedKind) where
       unfolding races_of races_before
       races_more =
           let es : List Numbered = entry_events kinds entries in
-          (λ i. races_before (commuting kinds) (events_all i) (length (events_all i)))
-          ∙ ap (races_before (commuting kinds) (es ++ e ∷ [])) (length_more es e)
+          (λ i. races_before (calls_commute kinds) (events_all i) (length (events_all i)))
+          ∙ ap (races_before (calls_commute kinds) (es ++ e ∷ [])) (length_more es e)
           ∙ ap (λ n. n + next_races kinds es e) (races_longer es (e ∷ []) (length es) (omega arith))
 
   -- the texts of further lines come behind those before
@@ -203,12 +203,12 @@ module _ (kinds : List SpecifiedKind) where
 
   -- ---- how many are reported
 
-  races_few : (es : List Numbered) (n : ℕ) → races_before (commuting kinds) es n ≤ n
+  races_few : (es : List Numbered) (n : ℕ) → races_before (calls_commute kinds) es n ≤ n
   unfolding races_before
   races_few es zero = omega arith
-  races_few es (suc n) = by (is_some (latest_of (commuting kinds) es n)) (races_few es n)
+  races_few es (suc n) = by (is_some (latest_of (calls_commute kinds) es n)) (races_few es n)
     where
-      by : (b : Bool) → races_before (commuting kinds) es n ≤ n → races_before (commuting kinds) es n + cond b 1 0 ≤ suc n
+      by : (b : Bool) → races_before (calls_commute kinds) es n ≤ n → races_before (calls_commute kinds) es n + cond b 1 0 ≤ suc n
       by true few = omega arith
       by false few = omega arith
 
@@ -216,21 +216,21 @@ module _ (kinds : List SpecifiedKind) where
   unfolding races_of
   races_within entries = races_few (entry_events kinds entries) (length (entry_events kinds entries))
 
-  none_before : (es : List Numbered) (n : ℕ) → races_before (commuting kinds) es n ≡ 0 ↔ ((j : ℕ) → j < n → ¬ (Reported (Commute kinds) es j))
+  none_before : (es : List Numbered) (n : ℕ) → races_before (calls_commute kinds) es n ≡ 0 ↔ ((j : ℕ) → j < n → ¬ (Reported (Commute kinds) es j))
   unfolding races_before
   none_before es zero = (λ none j below. absurd (omega arith), λ none. refl)
   none_before es (suc n) = (
     λ none j below reported. elim (cases_eq j n) [
-      | inl same ↦ by (latest_of (commuting kinds) es n) (latest_is (Commute kinds) (commuting kinds) (passing kinds) es n) (last_none none) (subst (Reported (Commute kinds) es) same reported)
+      | inl same ↦ by (latest_of (calls_commute kinds) es n) (latest_is (Commute kinds) (calls_commute kinds) (passing kinds) es n) (last_none none) (subst (Reported (Commute kinds) es) same reported)
       | inr other ↦ (none_before es n).0 (omega (arith, none)) j (omega arith) reported
     ],
     λ none.
-        let rest : races_before (commuting kinds) es n ≡ 0 = (none_before es n).1 (λ j below. none j (omega arith)) in
-        let last : latest_of (commuting kinds) es n ≡ None = latest_none (Commute kinds) (commuting kinds) (passing kinds) es n (none n (omega arith)) in
-        ap (λ o. races_before (commuting kinds) es n + cond (is_some o) 1 0) last ∙ omega arith,
+        let rest : races_before (calls_commute kinds) es n ≡ 0 = (none_before es n).1 (λ j below. none j (omega arith)) in
+        let last : latest_of (calls_commute kinds) es n ≡ None = latest_none (Commute kinds) (calls_commute kinds) (passing kinds) es n (none n (omega arith)) in
+        ap (λ o. races_before (calls_commute kinds) es n + cond (is_some o) 1 0) last ∙ omega arith,
   )
     where
-      last_none : races_before (commuting kinds) es n + cond (is_some (latest_of (commuting kinds) es n)) 1 0 ≡ 0 → ◌≡◌ {A = ℕ} (cond (is_some (latest_of (commuting kinds) es n)) 1 0) 0
+      last_none : races_before (calls_commute kinds) es n + cond (is_some (latest_of (calls_commute kinds) es n)) 1 0 ≡ 0 → ◌≡◌ {A = ℕ} (cond (is_some (latest_of (calls_commute kinds) es n)) 1 0) 0
       last_none none = omega arith
 
       by : (o : Option ℕ) → MatchOption o (¬ (Reported (Commute kinds) es n)) (IsLatest (Commute kinds) es n) → ◌≡◌ {A = ℕ} (cond (is_some o) 1 0) 0 → ¬ (Reported (Commute kinds) es n)
@@ -246,13 +246,13 @@ module _ (kinds : List SpecifiedKind) where
         λ none. counted.1 (λ j below. none j),
       )
 
-  some_before : (es : List Numbered) (n : ℕ) → races_before (commuting kinds) es n ≢ 0 → (j : ℕ) × Reported (Commute kinds) es j
+  some_before : (es : List Numbered) (n : ℕ) → races_before (calls_commute kinds) es n ≢ 0 → (j : ℕ) × Reported (Commute kinds) es j
   unfolding races_before
   some_before es zero some = absurd (some refl)
-  some_before es (suc n) some = by (latest_of (commuting kinds) es n) refl (latest_is (Commute kinds) (commuting kinds) (passing kinds) es n) (some_before es n)
+  some_before es (suc n) some = by (latest_of (calls_commute kinds) es n) refl (latest_is (Commute kinds) (calls_commute kinds) (passing kinds) es n) (some_before es n)
     where
-      by : (o : Option ℕ) → latest_of (commuting kinds) es n ≡ o → MatchOption o (¬ (Reported (Commute kinds) es n)) (IsLatest (Commute kinds) es n) → (races_before (commuting kinds) es n ≢ 0 → (j : ℕ) × Reported (Commute kinds) es j) → (j : ℕ) × Reported (Commute kinds) es j
-      by None last none earlier = earlier (λ rest. some (ap (λ o. races_before (commuting kinds) es n + cond (is_some o) 1 0) last ∙ omega arith))
+      by : (o : Option ℕ) → latest_of (calls_commute kinds) es n ≡ o → MatchOption o (¬ (Reported (Commute kinds) es n)) (IsLatest (Commute kinds) es n) → (races_before (calls_commute kinds) es n ≢ 0 → (j : ℕ) × Reported (Commute kinds) es j) → (j : ℕ) × Reported (Commute kinds) es j
+      by None last none earlier = earlier (λ rest. some (ap (λ o. races_before (calls_commute kinds) es n + cond (is_some o) 1 0) last ∙ omega arith))
       by (Some i) last is earlier = (n, (i, is.racing))
 
   some_reported : (entries : List Entry) → races_of kinds entries ≢ 0 → (j : ℕ) × Reported (Commute kinds) (entry_events kinds entries) j
@@ -327,16 +327,16 @@ module _ (kinds : List SpecifiedKind) where
 
   -- ---- the texts are a report
 
-  report_before : (text : ℕ → ℕ → List ℕ) (es : List Numbered) (n : ℕ) → IsReport (Commute kinds) text es n (texts_before (commuting kinds) text es n)
+  report_before : (text : ℕ → ℕ → List ℕ) (es : List Numbered) (n : ℕ) → IsReport (Commute kinds) text es n (texts_before (calls_commute kinds) text es n)
   unfolding texts_before
   report_before text es zero = refl
   report_before text es (suc n) =
-      (texts_before (commuting kinds) text es n, report_before text es n, by (latest_of (commuting kinds) es n) (latest_is (Commute kinds) (commuting kinds) (passing kinds) es n))
+      (texts_before (calls_commute kinds) text es n, report_before text es n, by (latest_of (calls_commute kinds) es n) (latest_is (Commute kinds) (calls_commute kinds) (passing kinds) es n))
     where
       by : (o : Option ℕ) → MatchOption o (¬ (Reported (Commute kinds) es n)) (IsLatest (Commute kinds) es n)
-          → (¬ (Reported (Commute kinds) es n) × (texts_before (commuting kinds) text es n ++ text_with text n o ≡ texts_before (commuting kinds) text es n))
-          ⊎ ((i : ℕ) × IsLatest (Commute kinds) es n i × (texts_before (commuting kinds) text es n ++ text_with text n o ≡ texts_before (commuting kinds) text es n ++ text n i))
-      by None none = inl (none, append-nil (texts_before (commuting kinds) text es n))
+          → (¬ (Reported (Commute kinds) es n) × (texts_before (calls_commute kinds) text es n ++ text_with text n o ≡ texts_before (calls_commute kinds) text es n))
+          ⊎ ((i : ℕ) × IsLatest (Commute kinds) es n i × (texts_before (calls_commute kinds) text es n ++ text_with text n o ≡ texts_before (calls_commute kinds) text es n ++ text n i))
+      by None none = inl (none, append-nil (texts_before (calls_commute kinds) text es n))
       by (Some i) is = inr (i, is, refl)
 
   pub texts_report : (entries : List Entry) → IsReport (Commute kinds) (entries_race kinds entries) (entry_events kinds entries) (length (entry_events kinds entries)) (race_texts kinds entries)
@@ -355,12 +355,12 @@ module _ (kinds : List SpecifiedKind) where
 
     text_answered : (answer : Option Race) → IsAnswer kinds (numbers ++ number ∷ []) now (length es) answer → next_text kinds names numbers number es (Call call) ≡ answer_text names answer
     unfolding race_at
-    text_answered None none = ap (text_with (race_at kinds names (numbers ++ number ∷ []) now) (length es)) (latest_none (Commute kinds) (commuting kinds) (passing kinds) now (length es) none)
+    text_answered None none = ap (text_with (race_at kinds names (numbers ++ number ∷ []) now) (length es)) (latest_none (Commute kinds) (calls_commute kinds) (passing kinds) now (length es) none)
     text_answered (Some race) (i, latest, is) =
         let all : List ℕ = numbers ++ number ∷ [] in
         let later = witness_told all now is.later is.at_j in
         let earlier = witness_told all now is.earlier is.at_i in
-        ap (text_with (race_at kinds names all now) (length es)) (latest_some (Commute kinds) (commuting kinds) (passing kinds) now (length es) i latest)
+        ap (text_with (race_at kinds names all now) (length es)) (latest_some (Commute kinds) (calls_commute kinds) (passing kinds) now (length es) i latest)
         ∙ (λ k. calls_text (λ b a. race_text kinds names (told_at all now (sym is.later_place k) b) (told_at all now (sym is.earlier_place k) a))
         (slice_get now (sym is.later_place k)) (slice_get now (sym is.earlier_place k)))
         ∙ (λ k. calls_text (λ b a. race_text kinds names (told_at all now is.later.place b) (told_at all now is.earlier.place a)) (is.at_j.call k) (is.at_i.call k))
@@ -368,8 +368,8 @@ module _ (kinds : List SpecifiedKind) where
         ∙ (λ k. race_text kinds names (told_by (sym is.is.later_is k)) (told_by (sym is.is.earlier_is k)))
 
     races_answered : (answer : Option Race) → IsAnswer kinds (numbers ++ number ∷ []) now (length es) answer → next_races kinds es (Call call) ≡ cond (is_some answer) 1 0
-    races_answered None none = ap (λ o. cond (is_some o) 1 0) (latest_none (Commute kinds) (commuting kinds) (passing kinds) now (length es) none)
-    races_answered (Some race) answer = ap (λ o. cond (is_some o) 1 0) (latest_some (Commute kinds) (commuting kinds) (passing kinds) now (length es) answer.0 answer.1)
+    races_answered None none = ap (λ o. cond (is_some o) 1 0) (latest_none (Commute kinds) (calls_commute kinds) (passing kinds) now (length es) none)
+    races_answered (Some race) answer = ap (λ o. cond (is_some o) 1 0) (latest_some (Commute kinds) (calls_commute kinds) (passing kinds) now (length es) answer.0 answer.1)
 
     module _ (place : ℕ) (last : place ≡ length es) (answer : Option Race) (is : IsAnswer kinds (numbers ++ number ∷ []) now place answer) where
       at_last : IsAnswer kinds (numbers ++ number ∷ []) now (length es) answer

@@ -1,7 +1,7 @@
 -- What `check` writes: races, and how many. This project's profile.
-use Rattle.rd_replaying.specs.Endings.{thread_names, reported, check_status}
+use Rattle.rd_replaying.specs.Endings.{thread_names, ending_of_report, check_status}
 use Rattle.rd_walk.specs.Output.{Outcome}
-use Rattle.rd_detect.specs.Commuting.{commuting}
+use Rattle.rd_detect.specs.Commuting.{calls_commute}
 use Rattle.rd_detect.specs.RaceTests.{latest_of}
 use Rattle.rd_ecl.specs.Kinds.{kinds_of}
 use Rattle.rd_ecl.specs.Specified.{SpecifiedKind}
@@ -66,7 +66,7 @@ entry_events kinds entries = events_of (kinds_of kinds) (items entries)
 
 -- how many calls of the accepted lines are reported
 unfoldable pub races_of : List SpecifiedKind → List Entry → ℕ
-races_of kinds entries = races_before (commuting kinds) (entry_events kinds entries) (length (entry_events kinds entries))
+races_of kinds entries = races_before (calls_commute kinds) (entry_events kinds entries) (length (entry_events kinds entries))
 
 -- the text of the race of the calls at two places of the accepted lines
 abbrev pub entries_race : List SpecifiedKind → List Entry → ℕ → ℕ → List ℕ
@@ -74,11 +74,11 @@ entries_race kinds entries = race_at kinds (naming (items entries)) (event_numbe
 
 -- the texts of the reported calls of the accepted lines, in their order, each with the latest that races with it
 unfoldable pub race_texts : List SpecifiedKind → List Entry → List ℕ
-race_texts kinds entries = texts_before (commuting kinds) (entries_race kinds entries) (entry_events kinds entries) (length (entry_events kinds entries))
+race_texts kinds entries = texts_before (calls_commute kinds) (entries_race kinds entries) (entry_events kinds entries) (length (entry_events kinds entries))
 
 -- the ending of a report of these accepted lines
 abbrev pub entries_ending : List SpecifiedKind → List Entry → WalkEnd → Ending
-entries_ending kinds entries ending = reported (replay_of (kinds_of kinds) entries) ending
+entries_ending kinds entries ending = ending_of_report (replay_of (kinds_of kinds) entries) ending
 
 -- `check` on a trace with objects of these kinds
 abbrev pub check_outcome : List SpecifiedKind → Walked → Outcome

@@ -6,9 +6,9 @@ use Rattle.rd_event.specs.declared.events.Call.{Call}
 use Rattle.rd_event.specs.declared.events.Event.{Event}
 use Rattle.rd_event.specs.declared.events.Event.TheVariants as event
 use Rattle.rd_event.specs.declared.items.Line.{Line}
-use Rattle.rd_hb.specs.Tracker.{StandsFor, Tracking}
-use Rattle.rd_detect.specs.Commuting.{commuting}
-use Rattle.rd_detect.specs.Detect.{StandsFor as Detects}
+use Rattle.rd_hb.specs.Tracker.{TrackerStandsFor, Tracking}
+use Rattle.rd_detect.specs.Commuting.{calls_commute}
+use Rattle.rd_detect.specs.Detect.{DetectorStandsFor}
 use Rattle.rd_detect.specs.RaceTests.{latest_of}
 use Rattle.rd_ecl.specs.Kinds.{Kind, kinds_of}
 use Rattle.rd_ecl.specs.Specified.{SpecifiedKind}
@@ -25,7 +25,7 @@ use Rattle.rd_wf.specs.declared.causes.Accepted.TheVariants as accepted
 -- the tracker stands for the events of these lines, which are a well-formed list, and has their threads
 pub record Tracks (kinds : List Kind) (tracker : Tracking) (lines : List Line) : Type 0 where
   pub told : AreTold kinds lines
-  pub stands : StandsFor tracker (roots_of lines) (events_of kinds lines)
+  pub stands : TrackerStandsFor tracker (roots_of lines) (events_of kinds lines)
   pub count : length tracker.threads ≡ length (threads_of lines)
 
 -- the line may follow those that the tracker stands for, it is this in numbers, and the threads behind it fit 32 bits
@@ -52,17 +52,17 @@ pub record Checks (start : Check) (entries : List Entry) (now : Check) : Type 0 
   pub formulas : now.formulas ≡ start.spec.now
   pub tracks : Tracks (kinds_of start.spec.now) now.tracker (items entries)
   pub asks : now.detector.kinds ≡ start.spec.now
-  pub detects : Detects now.detector.calls (event_numbers entries) (entry_events start.spec.now entries)
+  pub detects : DetectorStandsFor now.detector.calls (event_numbers entries) (entry_events start.spec.now entries)
   pub held : length now.detector.calls ≡ call_count (items entries)
   pub races : now.races ≡ races_of start.spec.now entries
 
 -- so it is where the kinds are these
-pub record Leads (kinds : List Kind) (start : Check) (entries : List Entry) (now : Check) : Type 0 where
+pub record CheckLeads (kinds : List Kind) (start : Check) (entries : List Entry) (now : Check) : Type 0 where
   pub kinds_are : kinds ≡ kinds_of start.spec.now
   pub checks : Checks start entries now
 
 -- it has taken no line, and the kinds are those of its specification
-pub record Begins (kinds : List Kind) (start : Check) : Type 0 where
+pub record CheckBegins (kinds : List Kind) (start : Check) : Type 0 where
   pub kinds_are : kinds ≡ kinds_of start.spec.now
   pub new : IsNew start
 
@@ -73,11 +73,11 @@ AreNamed kinds names es = (i : ℕ) (call : Call) → slice_get es i ≡ Some (e
 -- what is written for one event more, which is on the line of this number
 abbrev pub next_text : List SpecifiedKind → Naming → List ℕ → ℕ → List Event → Event → List ℕ
 next_text kinds names numbers number es e =
-    text_with (race_at kinds names (numbers ++ number ∷ []) (es ++ e ∷ [])) (length es) (latest_of (commuting kinds) (es ++ e ∷ []) (length es))
+    text_with (race_at kinds names (numbers ++ number ∷ []) (es ++ e ∷ [])) (length es) (latest_of (calls_commute kinds) (es ++ e ∷ []) (length es))
 
 -- whether it is reported, by a number
 abbrev pub next_races : List SpecifiedKind → List Event → Event → ℕ
-next_races kinds es e = if is_some (latest_of (commuting kinds) (es ++ e ∷ []) (length es)) then 1 else 0
+next_races kinds es e = if is_some (latest_of (calls_commute kinds) (es ++ e ∷ []) (length es)) then 1 else 0
 
 -- the event of this line is the next one, at this place, and the names are those of the lines with it
 pub record IsNextEventLine (start now : Check) (before : List Entry) (item : Line) (e : Event) (names : Naming) (place : ℕ) : Type 0 where

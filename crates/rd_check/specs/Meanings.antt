@@ -1,6 +1,6 @@
 -- What `check` means. This project's profile.
-use Rattle.rd_walk.specs.Traces.{IsFaulted, IsReadWhole, IsWhole, TakesTrace, walk_of}
-use Rattle.rd_spec_commands.specs.Meanings.{IsRefused, IsSpecText, TakesSpec}
+use Rattle.rd_walk.specs.Traces.{IsFaulted, IsReadWhole, IsWholeOutput, TakesTrace, walk_of}
+use Rattle.rd_spec_commands.specs.Meanings.{IsSpecFileRefused, IsSpecText, TakesSpec}
 use Rattle.rd_walk.specs.Meanings.{Meaning}
 use Rattle.rd_base.specs.declared.limits.Limits.{Limits}
 use Rattle.rd_ecl.specs.Kinds.{kinds_of}
@@ -34,7 +34,7 @@ abbrev pub IsCheckOutcome : List ℕ → Option (List ℕ) → Limits → Bool �
 IsCheckOutcome trace None limits rose old new outcome = IsFaulted 1 rose old new outcome ⊎ IsCheckedWith trace None 1 limits rose old new outcome
 IsCheckOutcome trace (Some file) limits rose old new outcome =
     IsFaulted 2 rose old new outcome
-    ⊎ (IsRefused file rose old new outcome ⊎ IsCheckedWith trace (Some file) 2 limits rose old new outcome)
+    ⊎ (IsSpecFileRefused file rose old new outcome ⊎ IsCheckedWith trace (Some file) 2 limits rose old new outcome)
 
 -- so it is with the kinds of its objects
 abbrev pub TakesKnown : Option (List ℕ) → List ℕ → Limits → Bool → Source → Source → ℕ → ℕ → Type 0
@@ -60,7 +60,7 @@ ReadsChecked trace file limits old new =
 abbrev pub WritesChecked : List ℕ → Option (List ℕ) → Limits → Source → List ℕ → Status → Type 0
 WritesChecked trace file limits old part status =
     (kinds : List SpecifiedKind) (bytes : List ℕ) → AreKinds old file kinds → file_of old.files trace ≡ Some bytes
-    → ending_of (trace_of (kinds_of kinds) limits end bytes) ≡ End → (status ≡ NoMemory) ⊎ IsWhole (check_outcome kinds (trace_of (kinds_of kinds) limits end bytes)) part status
+    → ending_of (trace_of (kinds_of kinds) limits end bytes) ≡ End → (status ≡ NoMemory) ⊎ IsWholeOutput (check_outcome kinds (trace_of (kinds_of kinds) limits end bytes)) part status
 
 -- the files, in the order in which they are opened
 abbrev pub checked_files : List ℕ → Option (List ℕ) → List (List ℕ)

@@ -22,7 +22,7 @@ use Rattle.rd_wf.specs.declared.causes.WfCause.{WfCause}
 use Rattle.rd_walk.specs.Output.{Outcome}
 use Rattle.rd_replaying.specs.Endings.{check_status, thread_names}
 use Rattle.rd_check.specs.Checked.{entries_ending, entries_race, entry_events}
-use Rattle.rd_walk.specs.Walk.{Entry, ended, items}
+use Rattle.rd_walk.specs.Walk.{Entry, trace_end_of, items}
 use Rattle.rd_walk.specs.declared.walk.WalkEnd.{WalkEnd}
 use Rattle.rd_walk.specs.declared.walk.WalkEnd.TheVariants.{Refused}
 use Rattle.rd_wf.specs.declared.causes.TraceCause.{TraceCause}
@@ -54,7 +54,7 @@ IsRefusedLine kinds limits before bytes refused =
 -- Of the lines that come behind the accepted ones, the first of them with this number, these are accepted, up to the first that is
 -- refused or to the end of the lines, and so they end.
 abbrev pub IsWalk : List Kind → Limits → List Line → ℕ → Reading → List Entry → WalkEnd → Type 0
-IsWalk kinds limits before number (stops end) entries ending = (entries ≡ []) × (ending ≡ ended limits before number end)
+IsWalk kinds limits before number (stops end) entries ending = (entries ≡ []) × (ending ≡ trace_end_of limits before number end)
 IsWalk kinds limits before number (line bytes more) entries ending =
     ((cause : TraceCause) × IsRefusedLine kinds limits before bytes cause × (entries ≡ []) × (ending ≡ Refused number cause))
     ⊎ ((item : Line) × (later : List Entry) × IsAcceptedLine kinds limits before bytes item

@@ -36,7 +36,7 @@ impl<'a> Check<'a> {
     ghost use Rattle.rd_event.specs.declared.events.Event.{Event as EventOf};
     ghost use Rattle.rd_event.specs.declared.events.Event.TheVariants as event;
     ghost use Rattle.rd_event.specs.declared.items.Line.{Line as LineOf};
-    ghost use Rattle.rd_detect.specs.Detect.{IsAnswer, IsNextCall, StandsFor};
+    ghost use Rattle.rd_detect.specs.Detect.{IsAnswer, IsNextCall, DetectorStandsFor};
     ghost use Rattle.rd_report.specs.Races.{IsKnownRace, race_text, told_by};
     ghost use Rattle.rd_report.specs.Texts.{naming_in};
     ghost use Rattle.rd_walk.specs.Analysis.{TellsFault, WritesBetween, WritesFront};
@@ -86,7 +86,7 @@ impl<'a> Check<'a> {
             (es ++ event.Call call.now ∷ []) place answer) }
         ensures stands { OnOk result ((numbers : List ℕ) (es : List EventOf)
             → IsNextCall self.old.detector.kinds self.old.detector.calls numbers es place call.now stamp.now
-            → StandsFor self.new.detector.calls (numbers ++ line ∷ [])
+            → DetectorStandsFor self.new.detector.calls (numbers ++ line ∷ [])
             (es ++ event.Call call.now ∷ [])) }
         ensures held { OnOk result
             (length self.new.detector.calls ≡ length self.old.detector.calls + 1) }
@@ -202,12 +202,12 @@ impl<'a> Check<'a> {
 
 impl<'a> Analysis for Check<'a> {
     ghost use Rattle.rd_check.specs.laws.CheckLaws.{leads_none, no_text};
-    ghost use Rattle.rd_check.specs.Checking.{Begins, Leads};
+    ghost use Rattle.rd_check.specs.Checking.{CheckBegins, CheckLeads};
     ghost use Rattle.rd_check.specs.Checked.{race_texts};
 
-    ghost begins = { Begins };
+    ghost begins = { CheckBegins };
 
-    ghost leads = { Leads };
+    ghost leads = { CheckLeads };
 
     ghost text = { λ _ start. race_texts start.spec.now };
 

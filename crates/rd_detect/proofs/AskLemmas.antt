@@ -7,9 +7,9 @@ use Rattle.std.proofs.lemmas.List.{length-map}
 use Rattle.std.proofs.lemmas.List.Elements.{All-get_or}
 use Rattle.std.proofs.lemmas.Option.{get_or_from_slice_get, slice_get-get_or, slice_get-map, slice_get_within}
 use Rattle.rd_clock.specs.Clock.{component}
-use Rattle.rd_ecl.specs.Kinds.{Kind, Method, kind_of, kinds_of, method_of, methods_at, slots_at as kept_slots_at}
+use Rattle.rd_ecl.specs.Kinds.{Kind, KindMethod, kind_of, kinds_of, method_of, methods_at, kind_slots_at}
 use Rattle.rd_ecl.specs.Specified.{SpecifiedKind, commutes, kind_at, no_kind, slots_at}
-use Rattle.rd_ecl.specs.declared.kinds.Method.{Method as SpecifiedMethod}
+use Rattle.rd_ecl.specs.declared.kinds.Method.{Method}
 use Rattle.rd_event.specs.declared.events.Call.{Call as CallOf}
 use Rattle.rd_event.specs.declared.events.Event.{Event}
 use Rattle.rd_event.specs.declared.events.Event.TheVariants.{Call}
@@ -18,7 +18,7 @@ use Rattle.rd_order.specs.Order.{call_in}
 use Rattle.rd_order.proofs.EventListLemmas.{counted_once, formed_more}
 use Rattle.rd_store.specs.declared.Witness.{Witness}
 use Rattle.rd_ecl.proofs.CommuteLemmas.{symmetric}
-use Rattle.rd_detect.specs.Commuting.{Commute, commuting}
+use Rattle.rd_detect.specs.Commuting.{Commute, calls_commute}
 use Rattle.rd_detect.specs.Detect.{IsAsked, IsOfKind, Meets}
 
 -- ---- the kind of a call
@@ -35,14 +35,14 @@ methods_kept kinds number inside =
     ap (λ o. unwrap_or (option_map (λ kind. kind.methods) o) [])
     (slice_get-map kind_of kinds number ∙ ap (option_map kind_of) (slice_get-get_or kinds number no_kind inside))
 
-slots_in : (o : Option SpecifiedMethod) → unwrap_or (option_map (λ (method : Method). method.slots) (option_map method_of o)) 0
-    ≡ unwrap_or (option_map (λ (method : SpecifiedMethod). length method.variables) o) 0
+slots_in : (o : Option Method) → unwrap_or (option_map (λ (method : KindMethod). method.slots) (option_map method_of o)) 0
+    ≡ unwrap_or (option_map (λ (method : Method). length method.variables) o) 0
 slots_in None = refl
 slots_in (Some method) = refl
 
-slots_kept : (methods : List SpecifiedMethod) (number : ℕ) → kept_slots_at (map method_of methods) number ≡ slots_at methods number
+slots_kept : (methods : List Method) (number : ℕ) → kind_slots_at (map method_of methods) number ≡ slots_at methods number
 slots_kept methods number =
-    ap (λ o. unwrap_or (option_map (λ (method : Method). method.slots) o) 0) (slice_get-map method_of methods number) ∙ slots_in (slice_get methods number)
+    ap (λ o. unwrap_or (option_map (λ (method : KindMethod). method.slots) o) 0) (slice_get-map method_of methods number) ∙ slots_in (slice_get methods number)
 
 -- it is of a method of that kind, and has its slots
 pub of_kind : (kinds : List SpecifiedKind) (call : CallOf) → IsCallOf (kinds_of kinds) call → (call.kind < length kinds) × IsOfKind (kind_at kinds call.kind) call
@@ -50,7 +50,7 @@ of_kind kinds call fits = (
   inside,
   record {
     method = omega (arith, fits.method, ap length same, length-map (kind_at kinds call.kind).methods method_of);
-    slots = fits.slots ∙ ap (λ methods. kept_slots_at methods call.method) same ∙ slots_kept (kind_at kinds call.kind).methods call.method;
+    slots = fits.slots ∙ ap (λ methods. kind_slots_at methods call.method) same ∙ slots_kept (kind_at kinds call.kind).methods call.method;
   },
 )
   where
@@ -80,8 +80,8 @@ one_kind roots es call other i formed at same = elim (cases_eq other.kind call.k
 -- ---- their formula
 
 asked_formula : (kinds : List SpecifiedKind) (kind : SpecifiedKind) (call other : CallOf) → IsAsked kinds kind call other → other.object ≡ call.object
-    → commuting kinds other call ≡ commutes kind other.method other.slots call.method call.slots
-unfolding commuting
+    → calls_commute kinds other call ≡ commutes kind other.method other.slots call.method call.slots
+unfolding calls_commute
 asked_formula kinds kind call other asked same =
     ap (λ k. commutes k other.method other.slots call.method call.slots) (ap (kind_at kinds) (asked.one_kind same) ∙ asked.asked)
 
@@ -102,7 +102,7 @@ meets_where kinds kind call clock seen covered holds asked same uncovered tells 
   ],
 )
   where
-    told : holds ≡ commuting kinds seen.call call
+    told : holds ≡ calls_commute kinds seen.call call
     told = is ∙ sym (asked_formula kinds kind call seen.call asked same)
 
 -- what a test finds not to be so isn't so
@@ -111,6 +111,6 @@ meets_not b tells fails holds = true≢false (sym (tells.1 holds) ∙ fails)
 
 -- calls of one kind commute both ways
 pub commute_back : (kinds : List SpecifiedKind) (a b : CallOf) → a.kind ≡ b.kind → Commute kinds a b → Commute kinds b a
-unfolding commuting
+unfolding calls_commute
 commute_back kinds a b alike holds =
     symmetric (kind_at kinds b.kind) b.method a.method b.slots a.slots ∙ ap (λ number. commutes (kind_at kinds number) a.method a.slots b.method b.slots) (sym alike) ∙ holds

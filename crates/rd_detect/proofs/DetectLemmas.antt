@@ -18,7 +18,7 @@ use Rattle.rd_order.proofs.OrderLemmas.{at_front, at_end, length_more}
 use Rattle.rd_store.specs.declared.Race.{Race}
 use Rattle.rd_store.specs.declared.Witness.{Witness}
 use Rattle.rd_detect.specs.Commuting.{Commute}
-use Rattle.rd_detect.specs.Detect.{Answers, AreAsked, IsAnswer, IsNewest, IsNextCall, IsOfKind, IsWitness, Meets, StandsFor}
+use Rattle.rd_detect.specs.Detect.{Answers, AreAsked, IsAnswer, IsNewest, IsNextCall, IsOfKind, IsWitness, Meets, DetectorStandsFor}
 use Rattle.rd_detect.specs.Races.{Racing}
 use Rattle.rd_detect.proofs.AskLemmas.{call_fits, of_kind, one_kind}
 
@@ -199,7 +199,7 @@ kind_within kinds calls lines es call stamp place next =
 
 pub stands_longer : (kinds : List SpecifiedKind) (calls : List Witness) (lines : List ℕ) (es : List Event) (call : CallOf) (stamp : Stamp) (line place : ℕ)
     → IsNextCall kinds calls lines es place call stamp
-    → StandsFor (calls ++ record { line = line; place = place; call = call; stamp = stamp } ∷ []) (lines ++ line ∷ []) (es ++ Call call ∷ [])
+    → DetectorStandsFor (calls ++ record { line = line; place = place; call = call; stamp = stamp } ∷ []) (lines ++ line ∷ []) (es ++ Call call ∷ [])
 stands_longer kinds calls lines es call stamp line place next = record {
   lengths = omega (arith, length_more lines line, length_more es (Call call), stands.lengths);
   sound = λ k seen at. elim (at_more calls new seen k at) [
@@ -225,12 +225,12 @@ stands_longer kinds calls lines es call stamp line place next = record {
     new : Witness
     new = record { line = line; place = place; call = call; stamp = stamp }
 
-    stands : StandsFor calls lines es
+    stands : DetectorStandsFor calls lines es
     stands = next.stands
 
 -- an event that is no call leaves what the detector stands for
-pub stands_quiet : (calls : List Witness) (lines : List ℕ) (es : List Event) (line : ℕ) (e : Event) → ((call : CallOf) → e ≢ Call call) → StandsFor calls lines es
-    → StandsFor calls (lines ++ line ∷ []) (es ++ e ∷ [])
+pub stands_quiet : (calls : List Witness) (lines : List ℕ) (es : List Event) (line : ℕ) (e : Event) → ((call : CallOf) → e ≢ Call call) → DetectorStandsFor calls lines es
+    → DetectorStandsFor calls (lines ++ line ∷ []) (es ++ e ∷ [])
 stands_quiet calls lines es line e other stands = record {
   lengths = omega (arith, length_more lines line, length_more es e, stands.lengths);
   sound = λ k seen at. witness_longer lines (line ∷ []) es (e ∷ []) seen stands.lengths (stands.sound k seen at);

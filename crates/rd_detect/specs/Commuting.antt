@@ -7,8 +7,8 @@ use Rattle.rd_detect.specs.RaceTests.{Passing}
 
 -- two calls of one of these kinds commute: the formula of their methods holds with the call of the method declared first on side 1,
 -- and for one method with either call there
-unfoldable pub commuting : List SpecifiedKind → Call → Call → Bool
-commuting kinds a b = commutes (kind_at kinds a.kind) a.method a.slots b.method b.slots
+unfoldable pub calls_commute : List SpecifiedKind → Call → Call → Bool
+calls_commute kinds a b = commutes (kind_at kinds a.kind) a.method a.slots b.method b.slots
 
 abbrev pub Commute : List SpecifiedKind → Call → Call → Type 0
-Commute kinds = Passing (commuting kinds)
+Commute kinds = Passing (calls_commute kinds)

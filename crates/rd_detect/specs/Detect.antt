@@ -30,7 +30,7 @@ pub record IsWitness (lines : List ℕ) (es : List Event) (witness : Witness) : 
   pub stamp : IsStamp es witness.place witness.stamp
 
 -- these are exactly the calls of the list, in their order
-pub record StandsFor (calls : List Witness) (lines : List ℕ) (es : List Event) : Type 0 where
+pub record DetectorStandsFor (calls : List Witness) (lines : List ℕ) (es : List Event) : Type 0 where
   pub lengths : length lines ≡ length es
   pub sound : (k : ℕ) (witness : Witness) → slice_get calls k ≡ Some witness → IsWitness lines es witness
   pub whole : (i : ℕ) (call : CallOf) → slice_get es i ≡ Some (Call call) → (k : ℕ) × (witness : Witness) × (slice_get calls k ≡ Some witness) × (witness.place ≡ i)
@@ -38,7 +38,7 @@ pub record StandsFor (calls : List Witness) (lines : List ℕ) (es : List Event)
 
 -- the call is the next event, at this place and with this stamp, of a list that is well-formed with these kinds
 pub record IsNextCall (kinds : List SpecifiedKind) (calls : List Witness) (lines : List ℕ) (es : List Event) (place : ℕ) (call : CallOf) (stamp : Stamp) : Type 0 where
-  pub stands : StandsFor calls lines es
+  pub stands : DetectorStandsFor calls lines es
   pub at_end : place ≡ length es
   pub stamped : IsStamp (es ++ Call call ∷ []) (length es) stamp
   pub roots : ℕ → Bool

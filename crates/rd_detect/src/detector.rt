@@ -4,7 +4,7 @@ ghost use Rattle.rd_event.specs.declared.events.Event.{Event as EventOf};
 ghost use Rattle.rd_event.specs.declared.events.Event.TheVariants as event;
 ghost use Rattle.rd_store.specs.declared.Witness.{Witness as WitnessOf};
 ghost use Rattle.rd_detect.specs.Commuting.{Commute};
-ghost use Rattle.rd_detect.specs.Detect.{Answers, AreAsked, IsAnswer, IsAsked, IsNewest, IsNextCall, IsRaceOf, Meets, StandsFor};
+ghost use Rattle.rd_detect.specs.Detect.{Answers, AreAsked, IsAnswer, IsAsked, IsNewest, IsNextCall, IsRaceOf, Meets, DetectorStandsFor};
 ghost use Rattle.rd_ecl.specs.Specified.{SpecifiedKind, kind_at};
 
 use rd_base::{NoMemory, Steps};
@@ -72,7 +72,7 @@ impl<'a> Detector<'a> {
     pub fn new(alloc: Global, spec: &'a Spec) -> Result<Detector<'a>, NoMemory>
         ensures empty { IfOk result
             (λ detector. detector ≡ record { kinds = spec.now; calls = [] }) }
-        ensures stands { IfOk result (λ detector. StandsFor detector.calls [] []) }
+        ensures stands { IfOk result (λ detector. DetectorStandsFor detector.calls [] []) }
     {
         Ok(Detector {
             alloc,
@@ -136,7 +136,7 @@ impl<'a> Detector<'a> {
         ensures stands { OnOk result
             ((lines : List ℕ) (es : List EventOf) →
             IsNextCall self.old.kinds self.old.calls lines es place call.now stamp.now
-            → StandsFor self.new.calls (lines ++ line ∷ []) (es ++ event.Call call.now ∷ [])) }
+            → DetectorStandsFor self.new.calls (lines ++ line ∷ []) (es ++ event.Call call.now ∷ [])) }
 
         // what stays, how many calls there are, and a bound of the steps
         ensures kinds { self.new.kinds ≡ self.old.kinds }

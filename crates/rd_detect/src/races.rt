@@ -1,6 +1,6 @@
 //! The laws of races: what their definitions say, proved for every list of events.
 ghost use Rattle.std.specs.Prelude.{◌≡◌, ◌≢◌, ◌↔◌, Bool, ℕ, ◌<◌, List, [], ◌∷◌, ◌++◌, length, MatchOption, IsTrue};
-ghost use Rattle.rd_detect.specs.Detect.{StandsFor};
+ghost use Rattle.rd_detect.specs.Detect.{DetectorStandsFor};
 ghost use Rattle.rd_detect.specs.Commuting.{Commute};
 ghost use Rattle.rd_ecl.specs.Specified.{SpecifiedKind};
 ghost use Rattle.rd_store.specs.declared.Witness.{Witness};
@@ -35,5 +35,5 @@ pub fn law_of_commuting()
 pub fn law_of_detectors()
     ensures { (held : List Witness) (lines : List ℕ) (es : List EventOf) (line : ℕ) (e : EventOf) →
         ((call : CallOf) → e ≢ event.Call call) →
-        StandsFor held lines es → StandsFor held (lines ++ line ∷ []) (es ++ e ∷ []) }
+        DetectorStandsFor held lines es → DetectorStandsFor held (lines ++ line ∷ []) (es ++ e ∷ []) }
 {}

@@ -2,7 +2,7 @@
 use Rattle.std.proofs.Common.{◌≡◌, ℕ, ◌+◌, ◌≤◌, ◌<◌, Bool, true, false, not, ◌&&◌, List, [], ◌∷◌, ◌++◌, length, Option, Some, None, if◌then◌else◌, refl, ap, sym, ◌∙◌, arith, is_none, is_some, length-append}
 use Rattle.std.specs.Prelude.{max, IsNone, ◌↔◌}
 use Rattle.std.specs.List.{list_all}
-use Rattle.rd_ecl.specs.Formulas.{Tree, truth, atom, cross, mixed, negation, both, either, post_order, crosses, offence, or_later, earlier_of, first_offence, nodes, levels, IsSimple, simple_truth, simple_cross, simple_both, IsSided, sided_truth, sided_atom, sided_negation, sided_both, sided_either, InFragment, of_simple, of_sided, of_both, of_or_sided, of_sided_or}
+use Rattle.rd_ecl.specs.Formulas.{Tree, truth, atom, cross, mixed, negation, both, either, post_order, crosses_sides, offence, or_later, earlier_of, first_offence, nodes, levels, IsSimple, simple_truth, simple_cross, simple_both, IsSided, sided_truth, sided_atom, sided_negation, sided_both, sided_either, InFragment, of_simple, of_sided, of_both, of_or_sided, of_sided_or}
 use Rattle.rd_ecl.specs.declared.formulas.Outside.{Outside}
 use Rattle.rd_ecl.specs.declared.formulas.Reason.{Reason}
 use Rattle.rd_ecl.specs.declared.formulas.Reason.TheVariants.{NotOverCross, OrOfCross}
@@ -50,9 +50,9 @@ clean (truth value) = true
 clean (atom side rel left right) = true
 clean (cross first second) = true
 clean (mixed rel flipped first second) = false
-clean (negation f) = clean f && not (crosses f)
+clean (negation f) = clean f && not (crosses_sides f)
 clean (both f g) = clean f && clean g
-clean (either f g) = (clean f && clean g) && not (crosses f && crosses g)
+clean (either f g) = (clean f && clean g) && not (crosses_sides f && crosses_sides g)
 
 quiet_if : (c : Bool) (reason : Reason) → (is_none (if c then Some reason else None) && true) ≡ not c
 quiet_if true reason = refl
@@ -69,7 +69,7 @@ quiet_clean (cross first second) = refl
 quiet_clean (mixed rel flipped first second) = refl
 quiet_clean (negation f) =
     list_all-append quiet (post_order f) (negation f ∷ []) ∙ (ap (λ (b : Bool). b && (quiet (negation f) && true)) (quiet_clean f)
-    ∙ ap (λ (b : Bool). clean f && b) (quiet_if (crosses f) NotOverCross))
+    ∙ ap (λ (b : Bool). clean f && b) (quiet_if (crosses_sides f) NotOverCross))
 quiet_clean (both f g) =
     list_all-append quiet (post_order f ++ post_order g) (both f g ∷ []) ∙ (and_true _
     ∙ (list_all-append quiet (post_order f) (post_order g) ∙ (ap (λ (b : Bool). b && list_all quiet (post_order g)) (quiet_clean f)
@@ -79,23 +79,23 @@ quiet_clean (either f g) =
     ∙ (ap (λ (b : Bool). b && (quiet (either f g) && true)) (list_all-append quiet (post_order f) (post_order g))
     ∙ (ap (λ (b : Bool). (b && list_all quiet (post_order g)) && (quiet (either f g) && true)) (quiet_clean f)
     ∙ (ap (λ (b : Bool). (clean f && b) && (quiet (either f g) && true)) (quiet_clean g)
-    ∙ ap (λ (b : Bool). (clean f && clean g) && b) (quiet_if (crosses f && crosses g) OrOfCross))))
+    ∙ ap (λ (b : Bool). (clean f && clean g) && b) (quiet_if (crosses_sides f && crosses_sides g) OrOfCross))))
 
 none_clean : (f : Tree) → is_none (first_offence 0 (post_order f)) ≡ clean f
 none_clean f = quiet_first 0 (post_order f) ∙ quiet_clean f
 
 -- without a relation between the sides it is on one side
-sided_if : (f : Tree) → crosses f ≡ false → IsSided f
+sided_if : (f : Tree) → crosses_sides f ≡ false → IsSided f
 sided_if (truth value) e = sided_truth
 sided_if (atom side rel left right) e = sided_atom
 sided_if (cross first second) e = absurd (cc)
 sided_if (mixed rel flipped first second) e = absurd (cc)
 sided_if (negation f) e = sided_negation (sided_if f e)
-sided_if (both f g) e = let h = or_parts (crosses f) (crosses g) e in sided_both (sided_if f h.0) (sided_if g h.1)
-sided_if (either f g) e = let h = or_parts (crosses f) (crosses g) e in sided_either (sided_if f h.0) (sided_if g h.1)
+sided_if (both f g) e = let h = or_parts (crosses_sides f) (crosses_sides g) e in sided_both (sided_if f h.0) (sided_if g h.1)
+sided_if (either f g) e = let h = or_parts (crosses_sides f) (crosses_sides g) e in sided_either (sided_if f h.0) (sided_if g h.1)
 
-inside_or : (f g : Tree) (x : Bool) → crosses f ≡ x → not (x && crosses g) ≡ true → InFragment f → InFragment g → InFragment (either f g)
-inside_or f g true e h i j = of_or_sided i (sided_if g (not-true (crosses g) h))
+inside_or : (f g : Tree) (x : Bool) → crosses_sides f ≡ x → not (x && crosses_sides g) ≡ true → InFragment f → InFragment g → InFragment (either f g)
+inside_or f g true e h i j = of_or_sided i (sided_if g (not-true (crosses_sides g) h))
 inside_or f g false e h i j = of_sided_or (sided_if f e) j
 
 inside_if : (f : Tree) → clean f ≡ true → InFragment f
@@ -103,12 +103,12 @@ inside_if (truth value) e = of_sided sided_truth
 inside_if (atom side rel left right) e = of_sided sided_atom
 inside_if (cross first second) e = of_simple simple_cross
 inside_if (mixed rel flipped first second) e = absurd (cc)
-inside_if (negation f) e = of_sided (sided_negation (sided_if f (not-true (crosses f) (and_parts (clean f) (not (crosses f)) e).1)))
+inside_if (negation f) e = of_sided (sided_negation (sided_if f (not-true (crosses_sides f) (and_parts (clean f) (not (crosses_sides f)) e).1)))
 inside_if (both f g) e = let h = and_parts (clean f) (clean g) e in of_both (inside_if f h.0) (inside_if g h.1)
 inside_if (either f g) e =
-    let h = and_parts (clean f && clean g) (not (crosses f && crosses g)) e in
+    let h = and_parts (clean f && clean g) (not (crosses_sides f && crosses_sides g)) e in
     let k = and_parts (clean f) (clean g) h.0 in
-    inside_or f g (crosses f) refl h.1 (inside_if f k.0) (inside_if g k.1)
+    inside_or f g (crosses_sides f) refl h.1 (inside_if f k.0) (inside_if g k.1)
 
 simple_clean : {f : Tree} → IsSimple f → clean f ≡ true
 simple_clean simple_truth = refl
@@ -116,32 +116,32 @@ simple_clean simple_cross = refl
 simple_clean (simple_both {f} {g} h k) = and_from (clean f) (clean g) (simple_clean h) (simple_clean k)
 
 -- on one side there is no relation between the sides
-apart : {f : Tree} → IsSided f → crosses f ≡ false
+apart : {f : Tree} → IsSided f → crosses_sides f ≡ false
 apart sided_truth = refl
 apart sided_atom = refl
 apart (sided_negation h) = apart h
-apart (sided_both {f} {g} h k) = or_from (crosses f) (crosses g) (apart h) (apart k)
-apart (sided_either {f} {g} h k) = or_from (crosses f) (crosses g) (apart h) (apart k)
+apart (sided_both {f} {g} h k) = or_from (crosses_sides f) (crosses_sides g) (apart h) (apart k)
+apart (sided_either {f} {g} h k) = or_from (crosses_sides f) (crosses_sides g) (apart h) (apart k)
 
 sided_clean : {f : Tree} → IsSided f → clean f ≡ true
 sided_clean sided_truth = refl
 sided_clean sided_atom = refl
-sided_clean (sided_negation {f} h) = and_from (clean f) (not (crosses f)) (sided_clean h) (not_from_false (crosses f) (apart h))
+sided_clean (sided_negation {f} h) = and_from (clean f) (not (crosses_sides f)) (sided_clean h) (not_from_false (crosses_sides f) (apart h))
 sided_clean (sided_both {f} {g} h k) = and_from (clean f) (clean g) (sided_clean h) (sided_clean k)
 sided_clean (sided_either {f} {g} h k) =
-    and_from (clean f && clean g) (not (crosses f && crosses g)) (and_from (clean f) (clean g) (sided_clean h) (sided_clean k))
-    (not_from_false (crosses f && crosses g) (and_left (crosses f) (crosses g) (apart h)))
+    and_from (clean f && clean g) (not (crosses_sides f && crosses_sides g)) (and_from (clean f) (clean g) (sided_clean h) (sided_clean k))
+    (not_from_false (crosses_sides f && crosses_sides g) (and_left (crosses_sides f) (crosses_sides g) (apart h)))
 
 inside_clean : {f : Tree} → InFragment f → clean f ≡ true
 inside_clean (of_simple h) = simple_clean h
 inside_clean (of_sided h) = sided_clean h
 inside_clean (of_both {f} {g} h k) = and_from (clean f) (clean g) (inside_clean h) (inside_clean k)
 inside_clean (of_or_sided {f} {g} h k) =
-    and_from (clean f && clean g) (not (crosses f && crosses g)) (and_from (clean f) (clean g) (inside_clean h) (sided_clean k))
-    (not_from_false (crosses f && crosses g) (and_right (crosses f) (crosses g) (apart k)))
+    and_from (clean f && clean g) (not (crosses_sides f && crosses_sides g)) (and_from (clean f) (clean g) (inside_clean h) (sided_clean k))
+    (not_from_false (crosses_sides f && crosses_sides g) (and_right (crosses_sides f) (crosses_sides g) (apart k)))
 inside_clean (of_sided_or {f} {g} h k) =
-    and_from (clean f && clean g) (not (crosses f && crosses g)) (and_from (clean f) (clean g) (sided_clean h) (inside_clean k))
-    (not_from_false (crosses f && crosses g) (and_left (crosses f) (crosses g) (apart h)))
+    and_from (clean f && clean g) (not (crosses_sides f && crosses_sides g)) (and_from (clean f) (clean g) (sided_clean h) (inside_clean k))
+    (not_from_false (crosses_sides f && crosses_sides g) (and_left (crosses_sides f) (crosses_sides g) (apart h)))
 
 -- a formula is in the fragment exactly where no node of it offends
 pub inside : (f : Tree) → is_none (first_offence 0 (post_order f)) ≡ true → InFragment f

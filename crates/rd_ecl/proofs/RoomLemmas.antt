@@ -6,7 +6,7 @@ use Rattle.std.proofs.lemmas.List.Folds.{list_any-append}
 use Rattle.rd_ecl.specs.declared.formulas.Predicate.{Predicate}
 use Rattle.rd_ecl.specs.declared.relations.Relations.{Relations}
 use Rattle.rd_ecl.specs.Formulas.{same_predicate, distinct_from}
-use Rattle.rd_ecl.specs.Relations.{Gathers, kept}
+use Rattle.rd_ecl.specs.Relations.{Gathers, kept_relations}
 use Rattle.rd_base.specs.declared.limits.TheConstants.{MOST_PREDICATES}
 
 abbrev among : Predicate → List Predicate → Bool
@@ -50,7 +50,7 @@ distinct_both s (p ∷ xs) ys = distinct_step (among p s) p s xs ys refl (distin
 
 -- relations that are gathered one list after another
 pub gathers_then : (old xs ys : List Predicate) (middle : Relations) (last : Option Relations) → Gathers old xs (Some middle)
-    → Gathers (kept middle) ys last → Gathers old (xs ++ ys) last
+    → Gathers (kept_relations middle) ys last → Gathers old (xs ++ ys) last
 gathers_then old xs ys middle (Some seen) h k =
     (k.0, k.1 ∙ (rw (h.1) (append_assoc old (distinct_from old xs) (distinct_from (old ++ distinct_from old xs) ys)) ∙ ap (λ (l : List Predicate). old ++ l) (sym (distinct_both old xs ys))))
 gathers_then old xs ys middle None h k =

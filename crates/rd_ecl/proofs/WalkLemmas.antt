@@ -9,7 +9,7 @@ use Rattle.std.proofs.lemmas.List.Folds.{flat_map-map}
 use Rattle.rd_ecl.specs.declared.formulas.Predicate.{Predicate}
 use Rattle.rd_ecl.specs.Formulas.{Tree, distinct, distinct_from}
 use Rattle.rd_ecl.specs.declared.relations.Relations.{Relations}
-use Rattle.rd_ecl.specs.Relations.{Gathers, IsCounted, kept, part_of}
+use Rattle.rd_ecl.specs.Relations.{Gathers, RelationsAreCounted, kept_relations, part_of}
 use Rattle.rd_ecl.specs.Specified.{SpecifiedKind, all_pairs, formula_at, method_predicates, predicates_at}
 use Rattle.rd_ecl.proofs.PairLemmas.{none_of, not_asked, some_of}
 use Rattle.rd_ecl.proofs.RoomLemmas.{distinct_both}
@@ -131,7 +131,7 @@ walk_is kind m rows few known =
 
 -- what is kept after a walk over the first methods
 abbrev pub IsKept : SpecifiedKind → ℕ → ℕ → Relations → Type 0
-IsKept kind m other seen = IsCounted seen × (kept seen ≡ distinct (flat_map (part_of kind m) (range_with_len 0 other)))
+IsKept kind m other seen = RelationsAreCounted seen × (kept_relations seen ≡ distinct (flat_map (part_of kind m) (range_with_len 0 other)))
 
 one_more : (kind : SpecifiedKind) (m other : ℕ) → flat_map (part_of kind m) (range_with_len 0 (other + 1)) ≡ flat_map (part_of kind m) (range_with_len 0 other) ++ part_of kind m other
 one_more kind m other =
@@ -141,17 +141,17 @@ one_more kind m other =
     ap (flat_map (part_of kind m)) split ∙ (flat_map-append (part_of kind m) (range_with_len 0 other) (other ∷ [])
     ∙ ap (λ (l : List Predicate). flat_map (part_of kind m) (range_with_len 0 other) ++ l) (append-nil (part_of kind m other)))
 
-pub kept_more : (kind : SpecifiedKind) (m other : ℕ) (seen more : Relations) → IsKept kind m other seen → Gathers (kept seen) (part_of kind m other) (Some more)
+pub kept_more : (kind : SpecifiedKind) (m other : ℕ) (seen more : Relations) → IsKept kind m other seen → Gathers (kept_relations seen) (part_of kind m other) (Some more)
     → IsKept kind m (other + 1) more
 kept_more kind m other seen more h k =
     let old = flat_map (part_of kind m) (range_with_len 0 other) in
     let is = h.1 in
-    let gathered : kept more ≡ distinct old ++ distinct_from (distinct old) (part_of kind m other) = rw (← is) k.1 in
+    let gathered : kept_relations more ≡ distinct old ++ distinct_from (distinct old) (part_of kind m other) = rw (← is) k.1 in
     (k.0, gathered ∙ (sym (distinct_both [] old (part_of kind m other)) ∙ ap distinct (sym (one_more kind m other))))
 
 -- a walk that finds a sixth shows that there are more than 5
 pub kept_full : (kind : SpecifiedKind) (m other : ℕ) (seen : Relations) → length kind.pairs ≡ MOST_METHODS * length kind.methods → length kind.methods ≤ MOST_METHODS
-    → m < length kind.methods → other < length kind.methods → IsKept kind m other seen → Gathers (kept seen) (part_of kind m other) None
+    → m < length kind.methods → other < length kind.methods → IsKept kind m other seen → Gathers (kept_relations seen) (part_of kind m other) None
     → MOST_PREDICATES < length (method_predicates kind m)
 kept_full kind m other seen rows few known below h k =
     let n = length kind.methods in

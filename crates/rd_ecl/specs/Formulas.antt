@@ -167,20 +167,20 @@ post_order (either f g) = (post_order f ++ post_order g) ++ either f g ∷ []
 post_order leaf = leaf ∷ []
 
 -- it has a relation between the sides in it
-abbrev pub crosses : Tree → Bool
-crosses (truth value) = false
-crosses (atom side rel left right) = false
-crosses (cross first second) = true
-crosses (mixed rel flipped first second) = true
-crosses (negation f) = crosses f
-crosses (both f g) = crosses f || crosses g
-crosses (either f g) = crosses f || crosses g
+abbrev pub crosses_sides : Tree → Bool
+crosses_sides (truth value) = false
+crosses_sides (atom side rel left right) = false
+crosses_sides (cross first second) = true
+crosses_sides (mixed rel flipped first second) = true
+crosses_sides (negation f) = crosses_sides f
+crosses_sides (both f g) = crosses_sides f || crosses_sides g
+crosses_sides (either f g) = crosses_sides f || crosses_sides g
 
 -- why a node offends, if it does
 abbrev pub offence : Tree → Option Reason
 offence (mixed rel flipped first second) = Some CrossRelation
-offence (negation f) = if crosses f then Some NotOverCross else None
-offence (either f g) = if crosses f && crosses g then Some OrOfCross else None
+offence (negation f) = if crosses_sides f then Some NotOverCross else None
+offence (either f g) = if crosses_sides f && crosses_sides g then Some OrOfCross else None
 offence _ = None
 
 abbrev pub or_later : ℕ → Option Reason → Option Outside → Option Outside

@@ -16,17 +16,17 @@ in_place (Some relation) = predicate_of relation ∷ []
 in_place None = []
 
 -- the relations that are kept
-abbrev pub kept : Relations → List Predicate
-kept seen = flat_map in_place (take seen.taken seen.places)
+abbrev pub kept_relations : Relations → List Predicate
+kept_relations seen = flat_map in_place (take seen.taken seen.places)
 
 -- each place that is taken has a relation
-pub record IsCounted (seen : Relations) : Type 0 where
+pub record RelationsAreCounted (seen : Relations) : Type 0 where
   pub few : seen.taken ≤ MOST_PREDICATES
-  pub count : length (kept seen) ≡ seen.taken
+  pub count : length (kept_relations seen) ≡ seen.taken
 
 -- those of the list that aren't among the old ones come behind these; there is nothing where that makes more than 5
 abbrev pub Gathers : List Predicate → List Predicate → Option Relations → Type 0
-Gathers old more (Some seen) = IsCounted seen × (kept seen ≡ old ++ distinct_from old more)
+Gathers old more (Some seen) = RelationsAreCounted seen × (kept_relations seen ≡ old ++ distinct_from old more)
 Gathers old more None = MOST_PREDICATES < length old + length (distinct_from old more)
 
 -- what the formula of a method and another says of it alone

@@ -5,7 +5,7 @@ ghost use Rattle.rd_ecl.specs.declared.formulas.Predicate.{Predicate};
 ghost use Rattle.rd_ecl.specs.declared.formulas.Rel.{Rel};
 ghost use Rattle.rd_ecl.specs.declared.formulas.Rel.TheVariants.{Lt, Le};
 ghost use Rattle.rd_ecl.specs.declared.formulas.Reason.TheVariants.{NotOverCross, OrOfCross};
-ghost use Rattle.rd_ecl.specs.Formulas.{tree_of, holds, Fits, post_order, first_offence, nodes, levels, InFragment, FitsTerm, term_value, relates, relate, slots_of, crosses, same_predicate, same_value, offence, or_later, earlier_of};
+ghost use Rattle.rd_ecl.specs.Formulas.{tree_of, holds, Fits, post_order, first_offence, nodes, levels, InFragment, FitsTerm, term_value, relates, relate, slots_of, crosses_sides, same_predicate, same_value, offence, or_later, earlier_of};
 
 use rd_base::Value;
 
@@ -100,7 +100,7 @@ fn slot_value(slots: &[Value], slot: u8) -> &Value
 }
 
 // The value of a term.
-fn value_of<'a>(term: &'a Term, slots: &'a [Value]) -> &'a Value
+fn term_value<'a>(term: &'a Term, slots: &'a [Value]) -> &'a Value
     requires { FitsTerm term.now (length slots.now) }
     ensures { term_value term.now slots.now ≡ Some result.now }
 {
@@ -165,7 +165,7 @@ fn holds_across(rel: Rel, flipped: bool, first: &Value, second: &Value) -> bool
 
 // What a walk over a formula has found.
 #[derive(Clone, Copy)]
-struct Walked {
+struct FormulaWalk {
     // the number of the next node in post-order
     next: u64,
     crosses: bool,
@@ -187,7 +187,7 @@ fn offender(number: u64, reason: Option<Reason>) -> Option<Outside>
 }
 
 // Why a `not` over this part offends.
-fn not_over(part: &Walked) -> Option<Reason>
+fn not_over(part: &FormulaWalk) -> Option<Reason>
     ensures { result ≡ if part.now.crosses then Some NotOverCross else None }
 {
     if part.crosses {
@@ -198,7 +198,7 @@ fn not_over(part: &Walked) -> Option<Reason>
 }
 
 // Why an `or` of these parts offends.
-fn or_of(left: &Walked, right: &Walked) -> Option<Reason>
+fn or_of(left: &FormulaWalk, right: &FormulaWalk) -> Option<Reason>
     ensures { result ≡ if left.now.crosses && right.now.crosses then Some OrOfCross else None }
 {
     if left.crosses && right.crosses {
@@ -219,13 +219,13 @@ fn earlier(first: Option<Outside>, second: Option<Outside>) -> Option<Outside>
 }
 
 // A node without parts.
-fn leaf(number: u64, crosses: bool, reason: Option<Reason>) -> Walked
+fn leaf(number: u64, crosses: bool, reason: Option<Reason>) -> FormulaWalk
     requires { number < 2 ^ 32 }
     ensures next { result.next ≡ number + 1 }
     ensures crosses { result.crosses ≡ crosses }
     ensures first { result.first ≡ or_later number reason None }
 {
-    Walked {
+    FormulaWalk {
         next: number + 1,
         crosses,
         first: offender(number, reason),
@@ -234,10 +234,10 @@ fn leaf(number: u64, crosses: bool, reason: Option<Reason>) -> Walked
 
 // The walk goes over the formula, whose first node has this number.
 #[tactic(auto, using(crate::proofs::FragmentLemmas::first_of_two, crate::proofs::FragmentLemmas::first_or))]
-fn walk(formula: &Formula, number: u64) -> Walked
+fn walk(formula: &Formula, number: u64) -> FormulaWalk
     requires { number + nodes (tree_of formula.now) ≤ 2 ^ 32 }
     ensures next { result.next ≡ number + nodes (tree_of formula.now) }
-    ensures crosses { result.crosses ≡ crosses (tree_of formula.now) }
+    ensures crosses { result.crosses ≡ crosses_sides (tree_of formula.now) }
     ensures first { result.first ≡ first_offence number (post_order (tree_of formula.now)) }
 {
     match formula {
@@ -246,7 +246,7 @@ fn walk(formula: &Formula, number: u64) -> Walked
         Formula::Mixed { .. } => leaf(number, true, Some(Reason::CrossRelation)),
         Formula::Not(inner) => {
             let part = walk(inner, number);
-            Walked {
+            FormulaWalk {
                 next: part.next + 1,
                 crosses: part.crosses,
                 first: earlier(part.first, offender(part.next, not_over(&part))),
@@ -255,7 +255,7 @@ fn walk(formula: &Formula, number: u64) -> Walked
         Formula::And(left, right) => {
             let left = walk(left, number);
             let right = walk(right, left.next);
-            Walked {
+            FormulaWalk {
                 next: right.next + 1,
                 crosses: left.crosses || right.crosses,
                 first: earlier(left.first, right.first),
@@ -266,7 +266,7 @@ fn walk(formula: &Formula, number: u64) -> Walked
             let right = walk(right, left.next);
             let parts = earlier(left.first, right.first);
             let first = earlier(parts, offender(right.next, or_of(&left, &right)));
-            Walked {
+            FormulaWalk {
                 next: right.next + 1,
                 crosses: left.crosses || right.crosses,
                 first,
@@ -291,7 +291,7 @@ impl Formula {
                 right,
             } => {
                 let slots = slots_of_side(*side, a, b);
-                are_related(*rel, value_of(left, slots), value_of(right, slots))
+                are_related(*rel, term_value(left, slots), term_value(right, slots))
             }
             Formula::Cross { first, second } => {
                 !are_related(Rel::Eq, slot_value(a, *first), slot_value(b, *second))

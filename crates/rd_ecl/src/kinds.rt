@@ -3,7 +3,7 @@ ghost use Rattle.std.specs.Prelude.{◌≡◌, ◌≢◌, ◌↔◌, ℕ, List, 
 ghost use Rattle.rd_base.specs.declared.values.Value.{Value};
 ghost use Rattle.rd_ecl.specs.Variables.{IsVariable, is_variable, is_among, are_different};
 ghost use Rattle.rd_ecl.specs.Formulas.{Tree, tree_of};
-ghost use Rattle.rd_ecl.specs.Relations.{Gathers, IsCounted, kept, part_of};
+ghost use Rattle.rd_ecl.specs.Relations.{Gathers, RelationsAreCounted, kept_relations, part_of};
 ghost use Rattle.rd_ecl.specs.Specified.{IsDraft, IsKind, IsPair, IsWhole, MayAdd, MayPair, SpecifiedKind, commutes, formula_at, may_pair, method_predicates, pair_holds, slots_at, with_method, with_pair};
 
 use crate::formulas::Formula;
@@ -223,10 +223,10 @@ impl KindDraft {
         method: u8,
         other: u8,
     ) -> Option<Relations<'a>>
-        requires counted { IsCounted seen }
+        requires counted { RelationsAreCounted seen }
         requires known { (first ≤ second) × (second < length self.now.methods)
             × (method < length self.now.methods) × (other < length self.now.methods) }
-        ensures { Gathers (kept seen.entry)
+        ensures { Gathers (kept_relations seen.entry)
             (part_of (with_pair self.now first second (tree_of formula.now)) method other) result }
     {
         let (low, high) = (method.min(other), method.max(other));

@@ -2,7 +2,7 @@
 ghost use Rattle.std.specs.Prelude.{◌≡◌, [], ◌∷◌};
 ghost use Rattle.std.specs.List.{list_any};
 ghost use Rattle.rd_ecl.specs.Formulas.{tree_of, predicates_of, same_predicate};
-ghost use Rattle.rd_ecl.specs.Relations.{Gathers, IsCounted, kept, predicate_of};
+ghost use Rattle.rd_ecl.specs.Relations.{Gathers, RelationsAreCounted, kept_relations, predicate_of};
 
 use crate::formulas::{Formula, Rel, Side, Term};
 use rd_base::MOST_PREDICATES;
@@ -33,8 +33,8 @@ fn are_same(a: &Relation<'_>, b: &Relation<'_>) -> bool
 impl<'a> Relations<'a> {
     // None of them.
     pub(crate) fn none() -> Relations<'a>
-        ensures count { IsCounted result }
-        ensures value { kept result ≡ [] }
+        ensures count { RelationsAreCounted result }
+        ensures value { kept_relations result ≡ [] }
     {
         Relations {
             places: [None; MOST_PREDICATES],
@@ -44,8 +44,8 @@ impl<'a> Relations<'a> {
 
     // Is this among them?
     fn has(&self, relation: &Relation<'_>) -> bool
-        requires { IsCounted self.now }
-        ensures { result ≡ list_any (same_predicate (predicate_of relation.now)) (kept self.now) }
+        requires { RelationsAreCounted self.now }
+        ensures { result ≡ list_any (same_predicate (predicate_of relation.now)) (kept_relations self.now) }
     {
         for place in &self.places[..self.taken] {
             if let Some(known) = place {
@@ -59,8 +59,8 @@ impl<'a> Relations<'a> {
 
     // With this one too. There is no room for a sixth.
     fn with(self, relation: Relation<'a>) -> Option<Relations<'a>>
-        requires { IsCounted self }
-        ensures { Gathers (kept self.entry) (predicate_of relation.entry ∷ []) result }
+        requires { RelationsAreCounted self }
+        ensures { Gathers (kept_relations self.entry) (predicate_of relation.entry ∷ []) result }
     {
         if self.has(&relation) {
             return Some(self);
@@ -84,8 +84,8 @@ impl<'a> Relations<'a> {
         first: u8,
         second: u8,
     ) -> Option<Relations<'a>>
-        requires { IsCounted self }
-        ensures { Gathers (kept self.entry)
+        requires { RelationsAreCounted self }
+        ensures { Gathers (kept_relations self.entry)
             (predicates_of method first second (tree_of formula.now)) result }
     {
         match formula {

@@ -7,7 +7,7 @@ use Rattle.rd_base.proofs.FoundLemmas.{map_found, then_found}
 use Rattle.rd_event.specs.declared.items.LineEvent.{LineEvent}
 use Rattle.rd_event.specs.declared.items.LineEvent.TheVariants.{Call}
 use Rattle.rd_event.specs.Items.{IsEvent, AreSlots, words_apart, event_spelling, slots_spelling}
-use Rattle.rd_event.specs.Reading.{is_space, name_of, call_read}
+use Rattle.rd_event.specs.Reading.{is_space, name_read, call_read}
 use Rattle.rd_event.specs.ReadingSlots.{slots_read}
 use Rattle.rd_event.proofs.SlotLemmas.{slots_found, slots_said}
 use Rattle.rd_event.proofs.WordLemmas.{name_is, cut_joined, before_space, after_space, name_found}
@@ -28,8 +28,8 @@ CallSaid rest event = IsEvent event × (codes "call" ++ 32 ∷ rest ≡ event_sp
 
 parts_said : (rest names words thread object method : List ℕ) (slots : List Value)
     → names ≡ after_first is_space rest → words ≡ after_first is_space names
-    → name_of (before_first is_space rest) ≡ Some thread → name_of (before_first is_space names) ≡ Some object
-    → name_of (before_first is_space words) ≡ Some method → slots_read 7 (after_first is_space words) ≡ Some slots
+    → name_read (before_first is_space rest) ≡ Some thread → name_read (before_first is_space names) ≡ Some object
+    → name_read (before_first is_space words) ≡ Some method → slots_read 7 (after_first is_space words) ≡ Some slots
     → CallSaid rest (Call thread object method slots)
 parts_said rest names words thread object method slots is_names is_words thread_found object_found method_found slots_are =
     let first = name_is _ thread thread_found in
@@ -50,9 +50,9 @@ call_said rest =
     let Said : LineEvent → Type 0 = CallSaid rest in
     let names = after_first is_space rest in
     let words = after_first is_space names in
-    then_found Said _ (name_of (before_first is_space rest)) (λ thread thread_found.
-    then_found Said _ (name_of (before_first is_space names)) (λ object object_found.
-    then_found Said _ (name_of (before_first is_space words)) (λ method method_found.
+    then_found Said _ (name_read (before_first is_space rest)) (λ thread thread_found.
+    then_found Said _ (name_read (before_first is_space names)) (λ object object_found.
+    then_found Said _ (name_read (before_first is_space words)) (λ method method_found.
     map_found Said _ (slots_read 7 (after_first is_space words)) (λ slots slots_are.
     parts_said rest names words thread object method slots refl refl thread_found object_found method_found slots_are))))
 
@@ -78,9 +78,9 @@ call_found thread object method slots first second third values =
 
 -- the call of three names and slots, each read from what stands behind the one before it
 pub call_there : (rest names words values thread object method : List ℕ) (slots : List Value)
-    → name_of (before_first is_space rest) ≡ Some thread → names ≡ after_first is_space rest
-    → name_of (before_first is_space names) ≡ Some object → words ≡ after_first is_space names
-    → name_of (before_first is_space words) ≡ Some method → values ≡ after_first is_space words
+    → name_read (before_first is_space rest) ≡ Some thread → names ≡ after_first is_space rest
+    → name_read (before_first is_space names) ≡ Some object → words ≡ after_first is_space names
+    → name_read (before_first is_space words) ≡ Some method → values ≡ after_first is_space words
     → slots_read 7 values ≡ Some slots → call_read rest ≡ Some (Call thread object method slots)
 unfolding call_read
 call_there rest names words values thread object method slots thread_found names_are object_found words_are method_found values_are found =

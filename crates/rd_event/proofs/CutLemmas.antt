@@ -11,19 +11,19 @@ use Rattle.std.proofs.lemmas.List.{at_drop_all, drop_more}
 use Rattle.std.proofs.lemmas.Str.Parse.{digit_from_value}
 use Rattle.rd_base.specs.declared.values.Value.{Value}
 use Rattle.rd_base.specs.declared.values.Value.TheVariants.{Nil, Bool as Truth, Int, Text}
-use Rattle.rd_base.specs.Spelling.{byte_spelling, is_plain, bytes_spelling, spelling, IsValue}
+use Rattle.rd_base.specs.Spelling.{byte_spelling, is_plain, bytes_spelling, value_spelling, IsValue}
 use Rattle.rd_base.proofs.FoundLemmas.{each_by_recursion}
 use Rattle.rd_event.specs.declared.slots.Place.{Place}
 use Rattle.rd_event.specs.declared.slots.Place.TheVariants.{Outside, Quoted, Escaped}
-use Rattle.rd_event.specs.ReadingSlots.{is_end, next_place, value_length, first_value, other_values}
+use Rattle.rd_event.specs.ReadingSlots.{ends_value, next_place, value_length, first_value, other_values}
 
 -- Steps of the loop that looks for the end.
-pub ends_here : (place : Place) (bytes : List ℕ) (index : ℕ) → index < length bytes → is_end place (get_or bytes index 0) ≡ true
+pub ends_here : (place : Place) (bytes : List ℕ) (index : ℕ) → index < length bytes → ends_value place (get_or bytes index 0) ≡ true
     → value_length place (drop index bytes) ≡ 0
 unfolding value_length
 ends_here place bytes index within here = rw (drop_more bytes index 0 within, here) refl
 
-pub goes_on : (place : Place) (bytes : List ℕ) (index : ℕ) → index < length bytes → is_end place (get_or bytes index 0) ≡ false
+pub goes_on : (place : Place) (bytes : List ℕ) (index : ℕ) → index < length bytes → ends_value place (get_or bytes index 0) ≡ false
     → value_length place (drop index bytes) ≡ suc (value_length (next_place place (get_or bytes index 0)) (drop (index + 1) bytes))
 unfolding value_length
 goes_on place bytes index within on = rw (drop_more bytes index 0 within, on) refl
@@ -33,7 +33,7 @@ unfolding value_length
 ends_behind place bytes index behind = at_drop_all (value_length place) bytes index behind
 
 -- only a space ends a value
-space_ends : (place : Place) (byte : ℕ) → is_end place byte ≡ true → byte ≡ 32
+space_ends : (place : Place) (byte : ℕ) → ends_value place byte ≡ true → byte ≡ 32
 space_ends Outside byte here = eqb-true byte 32 here
 space_ends Quoted byte here = cc
 space_ends Escaped byte here = cc
@@ -43,7 +43,7 @@ cut_back : (place : Place) (bytes : List ℕ) → value_length place bytes < len
     → take (value_length place bytes) bytes ++ 32 ∷ drop (suc (value_length place bytes)) bytes ≡ bytes
 unfolding value_length
 cut_back place [] within = absurd (omega arith)
-cut_back place (byte ∷ bytes) within = elim (cases_Bool (is_end place byte)) [
+cut_back place (byte ∷ bytes) within = elim (cases_Bool (ends_value place byte)) [
   | inl here ↦ rw here (ap (λ b. b ∷ bytes) (sym (space_ends place byte here)))
   | inr on ↦
       let more : value_length (next_place place byte) bytes < length bytes = (let all = rw on at within in omega arith) in
@@ -62,7 +62,7 @@ Through p word q = (rest : List ℕ) → value_length p (word ++ rest) ≡ lengt
 through_none : (p : Place) → Through p [] p
 through_none p rest = omega arith
 
-through_byte : (p q : Place) (byte : ℕ) (word : List ℕ) → is_end p byte ≡ false → Through (next_place p byte) word q → Through p (byte ∷ word) q
+through_byte : (p q : Place) (byte : ℕ) (word : List ℕ) → ends_value p byte ≡ false → Through (next_place p byte) word q → Through p (byte ∷ word) q
 unfolding value_length
 through_byte p q byte word on through rest = rw on (ap suc (through rest) ∙ omega arith)
 
@@ -127,7 +127,7 @@ through_inside (byte ∷ text) each =
     through_both Quoted Quoted Quoted (byte_spelling byte) (bytes_spelling text) (through_escaped byte each.0) (through_inside text each.1)
 
 -- no value ends inside the spelling of one
-through_value : (value : Value) → IsValue value → Through Outside (spelling value) Outside
+through_value : (value : Value) → IsValue value → Through Outside (value_spelling value) Outside
 unfolding value_length
 through_value Nil range = λ rest. omega arith
 through_value (Truth true) range = λ rest. omega arith
@@ -142,15 +142,15 @@ through_value (Text text) range =
 
 -- a value before a space ends there
 ends_at_space : (value : Value) (rest : List ℕ) → IsValue value
-    → value_length Outside (spelling value ++ 32 ∷ rest) ≡ length (spelling value)
+    → value_length Outside (value_spelling value ++ 32 ∷ rest) ≡ length (value_spelling value)
 unfolding value_length
 ends_at_space value rest range = through_value value range (32 ∷ rest) ∙ omega arith
 
-pub value_before : (value : Value) (rest : List ℕ) → IsValue value → first_value (spelling value ++ 32 ∷ rest) ≡ spelling value
-value_before value rest range = rw (ends_at_space value rest range) (take_at (spelling value) (32 ∷ rest) _ refl)
+pub value_before : (value : Value) (rest : List ℕ) → IsValue value → first_value (value_spelling value ++ 32 ∷ rest) ≡ value_spelling value
+value_before value rest range = rw (ends_at_space value rest range) (take_at (value_spelling value) (32 ∷ rest) _ refl)
 
-pub value_behind : (value : Value) (rest : List ℕ) → IsValue value → other_values (spelling value ++ 32 ∷ rest) ≡ rest
-value_behind value rest range = rw (ends_at_space value rest range) (drop-append-add (spelling value) (32 ∷ rest) 1)
+pub value_behind : (value : Value) (rest : List ℕ) → IsValue value → other_values (value_spelling value ++ 32 ∷ rest) ≡ rest
+value_behind value rest range = rw (ends_at_space value rest range) (drop-append-add (value_spelling value) (32 ∷ rest) 1)
 
 -- so does an arrow
 pub arrow_before : (rest : List ℕ) → first_value (45 ∷ 62 ∷ 32 ∷ rest) ≡ codes "->"

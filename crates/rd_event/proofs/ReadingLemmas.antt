@@ -17,8 +17,8 @@ use Rattle.rd_event.specs.declared.reading.Pair.{Pair}
 use Rattle.rd_event.specs.declared.reading.Pair.TheVariants.{Acquire as AcquirePair, Release as ReleasePair}
 use Rattle.rd_event.specs.declared.reading.LineRefused.{LineRefused}
 use Rattle.rd_event.specs.declared.reading.LineRefused.TheVariants.{BadLine}
-use Rattle.rd_event.specs.Items.{IsEvent, LineInRange, words_apart, event_spelling, spelling, Says}
-use Rattle.rd_event.specs.Reading.{is_space, names_of, pair_item, is_call_keyword, call_read, event_with, item_with, item_of}
+use Rattle.rd_event.specs.Items.{IsEvent, LineInRange, words_apart, event_spelling, line_spelling, Says}
+use Rattle.rd_event.specs.Reading.{is_space, names_read, pair_item, is_call_keyword, call_read, event_with, item_with, item_of}
 use Rattle.rd_event.proofs.CallLemmas.{CallSaid, call_said, call_found}
 use Rattle.rd_event.proofs.WordLemmas.{NameSaid, NamesSaid, cut_joined, name_said, names_said, name_found, names_found}
 
@@ -34,9 +34,9 @@ TwoNamesSaid keyword text rest names =
     (IsName names.0 × IsName names.1) × (keyword ++ 32 ∷ rest ≡ text ++ 32 ∷ words_apart names.0 names.1) × (0 < length rest)
 
 two_names_said : (keyword text rest : List ℕ) → bytes_eq keyword text ≡ true
-    → IfSome (names_of rest) (TwoNamesSaid keyword text rest)
+    → IfSome (names_read rest) (TwoNamesSaid keyword text rest)
 two_names_said keyword text rest same =
-    IfSome_then (names_of rest) {P = NamesSaid rest} {Q = TwoNamesSaid keyword text rest} (names_said rest)
+    IfSome_then (names_read rest) {P = NamesSaid rest} {Q = TwoNamesSaid keyword text rest} (names_said rest)
     (λ names said.
     let more : 0 < length rest = omega (arith, length-append names.0 (32 ∷ names.1), ap length said.1) in
     (said.0, with_keyword keyword text rest (words_apart names.0 names.1) same said.1, more))
@@ -113,13 +113,13 @@ pair_behind : (pair : Pair) (put : List ℕ × List ℕ → LineEvent) → ((nam
 pair_behind pair put is None = refl
 pair_behind pair put is (Some names) = ap Some (sym (is names))
 
-pub acquire_behind : (bytes rest : List ℕ) → bytes ≡ codes "acquire " ++ rest → item_of bytes ≡ option_map (pair_item AcquirePair) (names_of rest)
+pub acquire_behind : (bytes rest : List ℕ) → bytes ≡ codes "acquire " ++ rest → item_of bytes ≡ option_map (pair_item AcquirePair) (names_read rest)
 unfolding item_of item_with event_with
-acquire_behind bytes rest is = rw is (pair_behind AcquirePair (λ names. Acquire names.0 names.1) (λ names. refl) (names_of rest))
+acquire_behind bytes rest is = rw is (pair_behind AcquirePair (λ names. Acquire names.0 names.1) (λ names. refl) (names_read rest))
 
-pub release_behind : (bytes rest : List ℕ) → bytes ≡ codes "release " ++ rest → item_of bytes ≡ option_map (pair_item ReleasePair) (names_of rest)
+pub release_behind : (bytes rest : List ℕ) → bytes ≡ codes "release " ++ rest → item_of bytes ≡ option_map (pair_item ReleasePair) (names_read rest)
 unfolding item_of item_with event_with
-release_behind bytes rest is = rw is (pair_behind ReleasePair (λ names. Release names.0 names.1) (λ names. refl) (names_of rest))
+release_behind bytes rest is = rw is (pair_behind ReleasePair (λ names. Release names.0 names.1) (λ names. refl) (names_read rest))
 
 -- an item that is found is in its range, and the bytes say it
 pub found_said : (bytes : List ℕ) (item : Line) → item_of bytes ≡ Some item → LineInRange item × Says bytes item
@@ -151,15 +151,15 @@ line_found bytes (Event (Call thread object method slots)) range says =
     rw says (ap (option_map (λ event. Event event)) (call_found thread object method slots range.0 range.1 range.2 range.3))
 
 -- an item's spelling says it, and it is found there
-pub spelling_says : (item : Line) → Says (spelling item) item
+pub spelling_says : (item : Line) → Says (line_spelling item) item
 spelling_says Skip = refl
 spelling_says (Header version) = refl
 spelling_says (Thread thread) = refl
 spelling_says (Object name kind) = refl
 spelling_says (Event event) = refl
 
-pub found_again : (item : Line) → LineInRange item → item_of (spelling item) ≡ Some item
-found_again item range = line_found (spelling item) item range (spelling_says item)
+pub found_again : (item : Line) → LineInRange item → item_of (line_spelling item) ≡ Some item
+found_again item range = line_found (line_spelling item) item range (spelling_says item)
 
 -- no bytes say two items
 pub one_line : (bytes : List ℕ) (x y : Line) → LineInRange x → LineInRange y → Says bytes x → Says bytes y → x ≡ y

@@ -9,7 +9,7 @@ use Rattle.std.proofs.lemmas.Fmt.{decimal_nonempty}
 use Rattle.std.proofs.lemmas.Option.{none-some, MatchOption-at_some}
 use Rattle.rd_base.specs.declared.values.Value.{Value}
 use Rattle.rd_base.specs.declared.values.Value.TheVariants.{Nil, Bool as Truth, Int, Text}
-use Rattle.rd_base.specs.Spelling.{IsValue, spelling as value_spelling}
+use Rattle.rd_base.specs.Spelling.{IsValue, value_spelling}
 use Rattle.rd_base.specs.ReadingValues.{integer_of, value_of}
 use Rattle.rd_base.proofs.FoundLemmas.{if_some, map_found, then_found, each_by_recursion, each_from_recursion}
 use Rattle.rd_base.proofs.ValueLemmas.{value_found, found_said as value_said}

@@ -2,7 +2,7 @@
 use Rattle.std.proofs.Common.{◌≡◌, ℕ, ◌+◌, ◌-◌, ◌≤◌, List, [], ◌∷◌, ◌++◌, length, take, get_or, flat_map, refl, sym, ◌∙◌, ap, arith, append_assoc, length-append}
 use Rattle.std.proofs.lemmas.List.{take_more, take_all}
 use Rattle.rd_base.specs.declared.values.Value.{Value}
-use Rattle.rd_base.specs.Spelling.{spelling as value_spelling}
+use Rattle.rd_base.specs.Spelling.{value_spelling}
 use Rattle.rd_event.specs.Items.{slots_spelling}
 use Rattle.rd_event.proofs.SlotLemmas.{one_more}
 

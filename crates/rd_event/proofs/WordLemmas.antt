@@ -12,7 +12,7 @@ use Rattle.rd_base.specs.Names.{IsName, is_name, is_name_byte}
 use Rattle.rd_base.proofs.FoundLemmas.{if_some, map_found, then_found}
 use Rattle.rd_base.proofs.NameLemmas.{is_name_decides}
 use Rattle.rd_event.specs.Items.{words_apart}
-use Rattle.rd_event.specs.Reading.{is_space, name_of, names_of}
+use Rattle.rd_event.specs.Reading.{is_space, name_read, names_read}
 
 -- bytes are what stands before their first space, the space, and what stands after it
 pub cut_joined : (bytes : List ℕ) → 0 < length (after_first is_space bytes)
@@ -49,18 +49,18 @@ after_space name rest named =
 abbrev pub NameSaid : List ℕ → List ℕ → Type 0
 NameSaid bytes name = IsName name × (name ≡ bytes)
 
-pub name_said : (bytes : List ℕ) → IfSome (name_of bytes) (NameSaid bytes)
-unfolding name_of
+pub name_said : (bytes : List ℕ) → IfSome (name_read bytes) (NameSaid bytes)
+unfolding name_read
 name_said bytes = if_some (NameSaid bytes) _ (Some bytes) _ (λ pass. ((is_name_decides bytes).0 pass, refl)) tt
 
 abbrev pub NamesSaid : List ℕ → List ℕ × List ℕ → Type 0
 NamesSaid bytes names = (IsName names.0 × IsName names.1) × (words_apart names.0 names.1 ≡ bytes)
 
-pub name_is : (bytes name : List ℕ) → name_of bytes ≡ Some name → IsName name × (name ≡ bytes)
+pub name_is : (bytes name : List ℕ) → name_read bytes ≡ Some name → IsName name × (name ≡ bytes)
 name_is bytes name found = MatchOption-at_some ⊤ (NameSaid bytes) name found (name_said bytes)
 
-both_said : (bytes first second : List ℕ) → name_of (before_first is_space bytes) ≡ Some first
-    → name_of (after_first is_space bytes) ≡ Some second → NamesSaid bytes (first, second)
+both_said : (bytes first second : List ℕ) → name_read (before_first is_space bytes) ≡ Some first
+    → name_read (after_first is_space bytes) ≡ Some second → NamesSaid bytes (first, second)
 both_said bytes first second first_found second_found =
     let one = name_is _ first first_found in
     let two = name_is _ second second_found in
@@ -69,21 +69,21 @@ both_said bytes first second first_found second_found =
       ap (λ word. word ++ 32 ∷ second) one.1 ∙ ap (λ rest. before_first is_space bytes ++ 32 ∷ rest) two.1 ∙ sym (cut_joined bytes more),
     )
 
-pub names_said : (bytes : List ℕ) → IfSome (names_of bytes) (NamesSaid bytes)
-unfolding names_of
+pub names_said : (bytes : List ℕ) → IfSome (names_read bytes) (NamesSaid bytes)
+unfolding names_read
 names_said bytes =
-    then_found (NamesSaid bytes) _ (name_of (before_first is_space bytes)) (λ first first_found.
-    map_found (NamesSaid bytes) _ (name_of (after_first is_space bytes)) (λ second second_found.
+    then_found (NamesSaid bytes) _ (name_read (before_first is_space bytes)) (λ first first_found.
+    map_found (NamesSaid bytes) _ (name_read (after_first is_space bytes)) (λ second second_found.
     both_said bytes first second first_found second_found))
 
 -- What is said is found.
-pub name_found : (name : List ℕ) → IsName name → name_of name ≡ Some name
-unfolding name_of
+pub name_found : (name : List ℕ) → IsName name → name_read name ≡ Some name
+unfolding name_read
 name_found name named = rw ((is_name_decides name).1 named) refl
 
 pub names_found : (first second : List ℕ) → IsName first → IsName second
-    → ◌≡◌ {A = Option (List ℕ × List ℕ)} (names_of (words_apart first second)) (Some (first, second))
-unfolding names_of
+    → ◌≡◌ {A = Option (List ℕ × List ℕ)} (names_read (words_apart first second)) (Some (first, second))
+unfolding names_read
 names_found first second one two =
     rw (
       before_space first second one,
@@ -92,8 +92,8 @@ names_found first second one two =
       name_found second two,
     ) refl
 
-pub name_refused : (bytes : List ℕ) → ¬ (IsName bytes) → name_of bytes ≡ None
-unfolding name_of
+pub name_refused : (bytes : List ℕ) → ¬ (IsName bytes) → name_read bytes ≡ None
+unfolding name_read
 name_refused bytes unnamed =
     let test : is_name bytes ≡ false = false_from_ne_true _ (λ pass. unnamed ((is_name_decides bytes).0 pass)) in rw test refl
 
@@ -148,7 +148,7 @@ other_before_space bytes inside other = elim (cases_lt (prefix_len is_name_byte 
 ]
 
 pub other_refused : (bytes : List ℕ) → prefix_len is_name_byte bytes < length bytes
-    → get_or bytes (prefix_len is_name_byte bytes) 0 ≢ 32 → name_of (before_first is_space bytes) ≡ None
+    → get_or bytes (prefix_len is_name_byte bytes) 0 ≢ 32 → name_read (before_first is_space bytes) ≡ None
 other_refused bytes inside other =
     name_refused (before_first is_space bytes) (λ named.
     let before = other_before_space bytes inside other in
@@ -158,8 +158,8 @@ other_refused bytes inside other =
     ∙ named.each (prefix_len is_name_byte bytes) 0 there in
     true≢false (sym pass ∙ prefix_len_stops is_name_byte bytes 0 inside))
 
-pub nothing_refused : name_of [] ≡ None
-unfolding name_of
+pub nothing_refused : name_read [] ≡ None
+unfolding name_read
 nothing_refused = name_refused [] (λ named. let some = named.some in omega arith)
 
 -- The same of the place that was found.
@@ -168,10 +168,10 @@ within : (bytes : List ℕ) (place : ℕ) → place ≡ prefix_len is_name_byte 
 within bytes place is few other = omega (arith, is, few, other)
 
 pub found_front : (bytes : List ℕ) (place : ℕ) → place ≡ prefix_len is_name_byte bytes → place ≤ length bytes → place ≢ length bytes
-    → get_or bytes place 0 ≡ 32 → name_of (take place bytes) ≡ name_of (before_first is_space bytes)
+    → get_or bytes place 0 ≡ 32 → name_read (take place bytes) ≡ name_read (before_first is_space bytes)
 found_front bytes place is few other space =
-    ap (λ n. name_of (take n bytes)) is
-    ∙ ap name_of (before_front bytes (within bytes place is few other) (subst (λ n. get_or bytes n 0 ≡ 32) is space))
+    ap (λ n. name_read (take n bytes)) is
+    ∙ ap name_read (before_front bytes (within bytes place is few other) (subst (λ n. get_or bytes n 0 ≡ 32) is space))
 
 pub found_behind : (bytes : List ℕ) (place : ℕ) → place ≡ prefix_len is_name_byte bytes → place ≤ length bytes → place ≢ length bytes
     → get_or bytes place 0 ≡ 32 → take (length bytes - (place + 1)) (drop (place + 1) bytes) ≡ after_first is_space bytes
@@ -181,7 +181,7 @@ found_behind bytes place is few other space =
     ∙ after_front bytes (within bytes place is few other) (subst (λ n. get_or bytes n 0 ≡ 32) is space)
 
 pub found_other : (bytes : List ℕ) (place : ℕ) → place ≡ prefix_len is_name_byte bytes → place ≤ length bytes → place ≢ length bytes
-    → get_or bytes place 0 ≢ 32 → name_of [] ≡ name_of (before_first is_space bytes)
+    → get_or bytes place 0 ≢ 32 → name_read [] ≡ name_read (before_first is_space bytes)
 found_other bytes place is few other no_space =
     nothing_refused
     ∙ sym (other_refused bytes (within bytes place is few other) (subst (λ n. get_or bytes n 0 ≢ 32) is no_space))

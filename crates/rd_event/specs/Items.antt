@@ -3,7 +3,7 @@ use Rattle.std.specs.Prelude.{◌≡◌, ℕ, ◌≤◌, Bool, true, ◌==◌, L
 use Rattle.std.specs.List.{All}
 use Rattle.rd_base.specs.declared.values.Value.{Value}
 use Rattle.rd_base.specs.Names.{IsName}
-use Rattle.rd_base.specs.Spelling.{IsValue, spelling as value_spelling}
+use Rattle.rd_base.specs.Spelling.{IsValue, value_spelling}
 use Rattle.rd_event.specs.declared.items.Line.{Line}
 use Rattle.rd_event.specs.declared.items.Line.TheVariants.{Skip, Header, Thread, Object, Event}
 use Rattle.rd_event.specs.declared.items.LineEvent.{LineEvent}
@@ -68,12 +68,12 @@ event_spelling (Release thread lock) = codes "release " ++ words_apart thread lo
 event_spelling (Call thread object method slots) = codes "call " ++ call_text thread object method slots
 
 -- the one spelling of each item that isn't skipped
-abbrev pub spelling : Line → List ℕ
-spelling Skip = []
-spelling (Header version) = codes "rdtrace 1"
-spelling (Thread thread) = codes "thread " ++ thread
-spelling (Object name kind) = codes "object " ++ words_apart name kind
-spelling (Event event) = event_spelling event
+abbrev pub line_spelling : Line → List ℕ
+line_spelling Skip = []
+line_spelling (Header version) = codes "rdtrace 1"
+line_spelling (Thread thread) = codes "thread " ++ thread
+line_spelling (Object name kind) = codes "object " ++ words_apart name kind
+line_spelling (Event event) = event_spelling event
 
 -- an empty line, or one whose first byte is #
 abbrev pub is_skipped : List ℕ → Bool
@@ -83,7 +83,7 @@ is_skipped (byte ∷ bytes) = byte == hash
 -- the bytes are a spelling of the item
 abbrev pub Says : List ℕ → Line → Type 0
 Says bytes Skip = is_skipped bytes ≡ true
-Says bytes (Header version) = bytes ≡ spelling (Header version)
-Says bytes (Thread thread) = bytes ≡ spelling (Thread thread)
-Says bytes (Object name kind) = bytes ≡ spelling (Object name kind)
-Says bytes (Event event) = bytes ≡ spelling (Event event)
+Says bytes (Header version) = bytes ≡ line_spelling (Header version)
+Says bytes (Thread thread) = bytes ≡ line_spelling (Thread thread)
+Says bytes (Object name kind) = bytes ≡ line_spelling (Object name kind)
+Says bytes (Event event) = bytes ≡ line_spelling (Event event)

@@ -18,14 +18,14 @@ abbrev pub is_space : ℕ → Bool
 is_space byte = byte == space
 
 -- the bytes, if they are a name
-unfoldable pub name_of : List ℕ → Option (List ℕ)
-name_of bytes = if is_name bytes then Some bytes else None
+unfoldable pub name_read : List ℕ → Option (List ℕ)
+name_read bytes = if is_name bytes then Some bytes else None
 
 -- what stands before and after the first space, if both are names
-unfoldable pub names_of : List ℕ → Option (List ℕ × List ℕ)
-names_of bytes =
-    let found_first = name_of (before_first is_space bytes) in
-    let found_second = name_of (after_first is_space bytes) in
+unfoldable pub names_read : List ℕ → Option (List ℕ × List ℕ)
+names_read bytes =
+    let found_first = name_read (before_first is_space bytes) in
+    let found_second = name_read (after_first is_space bytes) in
     option_and_then (λ first. option_map (λ second. (first, second)) found_second) found_first
 
 -- the call of a line with these bytes behind its keyword: three names and the slots, a space apart
@@ -33,9 +33,9 @@ unfoldable pub call_read : List ℕ → Option LineEvent
 call_read rest =
     let names = after_first is_space rest in
     let words = after_first is_space names in
-    let found_thread = name_of (before_first is_space rest) in
-    let found_object = name_of (before_first is_space names) in
-    let found_method = name_of (before_first is_space words) in
+    let found_thread = name_read (before_first is_space rest) in
+    let found_object = name_read (before_first is_space names) in
+    let found_method = name_read (before_first is_space words) in
     let found_slots = slots_read 7 (after_first is_space words) in
     option_and_then (λ thread. option_and_then (λ object. option_and_then (λ method.
     option_map (λ slots. Call thread object method slots) found_slots) found_method) found_object) found_thread
@@ -55,10 +55,10 @@ is_call_keyword keyword = bytes_eq keyword (codes "call")
 -- the event of a line with this keyword and these bytes after the space behind it
 unfoldable pub event_with : List ℕ → List ℕ → Option LineEvent
 event_with keyword rest =
-    if bytes_eq keyword (codes "fork") then option_map (λ names. Fork names.0 names.1) (names_of rest)
-    else if bytes_eq keyword (codes "join") then option_map (λ names. Join names.0 names.1) (names_of rest)
-    else if bytes_eq keyword (codes "acquire") then option_map (λ names. Acquire names.0 names.1) (names_of rest)
-    else if bytes_eq keyword (codes "release") then option_map (λ names. Release names.0 names.1) (names_of rest)
+    if bytes_eq keyword (codes "fork") then option_map (λ names. Fork names.0 names.1) (names_read rest)
+    else if bytes_eq keyword (codes "join") then option_map (λ names. Join names.0 names.1) (names_read rest)
+    else if bytes_eq keyword (codes "acquire") then option_map (λ names. Acquire names.0 names.1) (names_read rest)
+    else if bytes_eq keyword (codes "release") then option_map (λ names. Release names.0 names.1) (names_read rest)
     else if is_call_keyword keyword then call_read rest
     else None
 
@@ -66,8 +66,8 @@ event_with keyword rest =
 unfoldable pub item_with : List ℕ → List ℕ → Option Line
 item_with keyword rest =
     if bytes_eq keyword (codes "rdtrace") then (if bytes_eq rest (codes "1") then Some (Header 1) else None)
-    else if bytes_eq keyword (codes "thread") then option_map (λ name. Thread name) (name_of rest)
-    else if bytes_eq keyword (codes "object") then option_map (λ names. Object names.0 names.1) (names_of rest)
+    else if bytes_eq keyword (codes "thread") then option_map (λ name. Thread name) (name_read rest)
+    else if bytes_eq keyword (codes "object") then option_map (λ names. Object names.0 names.1) (names_read rest)
     else option_map (λ event. Event event) (event_with keyword rest)
 
 -- the item that the bytes spell

@@ -9,10 +9,10 @@ use Rattle.rd_event.specs.declared.slots.Place.TheVariants.{Outside, Quoted, Esc
 use Rattle.rd_base.specs.Bytes.{backslash, quote, space}
 
 -- a value ends before a space that stands outside its quotes
-abbrev pub is_end : Place → ℕ → Bool
-is_end Outside b = b == space
-is_end Quoted b = false
-is_end Escaped b = false
+abbrev pub ends_value : Place → ℕ → Bool
+ends_value Outside b = b == space
+ends_value Quoted b = false
+ends_value Escaped b = false
 
 -- the place behind a byte
 abbrev pub next_place : Place → ℕ → Place
@@ -23,7 +23,7 @@ next_place Escaped b = Quoted
 -- how many bytes stand before the first space outside quotes
 unfoldable pub value_length : Place → List ℕ → ℕ
 value_length place [] = 0
-value_length place (b ∷ bytes) = if is_end place b then 0 else suc (value_length (next_place place b) bytes)
+value_length place (b ∷ bytes) = if ends_value place b then 0 else suc (value_length (next_place place b) bytes)
 
 -- the bytes before that space, and those behind it
 abbrev pub first_value : List ℕ → List ℕ

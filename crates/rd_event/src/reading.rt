@@ -5,8 +5,8 @@ ghost use Rattle.std.specs.List.{AllPass, before_first, after_first, position};
 ghost use Rattle.rd_base.specs.Names.{IsName, is_name_byte};
 ghost use Rattle.rd_event.specs.declared.items.Line.{Line};
 ghost use Rattle.std.specs.Str.{bytes_eq};
-ghost use Rattle.rd_event.specs.Items.{is_skipped, LineInRange, Says, spelling};
-ghost use Rattle.rd_event.specs.Reading.{is_space, name_of, names_of, is_call_keyword, call_read, pair_item, event_with, item_with, item_of};
+ghost use Rattle.rd_event.specs.Items.{is_skipped, LineInRange, Says, line_spelling};
+ghost use Rattle.rd_event.specs.Reading.{is_space, name_read, names_read, is_call_keyword, call_read, pair_item, event_with, item_with, item_of};
 
 use crate::items::{Line, LineEvent};
 use crate::slots::slots;
@@ -32,7 +32,7 @@ fn is_skipped(bytes: &[u8]) -> bool
 }
 
 // Are the bytes those of the text?
-pub(crate) fn is(bytes: &[u8], text: &str) -> bool
+pub(crate) fn bytes_are(bytes: &[u8], text: &str) -> bool
     ensures { result ≡ bytes_eq bytes.now text.now }
 {
     bytes == text.as_bytes()
@@ -69,7 +69,7 @@ fn cut(bytes: &[u8]) -> (&[u8], &[u8])
 #[tactic(auto, using(crate::proofs::WordLemmas::before_end, crate::proofs::WordLemmas::after_end, crate::proofs::WordLemmas::each_in_front, rd_base::proofs::NameLemmas::each_of_name))]
 fn cut_name(bytes: &[u8]) -> (&[u8], &[u8])
     ensures each { AllPass is_name_byte result.0.now }
-    ensures before { name_of result.0.now ≡ name_of (before_first is_space bytes.now) }
+    ensures before { name_read result.0.now ≡ name_read (before_first is_space bytes.now) }
     ensures after { IsName result.0.now → result.1.now ≡ after_first is_space bytes.now }
 {
     let length = name_length(bytes);
@@ -131,10 +131,10 @@ fn put_pair(pair: Pair, first: Name, second: Name, line: &mut Line)
 }
 
 // Reads such a line with these bytes after the space behind its keyword.
-#[tactic(auto, using(rd_base::proofs::NameLemmas::is_name_decides, rd_base::proofs::NameLemmas::each_of_name, rd_base::proofs::NameLemmas::other_no_name), unfolding(crate::specs::Reading::name_of, crate::specs::Reading::names_of))]
+#[tactic(auto, using(rd_base::proofs::NameLemmas::is_name_decides, rd_base::proofs::NameLemmas::each_of_name, rd_base::proofs::NameLemmas::other_no_name), unfolding(crate::specs::Reading::name_read, crate::specs::Reading::names_read))]
 fn read_pair(pair: Pair, rest: &[u8], line: &mut Line) -> Result<(), LineRefused>
-    ensures item { OnOk result (option_map (pair_item pair) (names_of rest.now) ≡ Some line.new) }
-    ensures none { OnErr result (option_map (pair_item pair) (names_of rest.now) ≡ None) }
+    ensures item { OnOk result (option_map (pair_item pair) (names_read rest.now) ≡ Some line.new) }
+    ensures none { OnErr result (option_map (pair_item pair) (names_read rest.now) ≡ None) }
     ensures refused { IfErr result (λ e. e ≡ LineRefused.BadLine) }
 {
     let (first, second) = cut_name(rest);
@@ -152,11 +152,11 @@ fn read_pair(pair: Pair, rest: &[u8], line: &mut Line) -> Result<(), LineRefused
 }
 
 // Reads the line of a root thread with these bytes after the space behind its keyword.
-#[tactic(auto, using(rd_base::proofs::NameLemmas::is_name_decides), unfolding(crate::specs::Reading::name_of))]
+#[tactic(auto, using(rd_base::proofs::NameLemmas::is_name_decides), unfolding(crate::specs::Reading::name_read))]
 fn read_thread(rest: &[u8], line: &mut Line) -> Result<(), LineRefused>
     ensures item { OnOk result
-        (option_map (λ name. Line.Thread name) (name_of rest.now) ≡ Some line.new) }
-    ensures none { OnErr result (option_map (λ name. Line.Thread name) (name_of rest.now) ≡ None) }
+        (option_map (λ name. Line.Thread name) (name_read rest.now) ≡ Some line.new) }
+    ensures none { OnErr result (option_map (λ name. Line.Thread name) (name_read rest.now) ≡ None) }
     ensures refused { IfErr result (λ e. e ≡ LineRefused.BadLine) }
 {
     let Ok(thread) = Name::from_bytes(rest) else {
@@ -167,7 +167,7 @@ fn read_thread(rest: &[u8], line: &mut Line) -> Result<(), LineRefused>
 }
 
 // Reads a call with these bytes after the space behind its keyword.
-#[tactic(auto, using(rd_base::proofs::NameLemmas::is_name_decides), unfolding(crate::specs::Reading::name_of, crate::specs::Reading::call_read))]
+#[tactic(auto, using(rd_base::proofs::NameLemmas::is_name_decides), unfolding(crate::specs::Reading::name_read, crate::specs::Reading::call_read))]
 fn read_call(alloc: Global, rest: &[u8], line: &mut Line) -> Result<(), LineRefused>
     ensures item { OnOk result
         (option_map (λ event. Line.Event event) (call_read rest.now) ≡ Some line.new) }
@@ -211,26 +211,26 @@ fn read_other(keyword: &[u8], rest: &[u8], line: &mut Line) -> Result<(), LineRe
     ensures none { OnErr result (item_with keyword.now rest.now ≡ None) }
     ensures refused { IfErr result (λ e. e ≡ LineRefused.BadLine) }
 {
-    if is(keyword, "acquire") {
+    if bytes_are(keyword, "acquire") {
         return read_pair(Pair::Acquire, rest, line);
     }
-    if is(keyword, "release") {
+    if bytes_are(keyword, "release") {
         return read_pair(Pair::Release, rest, line);
     }
-    if is(keyword, "fork") {
+    if bytes_are(keyword, "fork") {
         return read_pair(Pair::Fork, rest, line);
     }
-    if is(keyword, "join") {
+    if bytes_are(keyword, "join") {
         return read_pair(Pair::Join, rest, line);
     }
-    if is(keyword, "object") {
+    if bytes_are(keyword, "object") {
         return read_pair(Pair::Object, rest, line);
     }
-    if is(keyword, "thread") {
+    if bytes_are(keyword, "thread") {
         return read_thread(rest, line);
     }
-    if is(keyword, "rdtrace") {
-        if is(rest, "1") {
+    if bytes_are(keyword, "rdtrace") {
+        if bytes_are(rest, "1") {
             *line = Line::Header { version: 1 };
             return Ok(());
         }
@@ -274,7 +274,7 @@ fn read_item(alloc: Global, bytes: &[u8], line: &mut Line) -> Result<(), LineRef
         return read_pair(Pair::Release, rest, line);
     }
     let (keyword, rest) = cut(bytes);
-    if is(keyword, "call") {
+    if bytes_are(keyword, "call") {
         return read_call(alloc, rest, line);
     }
     read_other(keyword, rest, line)
@@ -337,7 +337,7 @@ pub fn law_of_spelling()
     ensures test { (bytes : List ℕ) (item : Line) → LineInRange item →
         (item_of bytes ≡ Some item ↔ Says bytes item) }
     ensures range { (bytes : List ℕ) (item : Line) → item_of bytes ≡ Some item → LineInRange item }
-    ensures again { (item : Line) → LineInRange item → item_of (spelling item) ≡ Some item }
+    ensures again { (item : Line) → LineInRange item → item_of (line_spelling item) ≡ Some item }
     ensures one_item { (bytes : List ℕ) (x y : Line) → LineInRange x → LineInRange y →
         Says bytes x → Says bytes y → x ≡ y }
 {}

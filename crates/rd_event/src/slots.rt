@@ -2,9 +2,9 @@
 ghost use Rattle.std.specs.Prelude.{◌≡◌, List, Some, None, is_some, IfOk, IfErr};
 ghost use Rattle.rd_base.specs.declared.values.Value.{Value};
 ghost use Rattle.rd_event.specs.declared.slots.Place.TheVariants.{Outside};
-ghost use Rattle.rd_event.specs.ReadingSlots.{is_end, next_place, value_length, first_value, other_values, slots_read};
+ghost use Rattle.rd_event.specs.ReadingSlots.{ends_value, next_place, value_length, first_value, other_values, slots_read};
 
-use crate::reading::{LineRefused, is};
+use crate::reading::{LineRefused, bytes_are};
 use rd_base::{Slots, ValueRefused, is_value, read_value};
 use std::alloc::Global;
 
@@ -17,8 +17,8 @@ enum Place {
 }
 
 // Does a value end before this byte?
-fn is_end(place: Place, byte: u8) -> bool
-    ensures { result ≡ is_end place byte }
+fn ends_value(place: Place, byte: u8) -> bool
+    ensures { result ≡ ends_value place byte }
 {
     match place {
         Place::Outside => byte == b' ',
@@ -57,7 +57,7 @@ fn value_length(bytes: &[u8]) -> usize
 {
     let mut place = Place::Outside;
     for (index, byte) in bytes.iter().enumerate() {
-        if is_end(place, *byte) {
+        if ends_value(place, *byte) {
             return index;
         }
         place = next_place(place, *byte);
@@ -86,7 +86,7 @@ fn are_slots(room: u8, bytes: &[u8]) -> bool
         return false;
     }
     let (word, after) = cut_value(bytes);
-    if is(word, "->") {
+    if bytes_are(word, "->") {
         return is_value(after);
     }
     if !is_value(word) {
@@ -121,7 +121,7 @@ pub(crate) fn slots(alloc: Global, bytes: &[u8]) -> Result<Slots, LineRefused>
     let mut rest = bytes;
     while values.len() < 7 {
         let (word, after) = cut_value(rest);
-        if is(word, "->") {
+        if bytes_are(word, "->") {
             let result = match read_value(alloc, after) {
                 Ok(result) => result,
                 Err(ValueRefused::NotAValue) => return Err(LineRefused::BadLine),

@@ -2,7 +2,7 @@
 ghost use Rattle.std.specs.Prelude.{◌≡◌, [], ◌∷◌, ◌++◌, All, Some, OnOk, IfOk};
 ghost use Rattle.rd_base.specs.Names.{IsName};
 ghost use Rattle.rd_base.specs.Spelling.{IsValue};
-ghost use Rattle.rd_event.specs.Items.{LineInRange, IsEvent, IsSpellable, HasFewSlots, Says, call_text, words_apart, slots_spelling, event_spelling, spelling};
+ghost use Rattle.rd_event.specs.Items.{LineInRange, IsEvent, IsSpellable, HasFewSlots, Says, call_text, words_apart, slots_spelling, event_spelling, line_spelling};
 ghost use Rattle.rd_event.specs.Reading.{item_of};
 
 use crate::items::{Line, LineEvent};
@@ -95,7 +95,7 @@ fn append_event(text: &mut Bytes, event: &LineEvent) -> Result<(), NoMemory>
 // Puts the spelling of a line behind the text.
 fn append_line(text: &mut Bytes, line: &Line) -> Result<(), NoMemory>
     requires { IsSpellable line.now }
-    ensures ok { OnOk result (text.new ≡ text.old ++ spelling line.now) }
+    ensures ok { OnOk result (text.new ≡ text.old ++ line_spelling line.now) }
     ensures range { OnOk result (LineInRange line.now) }
 {
     match line {
@@ -114,7 +114,7 @@ fn append_line(text: &mut Bytes, line: &Line) -> Result<(), NoMemory>
 /// line again. The types keep names and values in their ranges; what is asked is version 1 in a header and 1 to 7 slots in a call.
 pub fn spell(alloc: Global, line: &Line) -> Result<Bytes, NoMemory>
     requires { IsSpellable line.now }
-    ensures value { IfOk result (λ text. text ≡ spelling line.now) }
+    ensures value { IfOk result (λ text. text ≡ line_spelling line.now) }
     ensures says { IfOk result (λ text. Says text line.now) }
     ensures again { IfOk result (λ text. item_of text ≡ Some line.now) }
 {

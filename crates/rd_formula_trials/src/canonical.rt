@@ -2,11 +2,11 @@
 ghost use Rattle.std.specs.Prelude.{◌≡◌, IfOk};
 ghost use Rattle.rd_ecl.specs.Formulas.{Fits, tree_of};
 
-use crate::formulas::read;
+use crate::formula_texts::read;
 use crate::rows::gives;
 use rd_base::{Bytes, Name, NoMemory};
 use rd_ecl::{Formula, Rel};
-use rd_print::{Word, Words, append_text, law_of_texts, words};
+use rd_print::{PrintedWord, Words, append_text, law_of_texts, words};
 use rd_samples::{push_comma, read_bytes};
 use rd_tokens::Sort;
 use std::alloc::Global;
@@ -28,7 +28,7 @@ fn words_of(alloc: Global, formula: &Formula) -> Result<Words, NoMemory>
 }
 
 // The words with a space between them.
-fn written(alloc: Global, words: &[Word]) -> Result<String, NoMemory> {
+fn written(alloc: Global, words: &[PrintedWord]) -> Result<String, NoMemory> {
     let mut text = String::new(alloc);
     for word in words {
         if !text.is_empty() {
@@ -208,15 +208,15 @@ fn sort_of(rt: &impl Abort, sorts: &[(&str, Sort)], name: &str) -> Sort {
 }
 
 // A sort, a space and the bytes.
-fn word(rt: &impl Abort, alloc: Global, said: &str) -> Result<Word, NoMemory> {
+fn word(rt: &impl Abort, alloc: Global, said: &str) -> Result<PrintedWord, NoMemory> {
     let (sort, text) = said.split_once(' ').expect(rt, "a word");
     let mut bytes = Bytes::new(alloc);
     bytes.append(text.as_bytes())?;
     let sort = sort_of(rt, &SORTS, sort);
-    Ok(Word { sort, bytes })
+    Ok(PrintedWord { sort, bytes })
 }
 
-fn words_said(rt: &impl Abort, alloc: Global, said: &str) -> Result<Vec<Word>, NoMemory> {
+fn words_said(rt: &impl Abort, alloc: Global, said: &str) -> Result<Vec<PrintedWord>, NoMemory> {
     let mut words = Vec::new(alloc);
     for part in said.split(", ") {
         if !part.is_empty() {
@@ -227,7 +227,7 @@ fn words_said(rt: &impl Abort, alloc: Global, said: &str) -> Result<Vec<Word>, N
 }
 
 // The text of the words, behind the front.
-fn text_behind(alloc: Global, front: &str, words: &[Word]) -> Result<String, NoMemory> {
+fn text_behind(alloc: Global, front: &str, words: &[PrintedWord]) -> Result<String, NoMemory> {
     let mut text = Bytes::new(alloc);
     text.append(front.as_bytes())?;
     append_text(&mut text, words)?;

@@ -4,7 +4,7 @@
 #[cfg(test)]
 mod canonical;
 #[cfg(test)]
-mod formulas;
+mod formula_texts;
 #[cfg(test)]
 mod grammar;
 #[cfg(test)]

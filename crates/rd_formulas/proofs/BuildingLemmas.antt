@@ -11,18 +11,18 @@ use Rattle.rd_ecl.specs.Formulas.{Tree, negation, both, either, Fits, FitsTerm, 
 use Rattle.rd_formulas.specs.declared.scope.Scope.{Scope}
 use Rattle.rd_formulas.specs.declared.terms.Meant.{Meant}
 use Rattle.rd_formulas.specs.declared.terms.Meant.TheVariants.{Slot as SlotOf, Value as ValueOf}
-use Rattle.rd_formulas.specs.Meaning.{Gives, NoneOf, across, node_tokens, related, relations_in, sided, terms_in}
-use Rattle.rd_formulas.specs.Scope.{IsBare, IsReady, IsUnknown, IsVariableAt, MeansAt, variables_of, word_at}
+use Rattle.rd_formulas.specs.Meaning.{Gives, NoneOf, cross_relation, node_tokens, relation_of_terms, relations_in, sided_relation, terms_in}
+use Rattle.rd_formulas.specs.Scope.{IsBare, IsReady, IsUnknown, IsVariableAt, MeansAt, variables_of, token_bytes_at}
 use Rattle.rd_formulas.proofs.FindingLemmas.{none_left, none_right}
 use Rattle.rd_grammar.specs.declared.marks.Sign.{Sign}
 use Rattle.rd_grammar.specs.declared.marks.Sign.TheVariants.{Equal, Different, Less, AtMost}
-use Rattle.rd_grammar.specs.Grammar.{Tree as Read, truth as read_truth, relation, negation as read_not, both as read_and, either as read_or}
+use Rattle.rd_grammar.specs.Grammar.{ParsedTree, truth as read_truth, relation, negation as read_not, both as read_and, either as read_or}
 use Rattle.rd_tokens.specs.declared.words.terms.Said.TheVariants.{Variable, Value as ValueSaid}
 use Rattle.rd_tokens.specs.Words.{SaysTerm}
 use Rattle.rd_tokens.proofs.TermLemmas.{one_term}
 use Rattle.std.proofs.lemmas.Bool.{and_from}
 
-pub ready : (scope : Scope) (read : Read) → NoneOf (IsUnknown scope) (terms_in read) → NoneOf (IsBare scope) (relations_in read) → IsReady scope read
+pub ready : (scope : Scope) (read : ParsedTree) → NoneOf (IsUnknown scope) (terms_in read) → NoneOf (IsBare scope) (relations_in read) → IsReady scope read
 ready scope (read_truth value token) h k = tt
 ready scope (relation left sign token right) h k = (h.0, h.1.0, k.0)
 ready scope (read_not token f) h k = ready scope f h k
@@ -36,17 +36,17 @@ ready scope (read_or f token g) h k = (
 )
 
 -- a value is no variable
-no_value : (scope : Scope) (number : ℕ) (value : Value) → IsVariableAt scope number → SaysTerm (word_at scope number) (ValueSaid value) → ⊥
+no_value : (scope : Scope) (number : ℕ) (value : Value) → IsVariableAt scope number → SaysTerm (token_bytes_at scope number) (ValueSaid value) → ⊥
 no_value scope number value (side, name, says) other =
-    let bytes = word_at scope number in
+    let bytes = token_bytes_at scope number in
     let same : Variable side name ≡ ValueSaid value = one_term bytes (Variable side name) (ValueSaid value) says other in
     absurd (cc)
 
 -- a variable that has a slot is known
-known_is : (scope : Scope) (number : ℕ) (side other : Side) (name word : List ℕ) (slot : ℕ) → SaysTerm (word_at scope number) (Variable side name)
-    → SaysTerm (word_at scope number) (Variable other word) → slice_get (variables_of scope side) slot ≡ Some name → ¬ (Contains (variables_of scope other) word) → ⊥
+known_is : (scope : Scope) (number : ℕ) (side other : Side) (name word : List ℕ) (slot : ℕ) → SaysTerm (token_bytes_at scope number) (Variable side name)
+    → SaysTerm (token_bytes_at scope number) (Variable other word) → slice_get (variables_of scope side) slot ≡ Some name → ¬ (Contains (variables_of scope other) word) → ⊥
 known_is scope number side other name word slot says is found lacks =
-    let same : Variable side name ≡ Variable other word = one_term (word_at scope number) (Variable side name) (Variable other word) says is in
+    let same : Variable side name ≡ Variable other word = one_term (token_bytes_at scope number) (Variable side name) (Variable other word) says is in
     let sides : side ≡ other = cc in
     let names : name ≡ word = cc in
     let within = slice_get_within (variables_of scope side) slot name found in
@@ -54,7 +54,7 @@ known_is scope number side other name word slot says is found lacks =
     lacks (subst (λ (s : Side). Contains (variables_of scope s) word) sides (subst (λ (n : List ℕ). Contains (variables_of scope side) n) names (slot, within, at)))
 
 -- a variable is unknown where no slot is found for it
-unknown_at : (scope : Scope) (number : ℕ) (side : Side) (name : List ℕ) (o : Option ℕ) → SaysTerm (word_at scope number) (Variable side name)
+unknown_at : (scope : Scope) (number : ℕ) (side : Side) (name : List ℕ) (o : Option ℕ) → SaysTerm (token_bytes_at scope number) (Variable side name)
     → IfSome o (λ slot. slice_get (variables_of scope side) slot ≡ Some name) → IfNone o (¬ (Contains (variables_of scope side) name))
     → (is_some o ≡ false → IsUnknown scope number) × (IsUnknown scope number → is_some o ≡ false)
 unknown_at scope number side name None says found none = ((λ h. (side, name, says, none)), (λ h. refl))
@@ -62,7 +62,7 @@ unknown_at scope number side name (Some slot) says found none =
     ((λ h. absurd (cc)), λ (other, word, is, lacks). absurd (known_is scope number side other name word slot says is found lacks))
 
 pub unknown_by : (scope : Scope) (number : ℕ) (side : Side) (name : List ℕ) (o : Option ℕ) (r : Bool) → is_some o ≡ not r
-    → SaysTerm (word_at scope number) (Variable side name) → IfSome o (λ slot. slice_get (variables_of scope side) slot ≡ Some name)
+    → SaysTerm (token_bytes_at scope number) (Variable side name) → IfSome o (λ slot. slice_get (variables_of scope side) slot ≡ Some name)
     → IfNone o (¬ (Contains (variables_of scope side) name)) → (IsTrue r → IsUnknown scope number) × (IsUnknown scope number → IsTrue r)
 unknown_by scope number side name o true e says found none =
     let h = unknown_at scope number side name o says found none in
@@ -73,7 +73,7 @@ unknown_by scope number side name o false e says found none =
 
 -- a relation with a variable has a formula
 pub related_some : (scope : Scope) (sign : Sign) (left token right : ℕ) (x y : Meant) → MeansAt scope left x → MeansAt scope right y
-    → ¬ (IsBare scope (record { sign = token; left = left; right = right })) → IsSome (related sign x y)
+    → ¬ (IsBare scope (record { sign = token; left = left; right = right })) → IsSome (relation_of_terms sign x y)
 related_some scope sign left token right (SlotOf First i) (SlotOf First j) h k bare = refl
 related_some scope sign left token right (SlotOf First i) (SlotOf Second j) h k bare = refl
 related_some scope sign left token right (SlotOf Second i) (SlotOf First j) h k bare = refl
@@ -87,25 +87,25 @@ related_some scope sign left token right (ValueOf v) (ValueOf w) h k bare =
 
 -- a relation on one side
 sided_fits : (sign : Sign) (side : Side) (left right : Term) (m n : ℕ) → FitsTerm left (of_side side m n) → FitsTerm right (of_side side m n)
-    → Fits (sided sign side left right) m n
+    → Fits (sided_relation sign side left right) m n
 sided_fits Equal side left right m n h k = (h, k)
 sided_fits Different side left right m n h k = (h, k)
 sided_fits Less side left right m n h k = (h, k)
 sided_fits AtMost side left right m n h k = (h, k)
 
-sided_slots : (sign : Sign) (side : Side) (left right : Term) → (is_slot left || is_slot right) ≡ true → has_slots (sided sign side left right) ≡ true
+sided_slots : (sign : Sign) (side : Side) (left right : Term) → (is_slot left || is_slot right) ≡ true → has_slots (sided_relation sign side left right) ≡ true
 sided_slots Equal side left right h = h
 sided_slots Different side left right h = h
 sided_slots Less side left right h = h
 sided_slots AtMost side left right h = h
 
-across_fits : (sign : Sign) (flipped : Bool) (i j m n : ℕ) → i < m → j < n → Fits (across sign flipped i j) m n
+across_fits : (sign : Sign) (flipped : Bool) (i j m n : ℕ) → i < m → j < n → Fits (cross_relation sign flipped i j) m n
 across_fits Equal flipped i j m n h k = (h, k)
 across_fits Different flipped i j m n h k = (h, k)
 across_fits Less flipped i j m n h k = (h, k)
 across_fits AtMost flipped i j m n h k = (h, k)
 
-across_slots : (sign : Sign) (flipped : Bool) (i j : ℕ) → has_slots (across sign flipped i j) ≡ true
+across_slots : (sign : Sign) (flipped : Bool) (i j : ℕ) → has_slots (cross_relation sign flipped i j) ≡ true
 across_slots Equal flipped i j = refl
 across_slots Different flipped i j = refl
 across_slots Less flipped i j = refl
@@ -115,7 +115,7 @@ across_slots AtMost flipped i j = refl
 abbrev pub IsOf : ℕ → ℕ → Tree → Type 0
 IsOf m n f = Fits f m n × (has_slots f ≡ true)
 
-related_of : (scope : Scope) (sign : Sign) (left right : ℕ) (x y : Meant) (f : Tree) → MeansAt scope left x → MeansAt scope right y → related sign x y ≡ Some f
+related_of : (scope : Scope) (sign : Sign) (left right : ℕ) (x y : Meant) (f : Tree) → MeansAt scope left x → MeansAt scope right y → relation_of_terms sign x y ≡ Some f
     → IsOf (length scope.first.now) (length scope.second.now) f
 related_of scope sign left right (SlotOf First i) (SlotOf First j) f (a, s, h) (b, t, k) e =
     subst (IsOf _ _) (same_Some _ _ e) (sided_fits sign First (Slot i) (Slot j) _ _ (slice_get_within _ i a h) (slice_get_within _ j b k), sided_slots sign First (Slot i) (Slot j) refl)
@@ -135,7 +135,7 @@ related_of scope sign left right (ValueOf v) (SlotOf Second j) f h (b, t, k) e =
     subst (IsOf _ _) (same_Some _ _ e) (sided_fits sign Second (Const v) (Slot j) _ _ tt (slice_get_within _ j b k), sided_slots sign Second (Const v) (Slot j) refl)
 related_of scope sign left right (ValueOf v) (ValueOf w) f h k e = absurd (cc)
 
-pub given_of : (scope : Scope) (read : Read) (f : Tree) → Gives (MeansAt scope) read f → IsOf (length scope.first.now) (length scope.second.now) f
+pub given_of : (scope : Scope) (read : ParsedTree) (f : Tree) → Gives (MeansAt scope) read f → IsOf (length scope.first.now) (length scope.second.now) f
 given_of scope (read_truth value token) f e = rw e (tt, refl)
 given_of scope (relation left sign token right) f (x, y, h, k, e) = related_of scope sign left right x y f h k e
 given_of scope (read_not token g) f (h, e, given) = rw e (given_of scope g h given)
@@ -150,23 +150,23 @@ given_of scope (read_or g token h) f (k, l, e, left, right) =
 
 -- each node has a token
 sided_nodes : (sign : Sign) (side : Side) (x y : Term) (left token right : ℕ)
-    → length (node_tokens (relation left sign token right) (sided sign side x y)) ≡ nodes (sided sign side x y)
+    → length (node_tokens (relation left sign token right) (sided_relation sign side x y)) ≡ nodes (sided_relation sign side x y)
 sided_nodes Equal side x y left token right = refl
 sided_nodes Different side x y left token right = refl
 sided_nodes Less side x y left token right = refl
 sided_nodes AtMost side x y left token right = refl
 
 across_nodes : (sign : Sign) (flipped : Bool) (i j left token right : ℕ)
-    → length (node_tokens (relation left sign token right) (across sign flipped i j)) ≡ nodes (across sign flipped i j)
+    → length (node_tokens (relation left sign token right) (cross_relation sign flipped i j)) ≡ nodes (cross_relation sign flipped i j)
 across_nodes Equal flipped i j left token right = refl
 across_nodes Different flipped i j left token right = refl
 across_nodes Less flipped i j left token right = refl
 across_nodes AtMost flipped i j left token right = refl
 
-abbrev HasNodes : Read → Tree → Type 0
+abbrev HasNodes : ParsedTree → Tree → Type 0
 HasNodes read f = length (node_tokens read f) ≡ nodes f
 
-related_nodes : (sign : Sign) (left token right : ℕ) (x y : Meant) (f : Tree) → related sign x y ≡ Some f → HasNodes (relation left sign token right) f
+related_nodes : (sign : Sign) (left token right : ℕ) (x y : Meant) (f : Tree) → relation_of_terms sign x y ≡ Some f → HasNodes (relation left sign token right) f
 related_nodes sign left token right (SlotOf First i) (SlotOf First j) f e = subst (HasNodes (relation left sign token right)) (same_Some _ _ e) (sided_nodes sign First (Slot i) (Slot j) left token right)
 related_nodes sign left token right (SlotOf Second i) (SlotOf Second j) f e = subst (HasNodes (relation left sign token right)) (same_Some _ _ e) (sided_nodes sign Second (Slot i) (Slot j) left token right)
 related_nodes sign left token right (SlotOf First i) (SlotOf Second j) f e = subst (HasNodes (relation left sign token right)) (same_Some _ _ e) (across_nodes sign false i j left token right)
@@ -177,7 +177,7 @@ related_nodes sign left token right (ValueOf v) (SlotOf First j) f e = subst (Ha
 related_nodes sign left token right (ValueOf v) (SlotOf Second j) f e = subst (HasNodes (relation left sign token right)) (same_Some _ _ e) (sided_nodes sign Second (Const v) (Slot j) left token right)
 related_nodes sign left token right (ValueOf v) (ValueOf w) f e = absurd (cc)
 
-pub given_nodes : (Means : ℕ → Meant → Type 0) (read : Read) (f : Tree) → Gives Means read f → HasNodes read f
+pub given_nodes : (Means : ℕ → Meant → Type 0) (read : ParsedTree) (f : Tree) → Gives Means read f → HasNodes read f
 given_nodes Means (read_truth value token) f e = rw e refl
 given_nodes Means (relation left sign token right) f (x, y, h, k, e) = related_nodes sign left token right x y f e
 given_nodes Means (read_not token g) f (h, e, given) =

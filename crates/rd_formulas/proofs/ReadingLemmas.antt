@@ -11,12 +11,12 @@ use Rattle.rd_formulas.specs.declared.terms.Meant.{Meant}
 use Rattle.rd_formulas.specs.Meaning.{Gives, node_tokens}
 use Rattle.rd_formulas.specs.declared.reading.FormulaRefused.{FormulaRefused}
 use Rattle.rd_formulas.specs.declared.reading.FormulaRefused.TheVariants.{Syntax, UnknownVariable, NoVariable, OutsideFragment, NoMemory}
-use Rattle.rd_formulas.specs.Reading.{IsFormula, IsRefused, IsTroubled, Reads}
+use Rattle.rd_formulas.specs.Reading.{IsFormula, IsFormulaRefused, IsTroubled, SaysByGrammar}
 use Rattle.rd_formulas.specs.Scope.{HasTerms, IsScope, IsTermAt, MeansAt}
 use Rattle.rd_formulas.proofs.BuildingLemmas.{given_nodes, given_of}
 use Rattle.rd_grammar.specs.declared.marks.Mark.{Mark}
 use Rattle.rd_grammar.specs.declared.marks.Sign.{Sign}
-use Rattle.rd_grammar.specs.Grammar.{Tree as Read, Says, disj, truth as read_truth, relation, negation as read_not, both as read_and, either as read_or, is_term}
+use Rattle.rd_grammar.specs.Grammar.{ParsedTree, MarksSay, disj, truth as read_truth, relation, negation as read_not, both as read_and, either as read_or, is_term}
 use Rattle.rd_grammar.specs.Numbers.{NamesMarks, TermAt, is_parenthesis, named_by, numbers_of}
 use Rattle.rd_grammar.proofs.NumberLemmas.{names_marks, in_order}
 use Rattle.rd_tokens.specs.declared.sorts.Token.{Token}
@@ -47,7 +47,7 @@ there_is : {X : Type 0} (xs : List X) (i : ℕ) → i < length xs → IsSome (sl
 there_is [] i h = absurd (omega arith)
 there_is (x ∷ xs) i h = rw (slice_get-get_or (x ∷ xs) i x h) refl
 
-pub token_there : (Means : ℕ → Meant → Type 0) (read : Read) (f : Tree) (o : Outside) → Gives Means read f → first_offence 0 (post_order f) ≡ Some o
+pub token_there : (Means : ℕ → Meant → Type 0) (read : ParsedTree) (f : Tree) (o : Outside) → Gives Means read f → first_offence 0 (post_order f) ≡ Some o
     → IsSome (slice_get (node_tokens read f) o.node)
 token_there Means read f o given e =
     let within = offence_within 0 (post_order f) o e in
@@ -63,7 +63,7 @@ relation_nodes (negation f) left sign token right = omega arith
 relation_nodes (both f g) left sign token right = omega arith
 relation_nodes (either f g) left sign token right = omega arith
 
-given_few : (Means : ℕ → Meant → Type 0) (read : Read) (f : Tree) → Gives Means read f → length (node_tokens read f) ≤ length (named_by read)
+given_few : (Means : ℕ → Meant → Type 0) (read : ParsedTree) (f : Tree) → Gives Means read f → length (node_tokens read f) ≤ length (named_by read)
 given_few Means (read_truth value token) f e = omega arith
 given_few Means (relation left sign token right) f given = omega (arith, relation_nodes f left sign token right)
 given_few Means (read_not token g) f (h, e, given) =
@@ -87,7 +87,7 @@ given_few Means (read_or g token h) f (k, l, e, left, right) =
       length-append (named_by g) (token ∷ named_by h),
     ))
 
-pub few_nodes : (Means : ℕ → Meant → Type 0) (read : Read) (f : Tree) → Gives Means read f → length (named_by read) ≤ MOST_TOKENS → nodes f ≤ MOST_TOKENS
+pub few_nodes : (Means : ℕ → Meant → Type 0) (read : ParsedTree) (f : Tree) → Gives Means read f → length (named_by read) ≤ MOST_TOKENS → nodes f ≤ MOST_TOKENS
 few_nodes Means read f given few = omega (arith, given_few Means read f given, given_nodes Means read f given, few)
 
 keep_few : (b : Bool) (count rest : ℕ) (m : Mark) (kept : List Mark) → length kept ≤ rest → length (if b then m ∷ kept else kept) ≤ rest + 1
@@ -98,7 +98,7 @@ filter_few : (p : Mark → Bool) (marks : List Mark) → length (filter p marks)
 filter_few p [] = omega arith
 filter_few p (m ∷ marks) = let h = keep_few (p m) 0 (length marks) m (filter p marks) (filter_few p marks) in omega (arith, h)
 
-pub few_named : (marks : List Mark) (read : Read) → Says disj marks read → length marks ≤ MOST_TOKENS → length (named_by read) ≤ MOST_TOKENS
+pub few_named : (marks : List Mark) (read : ParsedTree) → MarksSay disj marks read → length marks ≤ MOST_TOKENS → length (named_by read) ≤ MOST_TOKENS
 few_named marks read says few =
     let same : length (numbers_of marks) ≡ length (named_by read) = ap length (in_order says) in
     omega (arith, same, few, length-map (filter (λ m. not (is_parenthesis m.symbol)) marks) (λ m. m.token), filter_few (λ m. not (is_parenthesis m.symbol)) marks)
@@ -120,25 +120,25 @@ term_there scope marks number is are (symbol, term, here) =
     let count = are.count in
     term_by scope marks number (record { symbol = symbol; token = number }) (slice_get scope.tokens.now number) is are refl (omega (arith, within, count)) here term
 
-terms_of : (scope : Scope) (marks : List Mark) (read : Read) → IsScope scope → AreMarks scope.line.now scope.tokens.now marks → NamesMarks marks read → HasTerms scope read
+terms_of : (scope : Scope) (marks : List Mark) (read : ParsedTree) → IsScope scope → AreMarks scope.line.now scope.tokens.now marks → NamesMarks marks read → HasTerms scope read
 terms_of scope marks (read_truth value token) is are names = tt
 terms_of scope marks (relation left sign token right) is are names = (term_there scope marks left is are names.0, term_there scope marks right is are names.2)
 terms_of scope marks (read_not token f) is are names = terms_of scope marks f is are names.1
 terms_of scope marks (read_and f token g) is are names = (terms_of scope marks f is are names.0, terms_of scope marks g is are names.2)
 terms_of scope marks (read_or f token g) is are names = (terms_of scope marks f is are names.0, terms_of scope marks g is are names.2)
 
-pub has_terms : (scope : Scope) (marks : List Mark) (read : Read) → IsScope scope → AreMarks scope.line.now scope.tokens.now marks → Says disj marks read → HasTerms scope read
+pub has_terms : (scope : Scope) (marks : List Mark) (read : ParsedTree) → IsScope scope → AreMarks scope.line.now scope.tokens.now marks → MarksSay disj marks read → HasTerms scope read
 has_terms scope marks read is are says =
     terms_of scope marks read is are (names_marks marks read (numbered scope.line.now scope.tokens.now marks are) says)
 
 -- what was built is a formula
-pub is_formula : (scope : Scope) (read : Read) (f : Tree) → Gives (MeansAt scope) read f → InFragment f → length (named_by read) ≤ MOST_TOKENS → IsFormula scope f
+pub is_formula : (scope : Scope) (read : ParsedTree) (f : Tree) → Gives (MeansAt scope) read f → InFragment f → length (named_by read) ≤ MOST_TOKENS → IsFormula scope f
 is_formula scope read f given inside few =
     let of = given_of scope read f given in
     record { fits = of.0; slots = of.1; inside = inside; few = few_nodes (MeansAt scope) read f given few }
 
 -- what is wrong with what was read is what a refusal says
-pub refused_by : (scope : Scope) (read : Read) (refused : FormulaRefused) → Reads scope read → IsTroubled scope read refused → IsRefused scope refused
+pub refused_by : (scope : Scope) (read : ParsedTree) (refused : FormulaRefused) → SaysByGrammar scope read → IsTroubled scope read refused → IsFormulaRefused scope refused
 refused_by scope read (Syntax place) reads wrong = absurd wrong
 refused_by scope read (UnknownVariable place) reads wrong = (read, reads, wrong)
 refused_by scope read (NoVariable place) reads wrong = (read, reads, wrong)

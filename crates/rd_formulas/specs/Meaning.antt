@@ -11,43 +11,43 @@ use Rattle.rd_formulas.specs.declared.terms.Meant.{Meant}
 use Rattle.rd_formulas.specs.declared.terms.Meant.TheVariants.{Slot as SlotOf, Value as ValueOf}
 use Rattle.rd_grammar.specs.declared.marks.Sign.{Sign}
 use Rattle.rd_grammar.specs.declared.marks.Sign.TheVariants.{Equal, Different, Less, AtMost}
-use Rattle.rd_grammar.specs.Grammar.{Tree as Read, truth as read_truth, relation, negation as read_not, both as read_and, either as read_or}
+use Rattle.rd_grammar.specs.Grammar.{ParsedTree, truth as read_truth, relation, negation as read_not, both as read_and, either as read_or}
 
 -- a relation on one side
-abbrev pub sided : Sign → Side → Term → Term → Tree
-sided Equal side left right = atom side Eq left right
-sided Different side left right = negation (atom side Eq left right)
-sided Less side left right = atom side Lt left right
-sided AtMost side left right = atom side Le left right
+abbrev pub sided_relation : Sign → Side → Term → Term → Tree
+sided_relation Equal side left right = atom side Eq left right
+sided_relation Different side left right = negation (atom side Eq left right)
+sided_relation Less side left right = atom side Lt left right
+sided_relation AtMost side left right = atom side Le left right
 
 -- a relation of a slot of side 1 and a slot of side 2, with side 2 on the left where it is flipped
-abbrev pub across : Sign → Bool → ℕ → ℕ → Tree
-across Equal flipped first second = mixed Eq flipped first second
-across Different flipped first second = cross first second
-across Less flipped first second = mixed Lt flipped first second
-across AtMost flipped first second = mixed Le flipped first second
+abbrev pub cross_relation : Sign → Bool → ℕ → ℕ → Tree
+cross_relation Equal flipped first second = mixed Eq flipped first second
+cross_relation Different flipped first second = cross first second
+cross_relation Less flipped first second = mixed Lt flipped first second
+cross_relation AtMost flipped first second = mixed Le flipped first second
 
 -- a relation of two terms; none where neither is a variable
-abbrev pub related : Sign → Meant → Meant → Option Tree
-related sign (SlotOf First left) (SlotOf First right) = Some (sided sign First (Slot left) (Slot right))
-related sign (SlotOf Second left) (SlotOf Second right) = Some (sided sign Second (Slot left) (Slot right))
-related sign (SlotOf First left) (SlotOf Second right) = Some (across sign false left right)
-related sign (SlotOf Second left) (SlotOf First right) = Some (across sign true right left)
-related sign (SlotOf side left) (ValueOf value) = Some (sided sign side (Slot left) (Const value))
-related sign (ValueOf value) (SlotOf side right) = Some (sided sign side (Const value) (Slot right))
-related sign (ValueOf left) (ValueOf right) = None
+abbrev pub relation_of_terms : Sign → Meant → Meant → Option Tree
+relation_of_terms sign (SlotOf First left) (SlotOf First right) = Some (sided_relation sign First (Slot left) (Slot right))
+relation_of_terms sign (SlotOf Second left) (SlotOf Second right) = Some (sided_relation sign Second (Slot left) (Slot right))
+relation_of_terms sign (SlotOf First left) (SlotOf Second right) = Some (cross_relation sign false left right)
+relation_of_terms sign (SlotOf Second left) (SlotOf First right) = Some (cross_relation sign true right left)
+relation_of_terms sign (SlotOf side left) (ValueOf value) = Some (sided_relation sign side (Slot left) (Const value))
+relation_of_terms sign (ValueOf value) (SlotOf side right) = Some (sided_relation sign side (Const value) (Slot right))
+relation_of_terms sign (ValueOf left) (ValueOf right) = None
 
 -- the formula that was read, where the terms have these meanings by the numbers of their tokens
-abbrev pub Gives : (ℕ → Meant → Type 0) → Read → Tree → Type 0
+abbrev pub Gives : (ℕ → Meant → Type 0) → ParsedTree → Tree → Type 0
 Gives Means (read_truth value token) formula = formula ≡ truth value
 Gives Means (relation left sign token right) formula =
-    (x : Meant) × (y : Meant) × Means left x × Means right y × (related sign x y ≡ Some formula)
+    (x : Meant) × (y : Meant) × Means left x × Means right y × (relation_of_terms sign x y ≡ Some formula)
 Gives Means (read_not token f) formula = (g : Tree) × (formula ≡ negation g) × Gives Means f g
 Gives Means (read_and f token g) formula = (h : Tree) × (k : Tree) × (formula ≡ both h k) × Gives Means f h × Gives Means g k
 Gives Means (read_or f token g) formula = (h : Tree) × (k : Tree) × (formula ≡ either h k) × Gives Means f h × Gives Means g k
 
 -- the numbers of its terms, from left to right
-abbrev pub terms_in : Read → List ℕ
+abbrev pub terms_in : ParsedTree → List ℕ
 terms_in (read_truth value token) = []
 terms_in (relation left sign token right) = left ∷ right ∷ []
 terms_in (read_not token f) = terms_in f
@@ -61,7 +61,7 @@ pub record Related : Type 0 where
   pub right : ℕ
 
 -- its relations, from left to right
-abbrev pub relations_in : Read → List Related
+abbrev pub relations_in : ParsedTree → List Related
 relations_in (read_truth value token) = []
 relations_in (relation left sign token right) = record { sign = token; left = left; right = right } ∷ []
 relations_in (read_not token f) = relations_in f
@@ -86,7 +86,7 @@ abbrev pub IsFirstSign : (Related → Type 0) → List Related → Option ℕ �
 IsFirstSign P asked sign = (first : Option Related) × IsFirst P asked first × (sign ≡ option_map (λ it. it.sign) first)
 
 -- the numbers of the tokens of a formula's nodes, in post-order; a relation with `!=` on one side is two nodes of one sign
-abbrev pub node_tokens : Read → Tree → List ℕ
+abbrev pub node_tokens : ParsedTree → Tree → List ℕ
 node_tokens (relation left sign token right) (negation f) = token ∷ token ∷ []
 node_tokens (relation left sign token right) formula = token ∷ []
 node_tokens (read_not token f) (negation g) = node_tokens f g ++ token ∷ []

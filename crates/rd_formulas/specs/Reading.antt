@@ -8,17 +8,17 @@ use Rattle.rd_formulas.specs.Meaning.{Gives, IsFirst, IsFirstSign, NoneOf, node_
 use Rattle.rd_formulas.specs.Scope.{IsBare, IsUnknown, MeansAt, place_at}
 use Rattle.rd_grammar.specs.declared.marks.Mark.{Mark}
 use Rattle.rd_grammar.specs.FirstWrong.{WrongAt}
-use Rattle.rd_grammar.specs.Grammar.{Tree as Read, Says, disj}
+use Rattle.rd_grammar.specs.Grammar.{ParsedTree, MarksSay, disj}
 use Rattle.rd_tokens.specs.Words.{AreMarks}
 use Rattle.rd_base.specs.declared.limits.TheConstants.{MOST_TOKENS}
 
 -- what the tokens say by the grammar alone
-abbrev pub Reads : Scope → Read → Type 0
-Reads scope read = (marks : List Mark) × AreMarks scope.line.now scope.tokens.now marks × Says disj marks read
+abbrev pub SaysByGrammar : Scope → ParsedTree → Type 0
+SaysByGrammar scope read = (marks : List Mark) × AreMarks scope.line.now scope.tokens.now marks × MarksSay disj marks read
 
 -- the formula that the tokens say
 abbrev pub SaysFormula : Scope → Tree → Type 0
-SaysFormula scope formula = (read : Read) × Reads scope read × Gives (MeansAt scope) read formula
+SaysFormula scope formula = (read : ParsedTree) × SaysByGrammar scope read × Gives (MeansAt scope) read formula
 
 -- a formula that is read: of the slots that there are, each relation with one, in the fragment
 pub record IsFormula (scope : Scope) (formula : Tree) : Type 0 where
@@ -29,7 +29,7 @@ pub record IsFormula (scope : Scope) (formula : Tree) : Type 0 where
 
 -- what is wrong with a formula that is right by the grammar: the first variable that isn't one of its side's method; where there
 -- is none, the first relation without a variable; where there is none of these, the first node outside the fragment
-abbrev pub IsTroubled : Scope → Read → FormulaRefused → Type 0
+abbrev pub IsTroubled : Scope → ParsedTree → FormulaRefused → Type 0
 IsTroubled scope read (Syntax place) = ⊥
 IsTroubled scope read (UnknownVariable place) =
     (number : ℕ) × IsFirst (IsUnknown scope) (terms_in read) (Some number) × (place ≡ place_at scope number)
@@ -43,9 +43,9 @@ IsTroubled scope read (OutsideFragment place reason) =
 IsTroubled scope read NoMemory = Unit {0}
 
 -- what a refusal says: the first wrong token, or behind the line where it ends too early; else what is wrong with what was read
-abbrev pub IsRefused : Scope → FormulaRefused → Type 0
-IsRefused scope (Syntax place) =
+abbrev pub IsFormulaRefused : Scope → FormulaRefused → Type 0
+IsFormulaRefused scope (Syntax place) =
     (marks : List Mark) × (number : ℕ) × AreMarks scope.line.now scope.tokens.now marks × (number ≤ length marks)
-    × WrongAt (Says disj) (take number marks) (drop number marks) × (place ≡ place_at scope number)
-IsRefused scope NoMemory = Unit {0}
-IsRefused scope refused = (read : Read) × Reads scope read × IsTroubled scope read refused
+    × WrongAt (MarksSay disj) (take number marks) (drop number marks) × (place ≡ place_at scope number)
+IsFormulaRefused scope NoMemory = Unit {0}
+IsFormulaRefused scope refused = (read : ParsedTree) × SaysByGrammar scope read × IsTroubled scope read refused

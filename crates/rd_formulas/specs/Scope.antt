@@ -6,7 +6,7 @@ use Rattle.rd_formulas.specs.declared.scope.Scope.{Scope}
 use Rattle.rd_formulas.specs.declared.terms.Meant.{Meant}
 use Rattle.rd_formulas.specs.declared.terms.Meant.TheVariants.{Slot, Value as ValueOf}
 use Rattle.rd_formulas.specs.Meaning.{Related}
-use Rattle.rd_grammar.specs.Grammar.{Tree as Read, truth, relation, negation, both, either}
+use Rattle.rd_grammar.specs.Grammar.{ParsedTree, truth, relation, negation, both, either}
 use Rattle.rd_tokens.specs.Tokens.{IsTokenOf, LiesIn, bytes_of}
 use Rattle.rd_tokens.specs.declared.words.terms.Said.TheVariants.{Variable, Value as ValueSaid}
 use Rattle.rd_tokens.specs.Words.{IsTerm, SaysTerm}
@@ -20,8 +20,8 @@ pub record IsScope (scope : Scope) : Type 0 where
   pub second : length scope.second.now ≤ MOST_ARGUMENTS + 1
 
 -- the bytes of the token with this number; none where there is no such token
-abbrev pub word_at : Scope → ℕ → List ℕ
-word_at scope number = unwrap_or (option_map (bytes_of scope.line.now) (slice_get scope.tokens.now number)) []
+abbrev pub token_bytes_at : Scope → ℕ → List ℕ
+token_bytes_at scope number = unwrap_or (option_map (bytes_of scope.line.now) (slice_get scope.tokens.now number)) []
 
 -- where the token with this number begins, in bytes from 1; behind the line where there is no such token
 abbrev pub place_at : Scope → ℕ → ℕ
@@ -34,16 +34,17 @@ variables_of scope Second = scope.second.now
 
 -- a token of this number is there, and is a term
 abbrev pub IsTermAt : Scope → ℕ → Type 0
-IsTermAt scope number = (number < length scope.tokens.now) × IsTerm (word_at scope number)
+IsTermAt scope number = (number < length scope.tokens.now) × IsTerm (token_bytes_at scope number)
 
 -- it is a variable
 abbrev pub IsVariableAt : Scope → ℕ → Type 0
-IsVariableAt scope number = (side : Side) × (name : List ℕ) × SaysTerm (word_at scope number) (Variable side name)
+IsVariableAt scope number = (side : Side) × (name : List ℕ) × SaysTerm (token_bytes_at scope number) (Variable side name)
 
 -- it is a variable that isn't one of its side's method
 abbrev pub IsUnknown : Scope → ℕ → Type 0
 IsUnknown scope number =
-    (side : Side) × (name : List ℕ) × SaysTerm (word_at scope number) (Variable side name) × ¬ (Contains (variables_of scope side) name)
+    (side : Side) × (name : List ℕ) × SaysTerm (token_bytes_at scope number) (Variable side name)
+    × ¬ (Contains (variables_of scope side) name)
 
 -- a relation has no variable
 abbrev pub IsBare : Scope → Related → Type 0
@@ -52,11 +53,11 @@ IsBare scope asked = ¬ (IsVariableAt scope asked.left) × ¬ (IsVariableAt scop
 -- what it means: a slot, which its variable names, or a value
 abbrev pub MeansAt : Scope → ℕ → Meant → Type 0
 MeansAt scope number (Slot side slot) =
-    (name : List ℕ) × SaysTerm (word_at scope number) (Variable side name) × (slice_get (variables_of scope side) slot ≡ Some name)
-MeansAt scope number (ValueOf value) = SaysTerm (word_at scope number) (ValueSaid value)
+    (name : List ℕ) × SaysTerm (token_bytes_at scope number) (Variable side name) × (slice_get (variables_of scope side) slot ≡ Some name)
+MeansAt scope number (ValueOf value) = SaysTerm (token_bytes_at scope number) (ValueSaid value)
 
 -- each term of the formula that was read is one
-abbrev pub HasTerms : Scope → Read → Type 0
+abbrev pub HasTerms : Scope → ParsedTree → Type 0
 HasTerms scope (truth value token) = Unit {0}
 HasTerms scope (relation left sign token right) = IsTermAt scope left × IsTermAt scope right
 HasTerms scope (negation token f) = HasTerms scope f
@@ -64,7 +65,7 @@ HasTerms scope (both f token g) = HasTerms scope f × HasTerms scope g
 HasTerms scope (either f token g) = HasTerms scope f × HasTerms scope g
 
 -- each term has a meaning, and each relation a variable
-abbrev pub IsReady : Scope → Read → Type 0
+abbrev pub IsReady : Scope → ParsedTree → Type 0
 IsReady scope (truth value token) = Unit {0}
 IsReady scope (relation left sign token right) =
     ¬ (IsUnknown scope left) × ¬ (IsUnknown scope right) × ¬ (IsBare scope (record { sign = token; left = left; right = right }))

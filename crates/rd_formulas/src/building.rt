@@ -1,9 +1,9 @@
 //! The formula of what was read, and the tokens of its nodes.
 ghost use Rattle.std.specs.Prelude.{◌≡◌, ◌<◌, ◌^◌, ℕ, length, IfOk, IfSome, IfNone, Some, None, slice_get};
-ghost use Rattle.rd_ecl.specs.Formulas.{Fits, has_slots, nodes, tree_of as formula_of};
+ghost use Rattle.rd_ecl.specs.Formulas.{Fits, has_slots, nodes, tree_of};
 ghost use Rattle.rd_formulas.specs.Meaning.{Gives, node_tokens};
 ghost use Rattle.rd_formulas.specs.Scope.{HasTerms, IsReady, IsScope, MeansAt};
-ghost use Rattle.rd_grammar.specs.Grammar.{relation, tree_of};
+ghost use Rattle.rd_grammar.specs.Grammar.{relation, parsed_tree};
 
 use crate::scope::Scope;
 use crate::terms::{meaning, related};
@@ -26,7 +26,7 @@ fn relation(
         × IsReady scope.now (relation left sign token right) }
     ensures { IfOk result
         (λ formula. Gives (MeansAt scope.now) (relation left sign token right)
-        (formula_of formula)) }
+        (tree_of formula)) }
 {
     let left = meaning(alloc, scope, left)?;
     let right = meaning(alloc, scope, right)?;
@@ -35,10 +35,10 @@ fn relation(
 
 /// The formula of what was read. Only texts and nodes below others take memory.
 pub fn build(alloc: Global, scope: &Scope, parsed: &Parsed) -> Result<Formula, NoMemory>
-    requires { IsScope scope.now × HasTerms scope.now (tree_of parsed.now)
-        × IsReady scope.now (tree_of parsed.now) }
+    requires { IsScope scope.now × HasTerms scope.now (parsed_tree parsed.now)
+        × IsReady scope.now (parsed_tree parsed.now) }
     ensures { IfOk result
-        (λ formula. Gives (MeansAt scope.now) (tree_of parsed.now) (formula_of formula)) }
+        (λ formula. Gives (MeansAt scope.now) (parsed_tree parsed.now) (tree_of formula)) }
 {
     match parsed {
         Parsed::Truth { value: true, .. } => Ok(Formula::True),

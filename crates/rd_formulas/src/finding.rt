@@ -2,7 +2,7 @@
 ghost use Rattle.std.specs.Prelude.{◌≡◌, ◌↔◌, ℕ, [], ◌∷◌, ◌++◌, IsTrue, Option, option_map, if◌then◌else◌, Some, None};
 ghost use Rattle.rd_formulas.specs.Meaning.{IsFirst, IsFirstSign, Related, earlier, relations_in, terms_in};
 ghost use Rattle.rd_formulas.specs.Scope.{HasTerms, IsBare, IsScope, IsTermAt, IsUnknown};
-ghost use Rattle.rd_grammar.specs.Grammar.{tree_of};
+ghost use Rattle.rd_grammar.specs.Grammar.{parsed_tree};
 
 use crate::scope::Scope;
 use rd_grammar::Parsed;
@@ -43,8 +43,8 @@ fn unknown_of(scope: &Scope, left: u32, right: u32) -> Option<u32>
 /// The first term of a formula that is a variable which isn't one of its side's method, by its token's number. It takes no
 /// memory.
 pub fn first_unknown(scope: &Scope, parsed: &Parsed) -> Option<u32>
-    requires { IsScope scope.now × HasTerms scope.now (tree_of parsed.now) }
-    ensures { IsFirst (IsUnknown scope.now) (terms_in (tree_of parsed.now)) result }
+    requires { IsScope scope.now × HasTerms scope.now (parsed_tree parsed.now) }
+    ensures { IsFirst (IsUnknown scope.now) (terms_in (parsed_tree parsed.now)) result }
 {
     match parsed {
         Parsed::Truth { .. } => None,
@@ -70,8 +70,8 @@ fn bare_at(scope: &Scope, sign: u32, left: u32, right: u32) -> Option<u32>
 
 /// The first relation of a formula without a variable, by its sign's number. It takes no memory.
 pub fn first_bare(scope: &Scope, parsed: &Parsed) -> Option<u32>
-    requires { IsScope scope.now × HasTerms scope.now (tree_of parsed.now) }
-    ensures { IsFirstSign (IsBare scope.now) (relations_in (tree_of parsed.now)) result }
+    requires { IsScope scope.now × HasTerms scope.now (parsed_tree parsed.now) }
+    ensures { IsFirstSign (IsBare scope.now) (relations_in (parsed_tree parsed.now)) result }
 {
     match parsed {
         Parsed::Truth { .. } => None,

@@ -1,8 +1,8 @@
 //! The tokens of a formula's nodes.
 ghost use Rattle.std.specs.Prelude.{◌≡◌, ◌+◌, ◌<◌, ℕ, [], ◌∷◌, length, IfOk, IfErr, Some, slice_get};
-ghost use Rattle.rd_ecl.specs.Formulas.{tree_of as formula_of};
+ghost use Rattle.rd_ecl.specs.Formulas.{tree_of};
 ghost use Rattle.rd_formulas.specs.Meaning.{node_tokens};
-ghost use Rattle.rd_grammar.specs.Grammar.{tree_of};
+ghost use Rattle.rd_grammar.specs.Grammar.{parsed_tree};
 
 use rd_ecl::Formula;
 use rd_grammar::Parsed;
@@ -27,9 +27,9 @@ fn own_two(token: u32, node: u32) -> Result<u32, u32>
 fn seek(parsed: &Parsed, formula: &Formula, node: u32) -> Result<u32, u32>
     ensures found { IfOk result
         (λ token. slice_get
-        (node_tokens (tree_of parsed.now) (formula_of formula.now)) node ≡ Some token) }
+        (node_tokens (parsed_tree parsed.now) (tree_of formula.now)) node ≡ Some token) }
     ensures past { IfErr result
-        (λ rest. node ≡ length (node_tokens (tree_of parsed.now) (formula_of formula.now)) + rest) }
+        (λ rest. node ≡ length (node_tokens (parsed_tree parsed.now) (tree_of formula.now)) + rest) }
 {
     match parsed {
         Parsed::Truth { token, .. } => own(*token, node),
@@ -70,7 +70,7 @@ fn seek(parsed: &Parsed, formula: &Formula, node: u32) -> Result<u32, u32>
 /// The number of the token of a formula's node, by the node's number in post-order: its sign, `not`, `and`, `or`, or word. It
 /// takes no memory.
 pub fn token_of_node(parsed: &Parsed, formula: &Formula, node: u32) -> Option<u32>
-    ensures { result ≡ slice_get (node_tokens (tree_of parsed.now) (formula_of formula.now)) node }
+    ensures { result ≡ slice_get (node_tokens (parsed_tree parsed.now) (tree_of formula.now)) node }
 {
     seek(parsed, formula, node).ok()
 }

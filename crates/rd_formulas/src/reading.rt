@@ -1,11 +1,11 @@
 //! Reading a formula.
 ghost use Rattle.std.specs.Prelude.{◌≡◌, ◌≤◌, ◌<◌, ◌-◌, ◌^◌, ℕ, length, IfOk, IfErr, Some};
-ghost use Rattle.rd_ecl.specs.Formulas.{first_offence, post_order, tree_of as formula_of};
+ghost use Rattle.rd_ecl.specs.Formulas.{first_offence, post_order, tree_of};
 ghost use Rattle.rd_formulas.specs.declared.reading.FormulaRefused.TheVariants.{NoMemory as MemoryRefused};
 ghost use Rattle.rd_formulas.specs.Meaning.{Gives};
-ghost use Rattle.rd_formulas.specs.Reading.{IsFormula, IsRefused, IsTroubled, SaysFormula};
+ghost use Rattle.rd_formulas.specs.Reading.{IsFormula, IsFormulaRefused, IsTroubled, SaysFormula};
 ghost use Rattle.rd_formulas.specs.Scope.{HasTerms, IsReady, IsScope, MeansAt};
-ghost use Rattle.rd_grammar.specs.Grammar.{tree_of};
+ghost use Rattle.rd_grammar.specs.Grammar.{parsed_tree};
 ghost use Rattle.rd_grammar.specs.Numbers.{named_by};
 
 use crate::building::build;
@@ -14,7 +14,7 @@ use crate::places::token_of_node;
 use crate::scope::Scope;
 use rd_base::{MOST_TOKENS, NoMemory};
 use rd_ecl::{Formula, Outside, Reason};
-use rd_grammar::{ParseRefused, Parsed, parse_formula};
+use rd_grammar::{MarksRefused, Parsed, parse_formula};
 use rd_tokens::marks;
 use std::alloc::Global;
 use thiserror::Error;
@@ -55,9 +55,9 @@ fn refused_outside(
     outside: Outside,
 ) -> FormulaRefused
     requires scope { length scope.now.line.now < 2 ^ 32 - 1 }
-    requires outside { first_offence 0 (post_order (formula_of formula.now)) ≡ Some outside }
-    requires gives { Gives (MeansAt scope.now) (tree_of parsed.now) (formula_of formula.now) }
-    ensures { IsTroubled scope.now (tree_of parsed.now) result }
+    requires outside { first_offence 0 (post_order (tree_of formula.now)) ≡ Some outside }
+    requires gives { Gives (MeansAt scope.now) (parsed_tree parsed.now) (tree_of formula.now) }
+    ensures { IsTroubled scope.now (parsed_tree parsed.now) result }
 {
     let number = token_of_node(parsed, formula, outside.node).unwrap();
     FormulaRefused::OutsideFragment {
@@ -69,13 +69,13 @@ fn refused_outside(
 // The formula of what was read whose terms all have a meaning.
 fn built(alloc: Global, scope: &Scope, parsed: &Parsed) -> Result<Formula, FormulaRefused>
     requires scope { IsScope scope.now × (length scope.now.line.now < 2 ^ 32 - 1) }
-    requires ready { HasTerms scope.now (tree_of parsed.now)
-        × IsReady scope.now (tree_of parsed.now) }
-    requires few { length (named_by (tree_of parsed.now)) ≤ MOST_TOKENS }
+    requires ready { HasTerms scope.now (parsed_tree parsed.now)
+        × IsReady scope.now (parsed_tree parsed.now) }
+    requires few { length (named_by (parsed_tree parsed.now)) ≤ MOST_TOKENS }
     ensures gives { IfOk result
-        (λ formula. Gives (MeansAt scope.now) (tree_of parsed.now) (formula_of formula)) }
-    ensures formula { IfOk result (λ formula. IsFormula scope.now (formula_of formula)) }
-    ensures refused { IfErr result (IsTroubled scope.now (tree_of parsed.now)) }
+        (λ formula. Gives (MeansAt scope.now) (parsed_tree parsed.now) (tree_of formula)) }
+    ensures formula { IfOk result (λ formula. IsFormula scope.now (tree_of formula)) }
+    ensures refused { IfErr result (IsTroubled scope.now (parsed_tree parsed.now)) }
 {
     let formula = build(alloc, scope, parsed)?;
     match formula.place_outside() {
@@ -87,12 +87,12 @@ fn built(alloc: Global, scope: &Scope, parsed: &Parsed) -> Result<Formula, Formu
 /// The formula of what was read, or the first thing that is wrong with it.
 pub fn resolve(alloc: Global, scope: &Scope, parsed: &Parsed) -> Result<Formula, FormulaRefused>
     requires scope { IsScope scope.now × (length scope.now.line.now < 2 ^ 32 - 1) }
-    requires terms { HasTerms scope.now (tree_of parsed.now) }
-    requires few { length (named_by (tree_of parsed.now)) ≤ MOST_TOKENS }
+    requires terms { HasTerms scope.now (parsed_tree parsed.now) }
+    requires few { length (named_by (parsed_tree parsed.now)) ≤ MOST_TOKENS }
     ensures gives { IfOk result
-        (λ formula. Gives (MeansAt scope.now) (tree_of parsed.now) (formula_of formula)) }
-    ensures formula { IfOk result (λ formula. IsFormula scope.now (formula_of formula)) }
-    ensures refused { IfErr result (IsTroubled scope.now (tree_of parsed.now)) }
+        (λ formula. Gives (MeansAt scope.now) (parsed_tree parsed.now) (tree_of formula)) }
+    ensures formula { IfOk result (λ formula. IsFormula scope.now (tree_of formula)) }
+    ensures refused { IfErr result (IsTroubled scope.now (parsed_tree parsed.now)) }
 {
     if let Some(number) = first_unknown(scope, parsed) {
         return Err(FormulaRefused::UnknownVariable {
@@ -111,16 +111,16 @@ pub fn resolve(alloc: Global, scope: &Scope, parsed: &Parsed) -> Result<Formula,
 pub fn read_formula(alloc: Global, scope: &Scope) -> Result<Formula, FormulaRefused>
     requires scope { IsScope scope.now × (length scope.now.line.now < 2 ^ 32 - 1) }
     requires few { length scope.now.tokens.now ≤ MOST_TOKENS }
-    ensures says { IfOk result (λ formula. SaysFormula scope.now (formula_of formula)) }
-    ensures formula { IfOk result (λ formula. IsFormula scope.now (formula_of formula)) }
-    ensures refused { IfErr result (IsRefused scope.now) }
+    ensures says { IfOk result (λ formula. SaysFormula scope.now (tree_of formula)) }
+    ensures formula { IfOk result (λ formula. IsFormula scope.now (tree_of formula)) }
+    ensures refused { IfErr result (IsFormulaRefused scope.now) }
 {
     let marks = marks(alloc, scope.line, scope.tokens)?;
     match parse_formula(alloc, marks.items()) {
         Ok(parsed) => resolve(alloc, scope, &parsed),
-        Err(ParseRefused::Syntax(number)) => Err(FormulaRefused::Syntax {
+        Err(MarksRefused::Syntax(number)) => Err(FormulaRefused::Syntax {
             place: scope.place(number),
         }),
-        Err(ParseRefused::NoMemory) => Err(FormulaRefused::NoMemory),
+        Err(MarksRefused::NoMemory) => Err(FormulaRefused::NoMemory),
     }
 }

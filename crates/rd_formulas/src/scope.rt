@@ -1,7 +1,7 @@
 //! Where the words of a formula stand, and what its variables are.
 ghost use Rattle.std.specs.Prelude.{◌≡◌, ◌<◌, ◌≤◌, ◌↔◌, ◌+◌, ◌-◌, ◌^◌, ℕ, List, length, IsTrue, IfSome, IfNone, Contains, slice_get, Some};
 ghost use Rattle.rd_ecl.specs.declared.formulas.Side.{Side};
-ghost use Rattle.rd_formulas.specs.Scope.{IsBare, IsScope, IsTermAt, IsUnknown, IsVariableAt, place_at, variables_of, word_at};
+ghost use Rattle.rd_formulas.specs.Scope.{IsBare, IsScope, IsTermAt, IsUnknown, IsVariableAt, place_at, variables_of, token_bytes_at};
 
 use rd_base::{MOST_ARGUMENTS, Name};
 use rd_ecl::Side;
@@ -37,7 +37,7 @@ impl<'a> Scope<'a> {
     /// The bytes of a token. It takes no memory.
     pub fn word(&self, number: u32) -> &'a [u8]
         requires { IsScope self.now × (number < length self.now.tokens.now) }
-        ensures { result.now ≡ word_at self.now number }
+        ensures { result.now ≡ token_bytes_at self.now number }
     {
         self.tokens[number as usize].bytes(self.line)
     }

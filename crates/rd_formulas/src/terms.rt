@@ -2,7 +2,7 @@
 ghost use Rattle.std.specs.Prelude.{◌≡◌, Some, IfOk, IsSome};
 ghost use Rattle.rd_ecl.specs.Formulas.{tree_of};
 ghost use Rattle.rd_formulas.specs.declared.terms.Meant.TheVariants.{Slot};
-ghost use Rattle.rd_formulas.specs.Meaning.{across, related, sided};
+ghost use Rattle.rd_formulas.specs.Meaning.{cross_relation, relation_of_terms, sided_relation};
 ghost use Rattle.rd_formulas.specs.Scope.{IsScope, IsTermAt, IsUnknown, MeansAt};
 
 use crate::scope::Scope;
@@ -43,7 +43,7 @@ fn sided(
     left: Term,
     right: Term,
 ) -> Result<Formula, NoMemory>
-    ensures { IfOk result (λ formula. tree_of formula ≡ sided sign side left right) }
+    ensures { IfOk result (λ formula. tree_of formula ≡ sided_relation sign side left right) }
 {
     let atom = |rel| Formula::Atom {
         side,
@@ -61,7 +61,7 @@ fn sided(
 
 // A relation of a slot of side 1 and a slot of side 2.
 fn across(sign: Sign, flipped: bool, first: u8, second: u8) -> Formula
-    ensures { tree_of result ≡ across sign flipped first second }
+    ensures { tree_of result ≡ cross_relation sign flipped first second }
 {
     let rel = match sign {
         Sign::Different => return Formula::Cross { first, second },
@@ -85,7 +85,7 @@ fn of_slots(
     right: (Side, u8),
 ) -> Result<Formula, NoMemory>
     ensures { IfOk result
-        (λ formula. related sign (Slot left.0 left.1) (Slot right.0 right.1) ≡ Some
+        (λ formula. relation_of_terms sign (Slot left.0 left.1) (Slot right.0 right.1) ≡ Some
         (tree_of formula)) }
 {
     match (left.0, right.0) {
@@ -97,8 +97,8 @@ fn of_slots(
 
 /// The relation of two terms, of which one is a slot. Only a node below another takes memory.
 pub fn related(alloc: Global, sign: Sign, left: Meant, right: Meant) -> Result<Formula, NoMemory>
-    requires { IsSome (related sign left right) }
-    ensures { IfOk result (λ formula. related sign left right ≡ Some (tree_of formula)) }
+    requires { IsSome (relation_of_terms sign left right) }
+    ensures { IfOk result (λ formula. relation_of_terms sign left right ≡ Some (tree_of formula)) }
 {
     match (left, right) {
         (

@@ -2,64 +2,64 @@
 use Rattle.std.proofs.Common.{Bool, true, false, List, refl, sym, subst}
 use Rattle.rd_grammar.specs.declared.marks.Mark.{Mark}
 use Rattle.rd_grammar.specs.declared.marks.Symbol.TheVariants.{Term}
-use Rattle.rd_grammar.specs.Grammar.{Tree, truth, relation, negation, both, either, Level, disj, conj, neg, prim, Says, disj_one, disj_or, conj_one, conj_and, neg_one, neg_not, prim_truth, prim_in, prim_relation}
+use Rattle.rd_grammar.specs.Grammar.{ParsedTree, truth, relation, negation, both, either, Level, disj, conj, neg, prim, MarksSay, disj_one, disj_or, conj_one, conj_and, neg_one, neg_not, prim_truth, prim_in, prim_relation}
 use Rattle.rd_grammar.specs.Canonical.{is_either, is_of_two, ArePart, AreCanonical}
 
 -- the closest level at which the canonical marks stand
-abbrev level_of : Tree → Level
+abbrev level_of : ParsedTree → Level
 level_of (truth value token) = prim
 level_of (relation left sign token right) = prim
 level_of (negation token f) = neg
 level_of (both f token g) = conj
 level_of (either f token g) = disj
 
-loosest : (f : Tree) (ms : List Mark) → Says (level_of f) ms f → Says disj ms f
+loosest : (f : ParsedTree) (ms : List Mark) → MarksSay (level_of f) ms f → MarksSay disj ms f
 loosest (truth value token) ms says = disj_one (conj_one (neg_one says))
 loosest (relation left sign token right) ms says = disj_one (conj_one (neg_one says))
 loosest (negation token f) ms says = disj_one (conj_one says)
 loosest (both f token g) ms says = disj_one says
 loosest (either f token g) ms says = says
 
-abbrev IsRead : Tree → Type 0
-IsRead f = (ms : List Mark) → AreCanonical f ms → Says (level_of f) ms f
+abbrev IsRead : ParsedTree → Type 0
+IsRead f = (ms : List Mark) → AreCanonical f ms → MarksSay (level_of f) ms f
 
-in_parentheses : (f : Tree) (ms : List Mark) → IsRead f → ArePart true (AreCanonical f) ms → Says prim ms f
+in_parentheses : (f : ParsedTree) (ms : List Mark) → IsRead f → ArePart true (AreCanonical f) ms → MarksSay prim ms f
 in_parentheses f ms read (inner, i, k, same, are) =
-    subst (λ x. Says prim x f) (sym same) (prim_in _ _ refl (loosest f inner (read inner are)) refl)
+    subst (λ x. MarksSay prim x f) (sym same) (prim_in _ _ refl (loosest f inner (read inner are)) refl)
 
-tight : (f : Tree) (ms : List Mark) → IsRead f → ArePart (is_of_two f) (AreCanonical f) ms → Says neg ms f
+tight : (f : ParsedTree) (ms : List Mark) → IsRead f → ArePart (is_of_two f) (AreCanonical f) ms → MarksSay neg ms f
 tight (truth value token) ms read are = neg_one (read ms are)
 tight (relation left sign token right) ms read are = neg_one (read ms are)
 tight (negation token f) ms read are = read ms are
 tight (both f token g) ms read are = neg_one (in_parentheses (both f token g) ms read are)
 tight (either f token g) ms read are = neg_one (in_parentheses (either f token g) ms read are)
 
-middle : (f : Tree) (ms : List Mark) → IsRead f → ArePart (is_either f) (AreCanonical f) ms → Says conj ms f
+middle : (f : ParsedTree) (ms : List Mark) → IsRead f → ArePart (is_either f) (AreCanonical f) ms → MarksSay conj ms f
 middle (truth value token) ms read are = conj_one (neg_one (read ms are))
 middle (relation left sign token right) ms read are = conj_one (neg_one (read ms are))
 middle (negation token f) ms read are = conj_one (read ms are)
 middle (both f token g) ms read are = read ms are
 middle (either f token g) ms read are = conj_one (neg_one (in_parentheses (either f token g) ms read are))
 
-is_read : (f : Tree) → IsRead f
-is_read (truth value token) ms same = subst (λ x. Says prim x (truth value token)) (sym same) (prim_truth _ value refl)
+is_read : (f : ParsedTree) → IsRead f
+is_read (truth value token) ms same = subst (λ x. MarksSay prim x (truth value token)) (sym same) (prim_truth _ value refl)
 is_read (relation left sign token right) ms (x, y, first, second, same) =
-    subst (λ z. Says prim z (relation left sign token right)) (sym same) (prim_relation _ _ _ sign first refl second)
+    subst (λ z. MarksSay prim z (relation left sign token right)) (sym same) (prim_relation _ _ _ sign first refl second)
 is_read (negation token f) ms (inner, same, are) =
-    subst (λ x. Says neg x (negation token f)) (sym same) (neg_not _ refl (tight f inner (is_read f) are))
+    subst (λ x. MarksSay neg x (negation token f)) (sym same) (neg_not _ refl (tight f inner (is_read f) are))
 is_read (both f token g) ms (front, back, same, left, right) =
-    subst (λ x. Says conj x (both f token g)) (sym same) (conj_and (middle f front (is_read f) left) _ refl (tight g back (is_read g) right))
+    subst (λ x. MarksSay conj x (both f token g)) (sym same) (conj_and (middle f front (is_read f) left) _ refl (tight g back (is_read g) right))
 is_read (either f token g) ms (front, back, same, left, right) =
-    subst (λ x. Says disj x (either f token g)) (sym same) (disj_or (loosest f front (is_read f front left)) _ refl (middle g back (is_read g) right))
+    subst (λ x. MarksSay disj x (either f token g)) (sym same) (disj_or (loosest f front (is_read f front left)) _ refl (middle g back (is_read g) right))
 
-pub canonical_are_read : (f : Tree) (ms : List Mark) → AreCanonical f ms → Says disj ms f
+pub canonical_are_read : (f : ParsedTree) (ms : List Mark) → AreCanonical f ms → MarksSay disj ms f
 canonical_are_read f ms are = loosest f ms (is_read f ms are)
 
 some_part : (needs : Bool) (Are : List Mark → Type 0) → (ms : List Mark) × Are ms → (ms : List Mark) × ArePart needs Are ms
 some_part false Are some = some
 some_part true Are (ms, are) = (_, (ms, 0, 0, refl, are))
 
-pub has_canonical : (f : Tree) → (ms : List Mark) × AreCanonical f ms
+pub has_canonical : (f : ParsedTree) → (ms : List Mark) × AreCanonical f ms
 has_canonical (truth value token) = (_, refl)
 has_canonical (relation left sign token right) = (_, (Term, Term, refl, refl, refl))
 has_canonical (negation token f) = let inner = some_part (is_of_two f) (AreCanonical f) (has_canonical f) in (_, (inner.0, refl, inner.1))

@@ -9,7 +9,7 @@ use Rattle.rd_grammar.specs.declared.marks.Mark.{Mark}
 use Rattle.rd_grammar.specs.declared.marks.Sign.{Sign}
 use Rattle.rd_grammar.specs.declared.marks.Symbol.{Symbol}
 use Rattle.rd_grammar.specs.declared.marks.Symbol.TheVariants.{Open, Close, Not, And, Or, Truth, Sign as SignOf, Term}
-use Rattle.rd_grammar.specs.Grammar.{Tree, relation, is_term, Level, disj, Says, disj_one, disj_or, conj_one, conj_and, neg_one, neg_not, prim_truth, prim_in, prim_relation}
+use Rattle.rd_grammar.specs.Grammar.{ParsedTree, relation, is_term, Level, disj, MarksSay, disj_one, disj_or, conj_one, conj_and, neg_one, neg_not, prim_truth, prim_in, prim_relation}
 use Rattle.rd_grammar.specs.Numbers.{AreNumbered, StandsAt, TermAt, NamesMarks, is_parenthesis, numbers_of, named_by}
 
 -- a mark behind others
@@ -48,7 +48,7 @@ relation_names all numbered front back l m r sign first signs second same =
       omega (arith, length-append front (l ∷ []), length-append front (l ∷ m ∷ [])),
     )
 
-names : {l : Level} {ms : List Mark} {f : Tree} → Says l ms f → (all : List Mark) → AreNumbered all → (front back : List Mark) → all ≡ front ++ (ms ++ back) → NamesMarks all f
+names : {l : Level} {ms : List Mark} {f : ParsedTree} → MarksSay l ms f → (all : List Mark) → AreNumbered all → (front back : List Mark) → all ≡ front ++ (ms ++ back) → NamesMarks all f
 names (disj_one says) all numbered front back same = names says all numbered front back same
 names (disj_or {ms = ms} {ns = ns} left m is right) all numbered front back same = (
   names left all numbered front (m ∷ ns ++ back) (rw same (simp append_assoc)),
@@ -72,7 +72,7 @@ names (prim_in {ms = ms} opening closing opens says closes) all numbered front b
 names (prim_relation l m r sign first signs second) all numbered front back same =
     relation_names all numbered front back l m r sign first signs second same
 
-pub names_marks : (ms : List Mark) (f : Tree) → AreNumbered ms → Says disj ms f → NamesMarks ms f
+pub names_marks : (ms : List Mark) (f : ParsedTree) → AreNumbered ms → MarksSay disj ms f → NamesMarks ms f
 names_marks ms f numbered says = names says ms numbered [] [] (sym (append-nil ms))
 
 -- in order
@@ -98,12 +98,12 @@ term_counted (Truth value) is = refl
 term_counted Term is = refl
 term_counted _ is = absurd (cc)
 
-of_two : (ms ns : List Mark) (f g : Tree) (m : Mark) → is_parenthesis m.symbol ≡ false → numbers_of ms ≡ named_by f → numbers_of ns ≡ named_by g
+of_two : (ms ns : List Mark) (f g : ParsedTree) (m : Mark) → is_parenthesis m.symbol ≡ false → numbers_of ms ≡ named_by f → numbers_of ns ≡ named_by g
     → numbers_of (ms ++ m ∷ ns) ≡ named_by f ++ m.token ∷ named_by g
 of_two ms ns f g m is left right =
     numbers_append ms (m ∷ ns) ∙ ap (λ x. x ++ numbers_of (m ∷ ns)) left ∙ ap (λ x. named_by f ++ x) (counted m ns is ∙ ap (λ x. m.token ∷ x) right)
 
-in_parentheses : (ms : List Mark) (f : Tree) (opening closing : Mark) → opening.symbol ≡ Open → closing.symbol ≡ Close → numbers_of ms ≡ named_by f
+in_parentheses : (ms : List Mark) (f : ParsedTree) (opening closing : Mark) → opening.symbol ≡ Open → closing.symbol ≡ Close → numbers_of ms ≡ named_by f
     → numbers_of (opening ∷ ms ++ closing ∷ []) ≡ named_by f
 in_parentheses ms f opening closing opens closes inner =
     left_out opening (ms ++ closing ∷ []) (ap is_parenthesis opens)
@@ -112,7 +112,7 @@ in_parentheses ms f opening closing opens closes inner =
     ∙ append-nil (numbers_of ms)
     ∙ inner
 
-pub in_order : {l : Level} {ms : List Mark} {f : Tree} → Says l ms f → numbers_of ms ≡ named_by f
+pub in_order : {l : Level} {ms : List Mark} {f : ParsedTree} → MarksSay l ms f → numbers_of ms ≡ named_by f
 in_order (disj_one says) = in_order says
 in_order (disj_or {ms = ms} {ns = ns} {f = f} {g = g} left m is right) = of_two ms ns f g m (ap is_parenthesis is) (in_order left) (in_order right)
 in_order (conj_one says) = in_order says

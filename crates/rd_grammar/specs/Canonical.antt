@@ -3,19 +3,19 @@ use Rattle.std.specs.Prelude.{◌≡◌, ℕ, Bool, true, false, List, [], ◌�
 use Rattle.rd_grammar.specs.declared.marks.Mark.{Mark}
 use Rattle.rd_grammar.specs.declared.marks.Symbol.{Symbol}
 use Rattle.rd_grammar.specs.declared.marks.Symbol.TheVariants.{Open, Close, Not, And, Or, Truth, Sign as SignOf}
-use Rattle.rd_grammar.specs.Grammar.{Tree, truth, relation, negation, both, either, is_term}
+use Rattle.rd_grammar.specs.Grammar.{ParsedTree, truth, relation, negation, both, either, is_term}
 
 -- the mark of a symbol with a number
 abbrev pub mark : Symbol → ℕ → Mark
 mark symbol token = record { symbol = symbol; token = token }
 
 -- is it of two formulas with `or` between them?
-abbrev pub is_either : Tree → Bool
+abbrev pub is_either : ParsedTree → Bool
 is_either (either f token g) = true
 is_either _ = false
 
 -- is it of two formulas, with `and` or `or` between them?
-abbrev pub is_of_two : Tree → Bool
+abbrev pub is_of_two : ParsedTree → Bool
 is_of_two (both f token g) = true
 is_of_two (either f token g) = true
 is_of_two _ = false
@@ -26,7 +26,7 @@ ArePart false Are ms = Are ms
 ArePart true Are ms = (inner : List Mark) × (i : ℕ) × (k : ℕ) × (ms ≡ mark Open i ∷ inner ++ mark Close k ∷ []) × Are inner
 
 -- the marks are the canonical ones of the formula; the terms of a relation may be any terms with their numbers
-abbrev pub AreCanonical : Tree → List Mark → Type 0
+abbrev pub AreCanonical : ParsedTree → List Mark → Type 0
 AreCanonical (truth value token) ms = ms ≡ mark (Truth value) token ∷ []
 AreCanonical (relation left sign token right) ms =
     (x : Symbol) × (y : Symbol) × (is_term x ≡ true) × (is_term y ≡ true) × (ms ≡ mark x left ∷ mark (SignOf sign) token ∷ mark y right ∷ [])

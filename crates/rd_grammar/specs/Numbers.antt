@@ -3,7 +3,7 @@ use Rattle.std.specs.Prelude.{◌≡◌, ◌+◌, ℕ, Bool, true, false, not, S
 use Rattle.rd_grammar.specs.declared.marks.Mark.{Mark}
 use Rattle.rd_grammar.specs.declared.marks.Symbol.{Symbol}
 use Rattle.rd_grammar.specs.declared.marks.Symbol.TheVariants.{Open, Close, Not, And, Or, Truth, Sign as SignOf}
-use Rattle.rd_grammar.specs.Grammar.{Tree, truth, relation, negation, both, either, is_term}
+use Rattle.rd_grammar.specs.Grammar.{ParsedTree, truth, relation, negation, both, either, is_term}
 
 -- each mark's number is its place
 abbrev pub AreNumbered : List Mark → Type 0
@@ -18,7 +18,7 @@ abbrev pub TermAt : List Mark → ℕ → Type 0
 TermAt marks place = (symbol : Symbol) × (is_term symbol ≡ true) × StandsAt marks symbol place
 
 -- each node names the place of its own mark, and a relation's terms are the marks beside its sign
-abbrev pub NamesMarks : List Mark → Tree → Type 0
+abbrev pub NamesMarks : List Mark → ParsedTree → Type 0
 NamesMarks marks (truth value token) = StandsAt marks (Truth value) token
 NamesMarks marks (relation left sign token right) =
     TermAt marks left × StandsAt marks (SignOf sign) token × TermAt marks right × (left + 1 ≡ token) × (token + 1 ≡ right)
@@ -37,7 +37,7 @@ abbrev pub numbers_of : List Mark → List ℕ
 numbers_of marks = map (λ m. m.token) (filter (λ m. not (is_parenthesis m.symbol)) marks)
 
 -- the numbers that a formula names, from left to right
-abbrev pub named_by : Tree → List ℕ
+abbrev pub named_by : ParsedTree → List ℕ
 named_by (truth value token) = token ∷ []
 named_by (relation left sign token right) = left ∷ token ∷ right ∷ []
 named_by (negation token f) = token ∷ named_by f

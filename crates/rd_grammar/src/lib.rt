@@ -8,5 +8,5 @@ mod reader;
 
 pub use laws::{law_of_grammar, law_of_numbers};
 pub use marks::{Mark, Sign, Symbol};
-pub use parsed::{ParseRefused, Parsed};
+pub use parsed::{MarksRefused, Parsed};
 pub use reader::parse_formula;

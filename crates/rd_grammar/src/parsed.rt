@@ -1,6 +1,6 @@
 //! What reading a formula gives.
 ghost use Rattle.std.specs.Prelude.{◌≡◌};
-ghost use Rattle.rd_grammar.specs.declared.parsed.ParseRefused.TheVariants.{NoMemory as MemoryRefused};
+ghost use Rattle.rd_grammar.specs.declared.parsed.MarksRefused.TheVariants.{NoMemory as MemoryRefused};
 
 use crate::marks::Sign;
 use rd_base::NoMemory;
@@ -42,7 +42,7 @@ pub enum Parsed {
 
 /// Why marks give no formula.
 #[derive(Clone, Copy, Debug, PartialEq, Eq, Error)]
-pub enum ParseRefused {
+pub enum MarksRefused {
     /// the number of marks before the first wrong one; the number of all marks where they end too early
     #[error("wrong at mark {0}")]
     Syntax(u32),
@@ -51,10 +51,10 @@ pub enum ParseRefused {
     NoMemory,
 }
 
-impl From<NoMemory> for ParseRefused {
+impl From<NoMemory> for MarksRefused {
     ghost from_gives = { λ _ e. e ≡ MemoryRefused };
 
-    fn from(_error: NoMemory) -> ParseRefused {
-        ParseRefused::NoMemory
+    fn from(_error: NoMemory) -> MarksRefused {
+        MarksRefused::NoMemory
     }
 }

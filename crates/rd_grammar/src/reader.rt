@@ -1,11 +1,11 @@
 //! The reader: a machine that takes one mark after another, with a stack of what waits outside open parentheses.
 ghost use Rattle.std.specs.Prelude.{◌≡◌, ◌≤◌, ℕ, reverse, length, IfOk, IfErr, option_map};
-ghost use Rattle.rd_grammar.specs.Grammar.{Tree, Says, disj, is_term, tree_of, IsRefused};
-ghost use Rattle.rd_grammar.specs.Machine.{start, is_sign, step, from_want, from_lead, from_sided, from_signed, from_have, result_of, whole, closed, empty, nots_of, and_with, or_with, left_of, pending_of, stack_of, state_of};
-ghost use Rattle.rd_grammar.specs.declared.parsed.ParseRefused.TheVariants.{Syntax};
+ghost use Rattle.rd_grammar.specs.Grammar.{ParsedTree, MarksSay, disj, is_term, parsed_tree, AreMarksRefused};
+ghost use Rattle.rd_grammar.specs.Machine.{start, is_sign, step, from_want, from_lead, from_sided, from_signed, from_have, formula_at_end, whole_formula, behind_parenthesis, empty, nots_of, and_with, or_with, left_of, pending_of, stack_of, state_of};
+ghost use Rattle.rd_grammar.specs.declared.parsed.MarksRefused.TheVariants.{Syntax};
 
 use crate::marks::{Mark, Sign, Symbol};
-use crate::parsed::{ParseRefused, Parsed};
+use crate::parsed::{MarksRefused, Parsed};
 use rd_base::{MOST_TOKENS, NoMemory};
 use std::alloc::Global;
 
@@ -67,7 +67,7 @@ struct Reader {
 
 // The formula with these `not` before it, the last of them innermost.
 fn negated(alloc: Global, formula: Parsed, nots: Vec<u32>) -> Result<Parsed, NoMemory>
-    ensures { IfOk result (λ f. tree_of f ≡ nots_of (reverse nots.items) (tree_of formula)) }
+    ensures { IfOk result (λ f. parsed_tree f ≡ nots_of (reverse nots.items) (parsed_tree formula)) }
 {
     let mut whole = formula;
     let mut left = nots;
@@ -82,7 +82,7 @@ fn negated(alloc: Global, formula: Parsed, nots: Vec<u32>) -> Result<Parsed, NoM
 
 // The formula behind an `and`, if there is one.
 fn behind_and(alloc: Global, left: Option<LeftPart>, right: Parsed) -> Result<Parsed, NoMemory>
-    ensures { IfOk result (λ f. tree_of f ≡ and_with (option_map left_of left) (tree_of right)) }
+    ensures { IfOk result (λ f. parsed_tree f ≡ and_with (option_map left_of left) (parsed_tree right)) }
 {
     match left {
         None => Ok(right),
@@ -109,7 +109,7 @@ impl Pending {
     // What the operand completes.
     fn filled(self, alloc: Global, operand: Parsed) -> Result<RightPart, NoMemory>
         ensures formula { let p = pending_of self in IfOk result
-            (λ r. tree_of r.formula ≡ and_with p.ands (nots_of p.nots (tree_of operand))) }
+            (λ r. parsed_tree r.formula ≡ and_with p.ands (nots_of p.nots (parsed_tree operand))) }
         ensures or { let p = pending_of self in IfOk result (λ r. option_map left_of r.or ≡ p.ors) }
     {
         let Pending { or, and, nots } = self;
@@ -123,7 +123,7 @@ impl RightPart {
     // The formula with what an `or` joins it to.
     fn whole(self, alloc: Global) -> Result<Parsed, NoMemory>
         ensures { IfOk result
-            (λ f. tree_of f ≡ or_with (option_map left_of self.or) (tree_of self.formula)) }
+            (λ f. parsed_tree f ≡ or_with (option_map left_of self.or) (parsed_tree self.formula)) }
     {
         let RightPart { formula, or } = self;
         match or {
@@ -193,7 +193,7 @@ fn wanting(
 // A closing parenthesis behind a formula.
 fn closed(alloc: Global, inside: RightPart, stack: Vec<Pending>) -> Result<Option<Reader>, NoMemory>
     ensures { IfOk result
-        (λ next. option_map state_of next ≡ closed (tree_of inside.formula)
+        (λ next. option_map state_of next ≡ behind_parenthesis (parsed_tree inside.formula)
         (option_map left_of inside.or) (stack_of stack.items)) }
 {
     let mut outside = stack;
@@ -216,7 +216,7 @@ fn complete(
     mark: Mark,
 ) -> Result<Option<Reader>, NoMemory>
     ensures { IfOk result
-        (λ next. option_map state_of next ≡ from_have (tree_of right.formula)
+        (λ next. option_map state_of next ≡ from_have (parsed_tree right.formula)
         (option_map left_of right.or) (stack_of stack.items) mark.symbol mark.token) }
 {
     let token = mark.token;
@@ -315,7 +315,7 @@ fn signed(
     mark: Mark,
 ) -> Result<Option<Reader>, NoMemory>
     ensures { IfOk result
-        (λ next. option_map state_of next ≡ from_signed (tree_of relation) (pending_of pending)
+        (λ next. option_map state_of next ≡ from_signed (parsed_tree relation) (pending_of pending)
         (stack_of stack.items) mark.symbol) }
 {
     if !is_term(mark.symbol) {
@@ -331,7 +331,7 @@ fn signed(
 // The formula, if no parenthesis is open.
 fn ended(alloc: Global, right: RightPart, stack: Vec<Pending>) -> Result<Option<Parsed>, NoMemory>
     ensures { IfOk result
-        (λ read. option_map tree_of read ≡ whole (tree_of right.formula)
+        (λ read. option_map parsed_tree read ≡ whole_formula (parsed_tree right.formula)
         (option_map left_of right.or) (stack_of stack.items)) }
 {
     if !stack.is_empty() {
@@ -385,7 +385,7 @@ impl Reader {
 
     // The formula that was read, if the marks may end here.
     fn finish(self, alloc: Global) -> Result<Option<Parsed>, NoMemory>
-        ensures { IfOk result (λ read. option_map tree_of read ≡ result_of (state_of self)) }
+        ensures { IfOk result (λ read. option_map parsed_tree read ≡ formula_at_end (state_of self)) }
     {
         let Reader { mode, stack } = self;
         match mode {
@@ -407,22 +407,22 @@ impl Reader {
 /// `or` gather to the left. A word `true` or `false` is a term where a sign stands beside it, and else a formula. Where the
 /// marks are no formula, the place of the first wrong one is told: no formula begins with the marks up to it, but some formula
 /// begins with those before it.
-pub fn parse_formula(alloc: Global, marks: &[Mark]) -> Result<Parsed, ParseRefused>
+pub fn parse_formula(alloc: Global, marks: &[Mark]) -> Result<Parsed, MarksRefused>
     requires { length marks.now ≤ MOST_TOKENS }
-    ensures ok { IfOk result (λ f. Says disj marks.now (tree_of f)) }
-    ensures syntax { IfErr result (IsRefused marks.now) }
+    ensures ok { IfOk result (λ f. MarksSay disj marks.now (parsed_tree f)) }
+    ensures syntax { IfErr result (AreMarksRefused marks.now) }
     ensures only { IfErr result
-        (λ refused. (place : ℕ) → refused ≡ Syntax place → (f : Tree) → ¬ (Says disj marks.now f)) }
+        (λ refused. (place : ℕ) → refused ≡ Syntax place → (f : ParsedTree) → ¬ (MarksSay disj marks.now f)) }
 {
     let mut reader = Reader::new(alloc);
     for (place, mark) in marks.iter().enumerate() {
         let Some(next) = reader.step(alloc, *mark)? else {
-            return Err(ParseRefused::Syntax(place as u32));
+            return Err(MarksRefused::Syntax(place as u32));
         };
         reader = next;
     }
     match reader.finish(alloc)? {
         Some(formula) => Ok(formula),
-        None => Err(ParseRefused::Syntax(marks.len() as u32)),
+        None => Err(MarksRefused::Syntax(marks.len() as u32)),
     }
 }

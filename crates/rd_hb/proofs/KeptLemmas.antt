@@ -9,16 +9,16 @@ use Rattle.std.proofs.Math.Seq.{get_or-append_seam}
 use Rattle.rd_clock.specs.Clock.{component, IsTick}
 use Rattle.rd_clock.specs.declared.clock.Stamp.{Stamp}
 use Rattle.rd_hb.specs.declared.tracker.Tracked.{Tracked}
-use Rattle.rd_hb.specs.Tracker.{tracked, no_thread, known_to}
+use Rattle.rd_hb.specs.Tracker.{tracked_thread, no_thread, known_to}
 use Rattle.rd_hb.specs.TrackerParts.{AreKept, AreTracked, IsShared, IsTracked}
 
 -- ---- one thread is added, or changed
 
 pub tracked_push : (threads : List Tracked) (x : Tracked) (t : ℕ)
-    → tracked (threads ++ x ∷ []) t ≡ (if t == length threads then x else tracked threads t)
+    → tracked_thread (threads ++ x ∷ []) t ≡ (if t == length threads then x else tracked_thread threads t)
 tracked_push threads x t =
     elim (cases_eq t (length threads)) [
-      | inl same ↦ rw (eq-eqb t (length threads) same) (subst (λ i. tracked (threads ++ x ∷ []) i ≡ x) (sym same) (get_or-append_seam threads x [] no_thread))
+      | inl same ↦ rw (eq-eqb t (length threads) same) (subst (λ i. tracked_thread (threads ++ x ∷ []) i ≡ x) (sym same) (get_or-append_seam threads x [] no_thread))
       | inr other ↦ rw (ne_eqb t (length threads) other) (elim (cases_lt t (length threads)) [
         | inl before ↦ get_or_append_left threads (x ∷ []) no_thread t before
         | inr past ↦ get_or_past (threads ++ x ∷ []) t no_thread (omega (arith, past, other, length-append threads (x ∷ []))) ∙ sym (get_or_past threads t no_thread past)
@@ -26,13 +26,13 @@ tracked_push threads x t =
     ]
 
 -- what is read at the place of a thread
-pub read_at : (threads : List Tracked) (i : ℕ) (read : Tracked) → i < length threads → read ≡ slice_index_or threads i read → read ≡ tracked threads i
+pub read_at : (threads : List Tracked) (i : ℕ) (read : Tracked) → i < length threads → read ≡ slice_index_or threads i read → read ≡ tracked_thread threads i
 read_at threads i read inside value = value ∙ get_or_default threads i read no_thread inside
 
-set_same : (threads : List Tracked) (i t : ℕ) (x : Tracked) → i < length threads → t ≡ i → tracked (slice_set threads i x) t ≡ x
+set_same : (threads : List Tracked) (i t : ℕ) (x : Tracked) → i < length threads → t ≡ i → tracked_thread (slice_set threads i x) t ≡ x
 set_same threads i t x inside same = get_or-set_at threads i t x no_thread same inside
 
-pub set_other : (threads : List Tracked) (i t : ℕ) (x : Tracked) → t ≢ i → tracked (slice_set threads i x) t ≡ tracked threads t
+pub set_other : (threads : List Tracked) (i t : ℕ) (x : Tracked) → t ≢ i → tracked_thread (slice_set threads i x) t ≡ tracked_thread threads t
 set_other threads i t x other = get_or-set_other threads i t x no_thread other
 
 -- after a thread was set, what is read at its place is that, and at another what was there
@@ -40,13 +40,13 @@ pub read_again : (threads : List Tracked) (i : ℕ) (x read : Tracked) → i < l
 read_again threads i x read inside value =
     read_at (slice_set threads i x) i read (omega (arith, inside, length-set threads i x)) value ∙ set_same threads i i x inside refl
 
-pub read_besides : (threads : List Tracked) (i j : ℕ) (x read : Tracked) → j < length threads → j ≢ i → read ≡ slice_index_or (slice_set threads i x) j read → read ≡ tracked threads j
+pub read_besides : (threads : List Tracked) (i j : ℕ) (x read : Tracked) → j < length threads → j ≢ i → read ≡ slice_index_or (slice_set threads i x) j read → read ≡ tracked_thread threads j
 read_besides threads i j x read inside other value =
     read_at (slice_set threads i x) j read (omega (arith, inside, length-set threads i x)) value ∙ set_other threads i j x other
 
 -- ---- what holds of each thread
 
-as_tracked : (threads : List Tracked) (t : ℕ) (x : Tracked) → tracked threads t ≡ x
+as_tracked : (threads : List Tracked) (t : ℕ) (x : Tracked) → tracked_thread threads t ≡ x
     → t < length x.clock → length x.clock ≤ length threads → x.events ≡ component x.clock t → IsTracked threads t
 as_tracked threads t x is own room events = record { own = rw is own; room = rw is room; events = rw is events }
 
@@ -58,7 +58,7 @@ tracked_more threads x kept few own room events = record {
         (omega (arith, same, own)) (omega (arith, room, total)) (subst (λ v. x.events ≡ component x.clock v) (sym same) events)
     | inr other ↦
         let was = kept.each t (omega (arith, known, total, other)) in
-        as_tracked (threads ++ x ∷ []) t (tracked threads t) (tracked_push threads x t ∙ rw (ne_eqb t (length threads) other) refl)
+        as_tracked (threads ++ x ∷ []) t (tracked_thread threads t) (tracked_push threads x t ∙ rw (ne_eqb t (length threads) other) refl)
         was.own (omega (arith, was.room, total)) was.events
   ];
   few = omega (arith, few, total);
@@ -75,7 +75,7 @@ tracked_changed threads i x kept inside own room events = record {
         (omega (arith, same, own)) (omega (arith, room, total)) (subst (λ v. x.events ≡ component x.clock v) (sym same) events)
     | inr other ↦
         let was = kept.each t (omega (arith, known, total)) in
-        as_tracked (slice_set threads i x) t (tracked threads t) (set_other threads i t x other) was.own (omega (arith, was.room, total)) was.events
+        as_tracked (slice_set threads i x) t (tracked_thread threads t) (set_other threads i t x other) was.own (omega (arith, was.room, total)) was.events
   ];
   few = omega (arith, kept.few, total);
 }
@@ -92,7 +92,7 @@ shared_inside threads t clock is = elim (cases_lt t (length threads)) [
   | inr past ↦ absurd (omega (arith, is.own, is.room, ap (λ x. length x.clock) (get_or_past threads t no_thread past)))
 ]
 
-shared_like : (old new : List Tracked) (t : ℕ) (clock : List ℕ) → (tracked new t).clock ≡ (tracked old t).clock → IsShared old t clock → IsShared new t clock
+shared_like : (old new : List Tracked) (t : ℕ) (clock : List ℕ) → (tracked_thread new t).clock ≡ (tracked_thread old t).clock → IsShared old t clock → IsShared new t clock
 shared_like old new t clock same is = record {
   own = is.own;
   room = is.room ∙ ap length (sym same);
@@ -101,8 +101,8 @@ shared_like old new t clock same is = record {
 }
 
 -- with the clock of its thread it still agrees after a tick
-shared_ticked : (old new : List Tracked) (t : ℕ) (clock : List ℕ) → IsTick (tracked old t).clock (tracked new t).clock t
-    → length (tracked new t).clock ≡ length (tracked old t).clock → IsShared old t clock → IsShared new t clock
+shared_ticked : (old new : List Tracked) (t : ℕ) (clock : List ℕ) → IsTick (tracked_thread old t).clock (tracked_thread new t).clock t
+    → length (tracked_thread new t).clock ≡ length (tracked_thread old t).clock → IsShared old t clock → IsShared new t clock
 shared_ticked old new t clock ticks room is = record {
   own = is.own;
   room = is.room ∙ sym room;
@@ -111,7 +111,7 @@ shared_ticked old new t clock ticks room is = record {
 }
 
 -- it may be a copy
-pub shared_copy : (threads : List Tracked) (t : ℕ) (clock : List ℕ) → IsTracked threads t → clock ≡ (tracked threads t).clock → IsShared threads t clock
+pub shared_copy : (threads : List Tracked) (t : ℕ) (clock : List ℕ) → IsTracked threads t → clock ≡ (tracked_thread threads t).clock → IsShared threads t clock
 shared_copy threads t clock is same = subst (IsShared threads t) (sym same) (record { own = is.own; room = refl; others = λ u other. refl; less = omega arith })
 
 pub shared_room : (threads : List Tracked) (t : ℕ) (clock : List ℕ) → AreTracked threads → IsShared threads t clock → length clock ≤ length threads
@@ -149,25 +149,25 @@ kept_set threads clocks new_clocks releases i x kept inside own room events othe
 
 -- a thread counts an event
 pub kept_count : (threads : List Tracked) (clocks : List (Option (List ℕ))) (releases : List (Option Stamp)) (i : ℕ) (old x : Tracked) → AreKept threads clocks releases
-    → i < length threads → old ≡ tracked threads i → IsTick old.clock x.clock i → length x.clock ≡ length old.clock → x.events ≡ old.events + 1
+    → i < length threads → old ≡ tracked_thread threads i → IsTick old.clock x.clock i → length x.clock ≡ length old.clock → x.events ≡ old.events + 1
     → AreKept (slice_set threads i x) clocks releases
 kept_count threads clocks releases i old x kept inside is ticks room events =
     let was = kept.tracked.each i inside in
     let ticked = subst (λ y. IsTick y.clock x.clock i) is ticks in
-    let total : length x.clock ≡ length (tracked threads i).clock = room ∙ ap (λ y. length y.clock) is in
+    let total : length x.clock ≡ length (tracked_thread threads i).clock = room ∙ ap (λ y. length y.clock) is in
     kept_set threads clocks clocks releases i x kept inside (omega (arith, was.own, total)) (omega (arith, was.room, total))
     (events ∙ ap (λ y. y.events + 1) is ∙ ap (λ n. n + 1) was.events ∙ sym ticked.ticked)
     (λ t other. refl)
     (λ clock at.
-    shared_ticked threads (slice_set threads i x) i clock (subst (λ y. IsTick (tracked threads i).clock y.clock i) (sym (set_same threads i i x inside refl)) ticked)
+    shared_ticked threads (slice_set threads i x) i clock (subst (λ y. IsTick (tracked_thread threads i).clock y.clock i) (sym (set_same threads i i x inside refl)) ticked)
     (ap (λ y. length y.clock) (set_same threads i i x inside refl) ∙ total) (kept.shared i clock at))
 
 -- a thread ends
 pub kept_end : (threads : List Tracked) (clocks : List (Option (List ℕ))) (releases : List (Option Stamp)) (i : ℕ) (old x : Tracked) → AreKept threads clocks releases
-    → i < length threads → old ≡ tracked threads i → x.clock ≡ old.clock → x.events ≡ old.events → AreKept (slice_set threads i x) clocks releases
+    → i < length threads → old ≡ tracked_thread threads i → x.clock ≡ old.clock → x.events ≡ old.events → AreKept (slice_set threads i x) clocks releases
 kept_end threads clocks releases i old x kept inside is clock events =
     let was = kept.tracked.each i inside in
-    let same : x.clock ≡ (tracked threads i).clock = clock ∙ ap (λ y. y.clock) is in
+    let same : x.clock ≡ (tracked_thread threads i).clock = clock ∙ ap (λ y. y.clock) is in
     kept_set threads clocks clocks releases i x kept inside (omega (arith, was.own, ap length same)) (omega (arith, was.room, ap length same))
     (events ∙ ap (λ y. y.events) is ∙ was.events ∙ ap (λ c. component c i) (sym same))
     (λ t other. refl)
@@ -175,7 +175,7 @@ kept_end threads clocks releases i old x kept inside is clock events =
 
 -- a thread learns, and shares its clock no longer
 pub kept_learn : (threads : List Tracked) (clocks new_clocks : List (Option (List ℕ))) (releases : List (Option Stamp)) (i : ℕ) (old x : Tracked) → AreKept threads clocks releases
-    → i < length threads → old ≡ tracked threads i → length x.clock ≡ length threads → component x.clock i ≡ known_to threads i i → x.events ≡ old.events
+    → i < length threads → old ≡ tracked_thread threads i → length x.clock ≡ length threads → component x.clock i ≡ known_to threads i i → x.events ≡ old.events
     → ((t : ℕ) → t ≢ i → slice_index_or new_clocks t None ≡ slice_index_or clocks t None) → slice_index_or new_clocks i None ≡ None
     → AreKept (slice_set threads i x) new_clocks releases
 kept_learn threads clocks new_clocks releases i old x kept inside is room own events others none =

@@ -4,7 +4,7 @@ use Rattle.std.specs.Prelude.{slice_get}
 use Rattle.std.proofs.lemmas.Bool.{cases_eq, cases_lt}
 use Rattle.rd_event.specs.declared.events.Event.{Event}
 use Rattle.rd_order.specs.Counts.{Counts}
-use Rattle.rd_order.specs.EventLists.{Known, WellFormed}
+use Rattle.rd_order.specs.EventLists.{IsKnownThread, WellFormed}
 use Rattle.rd_order.specs.Order.{forked_thread}
 use Rattle.rd_order.proofs.CountsLemmas.{counts_le, covers}
 use Rattle.rd_order.proofs.EventListLemmas.{known_later, may_follow_at}
@@ -77,10 +77,10 @@ fork_before roots es w m i a formed at fork of = elim (cases_lt m i) [
   | inr from ↦ absurd ((may_follow_at roots es m a formed at).fresh w fork (known (omega (arith, from))))
 ]
   where
-    known : i ≤ m → Known roots (take m es) w
+    known : i ≤ m → IsKnownThread roots (take m es) w
     known le =
-        let acted : Known roots (take i es) w = subst (Known roots (take i es)) of.2 (may_follow_at roots es i of.0 formed of.1).known_actor in
-        known_later roots (take m es) i w (subst (λ l. Known roots l w) (sym (take-take i m es le)) acted)
+        let acted : IsKnownThread roots (take i es) w = subst (IsKnownThread roots (take i es)) of.2 (may_follow_at roots es i of.0 formed of.1).known_actor in
+        known_later roots (take m es) i w (subst (λ l. IsKnownThread roots l w) (sym (take-take i m es le)) acted)
 
 -- who knows the last event of a thread knows all that the thread does
 child_known : (roots : ℕ → Bool) (es : List Event) (P : ℕ → Type 0) (w i : ℕ) → WellFormed roots es → IsOf es w i → ((k : ℕ) → IsOf es w k → k ≤ i)

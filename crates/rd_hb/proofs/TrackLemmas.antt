@@ -10,7 +10,7 @@ use Rattle.rd_order.specs.Order.{thread_of, forked_thread, Hold, exclusive, hold
 use Rattle.rd_order.specs.Counts.{Counts}
 use Rattle.rd_hb.specs.EventClocks.{IsOf, OwnNumber, IsClock}
 use Rattle.rd_hb.specs.Knows.{Carries, GivesBack, Knows, KnownCount}
-use Rattle.rd_hb.specs.TrackerParts.{brought, met, clock_after, known_after, handed_after}
+use Rattle.rd_hb.specs.TrackerParts.{news_of, known_with_news, clock_after, known_after, handed_after}
 use Rattle.rd_order.proofs.CountsLemmas.{counts_bound, counts_cut, counts_like, counts_max, counts_more, counts_none, counts_same}
 use Rattle.rd_order.proofs.HoldLemmas.{hold_decides}
 use Rattle.rd_order.specs.OrderTests.{is_this}
@@ -86,7 +86,7 @@ same_lock lock other same = ap lock_in same
 
 -- what an event takes in is counted by what the joined thread or the acquired lock knew
 brought_count : (es : List Event) (e : Event) (f g : ℕ → ℕ → ℕ) → ((t u : ℕ) → KnownCount es (Carries es t) u (f t u)) → ((lock u : ℕ) → KnownCount es (GivesBack es lock) u (g lock u))
-    → (u : ℕ) → KnownCount es (Brings es e) u (brought e f g u)
+    → (u : ℕ) → KnownCount es (Brings es e) u (news_of e f g u)
 brought_count es (Fork thread child) f g threads locks u =
     known_nothing es (Brings es (Fork thread child)) (λ m x. elim x [ inl y ↦ none-some y.0 y.1 | inr y ↦ none-some (exclusive y.0) y.1 ]) u
 brought_count es (Join thread child) f g threads locks u =
@@ -112,8 +112,8 @@ brought_count es (Call call) f g threads locks u =
 pub clock_step : (es : List Event) (e : Event) (f g : ℕ → ℕ → ℕ) → ((t u : ℕ) → KnownCount es (Carries es t) u (f t u)) → ((lock u : ℕ) → KnownCount es (GivesBack es lock) u (g lock u))
     → (u : ℕ) → IsClock (es ++ e ∷ []) (length es) u (clock_after e f g u)
 clock_step es e f g threads locks u =
-    new_clock es e (λ k. Knows es (Carries es (thread_of e)) k ⊎ Knows es (Brings es e) k) (event_reached es e) u (met e f g u)
-    (counts_max (IsOf es u) (Knows es (Carries es (thread_of e))) (Knows es (Brings es e)) (length es) (f (thread_of e) u) (brought e f g u)
+    new_clock es e (λ k. Knows es (Carries es (thread_of e)) k ⊎ Knows es (Brings es e) k) (event_reached es e) u (known_with_news e f g u)
+    (counts_max (IsOf es u) (Knows es (Carries es (thread_of e))) (Knows es (Brings es e)) (length es) (f (thread_of e) u) (news_of e f g u)
     (knows_front es u (Carries es (thread_of e))) (knows_front es u (Brings es e)) (threads (thread_of e) u) (brought_count es e f g threads locks u))
 
 -- the own number of the event is one more than the number of events of its thread that the thread knew

@@ -11,7 +11,7 @@ use Rattle.rd_event.specs.declared.events.Event.{Event}
 use Rattle.rd_event.specs.declared.events.Event.TheVariants.{Fork, Join, Acquire, Release, Call}
 use Rattle.rd_clock.specs.Clock.{component, IsTick}
 use Rattle.rd_clock.specs.declared.clock.Stamp.{Stamp}
-use Rattle.rd_order.specs.EventLists.{forks, joins, Known, MayHappen, WellFormed, threads_after, is_hold}
+use Rattle.rd_order.specs.EventLists.{forks, joins, IsKnownThread, MayHappen, WellFormed, threads_after, is_hold}
 use Rattle.rd_order.specs.Order.{thread_of, forked_thread, joined_thread, exclusive, hold_given}
 use Rattle.rd_order.specs.OrderTests.{is_this}
 use Rattle.rd_order.proofs.CountsLemmas.{counts_all, counts_le}
@@ -21,8 +21,8 @@ use Rattle.rd_order.proofs.OrderLemmas.{at_end}
 use Rattle.rd_hb.specs.EventClocks.{IsClock, IsOf, OwnNumber}
 use Rattle.rd_hb.specs.Knows.{Carries, GivesBack, Knows, KnownCount}
 use Rattle.rd_hb.specs.declared.tracker.Tracked.{Tracked}
-use Rattle.rd_hb.specs.Tracker.{Tracking, clock_of, handed_by, known_to, last_stamp, no_thread, released, tracked, IsLastRelease, IsNextEvent, IsStamp, StandsFor}
-use Rattle.rd_hb.specs.TrackerParts.{brought, clock_after, handed_after, known_after, IsAlike, IsBegun, IsCounted, IsHeard, IsLearnt, IsReleased}
+use Rattle.rd_hb.specs.Tracker.{Tracking, clock_of, handed_by, known_to, last_stamp, no_thread, last_release, tracked_thread, IsLastRelease, IsNextEvent, IsStamp, TrackerStandsFor}
+use Rattle.rd_hb.specs.TrackerParts.{news_of, clock_after, handed_after, known_after, IsAlike, IsBegun, IsCounted, IsHeard, IsLearnt, IsReleased}
 use Rattle.rd_hb.proofs.ClockLemmas.{is_of_longer, own_number_longer}
 use Rattle.rd_hb.proofs.KeptLemmas.{tracked_push}
 use Rattle.rd_hb.proofs.KnowsLemmas.{gives_longer, gives_within, last_is_of, other_gives}
@@ -50,7 +50,7 @@ or_true true = refl
 or_true false = refl
 
 -- nothing is held at first
-pub no_threads : StandsFor (record { threads = []; locks = [] }) (λ t. false) []
+pub no_threads : TrackerStandsFor (record { threads = []; locks = [] }) (λ t. false) []
 unfolding forks joins
 no_threads = record {
   known = λ t. (λ inside. absurd (omega arith), λ known. elim known [ inl root ↦ absurd (cc) | inr begun ↦ absurd (omega (arith, begun)) ]);
@@ -62,7 +62,7 @@ no_threads = record {
 
 -- a root more is held
 pub root_stands : (old new : Tracking) (roots : ℕ → Bool) (thread : ℕ) (x : Tracked) → thread ≡ length old.threads → new.threads ≡ old.threads ++ x ∷ [] → new.locks ≡ old.locks
-    → ((u : ℕ) → component x.clock u ≡ 0) → x.joined ≡ false → StandsFor old roots [] → StandsFor new (λ t. roots t || (t == thread)) []
+    → ((u : ℕ) → component x.clock u ≡ 0) → x.joined ≡ false → TrackerStandsFor old roots [] → TrackerStandsFor new (λ t. roots t || (t == thread)) []
 unfolding forks joins
 root_stands old new roots thread x numbered pushed same nothing running stands = record {
   known = λ t. (there t, back t);
@@ -75,22 +75,22 @@ root_stands old new roots thread x numbered pushed same nothing running stands =
     | inr other ↦ subst (λ b. IsTrue b ↔ (0 < joins [] t)) (sym (ap (λ y. y.joined) (at_other t other))) (stands.joined t)
   ];
   locks = λ lock u. subst (λ l. KnownCount [] (GivesBack [] lock) u (handed_by l lock u)) (sym same) (stands.locks lock u);
-  releases = λ lock. subst (λ l. IsLastRelease [] lock (released l lock)) (sym same) (stands.releases lock);
+  releases = λ lock. subst (λ l. IsLastRelease [] lock (last_release l lock)) (sym same) (stands.releases lock);
 }
   where
-    at : (t : ℕ) → tracked new.threads t ≡ (if t == length old.threads then x else tracked old.threads t)
-    at t = ap (λ ts. tracked ts t) pushed ∙ tracked_push old.threads x t
+    at : (t : ℕ) → tracked_thread new.threads t ≡ (if t == length old.threads then x else tracked_thread old.threads t)
+    at t = ap (λ ts. tracked_thread ts t) pushed ∙ tracked_push old.threads x t
 
-    at_last : (t : ℕ) → t ≡ length old.threads → tracked new.threads t ≡ x
-    at_last t last = subst (λ b. tracked new.threads t ≡ (if b then x else tracked old.threads t)) (eq-eqb t (length old.threads) last) (at t)
+    at_last : (t : ℕ) → t ≡ length old.threads → tracked_thread new.threads t ≡ x
+    at_last t last = subst (λ b. tracked_thread new.threads t ≡ (if b then x else tracked_thread old.threads t)) (eq-eqb t (length old.threads) last) (at t)
 
-    at_other : (t : ℕ) → t ≢ length old.threads → tracked new.threads t ≡ tracked old.threads t
-    at_other t other = subst (λ b. tracked new.threads t ≡ (if b then x else tracked old.threads t)) (ne_eqb t (length old.threads) other) (at t)
+    at_other : (t : ℕ) → t ≢ length old.threads → tracked_thread new.threads t ≡ tracked_thread old.threads t
+    at_other t other = subst (λ b. tracked_thread new.threads t ≡ (if b then x else tracked_thread old.threads t)) (ne_eqb t (length old.threads) other) (at t)
 
     total : length new.threads ≡ length old.threads + 1
     total = ap length pushed ∙ length-append old.threads (x ∷ [])
 
-    there : (t : ℕ) → t < length new.threads → Known (λ v. roots v || (v == thread)) [] t
+    there : (t : ℕ) → t < length new.threads → IsKnownThread (λ v. roots v || (v == thread)) [] t
     there t inside = elim (cases_eq t thread) [
       | inl last ↦ inl (rw (eq-eqb t thread last) (or_true (roots t)))
       | inr other ↦ elim ((stands.known t).0 (omega (arith, inside, total, other, numbered))) [
@@ -102,7 +102,7 @@ root_stands old new roots thread x numbered pushed same nothing running stands =
     old_root : (t : ℕ) → t ≢ thread → IsTrue (roots t || (t == thread)) → IsTrue (roots t)
     old_root t other root = or_false (roots t) ∙ subst (λ b. IsTrue (roots t || b)) (ne_eqb t thread other) root
 
-    back : (t : ℕ) → Known (λ v. roots v || (v == thread)) [] t → t < length new.threads
+    back : (t : ℕ) → IsKnownThread (λ v. roots v || (v == thread)) [] t → t < length new.threads
     back t (inr begun) = absurd (omega (arith, begun))
     back t (inl root) = elim (cases_eq t thread) [
       | inl last ↦ omega (arith, last, total, numbered)
@@ -111,16 +111,16 @@ root_stands old new roots thread x numbered pushed same nothing running stands =
 
 -- ---- a thread is begun
 
-pub begins_push : (old : List Tracked) (thread child : ℕ) (clock : List ℕ) → child ≡ length old → IsTick (tracked old thread).clock clock thread
+pub begins_push : (old : List Tracked) (thread child : ℕ) (clock : List ℕ) → child ≡ length old → IsTick (tracked_thread old thread).clock clock thread
     → IsBegun thread child old (old ++ record { clock = clock; events = 0; joined = false } ∷ [])
 begins_push old thread child clock numbered ticks = record {
   count = length-append old (record { clock = clock; events = 0; joined = false } ∷ []);
   others = λ t other. tracked_push old (record { clock = clock; events = 0; joined = false }) t ∙ rw (ne_eqb t (length old) (λ last. other (last ∙ sym numbered))) refl;
-  clock = subst (λ x. IsTick (tracked old thread).clock x.clock thread) (sym new) ticks;
+  clock = subst (λ x. IsTick (tracked_thread old thread).clock x.clock thread) (sym new) ticks;
   joined = ap (λ x. x.joined) new;
 }
   where
-    new : tracked (old ++ record { clock = clock; events = 0; joined = false } ∷ []) child ≡ record { clock = clock; events = 0; joined = false }
+    new : tracked_thread (old ++ record { clock = clock; events = 0; joined = false } ∷ []) child ≡ record { clock = clock; events = 0; joined = false }
     new = tracked_push old (record { clock = clock; events = 0; joined = false }) child ∙ rw (eq-eqb child (length old) numbered) refl
 
 abbrev weight : Bool → ℕ
@@ -137,38 +137,38 @@ pub record Tracks (e : Event) (old new : Tracking) (stamp : Stamp) : Type 0 wher
   pub clock : (u : ℕ) → component stamp.clock u ≡ clock_after e (known_to old.threads) (handed_by old.locks) u
   pub known : (t u : ℕ) → known_to new.threads t u ≡ known_after e (known_to old.threads) (handed_by old.locks) t u
   pub count : length new.threads ≡ threads_after e (length old.threads)
-  pub joined : (t : ℕ) → (tracked new.threads t).joined ≡ ((tracked old.threads t).joined || is_this (joined_thread e) t)
-  pub given : (lock : ℕ) → hold_given e ≡ Some (exclusive lock) → (last : Stamp) × (released new.locks lock ≡ Some last) × IsAlike last stamp
-  pub others : (lock : ℕ) → hold_given e ≢ Some (exclusive lock) → released new.locks lock ≡ released old.locks lock
+  pub joined : (t : ℕ) → (tracked_thread new.threads t).joined ≡ ((tracked_thread old.threads t).joined || is_this (joined_thread e) t)
+  pub given : (lock : ℕ) → hold_given e ≡ Some (exclusive lock) → (last : Stamp) × (last_release new.locks lock ≡ Some last) × IsAlike last stamp
+  pub others : (lock : ℕ) → hold_given e ≢ Some (exclusive lock) → last_release new.locks lock ≡ last_release old.locks lock
 
 -- what becomes of the locks
 abbrev pub LocksAfter : Event → List (Option Stamp) → List (Option Stamp) → Stamp → Type 0
 LocksAfter e old new stamp =
-    ((lock : ℕ) → hold_given e ≡ Some (exclusive lock) → (last : Stamp) × (released new lock ≡ Some last) × IsAlike last stamp)
-    × ((lock : ℕ) → hold_given e ≢ Some (exclusive lock) → released new lock ≡ released old lock)
+    ((lock : ℕ) → hold_given e ≡ Some (exclusive lock) → (last : Stamp) × (last_release new lock ≡ Some last) × IsAlike last stamp)
+    × ((lock : ℕ) → hold_given e ≢ Some (exclusive lock) → last_release new lock ≡ last_release old lock)
 
 -- nothing, where no lock is given back
 pub locks_stay : (e : Event) (old new : List (Option Stamp)) (stamp : Stamp) → hold_given e ≡ None → new ≡ old → LocksAfter e old new stamp
-locks_stay e old new stamp none same = (λ lock gives. absurd (none-some (exclusive lock) (sym none ∙ gives)), λ lock other. ap (λ l. released l lock) same)
+locks_stay e old new stamp none same = (λ lock gives. absurd (none-some (exclusive lock) (sym none ∙ gives)), λ lock other. ap (λ l. last_release l lock) same)
 
 -- a thread learns what the event takes in, and counts the event, which forks no thread
 pub learnt_tracks : (e : Event) (old new : Tracking) (middle : List Tracked) (other : List ℕ) (stamp : Stamp) → forked_thread e ≡ None
-    → ((u : ℕ) → component other u ≡ brought e (known_to old.threads) (handed_by old.locks) u) → component other (thread_of e) ≤ known_to old.threads (thread_of e) (thread_of e)
+    → ((u : ℕ) → component other u ≡ news_of e (known_to old.threads) (handed_by old.locks) u) → component other (thread_of e) ≤ known_to old.threads (thread_of e) (thread_of e)
     → IsLearnt (thread_of e) other (joined_thread e) old.threads middle → IsCounted (thread_of e) middle new.threads stamp → LocksAfter e old.locks new.locks stamp
     → Tracks e old new stamp
 learnt_tracks e old new middle other stamp alone brings less learnt is locks = record {
   thread = is.thread_is;
   number = is.number ∙ ap (λ n. n + 1) (learnt.own (thread_of e) ∙ omega (arith, less));
-  clock = λ u. ticked (tracked middle (thread_of e)).clock stamp.clock (thread_of e) u is.clock ∙ met_at u;
+  clock = λ u. ticked (tracked_thread middle (thread_of e)).clock stamp.clock (thread_of e) u is.clock ∙ met_at u;
   known = λ t u. elim (cases_eq t (thread_of e)) [
     | inl same ↦ rw (eq-eqb t (thread_of e) same)
-        (ap (λ v. known_to new.threads v u) same ∙ ticked (tracked middle (thread_of e)).clock (tracked new.threads (thread_of e)).clock (thread_of e) u is.own ∙ met_at u)
+        (ap (λ v. known_to new.threads v u) same ∙ ticked (tracked_thread middle (thread_of e)).clock (tracked_thread new.threads (thread_of e)).clock (thread_of e) u is.own ∙ met_at u)
     | inr apart ↦ rw (ne_eqb t (thread_of e) apart, alone) (ap (λ x. component x.clock u) (is.others t apart) ∙ ap (λ clock. component clock u) (learnt.others t apart))
   ];
   count = is.count ∙ learnt.count ∙ ap (λ o. weighed o (length old.threads)) (sym alone);
   joined = λ t. elim (cases_eq t (thread_of e)) [
-    | inl same ↦ ap (λ v. (tracked new.threads v).joined) same ∙ is.joined ∙ learnt.joined (thread_of e)
-        ∙ ap (λ v. (tracked old.threads v).joined || is_this (joined_thread e) v) (sym same)
+    | inl same ↦ ap (λ v. (tracked_thread new.threads v).joined) same ∙ is.joined ∙ learnt.joined (thread_of e)
+        ∙ ap (λ v. (tracked_thread old.threads v).joined || is_this (joined_thread e) v) (sym same)
     | inr apart ↦ ap (λ x. x.joined) (is.others t apart) ∙ learnt.joined t
   ];
   given = locks.0;
@@ -184,7 +184,7 @@ nothing_learnt thread threads = record {
   count = refl;
   own = λ u. omega arith;
   others = λ t other. refl;
-  joined = λ t. or_false (tracked threads t).joined;
+  joined = λ t. or_false (tracked_thread threads t).joined;
 }
 
 -- a fork
@@ -193,19 +193,19 @@ pub fork_tracks : (thread child : ℕ) (old new : Tracking) (middle : List Track
 fork_tracks thread child old new middle stamp inside numbered begun is locks = record {
   thread = is.thread_is;
   number = is.number ∙ ap (λ x. component x.clock thread + 1) (begun.others thread apart);
-  clock = λ u. ticked (tracked old.threads thread).clock stamp.clock thread u (subst (λ x. IsTick x.clock stamp.clock thread) (begun.others thread apart) is.clock) ∙ met_at u;
+  clock = λ u. ticked (tracked_thread old.threads thread).clock stamp.clock thread u (subst (λ x. IsTick x.clock stamp.clock thread) (begun.others thread apart) is.clock) ∙ met_at u;
   known = λ t u. elim (cases_eq t thread) [
     | inl same ↦ rw (eq-eqb t thread same) (ap (λ v. known_to new.threads v u) same
-        ∙ ticked (tracked old.threads thread).clock (tracked new.threads thread).clock thread u (subst (λ x. IsTick x.clock (tracked new.threads thread).clock thread) (begun.others thread apart) is.own)
+        ∙ ticked (tracked_thread old.threads thread).clock (tracked_thread new.threads thread).clock thread u (subst (λ x. IsTick x.clock (tracked_thread new.threads thread).clock thread) (begun.others thread apart) is.own)
         ∙ met_at u)
     | inr other ↦ rw (ne_eqb t thread other) (elim (cases_eq child t) [
       | inl last ↦ rw (eq-eqb child t last) (ap (λ x. component x.clock u) (is.others t other) ∙ ap (λ v. known_to middle v u) (sym last)
-          ∙ ticked (tracked old.threads thread).clock (tracked middle child).clock thread u begun.clock ∙ met_at u)
+          ∙ ticked (tracked_thread old.threads thread).clock (tracked_thread middle child).clock thread u begun.clock ∙ met_at u)
       | inr former ↦ rw (ne_eqb child t former) (ap (λ x. component x.clock u) (is.others t other ∙ begun.others t (λ last. former (sym last))))
     ])
   ];
   count = is.count ∙ begun.count;
-  joined = λ t. joined_at t ∙ or_false (tracked old.threads t).joined;
+  joined = λ t. joined_at t ∙ or_false (tracked_thread old.threads t).joined;
   given = (locks_stay (Fork thread child) old.locks new.locks stamp refl locks).0;
   others = (locks_stay (Fork thread child) old.locks new.locks stamp refl locks).1;
 }
@@ -216,32 +216,32 @@ fork_tracks thread child old new middle stamp inside numbered begun is locks = r
     apart : thread ≢ child
     apart same = absurd (omega (arith, same, inside, numbered))
 
-    middle_at : (t : ℕ) → (tracked middle t).joined ≡ (tracked old.threads t).joined
+    middle_at : (t : ℕ) → (tracked_thread middle t).joined ≡ (tracked_thread old.threads t).joined
     middle_at t = elim (cases_eq t child) [
-      | inl last ↦ ap (λ v. (tracked middle v).joined) last ∙ begun.joined ∙ ap (λ x. x.joined) (sym (get_or_past old.threads t no_thread (omega (arith, last, numbered))))
+      | inl last ↦ ap (λ v. (tracked_thread middle v).joined) last ∙ begun.joined ∙ ap (λ x. x.joined) (sym (get_or_past old.threads t no_thread (omega (arith, last, numbered))))
       | inr former ↦ ap (λ x. x.joined) (begun.others t former)
     ]
 
-    joined_at : (t : ℕ) → (tracked new.threads t).joined ≡ (tracked old.threads t).joined
+    joined_at : (t : ℕ) → (tracked_thread new.threads t).joined ≡ (tracked_thread old.threads t).joined
     joined_at t = elim (cases_eq t thread) [
-      | inl same ↦ ap (λ v. (tracked new.threads v).joined) same ∙ is.joined ∙ middle_at thread ∙ ap (λ v. (tracked old.threads v).joined) (sym same)
+      | inl same ↦ ap (λ v. (tracked_thread new.threads v).joined) same ∙ is.joined ∙ middle_at thread ∙ ap (λ v. (tracked_thread old.threads v).joined) (sym same)
       | inr other ↦ ap (λ x. x.joined) (is.others t other) ∙ middle_at t
     ]
 
 -- ---- the known threads after an event, where those before it have the numbers below one, and a forked thread has that one
 
-pub known_after_event : (roots : ℕ → Bool) (es : List Event) (e : Event) (threads : ℕ) → ((t : ℕ) → (t < threads) ↔ Known roots es t)
-    → ((u : ℕ) → forked_thread e ≡ Some u → u ≡ threads) → (t : ℕ) → (t < threads_after e threads) ↔ Known roots (es ++ e ∷ []) t
+pub known_after_event : (roots : ℕ → Bool) (es : List Event) (e : Event) (threads : ℕ) → ((t : ℕ) → (t < threads) ↔ IsKnownThread roots es t)
+    → ((u : ℕ) → forked_thread e ≡ Some u → u ≡ threads) → (t : ℕ) → (t < threads_after e threads) ↔ IsKnownThread roots (es ++ e ∷ []) t
 known_after_event roots es e threads known numbered t = (there (forked_thread e) refl, back (forked_thread e) refl)
   where
-    there : (o : Option ℕ) → forked_thread e ≡ o → t < threads_after e threads → Known roots (es ++ e ∷ []) t
+    there : (o : Option ℕ) → forked_thread e ≡ o → t < threads_after e threads → IsKnownThread roots (es ++ e ∷ []) t
     there None none inside = known_more roots es e t ((known t).0 (omega (arith, inside, ap (λ o. weighed o threads) none)))
     there (Some u) some inside = elim (cases_eq u t) [
       | inl same ↦ inr (omega (arith, forks_more es e t, ap weight (ap (λ o. is_this o t) some ∙ eq-eqb u t same)))
       | inr other ↦ known_more roots es e t ((known t).0 (omega (arith, inside, other, numbered u some, ap (λ o. weighed o threads) some)))
     ]
 
-    back : (o : Option ℕ) → forked_thread e ≡ o → Known roots (es ++ e ∷ []) t → t < threads_after e threads
+    back : (o : Option ℕ) → forked_thread e ≡ o → IsKnownThread roots (es ++ e ∷ []) t → t < threads_after e threads
     back None none (inl root) = omega (arith, (known t).1 (inl root), ap (λ o. weighed o threads) none)
     back None none (inr now) =
         omega (arith, (known t).1 (inr (omega (arith, now, forks_more es e t, ap weight (ap (λ o. is_this o t) none)))), ap (λ o. weighed o threads) none)
@@ -319,8 +319,8 @@ release_is_last es e lock stamp gives same own = (
   },
 )
 
-releases_after : (old new : Tracking) (roots : ℕ → Bool) (es : List Event) (e : Event) (stamp : Stamp) → StandsFor old roots es → Tracks e old new stamp
-    → (lock : ℕ) → IsLastRelease (es ++ e ∷ []) lock (released new.locks lock)
+releases_after : (old new : Tracking) (roots : ℕ → Bool) (es : List Event) (e : Event) (stamp : Stamp) → TrackerStandsFor old roots es → Tracks e old new stamp
+    → (lock : ℕ) → IsLastRelease (es ++ e ∷ []) lock (last_release new.locks lock)
 releases_after old new roots es e stamp stands is lock = elim (cases_Bool (is_hold (hold_given e) (exclusive lock))) [
   | inl holds ↦
       (let gives = (hold_decides (hold_given e) (exclusive lock)).0 holds in
@@ -331,7 +331,7 @@ releases_after old new roots es e stamp stands is lock = elim (cases_Bool (is_ho
       (subst (λ t. OwnNumber (es ++ e ∷ []) t (length es) x.0.number) (sym x.2.thread) (subst (OwnNumber (es ++ e ∷ []) stamp.thread (length es)) (sym x.2.number) own))))
   | inr fails ↦
       (let other = not_from_Decides (is_hold (hold_given e) (exclusive lock)) (hold_decides (hold_given e) (exclusive lock)) fails in
-      subst (IsLastRelease (es ++ e ∷ []) lock) (sym (is.others lock other)) (release_stays es e lock (released old.locks lock) other (stands.releases lock)))
+      subst (IsLastRelease (es ++ e ∷ []) lock) (sym (is.others lock other)) (release_stays es e lock (last_release old.locks lock) other (stands.releases lock)))
 ]
 
 -- the list is well-formed before the next event, which may follow it
@@ -342,13 +342,13 @@ next_follows : (old : Tracking) (roots : ℕ → Bool) (es : List Event) (e : Ev
 next_follows old roots es e next = ((formed_more roots es e).0 next.formed).1
 
 pub stands_after : (old new : Tracking) (roots : ℕ → Bool) (es : List Event) (e : Event) (stamp : Stamp)
-    → IsNextEvent old roots es e → Tracks e old new stamp → StandsFor new roots (es ++ e ∷ [])
+    → IsNextEvent old roots es e → Tracks e old new stamp → TrackerStandsFor new roots (es ++ e ∷ [])
 stands_after old new roots es e stamp next is = record {
-  known = λ t. subst (λ n. (t < n) ↔ Known roots (es ++ e ∷ []) t) (sym is.count) (known_after_event roots es e (length old.threads) next.stands.known next.numbered t);
+  known = λ t. subst (λ n. (t < n) ↔ IsKnownThread roots (es ++ e ∷ []) t) (sym is.count) (known_after_event roots es e (length old.threads) next.stands.known next.numbered t);
   clocks = λ t u. subst (KnownCount (es ++ e ∷ []) (Carries (es ++ e ∷ []) t) u) (sym (is.known t u))
       (known_step roots es e (known_to old.threads) (handed_by old.locks) (next_formed old roots es e next) (next_follows old roots es e next) next.stands.clocks next.stands.locks t u);
   joined = λ t. subst (λ b. IsTrue b ↔ (0 < joins (es ++ e ∷ []) t)) (sym (is.joined t))
-      (joined_more (tracked old.threads t).joined (is_this (joined_thread e) t) (joins es t) (joins (es ++ e ∷ []) t) (next.stands.joined t) (joins_more es e t));
+      (joined_more (tracked_thread old.threads t).joined (is_this (joined_thread e) t) (joins es t) (joins (es ++ e ∷ []) t) (next.stands.joined t) (joins_more es e t));
   locks = λ lock u. subst (KnownCount (es ++ e ∷ []) (GivesBack (es ++ e ∷ []) lock) u) (sym (handed_is e old new stamp is lock u))
       (handed_step roots es e (known_to old.threads) (handed_by old.locks) next.formed next.stands.clocks next.stands.locks lock u);
   releases = releases_after old new roots es e stamp next.stands is;
@@ -391,19 +391,19 @@ next_child old roots es e u next fork =
       arith,
       next.numbered u fork,
       ap (λ o. weighed o (length old.threads)) fork,
-      next.formed.bounded.few_threads after after (counts_all (Known roots (es ++ e ∷ [])) after (λ t inside. (each t).0 inside)),
+      next.formed.bounded.few_threads after after (counts_all (IsKnownThread roots (es ++ e ∷ [])) after (λ t inside. (each t).0 inside)),
     )
 
 -- no thread and no lock knows more events of a thread than that one had
-own_most : (old : Tracking) (roots : ℕ → Bool) (es : List Event) (P : ℕ → Type 0) (u c : ℕ) → StandsFor old roots es → KnownCount es P u c → c ≤ known_to old.threads u u
+own_most : (old : Tracking) (roots : ℕ → Bool) (es : List Event) (P : ℕ → Type 0) (u c : ℕ) → TrackerStandsFor old roots es → KnownCount es P u c → c ≤ known_to old.threads u u
 own_most old roots es P u c stands counts =
     counts_le (λ k. IsOf es u k × Knows es P k) (IsOf es u) (length es) c (known_to old.threads u u) (λ k l x. x.0)
     counts ((known_own es u (known_to old.threads u u)).0 (stands.clocks u u))
 
-pub child_most : (old : Tracking) (roots : ℕ → Bool) (es : List Event) (t u : ℕ) → StandsFor old roots es → known_to old.threads t u ≤ known_to old.threads u u
+pub child_most : (old : Tracking) (roots : ℕ → Bool) (es : List Event) (t u : ℕ) → TrackerStandsFor old roots es → known_to old.threads t u ≤ known_to old.threads u u
 child_most old roots es t u stands = own_most old roots es (Carries es t) u (known_to old.threads t u) stands (stands.clocks t u)
 
-pub lock_most : (old : Tracking) (roots : ℕ → Bool) (es : List Event) (lock u : ℕ) → StandsFor old roots es → handed_by old.locks lock u ≤ known_to old.threads u u
+pub lock_most : (old : Tracking) (roots : ℕ → Bool) (es : List Event) (lock u : ℕ) → TrackerStandsFor old roots es → handed_by old.locks lock u ≤ known_to old.threads u u
 lock_most old roots es lock u stands = own_most old roots es (GivesBack es lock) u (handed_by old.locks lock u) stands (stands.locks lock u)
 
 -- what brings no news
@@ -413,26 +413,26 @@ child_no_news old roots es e t w next =
     child_heard roots es (Carries es t) w (known_to old.threads t) (known_to old.threads w) (next_formed old roots es e next) (next.stands.clocks t) (next.stands.clocks w)
 
 pub lock_no_news : (old : Tracking) (roots : ℕ → Bool) (es : List Event) (e : Event) (t lock : ℕ) → IsNextEvent old roots es e
-    → IsHeard (released old.locks lock) (tracked old.threads t).clock → (u : ℕ) → handed_by old.locks lock u ≤ known_to old.threads t u
+    → IsHeard (last_release old.locks lock) (tracked_thread old.threads t).clock → (u : ℕ) → handed_by old.locks lock u ≤ known_to old.threads t u
 lock_no_news old roots es e t lock next =
-    lock_heard roots es (Carries es t) lock (released old.locks lock) (tracked old.threads t).clock (next_formed old roots es e next)
+    lock_heard roots es (Carries es t) lock (last_release old.locks lock) (tracked_thread old.threads t).clock (next_formed old roots es e next)
     (next.stands.releases lock) (next.stands.clocks t) (next.stands.locks lock)
 
 -- news comes from another thread, so there are two
 pub lock_news : (old : Tracking) (roots : ℕ → Bool) (es : List Event) (e : Event) (t lock : ℕ) → IsNextEvent old roots es e → t < length old.threads
-    → IsHeard (released old.locks lock) (tracked old.threads t).clock ⊎ (2 ≤ length old.threads)
-lock_news old roots es e t lock next inside = by (released old.locks lock) (next.stands.releases lock)
+    → IsHeard (last_release old.locks lock) (tracked_thread old.threads t).clock ⊎ (2 ≤ length old.threads)
+lock_news old roots es e t lock next inside = by (last_release old.locks lock) (next.stands.releases lock)
   where
-    by : (o : Option Stamp) → IsLastRelease es lock o → IsHeard o (tracked old.threads t).clock ⊎ (2 ≤ length old.threads)
+    by : (o : Option Stamp) → IsLastRelease es lock o → IsHeard o (tracked_thread old.threads t).clock ⊎ (2 ≤ length old.threads)
     by None none = inl tt
     by (Some stamp) (place, is) = elim (cases_eq stamp.thread t) [
       | inl same ↦
           inl ((covers_known es (Carries es t) stamp.thread place stamp.number (known_to old.threads t stamp.thread) is.thread is.number (next.stands.clocks t stamp.thread)).1
           (inl (inl (subst (λ v. IsOf es v place) same is.thread))))
       | inr other ↦
-          (let acted : Known roots es stamp.thread =
+          (let acted : IsKnownThread roots es stamp.thread =
           known_later roots es place stamp.thread
-          (subst (Known roots (take place es)) is.thread.2 (may_follow_at roots es place is.thread.0 (next_formed old roots es e next) is.thread.1).known_actor) in
+          (subst (IsKnownThread roots (take place es)) is.thread.2 (may_follow_at roots es place is.thread.0 (next_formed old roots es e next) is.thread.1).known_actor) in
           let there : stamp.thread < length old.threads = (next.stands.known stamp.thread).1 acted in
           inr (omega (arith, other, there, inside)))
     ]
@@ -451,7 +451,7 @@ pub stamp_taken : (old new : Tracking) (e : Event) → Taken old new e
 stamp_taken old new e is roots es next = stamp_after old new es e (last_stamp new.threads (thread_of e)) next.stands.clocks next.stands.locks (is roots es next)
 
 pub stands_taken : (old new : Tracking) (e : Event) → Taken old new e
-    → (roots : ℕ → Bool) (es : List Event) → IsNextEvent old roots es e → StandsFor new roots (es ++ e ∷ [])
+    → (roots : ℕ → Bool) (es : List Event) → IsNextEvent old roots es e → TrackerStandsFor new roots (es ++ e ∷ [])
 stands_taken old new e is roots es next = stands_after old new roots es e (last_stamp new.threads (thread_of e)) next (is roots es next)
 
 pub ok_stamp : {A E : Type 0} (old new : Tracking) (e : Event) (result : Result A E) → Answers old new e result
@@ -460,7 +460,7 @@ ok_stamp old new e (Ok value) is = stamp_taken old new e is
 ok_stamp old new e (Err error) is = tt
 
 pub ok_stands : {A E : Type 0} (old new : Tracking) (e : Event) (result : Result A E) → Answers old new e result
-    → OnOk result ((roots : ℕ → Bool) (es : List Event) → IsNextEvent old roots es e → StandsFor new roots (es ++ e ∷ []))
+    → OnOk result ((roots : ℕ → Bool) (es : List Event) → IsNextEvent old roots es e → TrackerStandsFor new roots (es ++ e ∷ []))
 ok_stands old new e (Ok value) is = stands_taken old new e is
 ok_stands old new e (Err error) is = tt
 
@@ -475,7 +475,7 @@ pub ok_release : {A E : Type 0} (old new : Tracking) (thread lock : ℕ) (result
     → OnOk result (IsReleased lock old.locks new.locks (last_stamp new.threads thread)) → Answers old new (Release thread lock) result
 ok_release old new thread lock (Ok value) is gives = λ roots es next.
     learnt_tracks (Release thread lock) old new old.threads [] (last_stamp new.threads thread) refl (λ u. refl) (omega arith) (nothing_learnt thread old.threads) is (
-      λ l same. subst (λ m. (last : Stamp) × (released new.locks m ≡ Some last) × IsAlike last (last_stamp new.threads thread))
+      λ l same. subst (λ m. (last : Stamp) × (last_release new.locks m ≡ Some last) × IsAlike last (last_stamp new.threads thread))
           (same_lock lock l (same_Some (exclusive lock) (exclusive l) same)) gives.given,
       λ l other. gives.others l (λ same. other (ap (λ m. Some (exclusive m)) (sym same))),
     )
@@ -489,26 +489,26 @@ ok_fork old new thread child (Ok value) is locks = λ roots es next.
 ok_fork old new thread child (Err error) is locks = tt
 
 pub ok_join : {A E : Type 0} (old new : Tracking) (thread child : ℕ) (result : Result A E)
-    → OnOk result ((middle : List Tracked) × IsLearnt thread (tracked old.threads child).clock (Some child) old.threads middle
+    → OnOk result ((middle : List Tracked) × IsLearnt thread (tracked_thread old.threads child).clock (Some child) old.threads middle
     × IsCounted thread middle new.threads (last_stamp new.threads thread))
     → new.locks ≡ old.locks → Answers old new (Join thread child) result
 ok_join old new thread child (Ok value) is locks = λ roots es next.
-    learnt_tracks (Join thread child) old new is.0 (tracked old.threads child).clock (last_stamp new.threads thread) refl (λ u. refl)
+    learnt_tracks (Join thread child) old new is.0 (tracked_thread old.threads child).clock (last_stamp new.threads thread) refl (λ u. refl)
     (child_most old roots es child thread next.stands) is.1 is.2
     (locks_stay (Join thread child) old.locks new.locks (last_stamp new.threads thread) refl locks)
 ok_join old new thread child (Err error) is locks = tt
 
 pub ok_acquire : {A E : Type 0} (old new : Tracking) (thread lock : ℕ) (result : Result A E)
-    → OnOk result ((middle : List Tracked) × IsLearnt thread (clock_of (released old.locks lock)) None old.threads middle
+    → OnOk result ((middle : List Tracked) × IsLearnt thread (clock_of (last_release old.locks lock)) None old.threads middle
     × IsCounted thread middle new.threads (last_stamp new.threads thread))
     → new.locks ≡ old.locks → Answers old new (Acquire thread lock) result
 ok_acquire old new thread lock (Ok value) is locks = λ roots es next.
-    learnt_tracks (Acquire thread lock) old new is.0 (clock_of (released old.locks lock)) (last_stamp new.threads thread) refl (λ u. refl)
+    learnt_tracks (Acquire thread lock) old new is.0 (clock_of (last_release old.locks lock)) (last_stamp new.threads thread) refl (λ u. refl)
     (lock_most old roots es lock thread next.stands) is.1 is.2
     (locks_stay (Acquire thread lock) old.locks new.locks (last_stamp new.threads thread) refl locks)
 ok_acquire old new thread lock (Err error) is locks = tt
 
 -- what is read of the thread makes up its stamp
-pub read_stamp : (threads : List Tracked) (thread t : ℕ) (own : Tracked) (clock : List ℕ) → own ≡ tracked threads t → thread ≡ t → clock ≡ own.clock
+pub read_stamp : (threads : List Tracked) (thread t : ℕ) (own : Tracked) (clock : List ℕ) → own ≡ tracked_thread threads t → thread ≡ t → clock ≡ own.clock
     → record { thread = thread; number = own.events; clock = clock } ≡ last_stamp threads t
 read_stamp threads thread t own clock is same copied = rw (copied, same, is) refl

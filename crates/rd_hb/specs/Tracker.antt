@@ -4,7 +4,7 @@ use Rattle.rd_event.specs.declared.events.Event.{Event}
 use Rattle.rd_event.specs.declared.events.Event.TheVariants.{Call}
 use Rattle.rd_clock.specs.Clock.{component}
 use Rattle.rd_hb.specs.EventClocks.{IsOf, OwnNumber, IsClock}
-use Rattle.rd_order.specs.EventLists.{Known, WellFormed, joins}
+use Rattle.rd_order.specs.EventLists.{IsKnownThread, WellFormed, joins}
 use Rattle.rd_hb.specs.Knows.{Carries, GivesBack, KnownCount}
 use Rattle.rd_order.specs.Order.{thread_of, forked_thread}
 use Rattle.rd_clock.specs.declared.clock.Stamp.{Stamp}
@@ -22,16 +22,16 @@ abbrev pub no_thread : Tracked
 no_thread = record { clock = []; events = 0; joined = false }
 
 -- what is held of a thread
-abbrev pub tracked : List Tracked → ℕ → Tracked
-tracked threads t = slice_index_or threads t no_thread
+abbrev pub tracked_thread : List Tracked → ℕ → Tracked
+tracked_thread threads t = slice_index_or threads t no_thread
 
 -- the component of u in the clock of t
 abbrev pub known_to : List Tracked → ℕ → ℕ → ℕ
-known_to threads t u = component (tracked threads t).clock u
+known_to threads t u = component (tracked_thread threads t).clock u
 
 -- what is held of a lock
-abbrev pub released : List (Option Stamp) → ℕ → Option Stamp
-released locks lock = slice_index_or locks lock None
+abbrev pub last_release : List (Option Stamp) → ℕ → Option Stamp
+last_release locks lock = slice_index_or locks lock None
 
 -- the clock of what is held of a lock, 0 everywhere where that is nothing
 abbrev pub clock_of : Option Stamp → List ℕ
@@ -40,7 +40,7 @@ clock_of (Some stamp) = stamp.clock
 
 -- the component of u in the clock of a lock
 abbrev pub handed_by : List (Option Stamp) → ℕ → ℕ → ℕ
-handed_by locks lock u = component (clock_of (released locks lock)) u
+handed_by locks lock u = component (clock_of (last_release locks lock)) u
 
 -- ---- what it stands for
 
@@ -59,12 +59,12 @@ IsLastRelease es lock (Some stamp) = (place : ℕ) × IsRelease es lock place st
 -- the known threads are exactly the roots and the threads that were forked; the clock of each gives for each thread
 -- the number of its events that the thread knows; and the joined ones are marked. The clock of each lock gives for each thread
 -- the number of its events that give back the lock or reach one that does; and the thread and own number of the last one are told
-pub record StandsFor (tracking : Tracking) (roots : ℕ → Bool) (es : List Event) : Type 0 where
-  pub known : (t : ℕ) → (t < length tracking.threads) ↔ Known roots es t
+pub record TrackerStandsFor (tracking : Tracking) (roots : ℕ → Bool) (es : List Event) : Type 0 where
+  pub known : (t : ℕ) → (t < length tracking.threads) ↔ IsKnownThread roots es t
   pub clocks : (t u : ℕ) → KnownCount es (Carries es t) u (known_to tracking.threads t u)
-  pub joined : (t : ℕ) → IsTrue (tracked tracking.threads t).joined ↔ (0 < joins es t)
+  pub joined : (t : ℕ) → IsTrue (tracked_thread tracking.threads t).joined ↔ (0 < joins es t)
   pub locks : (lock u : ℕ) → KnownCount es (GivesBack es lock) u (handed_by tracking.locks lock u)
-  pub releases : (lock : ℕ) → IsLastRelease es lock (released tracking.locks lock)
+  pub releases : (lock : ℕ) → IsLastRelease es lock (last_release tracking.locks lock)
 
 -- ---- a step
 
@@ -75,7 +75,7 @@ event_bound _ count = 4 * count
 
 -- with the event the list is well-formed, and a forked thread has the next number
 pub record IsNextEvent (tracking : Tracking) (roots : ℕ → Bool) (es : List Event) (e : Event) : Type 0 where
-  pub stands : StandsFor tracking roots es
+  pub stands : TrackerStandsFor tracking roots es
   pub formed : WellFormed roots (es ++ e ∷ [])
   pub numbered : (u : ℕ) → forked_thread e ≡ Some u → u ≡ length tracking.threads
 
@@ -87,4 +87,4 @@ pub record IsStamp (es : List Event) (place : ℕ) (stamp : Stamp) : Type 0 wher
 
 -- what is held of a thread as the stamp of its last event, where nothing was learnt since
 abbrev pub last_stamp : List Tracked → ℕ → Stamp
-last_stamp threads t = record { thread = t; number = (tracked threads t).events; clock = (tracked threads t).clock }
+last_stamp threads t = record { thread = t; number = (tracked_thread threads t).events; clock = (tracked_thread threads t).clock }

@@ -7,16 +7,16 @@ use Rattle.rd_event.specs.declared.events.Event.TheVariants.{Fork, Join, Acquire
 use Rattle.rd_order.specs.EventLists.{is_hold}
 use Rattle.rd_order.specs.Order.{thread_of, forked_thread, exclusive, hold_given}
 use Rattle.rd_order.specs.OrderTests.{is_this}
-use Rattle.rd_hb.specs.Tracker.{tracked, known_to, released}
+use Rattle.rd_hb.specs.Tracker.{tracked_thread, known_to, last_release}
 use Rattle.rd_hb.specs.declared.tracker.Tracked.{Tracked}
 
 -- ---- what holds between steps
 
 -- the clock of thread t has room for t and not for more threads than there are, and counts the events of t
 pub record IsTracked (threads : List Tracked) (t : ℕ) : Type 0 where
-  pub own : t < length (tracked threads t).clock
-  pub room : length (tracked threads t).clock ≤ length threads
-  pub events : (tracked threads t).events ≡ known_to threads t t
+  pub own : t < length (tracked_thread threads t).clock
+  pub room : length (tracked_thread threads t).clock ≤ length threads
+  pub events : (tracked_thread threads t).events ≡ known_to threads t t
 
 -- so it is with each thread, and their numbers have 32 bits
 pub record AreTracked (threads : List Tracked) : Type 0 where
@@ -26,7 +26,7 @@ pub record AreTracked (threads : List Tracked) : Type 0 where
 -- the clock is that of thread t, but at t itself, where it may be less
 pub record IsShared (threads : List Tracked) (t : ℕ) (clock : List ℕ) : Type 0 where
   pub own : t < length clock
-  pub room : length clock ≡ length (tracked threads t).clock
+  pub room : length clock ≡ length (tracked_thread threads t).clock
   pub others : (u : ℕ) → u ≢ t → component clock u ≡ known_to threads t u
   pub less : component clock t ≤ known_to threads t t
 
@@ -36,7 +36,7 @@ AreShared threads shared = (t : ℕ) (clock : List ℕ) → slice_index_or share
 
 -- no lock's clock has room for more threads than there are
 abbrev pub AreRoomy : List Tracked → List (Option Stamp) → Type 0
-AreRoomy threads locks = (lock : ℕ) (stamp : Stamp) → released locks lock ≡ Some stamp → length stamp.clock ≤ length threads
+AreRoomy threads locks = (lock : ℕ) (stamp : Stamp) → last_release locks lock ≡ Some stamp → length stamp.clock ≤ length threads
 
 -- so it is with what a tracker holds
 pub record AreKept (threads : List Tracked) (clocks : List (Option (List ℕ))) (releases : List (Option Stamp)) : Type 0 where
@@ -52,20 +52,20 @@ IsHeard (Some stamp) clock = stamp.number ≤ component clock stamp.thread
 -- ---- what an event makes of what is known, by numbers: thread t knows f t u of the events of u, lock l g l u
 
 -- what an event takes in: what the thread knows that it joins, or the lock that it acquires
-abbrev pub brought : Event → (ℕ → ℕ → ℕ) → (ℕ → ℕ → ℕ) → ℕ → ℕ
-brought (Fork thread child) f g u = 0
-brought (Join thread child) f g u = f child u
-brought (Acquire thread lock) f g u = g lock u
-brought (Release thread lock) f g u = 0
-brought (Call call) f g u = 0
+abbrev pub news_of : Event → (ℕ → ℕ → ℕ) → (ℕ → ℕ → ℕ) → ℕ → ℕ
+news_of (Fork thread child) f g u = 0
+news_of (Join thread child) f g u = f child u
+news_of (Acquire thread lock) f g u = g lock u
+news_of (Release thread lock) f g u = 0
+news_of (Call call) f g u = 0
 
 -- what its thread knew, with what it takes in
-abbrev pub met : Event → (ℕ → ℕ → ℕ) → (ℕ → ℕ → ℕ) → ℕ → ℕ
-met e f g u = max (f (thread_of e) u) (brought e f g u)
+abbrev pub known_with_news : Event → (ℕ → ℕ → ℕ) → (ℕ → ℕ → ℕ) → ℕ → ℕ
+known_with_news e f g u = max (f (thread_of e) u) (news_of e f g u)
 
 -- the clock of an event, from what was known before it
 abbrev pub clock_after : Event → (ℕ → ℕ → ℕ) → (ℕ → ℕ → ℕ) → ℕ → ℕ
-clock_after e f g u = if u == thread_of e then met e f g u + 1 else met e f g u
+clock_after e f g u = if u == thread_of e then known_with_news e f g u + 1 else known_with_news e f g u
 
 -- what the threads know after it: its own thread and the one that it forks know its clock
 abbrev pub known_after : Event → (ℕ → ℕ → ℕ) → (ℕ → ℕ → ℕ) → ℕ → ℕ → ℕ
@@ -80,26 +80,26 @@ handed_after e f g lock u = if is_hold (hold_given e) (exclusive lock) then cloc
 -- the thread counted one more event, whose stamp has its clock
 pub record IsCounted (thread : ℕ) (old new : List Tracked) (stamp : Stamp) : Type 0 where
   pub count : length new ≡ length old
-  pub others : (t : ℕ) → t ≢ thread → tracked new t ≡ tracked old t
-  pub own : IsTick (tracked old thread).clock (tracked new thread).clock thread
-  pub joined : (tracked new thread).joined ≡ (tracked old thread).joined
+  pub others : (t : ℕ) → t ≢ thread → tracked_thread new t ≡ tracked_thread old t
+  pub own : IsTick (tracked_thread old thread).clock (tracked_thread new thread).clock thread
+  pub joined : (tracked_thread new thread).joined ≡ (tracked_thread old thread).joined
   pub thread_is : stamp.thread ≡ thread
   pub number : stamp.number ≡ known_to old thread thread + 1
-  pub clock : IsTick (tracked old thread).clock stamp.clock thread
+  pub clock : IsTick (tracked_thread old thread).clock stamp.clock thread
 
 -- the next thread is known, with the clock that another has after its next event
 pub record IsBegun (thread child : ℕ) (old new : List Tracked) : Type 0 where
   pub count : length new ≡ length old + 1
-  pub others : (t : ℕ) → t ≢ child → tracked new t ≡ tracked old t
-  pub clock : IsTick (tracked old thread).clock (tracked new child).clock thread
-  pub joined : (tracked new child).joined ≡ false
+  pub others : (t : ℕ) → t ≢ child → tracked_thread new t ≡ tracked_thread old t
+  pub clock : IsTick (tracked_thread old thread).clock (tracked_thread new child).clock thread
+  pub joined : (tracked_thread new child).joined ≡ false
 
 -- the thread knows what the other clock counts, and a thread has ended, if one is told
 pub record IsLearnt (thread : ℕ) (other : List ℕ) (ended : Option ℕ) (old new : List Tracked) : Type 0 where
   pub count : length new ≡ length old
-  pub own : IsJoin (tracked old thread).clock other (tracked new thread).clock
-  pub others : (t : ℕ) → t ≢ thread → (tracked new t).clock ≡ (tracked old t).clock
-  pub joined : (t : ℕ) → (tracked new t).joined ≡ ((tracked old t).joined || is_this ended t)
+  pub own : IsJoin (tracked_thread old thread).clock other (tracked_thread new thread).clock
+  pub others : (t : ℕ) → t ≢ thread → (tracked_thread new t).clock ≡ (tracked_thread old t).clock
+  pub joined : (t : ℕ) → (tracked_thread new t).joined ≡ ((tracked_thread old t).joined || is_this ended t)
 
 -- two stamps say the same
 pub record IsAlike (a b : Stamp) : Type 0 where
@@ -109,5 +109,5 @@ pub record IsAlike (a b : Stamp) : Type 0 where
 
 -- the stamp is held of the lock, and of each other lock what was
 pub record IsReleased (lock : ℕ) (old new : List (Option Stamp)) (stamp : Stamp) : Type 0 where
-  pub given : (last : Stamp) × (released new lock ≡ Some last) × IsAlike last stamp
-  pub others : (l : ℕ) → l ≢ lock → released new l ≡ released old l
+  pub given : (last : Stamp) × (last_release new lock ≡ Some last) × IsAlike last stamp
+  pub others : (l : ℕ) → l ≢ lock → last_release new l ≡ last_release old l

@@ -5,7 +5,7 @@ ghost use Rattle.rd_event.specs.declared.events.Event.TheVariants as event;
 ghost use Rattle.rd_order.specs.EventLists.{threads_after};
 ghost use Rattle.rd_order.specs.Order.{thread_of};
 ghost use Rattle.rd_clock.specs.Clock.{component, IsJoin, IsTick};
-ghost use Rattle.rd_hb.specs.Tracker.{IsNextEvent, IsStamp, StandsFor, clock_of, event_bound, handed_by, known_to, last_stamp, released, tracked};
+ghost use Rattle.rd_hb.specs.Tracker.{IsNextEvent, IsStamp, TrackerStandsFor, clock_of, event_bound, handed_by, known_to, last_stamp, last_release, tracked_thread};
 ghost use Rattle.rd_hb.specs.TrackerParts.{IsBegun, IsCounted, IsHeard, IsLearnt, IsReleased, IsShared};
 ghost use Rattle.rd_hb.specs.declared.tracker.Tracked.{Tracked as TrackedOf};
 
@@ -55,7 +55,7 @@ impl Tracker {
     #[tactic(auto, using(crate::proofs::TrackerLemmas::no_threads))]
     pub fn new(alloc: Global) -> Tracker
         ensures empty { result ≡ record { threads = []; locks = [] } }
-        ensures stands { StandsFor result (λ t. false) [] }
+        ensures stands { TrackerStandsFor result (λ t. false) [] }
     {
         Tracker {
             alloc,
@@ -70,8 +70,8 @@ impl Tracker {
         requires numbered { thread ≡ length self.old.threads }
         requires below { thread < 4294967295 }
         ensures ok { OnOk result
-            ((roots : ℕ → Bool) → StandsFor self.old roots [] →
-            StandsFor self.new (λ t. roots t || (t == thread)) []) }
+            ((roots : ℕ → Bool) → TrackerStandsFor self.old roots [] →
+            TrackerStandsFor self.new (λ t. roots t || (t == thread)) []) }
         ensures count { OnOk result (length self.new.threads ≡ length self.old.threads + 1) }
         ensures err { OnErr result (self.new ≡ self.old) }
     {
@@ -102,7 +102,7 @@ impl Tracker {
             IsStamp (es ++ event.now ∷ []) (length es) stamp) }
         ensures stands { OnOk result
             ((roots : ℕ → Bool) (es : List EventOf) → IsNextEvent self.old roots es event.now →
-            StandsFor self.new roots (es ++ event.now ∷ [])) }
+            TrackerStandsFor self.new roots (es ++ event.now ∷ [])) }
         ensures count { OnOk result
             (length self.new.threads ≡ threads_after event.now (length self.old.threads)) }
         ensures err { OnErr result (self.new ≡ self.old) }
@@ -134,13 +134,13 @@ impl Tracker {
             (last_stamp self.new.threads (thread_of event.now))) }
         ensures stands { OnOk result
             ((roots : ℕ → Bool) (es : List EventOf) → IsNextEvent self.old roots es event.now →
-            StandsFor self.new roots (es ++ event.now ∷ [])) }
+            TrackerStandsFor self.new roots (es ++ event.now ∷ [])) }
 
         // sizes, what stays after an error, and a bound of the steps
         ensures count { OnOk result
             (length self.new.threads ≡ threads_after event.now (length self.old.threads)) }
         ensures room { OnOk result
-            (length (tracked self.new.threads
+            (length (tracked_thread self.new.threads
             (thread_of event.now)).clock ≤ length self.old.threads) }
         ensures err { OnErr result (self.new ≡ self.old) }
         ensures cost { steps.new ≤ steps.old + event_bound event.now
@@ -161,7 +161,7 @@ impl Tracker {
     /// A copy of a thread's clock.
     fn clock(&self, thread: u32) -> Result<Clock, NoMemory>
         requires { thread < length self.now.threads }
-        ensures { IfOk result (λ clock. clock ≡ (tracked self.now.threads thread).clock) }
+        ensures { IfOk result (λ clock. clock ≡ (tracked_thread self.now.threads thread).clock) }
     {
         self.threads[thread as usize].clock.copy(self.alloc)
     }
@@ -174,12 +174,12 @@ impl Tracker {
         // the thread's next event is counted
         ensures counted { IsCounted thread self.old.threads self.new.threads
             (last_stamp self.new.threads thread) }
-        ensures number { result ≡ (tracked self.new.threads thread).events }
+        ensures number { result ≡ (tracked_thread self.new.threads thread).events }
 
         // the clock's room and the locks stay, and it takes one step
-        ensures room { length (tracked self.new.threads thread).clock ≤ length self.old.threads }
-        ensures same_room { length (tracked self.new.threads thread).clock ≡ length
-            (tracked self.old.threads thread).clock }
+        ensures room { length (tracked_thread self.new.threads thread).clock ≤ length self.old.threads }
+        ensures same_room { length (tracked_thread self.new.threads thread).clock ≡ length
+            (tracked_thread self.old.threads thread).clock }
         ensures locks { self.new.locks ≡ self.old.locks }
         ensures cost { steps.new ≡ steps.old + 1 }
     {
@@ -203,9 +203,9 @@ impl Tracker {
 
         // the clock, its length, and a bound of the steps
         ensures ticked { IfOk result
-            (λ clock. IsTick (tracked self.now.threads thread).clock clock thread) }
+            (λ clock. IsTick (tracked_thread self.now.threads thread).clock clock thread) }
         ensures room { IfOk result
-            (λ clock. length clock ≡ max (length (tracked self.now.threads thread).clock)
+            (λ clock. length clock ≡ max (length (tracked_thread self.now.threads thread).clock)
             (child + 1)) }
         ensures cost { steps.new ≤ steps.old + 1 }
     {
@@ -231,7 +231,7 @@ impl Tracker {
         // the child begins, and the locks stay
         ensures ok { OnOk result (IsBegun thread child self.old.threads self.new.threads) }
         ensures room { OnOk result
-            (length (tracked self.new.threads thread).clock ≤ length self.old.threads) }
+            (length (tracked_thread self.new.threads thread).clock ≤ length self.old.threads) }
         ensures locks { self.new.locks ≡ self.old.locks }
 
         // after an error all is as before; the steps are bounded
@@ -280,7 +280,7 @@ impl Tracker {
         // the thread learns the child's clock, and the locks stay
         ensures learnt { OnOk result
             (IsLearnt thread
-            (tracked self.old.threads child).clock None self.old.threads self.new.threads) }
+            (tracked_thread self.old.threads child).clock None self.old.threads self.new.threads) }
         ensures locks { self.new.locks ≡ self.old.locks }
 
         // after an error all is as before; the steps are bounded
@@ -302,9 +302,9 @@ impl Tracker {
         requires { child < length self.old.threads }
         ensures count { length self.new.threads ≡ length self.old.threads }
         ensures clocks { (t : ℕ) →
-            (tracked self.new.threads t).clock ≡ (tracked self.old.threads t).clock }
+            (tracked_thread self.new.threads t).clock ≡ (tracked_thread self.old.threads t).clock }
         ensures joined { (t : ℕ) →
-            (tracked self.new.threads t).joined ≡ ((tracked self.old.threads t).joined ||
+            (tracked_thread self.new.threads t).joined ≡ ((tracked_thread self.old.threads t).joined ||
             (child == t)) }
         ensures locks { self.new.locks ≡ self.old.locks }
     {
@@ -355,7 +355,7 @@ impl Tracker {
     fn make_room(&mut self, lock: u32) -> Result<(), NoMemory>
         ensures room { OnOk result (lock < length self.new.locks) }
         ensures threads { self.new.threads ≡ self.old.threads }
-        ensures locks { (l : ℕ) → released self.new.locks l ≡ released self.old.locks l }
+        ensures locks { (l : ℕ) → last_release self.new.locks l ≡ last_release self.old.locks l }
         ensures err { OnErr result (self.new ≡ self.old) }
     {
         let room = lock as usize + 1;
@@ -374,10 +374,10 @@ impl Tracker {
 
         // the lock is given the clock; the threads and the other locks stay
         ensures threads { self.new.threads ≡ self.old.threads }
-        ensures given { released self.new.locks lock ≡ Some
+        ensures given { last_release self.new.locks lock ≡ Some
             (record { thread = thread; number = number; clock = slice_set shared thread number }) }
         ensures others { (l : ℕ) → l ≢ lock →
-            released self.new.locks l ≡ released self.old.locks l }
+            last_release self.new.locks l ≡ last_release self.old.locks l }
     {
         self.locks[lock as usize] = Some(Release::new(shared, thread, number));
     }
@@ -399,7 +399,7 @@ impl Tracker {
             ((middle : List TrackedOf) × IsBegun thread child self.old.threads middle ×
             IsCounted thread middle self.new.threads (last_stamp self.new.threads thread)) }
         ensures room { OnOk result
-            (length (tracked self.new.threads thread).clock ≤ length self.old.threads) }
+            (length (tracked_thread self.new.threads thread).clock ≤ length self.old.threads) }
         ensures locks { self.new.locks ≡ self.old.locks }
 
         // after an error all is as before; the steps are bounded
@@ -429,7 +429,7 @@ impl Tracker {
         // the thread learns the child's clock, and the locks stay
         ensures learnt { OnOk result
             (IsLearnt thread
-            (tracked self.old.threads child).clock None self.old.threads self.new.threads) }
+            (tracked_thread self.old.threads child).clock None self.old.threads self.new.threads) }
         ensures locks { self.new.locks ≡ self.old.locks }
 
         // after an error all is as before; the steps are bounded
@@ -451,16 +451,16 @@ impl Tracker {
     ) -> Result<(), NoMemory>
         requires known { thread < length self.old.threads }
         requires own { handed_by self.old.locks lock thread ≤ known_to self.old.threads thread thread }
-        requires heard { IsHeard (released self.old.locks lock)
-            (tracked self.old.threads thread).clock →
+        requires heard { IsHeard (last_release self.old.locks lock)
+            (tracked_thread self.old.threads thread).clock →
             (u : ℕ) → handed_by self.old.locks lock u ≤ known_to self.old.threads thread u }
-        requires news { IsHeard (released self.old.locks lock)
-            (tracked self.old.threads thread).clock ⊎ (2 ≤ length self.old.threads) }
+        requires news { IsHeard (last_release self.old.locks lock)
+            (tracked_thread self.old.threads thread).clock ⊎ (2 ≤ length self.old.threads) }
 
         // the thread learns the lock's clock, and the locks stay
         ensures learnt { OnOk result
             (IsLearnt thread
-            (clock_of (released self.old.locks lock)) None self.old.threads self.new.threads) }
+            (clock_of (last_release self.old.locks lock)) None self.old.threads self.new.threads) }
         ensures locks { self.new.locks ≡ self.old.locks }
 
         // after an error all is as before; the steps are bounded
@@ -499,11 +499,11 @@ impl Tracker {
 
         // the thread learns the child's clock, and the locks stay
         ensures ok { OnOk result ((middle : List TrackedOf) ×
-            IsLearnt thread (tracked self.old.threads child).clock
+            IsLearnt thread (tracked_thread self.old.threads child).clock
             (Some child) self.old.threads middle ×
             IsCounted thread middle self.new.threads (last_stamp self.new.threads thread)) }
         ensures room { OnOk result
-            (length (tracked self.new.threads thread).clock ≤ length self.old.threads) }
+            (length (tracked_thread self.new.threads thread).clock ≤ length self.old.threads) }
         ensures locks { self.new.locks ≡ self.old.locks }
 
         // after an error all is as before; the steps are bounded
@@ -526,18 +526,18 @@ impl Tracker {
         requires known { thread < length self.old.threads }
         requires below { known_to self.old.threads thread thread < 4294967295 }
         requires own { handed_by self.old.locks lock thread ≤ known_to self.old.threads thread thread }
-        requires heard { IsHeard (released self.old.locks lock)
-            (tracked self.old.threads thread).clock →
+        requires heard { IsHeard (last_release self.old.locks lock)
+            (tracked_thread self.old.threads thread).clock →
             (u : ℕ) → handed_by self.old.locks lock u ≤ known_to self.old.threads thread u }
-        requires news { IsHeard (released self.old.locks lock)
-            (tracked self.old.threads thread).clock ⊎ (2 ≤ length self.old.threads) }
+        requires news { IsHeard (last_release self.old.locks lock)
+            (tracked_thread self.old.threads thread).clock ⊎ (2 ≤ length self.old.threads) }
 
         // the thread learns the lock's clock, and the locks stay
         ensures ok { OnOk result ((middle : List TrackedOf) ×
-            IsLearnt thread (clock_of (released self.old.locks lock)) None self.old.threads middle ×
+            IsLearnt thread (clock_of (last_release self.old.locks lock)) None self.old.threads middle ×
             IsCounted thread middle self.new.threads (last_stamp self.new.threads thread)) }
         ensures room { OnOk result
-            (length (tracked self.new.threads thread).clock ≤ length self.old.threads) }
+            (length (tracked_thread self.new.threads thread).clock ≤ length self.old.threads) }
         ensures locks { self.new.locks ≡ self.old.locks }
 
         // after an error all is as before; the steps are bounded
@@ -565,7 +565,7 @@ impl Tracker {
             (IsCounted thread self.old.threads self.new.threads
             (last_stamp self.new.threads thread)) }
         ensures room { OnOk result
-            (length (tracked self.new.threads thread).clock ≤ length self.old.threads) }
+            (length (tracked_thread self.new.threads thread).clock ≤ length self.old.threads) }
         ensures given { OnOk result
             (IsReleased lock self.old.locks self.new.locks (last_stamp self.new.threads thread)) }
 

@@ -3,9 +3,9 @@ use Rattle.std.proofs.Common.{◌≡◌, ℕ, ◌+◌, ◌-◌, ◌<◌, ◌≤�
 use Rattle.std.proofs.lemmas.Bool.{cases_lt, le-ltb, lt-ltb}
 use Rattle.std.proofs.lemmas.List.{length-append, take-append-le, take_all}
 use Rattle.std.proofs.Math.Seq.{take-append-add}
-use Rattle.rd_io.specs.Lines.{IsFrontOf, Stop, Parts, Reading, lines_of, parts_of, reading, with_byte}
+use Rattle.rd_io.specs.Lines.{IsFrontOfReading, Stop, Parts, Reading, lines_of, parts_of, reading, with_byte}
 use Rattle.rd_io.specs.Lines.Stop.{fault}
-use Rattle.rd_io.specs.Lines.Ending.{at_end, bytes_limit, faulted, line_too_long, no_final_newline}
+use Rattle.rd_io.specs.Lines.LinesEnding.{at_end, bytes_limit, faulted, line_too_long, no_final_newline}
 use Rattle.rd_io.specs.Lines.Parts.{rest, part}
 use Rattle.rd_io.specs.Lines.Reading.{stops, line}
 use Rattle.rd_io.proofs.ReadingLemmas.{first_of, first_with, lines_line, lines_long, lines_rest}
@@ -34,7 +34,7 @@ parts_begin (byte ∷ bytes) more = by (eqb byte 10) (parts_begin bytes more)
 
 -- ---- lines of a front
 
-front_same : (lines : Reading) → IsFrontOf lines lines
+front_same : (lines : Reading) → IsFrontOfReading lines lines
 front_same (stops at_end) = refl
 front_same (stops no_final_newline) = refl
 front_same (stops line_too_long) = refl
@@ -43,20 +43,20 @@ front_same (stops faulted) = tt
 front_same (line bytes more) = (more, refl, front_same more)
 
 front_lines : (limit : ℕ) (stop : Stop) (past : Bool) (p whole : Parts) → PartsBegin p whole
-    → IsFrontOf (lines_of limit fault false p) (lines_of limit stop past whole)
+    → IsFrontOfReading (lines_of limit fault false p) (lines_of limit stop past whole)
 unfolding PartsBegin first_of
 front_lines limit stop past (rest bytes) whole (more, is) =
     elim (cases_lt (length bytes) limit) [
-      | inl short ↦ subst (λ lines. IsFrontOf lines (lines_of limit stop past whole)) (sym (lines_rest limit fault false bytes short)) tt
+      | inl short ↦ subst (λ lines. IsFrontOfReading lines (lines_of limit stop past whole)) (sym (lines_rest limit fault false bytes short)) tt
       | inr long ↦
           let long_too : limit ≤ length (first_of whole) = omega (arith, ap length is, length-append bytes more) in
-          subst (λ lines. IsFrontOf lines (lines_of limit stop past whole)) (sym (lines_long limit fault false (rest bytes) long)) (lines_long limit stop past whole long_too)
+          subst (λ lines. IsFrontOfReading lines (lines_of limit stop past whole)) (sym (lines_long limit fault false (rest bytes) long)) (lines_long limit stop past whole long_too)
     ]
 front_lines limit stop past (part bytes parts) whole (later, is, begins) =
     elim (cases_lt (length bytes) limit) [
-      | inl short ↦ subst (λ lines. IsFrontOf lines (lines_of limit stop past whole)) (sym (lines_line limit fault false bytes parts short))
+      | inl short ↦ subst (λ lines. IsFrontOfReading lines (lines_of limit stop past whole)) (sym (lines_line limit fault false bytes parts short))
           (lines_of limit stop past later, ap (lines_of limit stop past) is ∙ lines_line limit stop past bytes later short, front_lines limit stop past parts later begins)
-      | inr long ↦ subst (λ lines. IsFrontOf lines (lines_of limit stop past whole)) (sym (lines_long limit fault false (part bytes parts) long))
+      | inr long ↦ subst (λ lines. IsFrontOfReading lines (lines_of limit stop past whole)) (sym (lines_long limit fault false (part bytes parts) long))
           (ap (lines_of limit stop past) is ∙ lines_long limit stop past (part bytes later) long)
     ]
 
@@ -66,7 +66,7 @@ unfolding lines_of
 same_past limit one other (rest bytes) = refl
 same_past limit one other (part bytes more) = ap (λ lines. cond (leb limit (length bytes)) (stops line_too_long) (line bytes lines)) (same_past limit one other more)
 
-pub front_reading : (limit room : ℕ) (stop : Stop) (bytes more : List ℕ) → IsFrontOf (reading limit room fault bytes) (reading limit room stop (bytes ++ more))
+pub front_reading : (limit room : ℕ) (stop : Stop) (bytes more : List ℕ) → IsFrontOfReading (reading limit room fault bytes) (reading limit room stop (bytes ++ more))
 unfolding reading
 front_reading limit room stop bytes more =
     elim (cases_lt room (length bytes)) [
@@ -77,7 +77,7 @@ front_reading limit room stop bytes more =
           let right : lines_of limit stop (ltb room (length (bytes ++ more))) (parts_of (take room (bytes ++ more))) ≡ lines_of limit stop true (parts_of (take room bytes))
           = ap (λ b. lines_of limit stop b (parts_of (take room (bytes ++ more)))) (lt-ltb room (length (bytes ++ more)) past_too)
           ∙ ap (λ bs. lines_of limit stop true (parts_of bs)) (take-append-le room bytes more (omega arith)) in
-          subst (IsFrontOf (lines_of limit fault (ltb room (length bytes)) (parts_of (take room bytes))))
+          subst (IsFrontOfReading (lines_of limit fault (ltb room (length bytes)) (parts_of (take room bytes))))
           (left ∙ same_past limit fault stop (parts_of (take room bytes)) ∙ sym right)
           (front_same (lines_of limit fault (ltb room (length bytes)) (parts_of (take room bytes))))
       | inr within ↦
@@ -85,7 +85,7 @@ front_reading limit room stop bytes more =
           = ap (λ b. lines_of limit fault b (parts_of (take room bytes))) (le-ltb room (length bytes) within) ∙ ap (λ bs. lines_of limit fault false (parts_of bs)) (take_all room bytes within) in
           let exact : room ≡ length bytes + (room - length bytes) = omega arith in
           let front : take room (bytes ++ more) ≡ bytes ++ take (room - length bytes) more = ap (λ n. take n (bytes ++ more)) exact ∙ take-append-add bytes more (room - length bytes) in
-          subst (λ lines. IsFrontOf lines (lines_of limit stop (ltb room (length (bytes ++ more))) (parts_of (take room (bytes ++ more))))) (sym left)
-          (subst (λ bs. IsFrontOf (lines_of limit fault false (parts_of bytes)) (lines_of limit stop (ltb room (length (bytes ++ more))) (parts_of bs))) (sym front)
+          subst (λ lines. IsFrontOfReading lines (lines_of limit stop (ltb room (length (bytes ++ more))) (parts_of (take room (bytes ++ more))))) (sym left)
+          (subst (λ bs. IsFrontOfReading (lines_of limit fault false (parts_of bytes)) (lines_of limit stop (ltb room (length (bytes ++ more))) (parts_of bs))) (sym front)
           (front_lines limit stop (ltb room (length (bytes ++ more))) (parts_of bytes) (parts_of (bytes ++ take (room - length bytes) more)) (parts_begin bytes (take (room - length bytes) more))))
     ]

@@ -3,9 +3,9 @@ use Rattle.std.proofs.Common.{◌≡◌, ◌≢◌, ℕ, ◌+◌, ◌≤◌, Lis
 use Rattle.std.proofs.lemmas.List.{append-nil}
 use Rattle.rd_io.specs.Lines.{Stop, rest_ending}
 use Rattle.rd_io.specs.Lines.Stop.{end, fault}
-use Rattle.rd_io.specs.Lines.Ending.{line_too_long, bytes_limit}
+use Rattle.rd_io.specs.Lines.LinesEnding.{line_too_long, bytes_limit}
 use Rattle.rd_io.specs.Lines.Reading.{stops, line}
-use Rattle.rd_io.specs.LineReader.{Reader, left, with_more, GivesLine, IsTooLong, IsPast, IsShort, IsAnswered, Moves, with_end, with_refusal, with_rest}
+use Rattle.rd_io.specs.LineReader.{Reader, lines_left, with_more, GivesLine, IsTooLong, IsPast, IsShort, IsAnswered, Moves, with_end, with_refusal, with_rest}
 use Rattle.rd_io.specs.declared.lines.Next.{Next}
 use Rattle.rd_io.specs.declared.lines.ReadEnd.{ReadEnd}
 use Rattle.rd_io.specs.declared.lines.Next.TheVariants.{Line, End}
@@ -13,21 +13,21 @@ use Rattle.rd_io.specs.declared.lines.ReadEnd.TheVariants.{ReadFault, LineTooLon
 use Rattle.rd_io.proofs.ReadingLemmas.{left_more, left_line, left_too_long, left_past, left_short}
 
 tells_line : (old new : Reader) (bytes : List ℕ) → GivesLine (with_more old bytes) new
-    → (stop : Stop) (more : List ℕ) → left old stop (bytes ++ more) ≡ line new.line (left new stop more)
+    → (stop : Stop) (more : List ℕ) → lines_left old stop (bytes ++ more) ≡ line new.line (lines_left new stop more)
 tells_line old new bytes g stop more = left_more old bytes stop more ∙ left_line (with_more old bytes) new g stop more
 
 tells_too_long : (old : Reader) (bytes : List ℕ) → IsTooLong (with_more old bytes)
-    → (stop : Stop) (more : List ℕ) → left old stop (bytes ++ more) ≡ stops line_too_long
+    → (stop : Stop) (more : List ℕ) → lines_left old stop (bytes ++ more) ≡ stops line_too_long
 tells_too_long old bytes h stop more = left_more old bytes stop more ∙ left_too_long (with_more old bytes) h stop more
 
 tells_past : (old : Reader) (bytes : List ℕ) → IsPast (with_more old bytes)
-    → (stop : Stop) (more : List ℕ) → left old stop (bytes ++ more) ≡ stops bytes_limit
+    → (stop : Stop) (more : List ℕ) → lines_left old stop (bytes ++ more) ≡ stops bytes_limit
 tells_past old bytes h stop more = left_more old bytes stop more ∙ left_past (with_more old bytes) h stop more
 
 tells_stop : (old : Reader) (bytes : List ℕ) → IsShort (with_more old bytes) → (stop : Stop)
-    → left old stop bytes ≡ stops (rest_ending stop (old.pending ++ bytes))
+    → lines_left old stop bytes ≡ stops (rest_ending stop (old.pending ++ bytes))
 tells_stop old bytes h stop =
-    ap (left old stop) (sym (append-nil bytes)) ∙ left_more old bytes stop [] ∙ left_short (with_more old bytes) h stop
+    ap (lines_left old stop) (sym (append-nil bytes)) ∙ left_more old bytes stop [] ∙ left_short (with_more old bytes) h stop
 
 module _ (old new : Reader) (bytes : List ℕ) (past : length (old.pending ++ bytes) ≤ old.room + 1)
     (fits : length (old.pending ++ bytes) ≤ old.limit) where
@@ -58,7 +58,7 @@ module _ (old new : Reader) (bytes : List ℕ) (past : length (old.pending ++ by
   answered_fault is h =
       record {
         tells = (
-          λ stop more. left_more old bytes stop more ∙ ap (λ (r : Reader). left r stop more) (sym is),
+          λ stop more. left_more old bytes stop more ∙ ap (λ (r : Reader). lines_left r stop more) (sym is),
           tells_stop old bytes h fault,
         );
         leaves = is;

@@ -4,10 +4,10 @@ use Rattle.std.proofs.lemmas.List.{append_assoc, append-nil, length-append, leng
 use Rattle.std.proofs.lemmas.Bool.Decides.{nat_tests}
 use Rattle.std.proofs.Math.Seq.{take-append-add}
 use Rattle.rd_io.specs.Lines.{Stop, Parts, with_byte, parts_of, rest_ending, lines_of, reading}
-use Rattle.rd_io.specs.Lines.Ending.{line_too_long, bytes_limit}
+use Rattle.rd_io.specs.Lines.LinesEnding.{line_too_long, bytes_limit}
 use Rattle.rd_io.specs.Lines.Reading.{stops, line}
 use Rattle.rd_io.specs.Lines.Parts.{rest, part}
-use Rattle.rd_io.specs.LineReader.{HasNoFeed, Reader, left, with_more, GivesLine, IsTooLong, IsPast, IsShort}
+use Rattle.rd_io.specs.LineReader.{HasNoFeed, Reader, lines_left, with_more, GivesLine, IsTooLong, IsPast, IsShort}
 
 no_feed_tail : (b : ℕ) (bs : List ℕ) → HasNoFeed (b ∷ bs) → HasNoFeed bs
 no_feed_tail b bs h = λ k l. h (suc k) (omega arith)
@@ -88,17 +88,17 @@ reading_line limit room stop bytes back n clean short fits =
     ∙ lines_line limit stop (ltb n (length back)) bytes (parts_of (take n back)) short
 
 -- the bytes that are taken first are pending then
-pub left_more : (r : Reader) (bytes : List ℕ) (stop : Stop) (more : List ℕ) → left r stop (bytes ++ more) ≡ left (with_more r bytes) stop more
+pub left_more : (r : Reader) (bytes : List ℕ) (stop : Stop) (more : List ℕ) → lines_left r stop (bytes ++ more) ≡ lines_left (with_more r bytes) stop more
 left_more r bytes stop more = ap (reading r.limit r.room stop) (sym (append_assoc r.pending bytes more))
 
-pub left_line : (old new : Reader) → GivesLine old new → (stop : Stop) (more : List ℕ) → left old stop more ≡ line new.line (left new stop more)
+pub left_line : (old new : Reader) → GivesLine old new → (stop : Stop) (more : List ℕ) → lines_left old stop more ≡ line new.line (lines_left new stop more)
 left_line old new g stop more =
     ap (λ p. reading old.limit old.room stop (p ++ more)) g.pending
     ∙ ap (reading old.limit old.room stop) (append_assoc new.line (10 ∷ new.pending) more)
     ∙ reading_line old.limit old.room stop new.line (new.pending ++ more) new.room g.clean g.short g.room
     ∙ ap (λ k. line new.line (reading k new.room stop (new.pending ++ more))) (sym g.limit)
 
-pub left_too_long : (r : Reader) → IsTooLong r → (stop : Stop) (more : List ℕ) → left r stop more ≡ stops line_too_long
+pub left_too_long : (r : Reader) → IsTooLong r → (stop : Stop) (more : List ℕ) → lines_left r stop more ≡ stops line_too_long
 unfolding reading
 left_too_long r h stop more =
     let past = ltb r.room (length (r.pending ++ more)) in
@@ -112,7 +112,7 @@ left_too_long r h stop more =
         let split : length xs + (n - length xs) ≡ n = omega arith in
         ap (λ k. take k (xs ++ ys)) (sym split) ∙ take-append-add xs ys (n - length xs)
 
-pub left_past : (r : Reader) → IsPast r → (stop : Stop) (more : List ℕ) → left r stop more ≡ stops bytes_limit
+pub left_past : (r : Reader) → IsPast r → (stop : Stop) (more : List ℕ) → lines_left r stop more ≡ stops bytes_limit
 unfolding reading
 left_past r h stop more =
     let long = length-append r.pending more in
@@ -125,7 +125,7 @@ left_past r h stop more =
     ∙ lines_rest r.limit stop true (take r.room r.pending) (omega (arith, h.short, size))
 
 -- at the end of the bytes the pending ones are the rest
-pub left_short : (r : Reader) → IsShort r → (stop : Stop) → left r stop [] ≡ stops (rest_ending stop r.pending)
+pub left_short : (r : Reader) → IsShort r → (stop : Stop) → lines_left r stop [] ≡ stops (rest_ending stop r.pending)
 unfolding reading
 left_short r h stop =
     let past : ltb r.room (length r.pending) ≡ false = let w = h.within in grind (arith, nat_tests) in

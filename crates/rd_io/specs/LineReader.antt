@@ -3,7 +3,7 @@ use Rattle.std.specs.List.{Contains}
 use Rattle.std.specs.Prelude.{◌≡◌, ◌≢◌, Bool, true, false, ℕ, ◌+◌, ◌-◌, ◌*◌, ◌^◌, ◌<◌, ◌≤◌, List, [], ◌∷◌, ◌++◌, Option, None, Some, take, length, slice_index, EachIndex, MatchOption, Result, Ok, Err}
 use Rattle.rd_io.specs.Lines.{Stop, Reading, reading}
 use Rattle.rd_io.specs.Lines.Stop.{end, fault}
-use Rattle.rd_io.specs.Lines.Ending.{at_end, no_final_newline, line_too_long, bytes_limit, faulted}
+use Rattle.rd_io.specs.Lines.LinesEnding.{at_end, no_final_newline, line_too_long, bytes_limit, faulted}
 use Rattle.rd_io.specs.Lines.Reading.{stops, line}
 use Rattle.rd_base.specs.declared.limits.Limits.{Limits}
 use Rattle.rd_io.specs.declared.lines.Look.{Look}
@@ -64,8 +64,8 @@ pub record IsLaidOut (size limit start held line_start line_len room number : �
   pub few : number + room ≤ last_number ended
 
 -- the lines that are still to come, where these bytes are still to be taken
-abbrev pub left : Reader → Stop → List ℕ → Reading
-left r stop bytes = reading r.limit r.room stop (r.pending ++ bytes)
+abbrev pub lines_left : Reader → Stop → List ℕ → Reading
+lines_left r stop bytes = reading r.limit r.room stop (r.pending ++ bytes)
 
 -- a line was cut off the front of the pending bytes
 pub record GivesLine (old new : Reader) : Type 0 where
@@ -139,13 +139,15 @@ HasLine r = Contains (take r.room r.pending) line_feed
 -- What an answer says of the lines that were still to come, where these bytes were taken in the call. A line is the next of
 -- them and leaves the others to come, whatever comes behind the bytes; so do bytes that hold no line when a read fails.
 abbrev pub Tells : Reader → List ℕ → Reader → Result Next ReadEnd → Type 0
-Tells old bytes new (Ok next.Line) = (stop : Stop) (more : List ℕ) → left old stop (bytes ++ more) ≡ line new.line (left new stop more)
-Tells old bytes new (Ok next.End) = left old end bytes ≡ stops at_end
+Tells old bytes new (Ok next.Line) =
+    (stop : Stop) (more : List ℕ) → lines_left old stop (bytes ++ more) ≡ line new.line (lines_left new stop more)
+Tells old bytes new (Ok next.End) = lines_left old end bytes ≡ stops at_end
 Tells old bytes new (Err read_end.ReadFault) =
-    ((stop : Stop) (more : List ℕ) → left old stop (bytes ++ more) ≡ left new stop more) × (left old fault bytes ≡ stops faulted)
-Tells old bytes new (Err read_end.LineTooLong) = (stop : Stop) (more : List ℕ) → left old stop (bytes ++ more) ≡ stops line_too_long
-Tells old bytes new (Err read_end.BytesLimit) = (stop : Stop) (more : List ℕ) → left old stop (bytes ++ more) ≡ stops bytes_limit
-Tells old bytes new (Err read_end.NoFinalNewline) = (left old end bytes ≡ stops no_final_newline) × (new.line ≡ old.pending ++ bytes)
+    ((stop : Stop) (more : List ℕ) → lines_left old stop (bytes ++ more) ≡ lines_left new stop more)
+    × (lines_left old fault bytes ≡ stops faulted)
+Tells old bytes new (Err read_end.LineTooLong) = (stop : Stop) (more : List ℕ) → lines_left old stop (bytes ++ more) ≡ stops line_too_long
+Tells old bytes new (Err read_end.BytesLimit) = (stop : Stop) (more : List ℕ) → lines_left old stop (bytes ++ more) ≡ stops bytes_limit
+Tells old bytes new (Err read_end.NoFinalNewline) = (lines_left old end bytes ≡ stops no_final_newline) × (new.line ≡ old.pending ++ bytes)
 
 -- where the reader stands after an answer, where these bytes were taken in the call
 abbrev pub Leaves : Reader → List ℕ → Reader → Result Next ReadEnd → Type 0

@@ -8,16 +8,16 @@ pub data Stop : Type 0 where
   fault : Stop
 
 -- how the lines end
-pub data Ending : Type 0 where
-  at_end : Ending
-  no_final_newline : Ending
-  line_too_long : Ending
-  bytes_limit : Ending
-  faulted : Ending
+pub data LinesEnding : Type 0 where
+  at_end : LinesEnding
+  no_final_newline : LinesEnding
+  line_too_long : LinesEnding
+  bytes_limit : LinesEnding
+  faulted : LinesEnding
 
 -- the lines, one after another, and how they end
 pub data Reading : Type 0 where
-  stops : Ending → Reading
+  stops : LinesEnding → Reading
   line : List ℕ → Reading → Reading
 
 -- bytes cut at their line feeds: the parts that a line feed ends, and the rest behind them
@@ -35,7 +35,7 @@ parts_of [] = rest []
 parts_of (byte ∷ bytes) = if byte == line_feed then part [] (parts_of bytes) else with_byte byte (parts_of bytes)
 
 -- how lines end behind which this rest is left, where no limit is passed
-abbrev pub rest_ending : Stop → List ℕ → Ending
+abbrev pub rest_ending : Stop → List ℕ → LinesEnding
 rest_ending fault bytes = faulted
 rest_ending end [] = at_end
 rest_ending end (byte ∷ bytes) = no_final_newline
@@ -54,7 +54,7 @@ unfoldable pub reading : ℕ → ℕ → Stop → List ℕ → Reading
 reading limit room stop bytes = lines_of limit stop (nat_lt room (length bytes)) (parts_of (take room bytes))
 
 -- the lines are the first of the whole's: they stop by a fault before the end of these, or else as these do
-abbrev pub IsFrontOf : Reading → Reading → Type 0
-IsFrontOf (stops faulted) whole = Unit {0}
-IsFrontOf (stops ending) whole = whole ≡ stops ending
-IsFrontOf (line bytes more) whole = (later : Reading) × (whole ≡ line bytes later) × IsFrontOf more later
+abbrev pub IsFrontOfReading : Reading → Reading → Type 0
+IsFrontOfReading (stops faulted) whole = Unit {0}
+IsFrontOfReading (stops ending) whole = whole ≡ stops ending
+IsFrontOfReading (line bytes more) whole = (later : Reading) × (whole ≡ line bytes later) × IsFrontOfReading more later

@@ -4,7 +4,7 @@
 #[cfg(test)]
 mod drafts;
 #[cfg(test)]
-mod formulas;
+mod kind_formulas;
 #[cfg(test)]
 mod kinds;
 #[cfg(test)]

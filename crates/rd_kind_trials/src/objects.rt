@@ -1,7 +1,7 @@
 //! Objects of the kinds that are built in, and their calls in both orders.
 ghost use Rattle.std.specs.Prelude.{◌≡◌, ◌<◌, length};
 ghost use Rattle.rd_kinds.specs.Machines.{shipped_machines};
-ghost use Rattle.rd_kinds.specs.Objects.{kind_of};
+ghost use Rattle.rd_kinds.specs.Objects.{object_kind};
 ghost use Rattle.rd_kinds.specs.Shipped.{shipped_kinds};
 
 use crate::samples::{
@@ -129,8 +129,8 @@ fn run(
     call: (u8, &str),
 ) -> Value
     requires kinds { kinds.now ≡ shipped_kinds }
-    requires is_kind { kind_of object.old ≡ kind }
-    ensures { kind_of object.new ≡ kind }
+    requires is_kind { object_kind object.old ≡ kind }
+    ensures { object_kind object.new ≡ kind }
 {
     let args = slots(rt, alloc, call.1);
     let specified = kind_at(rt, kinds, kind);
@@ -142,7 +142,7 @@ fn run(
 fn begun(rt: &impl Abort, alloc: Global, kinds: &Spec, kind: u32, call: (u8, &str)) -> Object
     requires kinds { kinds.now ≡ shipped_kinds }
     requires known { kind < length shipped_machines }
-    ensures { kind_of result ≡ kind }
+    ensures { object_kind result ≡ kind }
 {
     let mut object = Object::start(alloc, kind);
     let _result = run(rt, alloc, kinds, &mut object, kind, call);
@@ -173,8 +173,8 @@ fn spelled_run(
     call: (u8, &str),
 ) -> Bytes
     requires kinds { kinds.now ≡ shipped_kinds }
-    requires is_kind { kind_of object.old ≡ kind }
-    ensures { kind_of object.new ≡ kind }
+    requires is_kind { object_kind object.old ≡ kind }
+    ensures { object_kind object.new ≡ kind }
 {
     let value = run(rt, alloc, kinds, object, kind, call);
     spell_value(alloc, &value).expect(rt, "memory")

@@ -8,11 +8,11 @@ use Rattle.rd_kinds.specs.declared.objects.Object.{Object}
 use Rattle.rd_kinds.specs.declared.objects.Object.TheVariants.{Register, Counter, Set, Dictionary}
 
 -- the number of its kind
-abbrev pub kind_of : Object → ℕ
-kind_of (Register held) = 0
-kind_of (Counter number) = 1
-kind_of (Set items) = 2
-kind_of (Dictionary entries) = 3
+abbrev pub object_kind : Object → ℕ
+object_kind (Register held) = 0
+object_kind (Counter number) = 1
+object_kind (Set items) = 2
+object_kind (Dictionary entries) = 3
 
 -- what it holds
 abbrev pub shape_of : Object → Shape

@@ -3,7 +3,7 @@ ghost use Rattle.std.specs.Prelude.{◌≡◌, codes, IfOk, OnOk};
 ghost use Rattle.rd_ecl.specs.Formulas.{tree_of};
 ghost use Rattle.rd_kinds.specs.Shipped.{adds_nothing, counter_kind, counter_methods, no_pairs};
 
-use crate::formulas::equals;
+use crate::common_formulas::equals;
 use crate::making::{name, one, two};
 use rd_base::{NoMemory, Value};
 use rd_ecl::{Formula, KindDraft, KindSpec, Side, Term};

@@ -4,7 +4,7 @@ ghost use Rattle.rd_ecl.specs.declared.formulas.Side.TheVariants.{First, Second}
 ghost use Rattle.rd_ecl.specs.Formulas.{tree_of, both, either};
 ghost use Rattle.rd_kinds.specs.Shipped.{dictionary_kind, dictionary_methods, firsts_differ, is_nil, no_pairs, puts_the_same, stays_in, stays_out};
 
-use crate::formulas::{and, equals, firsts_differ, not, or};
+use crate::common_formulas::{and, equals, firsts_differ, not, or};
 use crate::making::{name, one, three, two};
 use rd_base::{NoMemory, Value};
 use rd_ecl::{Formula, KindDraft, KindSpec, Side, Term};

@@ -1,9 +1,9 @@
 //! The kinds of objects that are built in: `register`, `counter`, `set` and `dictionary`.
 #![tactic(auto)]
 
+mod common_formulas;
 mod counter;
 mod dictionary;
-mod formulas;
 mod laws;
 mod making;
 mod names;

@@ -3,7 +3,7 @@ ghost use Rattle.std.specs.Prelude.{◌≡◌, ◌<◌, ℕ, IfErr, IfOk, OnErr,
 ghost use Rattle.rd_object.specs.Machines.{IsTaken};
 ghost use Rattle.rd_object.specs.Machines.Step.{goes, refuses};
 ghost use Rattle.rd_kinds.specs.Machines.{shipped_machines};
-ghost use Rattle.rd_kinds.specs.Objects.{kind_of, machine_for, shape_of};
+ghost use Rattle.rd_kinds.specs.Objects.{object_kind, machine_for, shape_of};
 
 mod counter;
 mod dictionary;
@@ -43,7 +43,7 @@ impl Object {
     /// A new object of the kind with this number. It takes no memory.
     pub fn start(alloc: Global, kind: u32) -> Object
         requires { kind < length shipped_machines }
-        ensures kind { kind_of result ≡ kind }
+        ensures kind { object_kind result ≡ kind }
         ensures first { shape_of result ≡ (machine_for result).first }
     {
         match kind {
@@ -58,7 +58,7 @@ impl Object {
     /// where the machine doesn't take an argument, or else want of memory. After an `Err` the object is as before.
     pub fn apply(&mut self, method: u8, args: &[Value]) -> Result<Value, ApplyRefused>
         requires { IsTaken (machine_for self.old) method args.now }
-        ensures kind { kind_of self.new ≡ kind_of self.old }
+        ensures kind { object_kind self.new ≡ object_kind self.old }
         ensures goes { IfOk result
             (λ value. (machine_for self.old).step method args.now (shape_of self.old) ≡ goes
             (shape_of self.new) value) }

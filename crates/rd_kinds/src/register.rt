@@ -4,7 +4,7 @@ ghost use Rattle.rd_ecl.specs.declared.formulas.Side.TheVariants.{First, Second}
 ghost use Rattle.rd_ecl.specs.Formulas.{tree_of, both};
 ghost use Rattle.rd_kinds.specs.Shipped.{keeps, no_pairs, register_kind, register_methods};
 
-use crate::formulas::{and, equals};
+use crate::common_formulas::{and, equals};
 use crate::making::{name, one, two};
 use rd_base::NoMemory;
 use rd_ecl::{Formula, KindDraft, KindSpec, Side, Term};

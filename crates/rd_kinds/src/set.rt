@@ -3,7 +3,7 @@ ghost use Rattle.std.specs.Prelude.{◌≡◌, codes, take, IfOk, OnOk};
 ghost use Rattle.rd_ecl.specs.Formulas.{tree_of};
 ghost use Rattle.rd_kinds.specs.Shipped.{idle, no_pairs, other_or_first_idle, other_or_idle, set_kind, set_methods, set_pairs, with_pairs};
 
-use crate::formulas::{and, equals, firsts_differ, or};
+use crate::common_formulas::{and, equals, firsts_differ, or};
 use crate::making::{name, one, two};
 use rd_base::{NoMemory, Value};
 use rd_ecl::{Formula, KindDraft, KindSpec, Side, Term};

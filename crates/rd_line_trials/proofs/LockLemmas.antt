@@ -11,7 +11,7 @@ use Rattle.rd_order.specs.EventLists.{calls, forks, joins, takings, givings, is_
 use Rattle.rd_order.specs.TestLists.{sample_call, two_roots, NextNumbers}
 use Rattle.rd_order.proofs.EventListLemmas.{may_acquire, may_call, may_release}
 use Rattle.rd_order.proofs.TestListLemmas.{few_by_numbers, numbered_call, two_below}
-use Rattle.rd_hb.specs.Tracker.{StandsFor, Tracking}
+use Rattle.rd_hb.specs.Tracker.{TrackerStandsFor, Tracking}
 use Rattle.rd_line_trials.specs.Traces.{MayTakeAll}
 
 -- ---- lists in which only threads 0 and 1 act
@@ -75,7 +75,7 @@ numbered_alone threads (e ∷ es) none = (
   subst (λ n. NextNumbers n es) (sym (ap (λ o. if is_some o then threads + 1 else threads) none.0)) (numbered_alone threads es none.1),
 )
 
-pub may_take : (tracking : Tracking) (es : List Event) → Follow two_roots [] es → ForksNone es → length es ≤ 4294967292 → StandsFor tracking two_roots [] → length tracking.threads ≡ 2
+pub may_take : (tracking : Tracking) (es : List Event) → Follow two_roots [] es → ForksNone es → length es ≤ 4294967292 → TrackerStandsFor tracking two_roots [] → length tracking.threads ≡ 2
     → MayTakeAll tracking two_roots es
 may_take tracking es follow alone few stands count = record {
   stands = stands;
@@ -107,7 +107,7 @@ guarded_follow = (
   ),
 )
 
-pub guarded_may : (tracking : Tracking) → StandsFor tracking two_roots [] → length tracking.threads ≡ 2 → MayTakeAll tracking two_roots guarded
+pub guarded_may : (tracking : Tracking) → TrackerStandsFor tracking two_roots [] → length tracking.threads ≡ 2 → MayTakeAll tracking two_roots guarded
 guarded_may tracking = may_take tracking guarded guarded_follow (refl, (refl, (refl, (refl, (refl, tt))))) (lit≤ tt)
 
 -- ---- a lock goes from thread to thread and back
@@ -140,7 +140,7 @@ rounds_follow = (
   ),
 )
 
-pub rounds_may : (tracking : Tracking) → StandsFor tracking two_roots [] → length tracking.threads ≡ 2 → MayTakeAll tracking two_roots rounds
+pub rounds_may : (tracking : Tracking) → TrackerStandsFor tracking two_roots [] → length tracking.threads ≡ 2 → MayTakeAll tracking two_roots rounds
 rounds_may tracking = may_take tracking rounds rounds_follow (refl, (refl, (refl, (refl, (refl, (refl, (refl, tt))))))) (lit≤ tt)
 
 -- ---- a thread takes a lock twice
@@ -167,7 +167,7 @@ reentrant_follow = (
   ),
 )
 
-pub reentrant_may : (tracking : Tracking) → StandsFor tracking two_roots [] → length tracking.threads ≡ 2 → MayTakeAll tracking two_roots reentrant
+pub reentrant_may : (tracking : Tracking) → TrackerStandsFor tracking two_roots [] → length tracking.threads ≡ 2 → MayTakeAll tracking two_roots reentrant
 reentrant_may tracking = may_take tracking reentrant reentrant_follow (refl, (refl, (refl, (refl, (refl, tt))))) (lit≤ tt)
 
 -- ---- a lock brings nothing that another hasn't brought
@@ -203,5 +203,5 @@ no_news_follow = (
   ),
 )
 
-pub no_news_may : (tracking : Tracking) → StandsFor tracking two_roots [] → length tracking.threads ≡ 2 → MayTakeAll tracking two_roots no_news
+pub no_news_may : (tracking : Tracking) → TrackerStandsFor tracking two_roots [] → length tracking.threads ≡ 2 → MayTakeAll tracking two_roots no_news
 no_news_may tracking = may_take tracking no_news no_news_follow (refl, (refl, (refl, (refl, (refl, (refl, (refl, (refl, tt)))))))) (lit≤ tt)

@@ -7,7 +7,7 @@ use Rattle.rd_event.specs.declared.events.Event.{Event}
 use Rattle.rd_event.specs.declared.events.Event.TheVariants.{Fork, Join}
 use Rattle.rd_order.proofs.EventListLemmas.{formed_front, may_call, may_fork, may_join}
 use Rattle.rd_order.specs.EventLists.{calls, forks, joins, Follow, WellFormed}
-use Rattle.rd_hb.specs.Tracker.{IsNextEvent, StandsFor, Tracking}
+use Rattle.rd_hb.specs.Tracker.{IsNextEvent, TrackerStandsFor, Tracking}
 use Rattle.rd_order.specs.EventLists.{threads_after}
 use Rattle.rd_line_trials.specs.Traces.{MayTakeAll}
 use Rattle.rd_order.proofs.TestListLemmas.{few_by_numbers, new_to_one, new_to_two, numbered_call, one_below, two_below}
@@ -17,7 +17,7 @@ use Rattle.rd_order.specs.TestLists.{sample_call, one_root, two_roots, NextNumbe
 
 -- a tracker took the events before, and the rest has the next numbers
 pub record Took (tracking : Tracking) (roots : ℕ → Bool) (before rest : List Event) : Type 0 where
-  pub stands : StandsFor tracking roots before
+  pub stands : TrackerStandsFor tracking roots before
   pub numbered : NextNumbers (length tracking.threads) rest
 
 cut_at : (es : List Event) (i : ℕ) (e : Event) → i < length es → e ≡ get_or es i e → drop i es ≡ e ∷ drop (i + 1) es
@@ -36,10 +36,10 @@ took_next tracking roots es i e formed inside is took = record {
 }
 
 pub took_more : (old new : Tracking) (roots : ℕ → Bool) (es : List Event) (i : ℕ) (e : Event) → i < length es → e ≡ get_or es i e
-    → Took old roots (take i es) (drop i es) → StandsFor new roots (take i es ++ e ∷ []) → length new.threads ≡ threads_after e (length old.threads)
+    → Took old roots (take i es) (drop i es) → TrackerStandsFor new roots (take i es ++ e ∷ []) → length new.threads ≡ threads_after e (length old.threads)
     → Took new roots (take (i + 1) es) (drop (i + 1) es)
 took_more old new roots es i e inside is took stands count = record {
-  stands = subst (StandsFor new roots) (sym (taken_at es i e inside is)) stands;
+  stands = subst (TrackerStandsFor new roots) (sym (taken_at es i e inside is)) stands;
   numbered = subst (λ n. NextNumbers n (drop (i + 1) es)) (sym count)
       (subst (NextNumbers (length old.threads)) (cut_at es i e inside is) took.numbered).1;
 }
@@ -61,7 +61,7 @@ strangers_follow = (
 strangers_numbered : NextNumbers 2 strangers
 strangers_numbered = (λ u is. absurd (none-some u is), (λ u is. absurd (none-some u is), tt))
 
-pub strangers_may : (tracking : Tracking) → StandsFor tracking two_roots [] → length tracking.threads ≡ 2 → MayTakeAll tracking two_roots strangers
+pub strangers_may : (tracking : Tracking) → TrackerStandsFor tracking two_roots [] → length tracking.threads ≡ 2 → MayTakeAll tracking two_roots strangers
 strangers_may tracking stands count = record {
   stands = stands;
   formed = record { follow = strangers_follow; bounded = few_by_numbers two_roots 2 strangers two_below strangers_numbered (lit≤ tt) };
@@ -95,7 +95,7 @@ idle_child_numbered = (
   (λ u is. sym (same_Some 2 u is), (λ u is. absurd (none-some u is), (λ u is. absurd (none-some u is), tt))),
 )
 
-pub idle_child_may : (tracking : Tracking) → StandsFor tracking two_roots [] → length tracking.threads ≡ 2 → MayTakeAll tracking two_roots idle_child
+pub idle_child_may : (tracking : Tracking) → TrackerStandsFor tracking two_roots [] → length tracking.threads ≡ 2 → MayTakeAll tracking two_roots idle_child
 idle_child_may tracking stands count = record {
   stands = stands;
   formed = record { follow = idle_child_follow; bounded = few_by_numbers two_roots 2 idle_child two_below idle_child_numbered (lit≤ tt) };
@@ -146,7 +146,7 @@ family_numbered = (
   ),
 )
 
-pub family_may : (tracking : Tracking) → StandsFor tracking one_root [] → length tracking.threads ≡ 1 → MayTakeAll tracking one_root family
+pub family_may : (tracking : Tracking) → TrackerStandsFor tracking one_root [] → length tracking.threads ≡ 1 → MayTakeAll tracking one_root family
 family_may tracking stands count = record {
   stands = stands;
   formed = record { follow = family_follow; bounded = few_by_numbers one_root 1 family one_below family_numbered (lit≤ tt) };

@@ -2,7 +2,7 @@
 ghost use Rattle.std.specs.Prelude.{◌≡◌, ℕ, ◌<◌, Bool, List, IfOk, OnOk, [], ◌∷◌, ◌++◌, length};
 ghost use Rattle.rd_event.specs.declared.events.Event.{Event as EventOf};
 ghost use Rattle.rd_order.specs.EventLists.{threads_after};
-ghost use Rattle.rd_hb.specs.Tracker.{IsNextEvent, StandsFor};
+ghost use Rattle.rd_hb.specs.Tracker.{IsNextEvent, TrackerStandsFor};
 ghost use Rattle.rd_line_trials.specs.Traces.{MayTakeAll};
 ghost use Rattle.rd_order.specs.TestLists.{sample_call, one_root, two_roots};
 
@@ -100,7 +100,7 @@ fn clocks(rt: HostRuntime) {
 type Row = (u32, u32, [u32; 3]);
 
 fn with_one_root(alloc: Global) -> Result<Tracker, NoMemory>
-    ensures stands { IfOk result (λ tracker. StandsFor tracker one_root []) }
+    ensures stands { IfOk result (λ tracker. TrackerStandsFor tracker one_root []) }
     ensures count { IfOk result (λ tracker. length tracker.threads ≡ 1) }
 {
     let mut tracker = Tracker::new(alloc);
@@ -109,7 +109,7 @@ fn with_one_root(alloc: Global) -> Result<Tracker, NoMemory>
 }
 
 fn with_two_roots(alloc: Global) -> Result<Tracker, NoMemory>
-    ensures stands { IfOk result (λ tracker. StandsFor tracker two_roots []) }
+    ensures stands { IfOk result (λ tracker. TrackerStandsFor tracker two_roots []) }
     ensures count { IfOk result (λ tracker. length tracker.threads ≡ 2) }
 {
     let mut tracker = with_one_root(alloc)?;
@@ -167,7 +167,7 @@ fn stamp_of_call<L: Ledger>(
 ) -> Result<Option<Stamp>, NoMemory>
     requires next { (roots : ℕ → Bool) × (es : List EventOf) × IsNextEvent tracker.old roots es event.now }
     ensures stands { OnOk result ((roots : ℕ → Bool) (es : List EventOf) → IsNextEvent tracker.old roots es event.now →
-        StandsFor tracker.new roots (es ++ event.now ∷ [])) }
+        TrackerStandsFor tracker.new roots (es ++ event.now ∷ [])) }
     ensures count { OnOk result (length tracker.new.threads ≡ threads_after event.now (length tracker.old.threads)) }
 {
     if let Event::Call(_) = event {

@@ -4,7 +4,7 @@
 #[cfg(test)]
 mod clocks;
 #[cfg(test)]
-mod items;
+mod line_items;
 #[cfg(test)]
 mod order;
 #[cfg(test)]

@@ -2,15 +2,15 @@
 use Rattle.std.proofs.Common.{◌≡◌, ◌≢◌, ◌+◌, ℕ, true, List, [], ◌∷◌, ◌++◌, codes, refl, subst, arith}
 use Rattle.rd_base.specs.Names.{IsName}
 use Rattle.rd_grammar.specs.FirstWrong.{Begins}
-use Rattle.rd_grammar.specs.Grammar.{Tree, truth, disj_one, conj_one, neg_one, prim_truth}
+use Rattle.rd_grammar.specs.Grammar.{ParsedTree, truth, disj_one, conj_one, neg_one, prim_truth}
 use Rattle.rd_grammar.specs.declared.marks.Symbol.TheVariants.{Truth}
 use Rattle.rd_lines.specs.declared.forms.Stage.{Stage}
 use Rattle.rd_lines.specs.declared.forms.Stage.TheVariants.{Outside}
 use Rattle.rd_lines.specs.declared.forms.FormRefused.TheVariants.{Syntax}
-use Rattle.rd_lines.specs.Lines.{Word, plain, SaidForm, kind, method, commute, AreMarksFrom, IsOutOfOrder, RightLine, IsRefused, IsWrongBehind}
-use Rattle.rd_lines.specs.Reading.{SaysFormula, IsFormulaRefused, behind_when}
-use Rattle.rd_grammar.specs.declared.parsed.ParseRefused.{ParseRefused}
-use Rattle.rd_grammar.specs.declared.parsed.ParseRefused.TheVariants.{Syntax as FormulaSyntax, NoMemory as FormulaMemory}
+use Rattle.rd_lines.specs.Lines.{LineWord, plain, SaidForm, kind, method, commute, AreMarksFrom, IsOutOfOrder, RightLine, IsFormRefused, IsWrongBehind}
+use Rattle.rd_lines.specs.Reading.{WordsSayFormula, IsRefusedBehindWhen, behind_when}
+use Rattle.rd_grammar.specs.declared.parsed.MarksRefused.{MarksRefused}
+use Rattle.rd_grammar.specs.declared.parsed.MarksRefused.TheVariants.{Syntax as FormulaSyntax, NoMemory as FormulaMemory}
 use Rattle.rd_lines.proofs.LawLemmas.{same_bytes, kind_no_commute, method_no_commute}
 use Rattle.rd_lines.proofs.LiftLemmas.{lift_behind}
 use Rattle.rd_lines.proofs.KindLemmas.{a_name}
@@ -20,17 +20,17 @@ in_order : (methods : List (List ℕ)) (name : List ℕ) → ¬ (IsOutOfOrder me
 in_order methods name (before, behind, same, among, differ) = differ refl
 
 module _ (stage : Stage) (in_kind : stage ≢ Outside) (methods : List (List ℕ)) where
-  record Parts (words : List Word) : Type 0 where
+  record Parts (words : List LineWord) : Type 0 where
     first : List ℕ
     second : List ℕ
-    behind : List Word
+    behind : List LineWord
     named_first : IsName first
     named_second : IsName second
     order : ¬ (IsOutOfOrder methods first second)
     written : words ≡ plain first ∷ plain second ∷ plain (codes "when") ∷ behind
 
   -- a line that begins with `commute` has these parts
-  commute_only : (words : List Word) (said : SaidForm) → RightLine stage methods (plain (codes "commute") ∷ words) said → Parts words
+  commute_only : (words : List LineWord) (said : SaidForm) → RightLine stage methods (plain (codes "commute") ∷ words) said → Parts words
   commute_only words (kind name) right = absurd (kind_no_commute (cc (right.written)))
   commute_only words (method name arguments result) right = absurd (method_no_commute (cc (right.written)))
   commute_only words (commute first second formula) right = record {
@@ -76,20 +76,20 @@ module _ (stage : Stage) (in_kind : stage ≢ Outside) (methods : List (List ℕ
   begins_second first second named also order =
       (plain (codes "when") ∷ plain (codes "true") ∷ [], commute first second (truth true 0), commute_true first second named also order)
 
-  pub commute_alone : (words : List Word) → words ≡ [] → IsRefused stage methods (plain (codes "commute") ∷ words) (Syntax 1)
+  pub commute_alone : (words : List LineWord) → words ≡ [] → IsFormRefused stage methods (plain (codes "commute") ∷ words) (Syntax 1)
   commute_alone [] same = (omega arith, (begins_commute, λ said right. let parts = commute_only [] said right in cc (parts.written)))
   commute_alone (word ∷ words) same = absurd (cc)
 
-  pub first_unnamed : (words rest : List Word) (word : Word) → words ≡ word ∷ rest → ((name : List ℕ) → IsName name → word ≢ plain name)
-      → IsRefused stage methods (plain (codes "commute") ∷ words) (Syntax 1)
+  pub first_unnamed : (words rest : List LineWord) (word : LineWord) → words ≡ word ∷ rest → ((name : List ℕ) → IsName name → word ≢ plain name)
+      → IsFormRefused stage methods (plain (codes "commute") ∷ words) (Syntax 1)
   first_unnamed words rest word same none =
       rw same (
         omega arith,
         (begins_commute, λ more. let parts = commute_only (word ∷ more.0) more.1 more.2 in none parts.first parts.named_first (cc (parts.written))),
       )
 
-  pub first_alone : (words rest : List Word) (word : Word) (first : List ℕ) → words ≡ word ∷ rest → word ≡ plain first → IsName first → rest ≡ []
-      → IsRefused stage methods (plain (codes "commute") ∷ words) (Syntax 2)
+  pub first_alone : (words rest : List LineWord) (word : LineWord) (first : List ℕ) → words ≡ word ∷ rest → word ≡ plain first → IsName first → rest ≡ []
+      → IsFormRefused stage methods (plain (codes "commute") ∷ words) (Syntax 2)
   first_alone words rest word first same is named end =
       rw (same, is, end) (
         omega arith,
@@ -102,8 +102,8 @@ module _ (stage : Stage) (in_kind : stage ≢ Outside) (methods : List (List ℕ
         ),
       )
 
-  pub second_unnamed : (words rest behind : List Word) (word next : Word) (first : List ℕ) → words ≡ word ∷ rest → word ≡ plain first → IsName first
-      → rest ≡ next ∷ behind → ((name : List ℕ) → IsName name → next ≢ plain name) → IsRefused stage methods (plain (codes "commute") ∷ words) (Syntax 2)
+  pub second_unnamed : (words rest behind : List LineWord) (word next : LineWord) (first : List ℕ) → words ≡ word ∷ rest → word ≡ plain first → IsName first
+      → rest ≡ next ∷ behind → ((name : List ℕ) → IsName name → next ≢ plain name) → IsFormRefused stage methods (plain (codes "commute") ∷ words) (Syntax 2)
   second_unnamed words rest behind word next first same is named follows none =
       rw (same, is, follows) (
         omega arith,
@@ -115,9 +115,9 @@ module _ (stage : Stage) (in_kind : stage ≢ Outside) (methods : List (List ℕ
         ),
       )
 
-  pub second_out_of_order : (words rest behind : List Word) (word next : Word) (first second : List ℕ) → words ≡ word ∷ rest → word ≡ plain first
+  pub second_out_of_order : (words rest behind : List LineWord) (word next : LineWord) (first second : List ℕ) → words ≡ word ∷ rest → word ≡ plain first
       → IsName first → rest ≡ next ∷ behind → next ≡ plain second → IsOutOfOrder methods first second
-      → IsRefused stage methods (plain (codes "commute") ∷ words) (Syntax 2)
+      → IsFormRefused stage methods (plain (codes "commute") ∷ words) (Syntax 2)
   second_out_of_order words rest behind word next first second same is named follows also out =
       rw (same, is, follows, also) (
         omega arith,
@@ -131,9 +131,9 @@ module _ (stage : Stage) (in_kind : stage ≢ Outside) (methods : List (List ℕ
         ),
       )
 
-  pub second_last : (words rest behind : List Word) (word next : Word) (first second : List ℕ) → words ≡ word ∷ rest → word ≡ plain first
+  pub second_last : (words rest behind : List LineWord) (word next : LineWord) (first second : List ℕ) → words ≡ word ∷ rest → word ≡ plain first
       → IsName first → rest ≡ next ∷ behind → next ≡ plain second → IsName second → ¬ (IsOutOfOrder methods first second) → behind ≡ []
-      → IsRefused stage methods (plain (codes "commute") ∷ words) (Syntax 3)
+      → IsFormRefused stage methods (plain (codes "commute") ∷ words) (Syntax 3)
   second_last words rest behind word next first second same is named follows also named_too order end =
       rw (same, is, follows, also, end) (
         omega arith,
@@ -146,9 +146,9 @@ module _ (stage : Stage) (in_kind : stage ≢ Outside) (methods : List (List ℕ
         ),
       )
 
-  pub no_when : (words rest behind formula : List Word) (word next third : Word) (first second : List ℕ) → words ≡ word ∷ rest → word ≡ plain first
+  pub no_when : (words rest behind formula : List LineWord) (word next third : LineWord) (first second : List ℕ) → words ≡ word ∷ rest → word ≡ plain first
       → IsName first → rest ≡ next ∷ behind → next ≡ plain second → IsName second → ¬ (IsOutOfOrder methods first second) → behind ≡ third ∷ formula
-      → third ≢ plain (codes "when") → IsRefused stage methods (plain (codes "commute") ∷ words) (Syntax 3)
+      → third ≢ plain (codes "when") → IsFormRefused stage methods (plain (codes "commute") ∷ words) (Syntax 3)
   no_when words rest behind formula word next third first second same is named follows also named_too order last none =
       rw (same, is, follows, also, last) (
         omega arith,
@@ -159,7 +159,7 @@ module _ (stage : Stage) (in_kind : stage ≢ Outside) (methods : List (List ℕ
       )
 
   module _ (first second : List ℕ) (named : IsName first) (named_too : IsName second) (order : ¬ (IsOutOfOrder methods first second)) where
-    up : (words : List Word) (f : Tree) → SaysFormula words f
+    up : (words : List LineWord) (f : ParsedTree) → WordsSayFormula words f
         → (said : SaidForm) × RightLine stage methods ((plain (codes "commute") ∷ plain first ∷ plain second ∷ plain (codes "when") ∷ []) ++ words) said
     up words f says = (
       commute first second f,
@@ -176,28 +176,28 @@ module _ (stage : Stage) (in_kind : stage ≢ Outside) (methods : List (List ℕ
       },
     )
 
-    down : (words : List Word) (said : SaidForm) → Unit {0}
+    down : (words : List LineWord) (said : SaidForm) → Unit {0}
         → RightLine stage methods ((plain (codes "commute") ∷ plain first ∷ plain second ∷ plain (codes "when") ∷ []) ++ words) said
-        → (f : Tree) × SaysFormula words f
+        → (f : ParsedTree) × WordsSayFormula words f
     down words (kind name) any right = absurd (kind_no_commute (cc (right.written)))
     down words (method name arguments result) any right = absurd (method_no_commute (cc (right.written)))
     down words (commute one other f) any right =
         let tails : right.behind ≡ words = cc (right.written) in
-        (f, record { marks = right.marks; marked = subst (λ (w : List Word). AreMarksFrom 0 w right.marks) tails right.marked; says = right.says })
+        (f, record { marks = right.marks; marked = subst (λ (w : List LineWord). AreMarksFrom 0 w right.marks) tails right.marked; says = right.says })
 
-    pub commute_refused : (words behind : List Word) (n : ℕ) → words ≡ plain first ∷ plain second ∷ plain (codes "when") ∷ behind
-        → IsWrongBehind SaysFormula behind n → IsRefused stage methods (plain (codes "commute") ∷ words) (Syntax (4 + n))
+    pub commute_refused : (words behind : List LineWord) (n : ℕ) → words ≡ plain first ∷ plain second ∷ plain (codes "when") ∷ behind
+        → IsWrongBehind WordsSayFormula behind n → IsFormRefused stage methods (plain (codes "commute") ∷ words) (Syntax (4 + n))
     commute_refused words behind n same wrong =
         let prefix = plain (codes "commute") ∷ plain first ∷ plain second ∷ plain (codes "when") ∷ [] in
-        let lifted = lift_behind (RightLine stage methods) SaysFormula prefix (λ (w : List Word). Unit {0}) up down (λ front rest more word any. tt) behind n tt wrong in
+        let lifted = lift_behind (RightLine stage methods) WordsSayFormula prefix (λ (w : List LineWord). Unit {0}) up down (λ front rest more word any. tt) behind n tt wrong in
         rw same lifted
 
-    pub commute_right : (words behind : List Word) (f : Tree) → words ≡ plain first ∷ plain second ∷ plain (codes "when") ∷ behind
-        → SaysFormula behind f → RightLine stage methods (plain (codes "commute") ∷ words) (commute first second f)
+    pub commute_right : (words behind : List LineWord) (f : ParsedTree) → words ≡ plain first ∷ plain second ∷ plain (codes "when") ∷ behind
+        → WordsSayFormula behind f → RightLine stage methods (plain (codes "commute") ∷ words) (commute first second f)
     unfolding up
     commute_right words behind f same says = rw same (up behind f says).1
 
-    pub formula_refused : (words behind : List Word) (refused : ParseRefused) → words ≡ plain first ∷ plain second ∷ plain (codes "when") ∷ behind
-        → IsFormulaRefused behind refused → IsRefused stage methods (plain (codes "commute") ∷ words) (behind_when refused)
+    pub formula_refused : (words behind : List LineWord) (refused : MarksRefused) → words ≡ plain first ∷ plain second ∷ plain (codes "when") ∷ behind
+        → IsRefusedBehindWhen behind refused → IsFormRefused stage methods (plain (codes "commute") ∷ words) (behind_when refused)
     formula_refused words behind (FormulaSyntax count) same wrong = commute_refused words behind count same wrong
     formula_refused words behind FormulaMemory same wrong = tt

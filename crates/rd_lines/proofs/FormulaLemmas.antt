@@ -5,20 +5,20 @@ use Rattle.std.specs.List.{AllByRecursion}
 use Rattle.rd_tokens.specs.declared.sorts.Sort.TheVariants.{Open as OpenToken, Close as CloseToken, Text}
 use Rattle.rd_tokens.specs.declared.sorts.Token.{Token}
 use Rattle.rd_grammar.specs.FirstWrong.{Begins, WrongAt}
-use Rattle.rd_grammar.specs.Grammar.{Tree, both, either, is_term, Level, disj, conj, prim, Says, disj_one, disj_or, conj_one, conj_and, neg_one, neg_not, prim_truth, prim_in, prim_relation}
+use Rattle.rd_grammar.specs.Grammar.{ParsedTree, both, either, is_term, Level, disj, conj, prim, MarksSay, disj_one, disj_or, conj_one, conj_and, neg_one, neg_not, prim_truth, prim_in, prim_relation}
 use Rattle.rd_grammar.specs.declared.marks.Mark.{Mark}
 use Rattle.rd_grammar.specs.declared.marks.Symbol.{Symbol}
 use Rattle.rd_grammar.specs.declared.marks.Symbol.TheVariants.{Open, Close, Not, And, Or, Truth, Sign as SignOf, Term, Other}
 use Rattle.rd_tokens.specs.Words.{IsSymbol, IsMark, AreMarks, sign_word, truth_word}
-use Rattle.rd_lines.specs.Lines.{Word, plain, word_at, words_of, AreMarksFrom, IsWrongBehind}
-use Rattle.rd_lines.specs.Reading.{SaysFormula, IsFormulaRefused, count_of}
+use Rattle.rd_lines.specs.Lines.{LineWord, plain, word_at, words_of, AreMarksFrom, IsWrongBehind}
+use Rattle.rd_lines.specs.Reading.{WordsSayFormula, IsRefusedBehindWhen, count_of}
 use Rattle.std.proofs.Common.{Result, Ok, Err, IfOk}
 use Rattle.std.specs.Prelude.{IfErr}
 use Rattle.std.proofs.lemmas.List.{length-map}
-use Rattle.rd_grammar.specs.Grammar.{tree_of, IsRefused}
+use Rattle.rd_grammar.specs.Grammar.{parsed_tree, AreMarksRefused}
 use Rattle.rd_grammar.specs.declared.parsed.Parsed.{Parsed}
-use Rattle.rd_grammar.specs.declared.parsed.ParseRefused.{ParseRefused}
-use Rattle.rd_grammar.specs.declared.parsed.ParseRefused.TheVariants.{Syntax, NoMemory}
+use Rattle.rd_grammar.specs.declared.parsed.MarksRefused.{MarksRefused}
+use Rattle.rd_grammar.specs.declared.parsed.MarksRefused.TheVariants.{Syntax, NoMemory}
 use Rattle.rd_lines.proofs.LawLemmas.{one_marks}
 use Rattle.rd_base.specs.declared.limits.TheConstants.{MOST_TOKENS}
 
@@ -57,19 +57,19 @@ numbered_behind k (m ∷ ms) ns =
     numbered_behind (suc k) ms ns ∙ ap (λ (n : ℕ). numbered (suc k) ms ++ numbered n ns) sum in
     ap (λ (l : List Mark). record { symbol = m.symbol; token = k } ∷ l) tails
 
-renumbered : {l : Level} {ms : List Mark} {f : Tree} → Says l ms f → (k : ℕ) → (g : Tree) × Says l (numbered k ms) g
+renumbered : {l : Level} {ms : List Mark} {f : ParsedTree} → MarksSay l ms f → (k : ℕ) → (g : ParsedTree) × MarksSay l (numbered k ms) g
 renumbered (disj_one says) k = let part = renumbered says k in (part.0, disj_one part.1)
 renumbered (disj_or {ms = ms} {ns = ns} says m is also) k =
     let left = renumbered says k in
     let right = renumbered also (suc (k + length ms)) in
     let whole = disj_or left.1 (record { symbol = m.symbol; token = k + length ms }) is right.1 in
-    let f = either left.0 (k + length ms) right.0 in (f, subst (λ (l : List Mark). Says disj l f) (sym (numbered_behind k ms (m ∷ ns))) whole)
+    let f = either left.0 (k + length ms) right.0 in (f, subst (λ (l : List Mark). MarksSay disj l f) (sym (numbered_behind k ms (m ∷ ns))) whole)
 renumbered (conj_one says) k = let part = renumbered says k in (part.0, conj_one part.1)
 renumbered (conj_and {ms = ms} {ns = ns} says m is also) k =
     let left = renumbered says k in
     let right = renumbered also (suc (k + length ms)) in
     let whole = conj_and left.1 (record { symbol = m.symbol; token = k + length ms }) is right.1 in
-    let f = both left.0 (k + length ms) right.0 in (f, subst (λ (l : List Mark). Says conj l f) (sym (numbered_behind k ms (m ∷ ns))) whole)
+    let f = both left.0 (k + length ms) right.0 in (f, subst (λ (l : List Mark). MarksSay conj l f) (sym (numbered_behind k ms (m ∷ ns))) whole)
 renumbered (neg_one says) k = let part = renumbered says k in (part.0, neg_one part.1)
 renumbered (neg_not m is says) k = let part = renumbered says (suc k) in (_, neg_not (record { symbol = m.symbol; token = k }) is part.1)
 renumbered (prim_truth m value is) k = (_, prim_truth (record { symbol = m.symbol; token = k }) value is)
@@ -78,7 +78,7 @@ renumbered (prim_in {ms = ms} opening closing is says also) k =
     let whole = prim_in (record { symbol = opening.symbol; token = k }) (record { symbol = closing.symbol; token = suc k + length ms }) is part.1 also in
     let parts : numbered k (opening ∷ ms ++ closing ∷ []) ≡ record { symbol = opening.symbol; token = k } ∷ numbered (suc k) ms ++ record { symbol = closing.symbol; token = suc k + length ms } ∷ [] =
     ap (λ (l : List Mark). record { symbol = opening.symbol; token = k } ∷ l) (numbered_behind (suc k) ms (closing ∷ [])) in
-    (part.0, subst (λ (l : List Mark). Says prim l part.0) (sym parts) whole)
+    (part.0, subst (λ (l : List Mark). MarksSay prim l part.0) (sym parts) whole)
 renumbered (prim_relation l m r sign is signed also) k =
     (_, prim_relation (record { symbol = l.symbol; token = k }) (record { symbol = m.symbol; token = suc k }) (record { symbol = r.symbol; token = suc (suc k) }) sign is signed also)
 
@@ -100,7 +100,7 @@ is_said m symbol other is same = other (sym is ∙ same)
 term_said : (m : Mark) → is_term m.symbol ≡ true → IsSaid m
 term_said m is same = let clash : is_term Other ≡ true = subst (λ (s : Symbol). is_term s ≡ true) same is in cc
 
-each_said : {l : Level} {ms : List Mark} {f : Tree} → Says l ms f → AllByRecursion IsSaid ms
+each_said : {l : Level} {ms : List Mark} {f : ParsedTree} → MarksSay l ms f → AllByRecursion IsSaid ms
 each_said (disj_one says) = each_said says
 each_said (disj_or {ms = ms} {ns = ns} says m is also) = said_behind ms (m ∷ ns) (each_said says) (is_said m Or (λ e. cc) is, each_said also)
 each_said (conj_one says) = each_said says
@@ -113,7 +113,7 @@ each_said (prim_in {ms = ms} opening closing is says also) =
 each_said (prim_relation l m r sign is signed also) = (term_said l is, (is_said m (SignOf sign) (λ e. cc) signed, (term_said r also, tt)))
 
 -- a word that is the symbol
-abbrev word_for : Symbol → Word
+abbrev word_for : Symbol → LineWord
 word_for Open = record { sort = OpenToken; bytes = 40 ∷ [] }
 word_for Close = record { sort = CloseToken; bytes = 41 ∷ [] }
 word_for Not = plain (codes "not")
@@ -135,11 +135,11 @@ word_is (SignOf sign) said = refl
 word_is Term said = refl
 word_is Other said = absurd (said refl)
 
-abbrev words_for : List Mark → List Word
+abbrev words_for : List Mark → List LineWord
 words_for [] = []
 words_for (m ∷ ms) = word_for m.symbol ∷ words_for ms
 
-extended : (k : ℕ) (front : List Word) (marks more : List Mark) → AreMarksFrom k front marks → AllByRecursion IsSaid more
+extended : (k : ℕ) (front : List LineWord) (marks more : List Mark) → AreMarksFrom k front marks → AllByRecursion IsSaid more
     → AreMarksFrom k (front ++ words_for more) (numbered k (marks ++ more))
 extended k [] [] [] are each = tt
 extended k [] [] (m ∷ more) are each = (word_is m.symbol each.0, refl, extended (suc k) [] [] more tt each.1)
@@ -148,7 +148,7 @@ extended k (word ∷ front) [] more are each = absurd are
 extended k (word ∷ front) (mark ∷ marks) more are each = (are.0, refl, extended (suc k) front marks more are.2 each)
 
 -- words begin a formula exactly where their marks do
-begins_words : (front : List Word) (marks : List Mark) → AreMarksFrom 0 front marks → Begins (Says disj) marks → Begins SaysFormula front
+begins_words : (front : List LineWord) (marks : List Mark) → AreMarksFrom 0 front marks → Begins (MarksSay disj) marks → Begins WordsSayFormula front
 begins_words front marks are (more, f, says) =
     let again = renumbered says 0 in (
       words_for more,
@@ -156,13 +156,13 @@ begins_words front marks are (more, f, says) =
       record { marks = numbered 0 (marks ++ more); marked = extended 0 front marks more are (said_in_rest marks more (each_said says)); says = again.1 },
     )
 
-pub record FrontMarks (k : ℕ) (front : List Word) (marks : List Mark) : Type 0 where
+pub record FrontMarks (k : ℕ) (front : List LineWord) (marks : List Mark) : Type 0 where
   pub here : List Mark
   pub behind : List Mark
   pub parts : marks ≡ here ++ behind
   pub are : AreMarksFrom k front here
 
-front_marks : (k : ℕ) (front more : List Word) (marks : List Mark) → AreMarksFrom k (front ++ more) marks → FrontMarks k front marks
+front_marks : (k : ℕ) (front more : List LineWord) (marks : List Mark) → AreMarksFrom k (front ++ more) marks → FrontMarks k front marks
 front_marks k [] more marks are = record { here = []; behind = marks; parts = refl; are = tt }
 front_marks k (word ∷ front) more [] are = absurd are
 front_marks k (word ∷ front) more (mark ∷ marks) are =
@@ -174,27 +174,27 @@ front_marks k (word ∷ front) more (mark ∷ marks) are =
       are = (are.0, are.1, rest.are);
     }
 
-never_words : (front : List Word) (marks : List Mark) → AreMarksFrom 0 front marks → ¬ (Begins (Says disj) marks) → ¬ (Begins SaysFormula front)
+never_words : (front : List LineWord) (marks : List Mark) → AreMarksFrom 0 front marks → ¬ (Begins (MarksSay disj) marks) → ¬ (Begins WordsSayFormula front)
 never_words front marks are none (more, f, says) =
     let cut = front_marks 0 front more says.marks says.marked in
     let same : cut.here ≡ marks = one_marks 0 front cut.here marks cut.are are in
     let parts : says.marks ≡ marks ++ cut.behind = cut.parts ∙ ap (λ (l : List Mark). l ++ cut.behind) same in
-    none (cut.behind, f, subst (λ (l : List Mark). Says disj l f) parts says.says)
+    none (cut.behind, f, subst (λ (l : List Mark). MarksSay disj l f) parts says.says)
 
-no_words_said : (words : List Word) (marks : List Mark) → AreMarksFrom 0 words marks → ((f : Tree) → ¬ (Says disj marks f)) → (f : Tree) → ¬ (SaysFormula words f)
+no_words_said : (words : List LineWord) (marks : List Mark) → AreMarksFrom 0 words marks → ((f : ParsedTree) → ¬ (MarksSay disj marks f)) → (f : ParsedTree) → ¬ (WordsSayFormula words f)
 no_words_said words marks are none f says =
     let same : says.marks ≡ marks = one_marks 0 words says.marks marks says.marked are in
-    none f (subst (λ (l : List Mark). Says disj l f) same says.says)
+    none f (subst (λ (l : List Mark). MarksSay disj l f) same says.says)
 
 -- the first marks are those of the first words
-marked_first : (k n : ℕ) (words : List Word) (marks : List Mark) → AreMarksFrom k words marks → AreMarksFrom k (take n words) (take n marks)
+marked_first : (k n : ℕ) (words : List LineWord) (marks : List Mark) → AreMarksFrom k words marks → AreMarksFrom k (take n words) (take n marks)
 marked_first k zero words marks are = tt
 marked_first k (suc n) [] [] are = tt
 marked_first k (suc n) [] (mark ∷ marks) are = absurd are
 marked_first k (suc n) (word ∷ words) [] are = absurd are
 marked_first k (suc n) (word ∷ words) (mark ∷ marks) are = (are.0, are.1, marked_first (suc k) n words marks are.2)
 
-as_many : (k : ℕ) (words : List Word) (marks : List Mark) → AreMarksFrom k words marks → length words ≡ length marks
+as_many : (k : ℕ) (words : List LineWord) (marks : List Mark) → AreMarksFrom k words marks → length words ≡ length marks
 as_many k [] [] are = refl
 as_many k [] (mark ∷ marks) are = absurd are
 as_many k (word ∷ words) [] are = absurd are
@@ -206,8 +206,8 @@ take_next zero (y ∷ xs) rest x same = let heads : y ≡ x = cc in ap (λ (t : 
 take_next (suc n) [] rest x same = absurd (cc)
 take_next (suc n) (y ∷ xs) rest x same = ap (λ (l : List _). y ∷ l) (take_next n xs rest x same)
 
-wrong_words : (words : List Word) (marks : List Mark) (n : ℕ) (rest : List Word) (behind : List Mark) → AreMarksFrom 0 words marks
-    → drop n words ≡ rest → drop n marks ≡ behind → WrongAt (Says disj) (take n marks) behind → WrongAt SaysFormula (take n words) rest
+wrong_words : (words : List LineWord) (marks : List Mark) (n : ℕ) (rest : List LineWord) (behind : List Mark) → AreMarksFrom 0 words marks
+    → drop n words ≡ rest → drop n marks ≡ behind → WrongAt (MarksSay disj) (take n marks) behind → WrongAt WordsSayFormula (take n words) rest
 wrong_words words marks n [] [] are same also wrong = (
   begins_words (take n words) (take n marks) (marked_first 0 n words marks are) wrong.0,
   no_words_said (take n words) (take n marks) (marked_first 0 n words marks are) wrong.1,
@@ -225,29 +225,29 @@ wrong_words words marks n (word ∷ rest) (mark ∷ behind) are same also wrong 
       never_words (take n words ++ word ∷ []) (take n marks ++ mark ∷ []) next wrong.1,
     )
 
-pub formula_wrong : (words : List Word) (marks : List Mark) (n : ℕ) → AreMarksFrom 0 words marks → n ≤ length marks
-    → WrongAt (Says disj) (take n marks) (drop n marks) → IsWrongBehind SaysFormula words n
+pub formula_wrong : (words : List LineWord) (marks : List Mark) (n : ℕ) → AreMarksFrom 0 words marks → n ≤ length marks
+    → WrongAt (MarksSay disj) (take n marks) (drop n marks) → IsWrongBehind WordsSayFormula words n
 formula_wrong words marks n are within wrong =
     (omega (arith, as_many 0 words marks are), wrong_words words marks n (drop n words) (drop n marks) are refl refl wrong)
 
-pub formula_is : (words : List Word) (marks : List Mark) (f : Tree) → AreMarksFrom 0 words marks → Says disj marks f → SaysFormula words f
+pub formula_is : (words : List LineWord) (marks : List Mark) (f : ParsedTree) → AreMarksFrom 0 words marks → MarksSay disj marks f → WordsSayFormula words f
 formula_is words marks f are says = record { marks = marks; marked = are; says = says }
 
 -- what reading the marks gives, said of the words
-pub words_say : (line : List ℕ) (tokens : List Token) (marks : List Mark) (result : Result Parsed ParseRefused) → AreMarks line tokens marks
-    → IfOk result (λ f. Says disj marks (tree_of f)) → IfOk result (λ f. SaysFormula (words_of line tokens) (tree_of f))
-words_say line tokens marks (Ok parsed) are says = formula_is (words_of line tokens) marks (tree_of parsed) (words_marked line tokens marks are) says
+pub words_say : (line : List ℕ) (tokens : List Token) (marks : List Mark) (result : Result Parsed MarksRefused) → AreMarks line tokens marks
+    → IfOk result (λ f. MarksSay disj marks (parsed_tree f)) → IfOk result (λ f. WordsSayFormula (words_of line tokens) (parsed_tree f))
+words_say line tokens marks (Ok parsed) are says = formula_is (words_of line tokens) marks (parsed_tree parsed) (words_marked line tokens marks are) says
 words_say line tokens marks (Err refused) are says = tt
 
-pub words_refused : (line : List ℕ) (tokens : List Token) (marks : List Mark) (result : Result Parsed ParseRefused) → AreMarks line tokens marks
-    → IfErr result (IsRefused marks) → IfErr result (IsFormulaRefused (words_of line tokens))
+pub words_refused : (line : List ℕ) (tokens : List Token) (marks : List Mark) (result : Result Parsed MarksRefused) → AreMarks line tokens marks
+    → IfErr result (AreMarksRefused marks) → IfErr result (IsRefusedBehindWhen (words_of line tokens))
 words_refused line tokens marks (Ok parsed) are refused = tt
 words_refused line tokens marks (Err (Syntax count)) are refused =
     formula_wrong (words_of line tokens) marks count (words_marked line tokens marks are) refused.0 refused.1
 words_refused line tokens marks (Err NoMemory) are refused = tt
 
-pub count_bound : (line : List ℕ) (tokens : List Token) (result : Result Parsed ParseRefused) → length tokens ≤ MOST_TOKENS
-    → IfErr result (IsFormulaRefused (words_of line tokens)) → IfErr result (λ refused. count_of refused ≤ MOST_TOKENS)
+pub count_bound : (line : List ℕ) (tokens : List Token) (result : Result Parsed MarksRefused) → length tokens ≤ MOST_TOKENS
+    → IfErr result (IsRefusedBehindWhen (words_of line tokens)) → IfErr result (λ refused. count_of refused ≤ MOST_TOKENS)
 count_bound line tokens (Ok parsed) few refused = tt
 count_bound line tokens (Err (Syntax count)) few refused = omega (arith, refused.0, length-map tokens (word_at line))
 count_bound line tokens (Err NoMemory) few refused = omega arith

@@ -4,7 +4,7 @@ use Rattle.rd_base.specs.Names.{IsName, is_name}
 use Rattle.rd_base.proofs.NameLemmas.{is_name_decides}
 use Rattle.rd_grammar.specs.FirstWrong.{Begins, WrongAt}
 use Rattle.rd_lines.specs.declared.forms.Stage.{Stage}
-use Rattle.rd_lines.specs.Lines.{Word, plain, SaidForm, kind, method, commute, RightLine, IsRefused}
+use Rattle.rd_lines.specs.Lines.{LineWord, plain, SaidForm, kind, method, commute, RightLine, IsFormRefused}
 use Rattle.rd_lines.specs.declared.forms.FormRefused.TheVariants.{Syntax}
 use Rattle.rd_lines.specs.Reading.{BeginsNothing}
 use Rattle.rd_lines.proofs.LawLemmas.{kind_no_method, kind_no_commute}
@@ -15,7 +15,7 @@ unfolding is_name
 a_name = (is_name_decides (codes "a")).0 refl
 
 module _ (stage : Stage) (methods : List (List ℕ)) where
-  begins_nothing : (word : Word) → BeginsNothing stage word → ¬ (Begins (RightLine stage methods) (word ∷ []))
+  begins_nothing : (word : LineWord) → BeginsNothing stage word → ¬ (Begins (RightLine stage methods) (word ∷ []))
   begins_nothing word none (more, kind name, right) = none.no_kind (cc (right.written))
   begins_nothing word none (more, method name arguments result, right) = none.no_method right.stands (cc (right.written))
   begins_nothing word none (more, commute first second formula, right) = none.no_commute right.stands (cc (right.written))
@@ -28,14 +28,14 @@ module _ (stage : Stage) (methods : List (List ℕ)) where
   no_empty (method name arguments result) right = cc (right.written)
   no_empty (commute first second formula) right = cc (right.written)
 
-  pub wrong_first : (word : Word) (words : List Word) → BeginsNothing stage word → WrongAt (RightLine stage methods) [] (word ∷ words)
+  pub wrong_first : (word : LineWord) (words : List LineWord) → BeginsNothing stage word → WrongAt (RightLine stage methods) [] (word ∷ words)
   wrong_first word words none = (begins_empty, begins_nothing word none)
 
   pub wrong_empty : WrongAt (RightLine stage methods) [] []
   wrong_empty = (begins_empty, no_empty)
 
   -- a line that begins with `kind` says a kind
-  pub kind_only : (words : List Word) (said : SaidForm) → RightLine stage methods (plain (codes "kind") ∷ words) said
+  pub kind_only : (words : List LineWord) (said : SaidForm) → RightLine stage methods (plain (codes "kind") ∷ words) said
       → (name : List ℕ) × IsName name × (words ≡ plain name ∷ []) × (said ≡ kind name)
   kind_only words (kind name) right = (name, right.named, cc (right.written), refl)
   kind_only words (method name arguments result) right = absurd (kind_no_method (cc (right.written)))
@@ -47,7 +47,7 @@ module _ (stage : Stage) (methods : List (List ℕ)) where
   pub kind_alone : WrongAt (RightLine stage methods) (plain (codes "kind") ∷ []) []
   kind_alone = (begins_kind, λ said right. let is = kind_only [] said right in cc (is.2))
 
-  pub kind_unnamed : (word : Word) (words : List Word) → ((name : List ℕ) → IsName name → word ≢ plain name)
+  pub kind_unnamed : (word : LineWord) (words : List LineWord) → ((name : List ℕ) → IsName name → word ≢ plain name)
       → WrongAt (RightLine stage methods) (plain (codes "kind") ∷ []) (word ∷ words)
   kind_unnamed word words none =
       (begins_kind, λ more. let is = kind_only (word ∷ more.0) more.1 more.2 in none is.0 is.1 (cc (is.2)))
@@ -55,7 +55,7 @@ module _ (stage : Stage) (methods : List (List ℕ)) where
   pub kind_is : (name : List ℕ) → IsName name → RightLine stage methods (plain (codes "kind") ∷ plain name ∷ []) (kind name)
   kind_is name named = record { named = named; written = refl }
 
-  pub kind_longer : (name : List ℕ) (word : Word) (words : List Word) → IsName name
+  pub kind_longer : (name : List ℕ) (word : LineWord) (words : List LineWord) → IsName name
       → WrongAt (RightLine stage methods) (plain (codes "kind") ∷ plain name ∷ []) (word ∷ words)
   kind_longer name word words named = (
     ([], kind name, kind_is name named),
@@ -66,25 +66,25 @@ module _ (stage : Stage) (methods : List (List ℕ)) where
   )
 
 -- the same of words that are taken apart
-pub refused_alone : (words : List Word) → words ≡ [] → (stage : Stage) (methods : List (List ℕ))
-    → IsRefused stage methods (plain (codes "kind") ∷ words) (Syntax 1)
+pub refused_alone : (words : List LineWord) → words ≡ [] → (stage : Stage) (methods : List (List ℕ))
+    → IsFormRefused stage methods (plain (codes "kind") ∷ words) (Syntax 1)
 refused_alone [] same stage methods = (omega arith, kind_alone stage methods)
 refused_alone (word ∷ words) same stage methods = absurd (cc)
 
-pub refused_name : (words rest : List Word) (word : Word) → words ≡ word ∷ rest → ((name : List ℕ) → IsName name → word ≢ plain name)
-    → (stage : Stage) (methods : List (List ℕ)) → IsRefused stage methods (plain (codes "kind") ∷ words) (Syntax 1)
+pub refused_name : (words rest : List LineWord) (word : LineWord) → words ≡ word ∷ rest → ((name : List ℕ) → IsName name → word ≢ plain name)
+    → (stage : Stage) (methods : List (List ℕ)) → IsFormRefused stage methods (plain (codes "kind") ∷ words) (Syntax 1)
 refused_name words rest word same none stage methods =
     rw same (omega arith, kind_unnamed stage methods word rest none)
 
-pub refused_longer : (words rest behind : List Word) (first word : Word) (name : List ℕ) → words ≡ first ∷ rest → first ≡ plain name → IsName name
-    → rest ≡ word ∷ behind → (stage : Stage) (methods : List (List ℕ)) → IsRefused stage methods (plain (codes "kind") ∷ words) (Syntax 2)
+pub refused_longer : (words rest behind : List LineWord) (first word : LineWord) (name : List ℕ) → words ≡ first ∷ rest → first ≡ plain name → IsName name
+    → rest ≡ word ∷ behind → (stage : Stage) (methods : List (List ℕ)) → IsFormRefused stage methods (plain (codes "kind") ∷ words) (Syntax 2)
 refused_longer words rest behind first word name same is named longer stage methods =
     rw (same, is, longer) (omega arith, kind_longer stage methods name word behind named)
 
-pub refused_empty : (words : List Word) → words ≡ [] → (stage : Stage) (methods : List (List ℕ)) → IsRefused stage methods words (Syntax 0)
+pub refused_empty : (words : List LineWord) → words ≡ [] → (stage : Stage) (methods : List (List ℕ)) → IsFormRefused stage methods words (Syntax 0)
 refused_empty [] same stage methods = (omega arith, wrong_empty stage methods)
 refused_empty (word ∷ words) same stage methods = absurd (cc)
 
-pub refused_first : (words rest : List Word) (word : Word) (stage : Stage) → words ≡ word ∷ rest → BeginsNothing stage word → (methods : List (List ℕ))
-    → IsRefused stage methods words (Syntax 0)
+pub refused_first : (words rest : List LineWord) (word : LineWord) (stage : Stage) → words ≡ word ∷ rest → BeginsNothing stage word → (methods : List (List ℕ))
+    → IsFormRefused stage methods words (Syntax 0)
 refused_first words rest word stage same none methods = rw same (omega arith, wrong_first stage methods word rest none)

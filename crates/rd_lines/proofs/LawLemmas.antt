@@ -4,18 +4,18 @@ use Rattle.std.specs.List.{AllByRecursion}
 use Rattle.std.specs.Prelude.{IsTrue}
 use Rattle.rd_ecl.specs.Variables.{IsVariable, is_letter}
 use Rattle.rd_grammar.specs.FirstWrong.{WrongAt}
-use Rattle.rd_grammar.specs.Grammar.{Tree, Says, disj}
+use Rattle.rd_grammar.specs.Grammar.{ParsedTree, MarksSay, disj}
 use Rattle.rd_grammar.specs.declared.marks.Mark.{Mark}
 use Rattle.rd_grammar.specs.declared.marks.Symbol.{Symbol}
 use Rattle.rd_grammar.proofs.FirstWrong.{one_place, right_nowhere}
 use Rattle.rd_grammar.proofs.ReadLemmas.{one_tree}
 use Rattle.rd_tokens.proofs.WordLemmas.{one_symbol}
 use Rattle.rd_lines.specs.declared.forms.Stage.{Stage}
-use Rattle.rd_lines.specs.Lines.{Word, plain, SaidForm, kind, method, commute, AreMarksFrom, RightLine}
+use Rattle.rd_lines.specs.Lines.{LineWord, plain, SaidForm, kind, method, commute, AreMarksFrom, RightLine}
 
 -- words of other bytes are others
 pub same_bytes : (a b : List ℕ) → plain a ≡ plain b → a ≡ b
-same_bytes a b same = ap (λ (w : Word). w.bytes) same
+same_bytes a b same = ap (λ (w : LineWord). w.bytes) same
 
 pub kind_no_method : plain (codes "kind") ≢ plain (codes "method")
 kind_no_method same = let bytes : codes "kind" ≡ codes "method" = same_bytes (codes "kind") (codes "method") same in cc
@@ -35,7 +35,7 @@ arrow_no_variable name is same =
     cc
 
 -- arguments before an arrow are one list
-pub same_arguments : (arguments others : List (List ℕ)) (rest more : List Word) → AllByRecursion IsVariable arguments → AllByRecursion IsVariable others
+pub same_arguments : (arguments others : List (List ℕ)) (rest more : List LineWord) → AllByRecursion IsVariable arguments → AllByRecursion IsVariable others
     → map plain arguments ++ plain (codes "->") ∷ rest ≡ map plain others ++ plain (codes "->") ∷ more → (arguments ≡ others) × (rest ≡ more)
 same_arguments [] [] rest more are each same = (refl, cc)
 same_arguments [] (other ∷ others) rest more are each same = absurd (arrow_no_variable other each.0 (cc))
@@ -52,7 +52,7 @@ same_mark a b symbols numbers =
     let second : record { symbol = b.symbol; token = a.token } ≡ b = ap (λ (n : ℕ). record { symbol = b.symbol; token = n }) numbers in
     first ∙ second
 
-pub one_marks : (k : ℕ) (words : List Word) (xs ys : List Mark) → AreMarksFrom k words xs → AreMarksFrom k words ys → xs ≡ ys
+pub one_marks : (k : ℕ) (words : List LineWord) (xs ys : List Mark) → AreMarksFrom k words xs → AreMarksFrom k words ys → xs ≡ ys
 one_marks k [] [] [] are also = refl
 one_marks k [] [] (y ∷ ys) are also = absurd also
 one_marks k [] (x ∷ xs) ys are also = absurd are
@@ -63,13 +63,13 @@ one_marks k (word ∷ words) (x ∷ xs) (y ∷ ys) are also =
     let tails : xs ≡ ys = one_marks (suc k) words xs ys are.2 also.2 in
     rw (heads, tails) refl
 
-one_formula : (behind others : List Word) (xs ys : List Mark) (f g : Tree) → behind ≡ others → AreMarksFrom 0 behind xs → AreMarksFrom 0 others ys
-    → Says disj xs f → Says disj ys g → f ≡ g
+one_formula : (behind others : List LineWord) (xs ys : List Mark) (f g : ParsedTree) → behind ≡ others → AreMarksFrom 0 behind xs → AreMarksFrom 0 others ys
+    → MarksSay disj xs f → MarksSay disj ys g → f ≡ g
 one_formula behind others xs ys f g same are also says too =
     let marks : xs ≡ ys = one_marks 0 others xs ys (subst (λ w. AreMarksFrom 0 w xs) same are) also in
-    one_tree ys f g (subst (λ m. Says disj m f) marks says) too
+    one_tree ys f g (subst (λ m. MarksSay disj m f) marks says) too
 
-pub one_form : (stage : Stage) (methods : List (List ℕ)) (words : List Word) (x y : SaidForm) → RightLine stage methods words x → RightLine stage methods words y → x ≡ y
+pub one_form : (stage : Stage) (methods : List (List ℕ)) (words : List LineWord) (x y : SaidForm) → RightLine stage methods words x → RightLine stage methods words y → x ≡ y
 one_form stage methods words (kind name) (kind other) x y = let names : name ≡ other = same_bytes name other (cc) in ap kind names
 one_form stage methods words (kind name) (method other arguments result) x y = absurd (kind_no_method (cc))
 one_form stage methods words (kind name) (commute first second formula) x y = absurd (kind_no_commute (cc))
@@ -89,10 +89,10 @@ one_form stage methods words (commute first second formula) (commute one other e
     let formulas : formula ≡ end = one_formula x.behind y.behind x.marks y.marks formula end (cc) x.marked y.marked x.says y.says in
     rw (firsts, seconds, formulas) refl
 
-pub right_line : (stage : Stage) (methods : List (List ℕ)) (front rest : List Word) (x : SaidForm) → RightLine stage methods (front ++ rest) x
+pub right_line : (stage : Stage) (methods : List (List ℕ)) (front rest : List LineWord) (x : SaidForm) → RightLine stage methods (front ++ rest) x
     → ¬ (WrongAt (RightLine stage methods) front rest)
 right_line stage methods front rest x right = right_nowhere (RightLine stage methods) front rest x right
 
-pub one_wrong : (stage : Stage) (methods : List (List ℕ)) (front rest others more : List Word) → front ++ rest ≡ others ++ more
+pub one_wrong : (stage : Stage) (methods : List (List ℕ)) (front rest others more : List LineWord) → front ++ rest ≡ others ++ more
     → WrongAt (RightLine stage methods) front rest → WrongAt (RightLine stage methods) others more → front ≡ others
 one_wrong stage methods front rest others more same wrong also = one_place (RightLine stage methods) front rest others more same wrong also

@@ -4,7 +4,7 @@ use Rattle.std.specs.Prelude.{◌==◌, All}
 use Rattle.std.specs.List.{AllByRecursion}
 use Rattle.rd_base.proofs.FoundLemmas.{each_by_recursion, each_from_recursion}
 use Rattle.rd_tokens.specs.declared.sorts.Token.{Token}
-use Rattle.rd_lines.specs.Lines.{Word, word_at, words_of}
+use Rattle.rd_lines.specs.Lines.{LineWord, word_at, words_of}
 use Rattle.std.proofs.lemmas.Bool.Decides.{nat_tests}
 use Rattle.rd_base.specs.Names.{IsName}
 use Rattle.rd_ecl.specs.Variables.{IsVariable, is_variable as variable_test}
@@ -30,9 +30,9 @@ pub first_word : (line : List ℕ) (tokens rest : List Token) (token : Token) �
 first_word line tokens rest token same = ap (words_of line) same
 
 -- words with a first one
-pub record HasWord (words : List Word) : Type 0 where
-  pub first : Word
-  pub rest : List Word
+pub record HasWord (words : List LineWord) : Type 0 where
+  pub first : LineWord
+  pub rest : List LineWord
   pub written : words ≡ first ∷ rest
 
 pub some_word : (line : List ℕ) (tokens : List Token) → (length tokens == 0) ≡ false → HasWord (words_of line tokens)

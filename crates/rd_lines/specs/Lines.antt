@@ -4,7 +4,7 @@ use Rattle.std.specs.List.{AllByRecursion}
 use Rattle.rd_base.specs.Names.{IsName}
 use Rattle.rd_ecl.specs.Variables.{IsVariable}
 use Rattle.rd_grammar.specs.FirstWrong.{WrongAt}
-use Rattle.rd_grammar.specs.Grammar.{Tree, Says, disj, tree_of}
+use Rattle.rd_grammar.specs.Grammar.{ParsedTree, MarksSay, disj, parsed_tree}
 use Rattle.rd_grammar.specs.declared.marks.Mark.{Mark}
 use Rattle.rd_lines.specs.declared.forms.Form.{Form}
 use Rattle.rd_lines.specs.declared.forms.Form.TheVariants.{Kind, Method, Commute}
@@ -20,19 +20,19 @@ use Rattle.rd_tokens.specs.Words.{IsSymbol}
 use Rattle.rd_base.specs.declared.limits.TheConstants.{MOST_TOKENS}
 
 -- a token of a line without its place
-pub record Word : Type 0 where
+pub record LineWord : Type 0 where
   pub sort : Sort
   pub bytes : List ℕ
 
 -- the words of tokens of the line
-abbrev pub word_at : List ℕ → Token → Word
+abbrev pub word_at : List ℕ → Token → LineWord
 word_at line token = record { sort = token.sort; bytes = bytes_of line token }
 
-abbrev pub words_of : List ℕ → List Token → List Word
+abbrev pub words_of : List ℕ → List Token → List LineWord
 words_of line tokens = map (word_at line) tokens
 
 -- a run of visible bytes
-abbrev pub plain : List ℕ → Word
+abbrev pub plain : List ℕ → LineWord
 plain bytes = record { sort = PlainWord; bytes = bytes }
 
 -- what a line says
@@ -42,15 +42,15 @@ pub data SaidForm : Type 0 where
   -- a method's name, its arguments and its result
   method : List ℕ → List (List ℕ) → List ℕ → SaidForm
   -- the two methods and the formula by which they commute
-  commute : List ℕ → List ℕ → Tree → SaidForm
+  commute : List ℕ → List ℕ → ParsedTree → SaidForm
 
 abbrev pub said_of : Form → SaidForm
 said_of (Kind name) = kind name
 said_of (Method name arguments result) = method name arguments result
-said_of (Commute first second formula) = commute first second (tree_of formula)
+said_of (Commute first second formula) = commute first second (parsed_tree formula)
 
 -- the marks of words, numbered from this number
-abbrev pub AreMarksFrom : ℕ → List Word → List Mark → Type 0
+abbrev pub AreMarksFrom : ℕ → List LineWord → List Mark → Type 0
 AreMarksFrom number [] [] = Unit {0}
 AreMarksFrom number (word ∷ words) (mark ∷ marks) =
     IsSymbol word.sort word.bytes mark.symbol × (mark.token ≡ number) × AreMarksFrom (suc number) words marks
@@ -62,12 +62,12 @@ IsOutOfOrder methods first second =
     (before : List (List ℕ)) × (behind : List (List ℕ)) × (methods ≡ before ++ second ∷ behind) × Contains behind first × (first ≢ second)
 
 -- a kind: `kind K`
-pub record IsKindLine (words : List Word) (name : List ℕ) : Type 0 where
+pub record IsKindLine (words : List LineWord) (name : List ℕ) : Type 0 where
   pub named : IsName name
   pub written : words ≡ plain (codes "kind") ∷ plain name ∷ []
 
 -- a method, its arguments and its result: `method M V V -> V`, before any pair of its kind
-pub record IsMethodLine (stage : Stage) (words : List Word) (name : List ℕ) (arguments : List (List ℕ)) (result : List ℕ) : Type 0 where
+pub record IsMethodLine (stage : Stage) (words : List LineWord) (name : List ℕ) (arguments : List (List ℕ)) (result : List ℕ) : Type 0 where
   pub stands : stage ≡ Methods
   pub named : IsName name
   pub each_argument : AllByRecursion IsVariable arguments
@@ -75,37 +75,38 @@ pub record IsMethodLine (stage : Stage) (words : List Word) (name : List ℕ) (a
   pub written : words ≡ plain (codes "method") ∷ plain name ∷ (map plain arguments ++ plain (codes "->") ∷ plain result ∷ [])
 
 -- a pair: `commute M M when FORMULA`, in a kind, with its methods in their order
-pub record IsCommuteLine (stage : Stage) (methods : List (List ℕ)) (words : List Word) (first second : List ℕ) (formula : Tree) : Type 0 where
+pub record IsCommuteLine (stage : Stage) (methods : List (List ℕ)) (words : List LineWord) (first second : List ℕ) (formula : ParsedTree) : Type 0 where
   pub stands : stage ≢ Outside
   pub named_first : IsName first
   pub named_second : IsName second
   pub order : ¬ (IsOutOfOrder methods first second)
-  pub behind : List Word
+  pub behind : List LineWord
   pub marks : List Mark
   pub written : words ≡ plain (codes "commute") ∷ plain first ∷ plain second ∷ plain (codes "when") ∷ behind
   pub marked : AreMarksFrom 0 behind marks
-  pub says : Says disj marks formula
+  pub says : MarksSay disj marks formula
 
 -- the words are a right line at this stage, behind these methods of the kind, and say this
-abbrev pub RightLine : Stage → List (List ℕ) → List Word → SaidForm → Type 0
+abbrev pub RightLine : Stage → List (List ℕ) → List LineWord → SaidForm → Type 0
 RightLine stage methods words (kind name) = IsKindLine words name
 RightLine stage methods words (method name arguments result) = IsMethodLine stage words name arguments result
 RightLine stage methods words (commute first second formula) = IsCommuteLine stage methods words first second formula
 
 -- the line begins as one of a kind
-abbrev pub BeginsKind : List Word → Type 0
-BeginsKind words = (behind : List Word) × (words ≡ plain (codes "kind") ∷ behind)
+abbrev pub BeginsKind : List LineWord → Type 0
+BeginsKind words = (behind : List LineWord) × (words ≡ plain (codes "kind") ∷ behind)
 
 -- a formula has at most 512 words
-pub record IsShort (words : List Word) : Type 0 where
-  pub few : (first second : Word) (behind : List Word) → words ≡ plain (codes "commute") ∷ first ∷ second ∷ plain (codes "when") ∷ behind
+pub record HasFewWords (words : List LineWord) : Type 0 where
+  pub few : (first second : LineWord) (behind : List LineWord)
+      → words ≡ plain (codes "commute") ∷ first ∷ second ∷ plain (codes "when") ∷ behind
       → length behind ≤ MOST_TOKENS
 
 -- the first wrong word has so many words before it; all of them where the line ends too early
-abbrev pub IsWrongBehind : {R : Type 0} → (List Word → R → Type 0) → List Word → ℕ → Type 0
-IsWrongBehind Says words count = (count ≤ length words) × WrongAt Says (take count words) (drop count words)
+abbrev pub IsWrongBehind : {R : Type 0} → (List LineWord → R → Type 0) → List LineWord → ℕ → Type 0
+IsWrongBehind MarksSay words count = (count ≤ length words) × WrongAt MarksSay (take count words) (drop count words)
 
 -- what a refusal says of the words; want of memory says nothing
-abbrev pub IsRefused : Stage → List (List ℕ) → List Word → FormRefused → Type 0
-IsRefused stage methods words (Syntax count) = IsWrongBehind (RightLine stage methods) words count
-IsRefused stage methods words NoMemory = Unit {0}
+abbrev pub IsFormRefused : Stage → List (List ℕ) → List LineWord → FormRefused → Type 0
+IsFormRefused stage methods words (Syntax count) = IsWrongBehind (RightLine stage methods) words count
+IsFormRefused stage methods words NoMemory = Unit {0}

@@ -4,33 +4,33 @@ use Rattle.std.specs.Cmp.Lexicographic.{pointwise}
 use Rattle.std.specs.List.{AllByRecursion}
 use Rattle.rd_base.specs.Names.{IsName}
 use Rattle.rd_ecl.specs.Variables.{IsVariable}
-use Rattle.rd_grammar.specs.Grammar.{Tree, Says, disj}
-use Rattle.rd_grammar.specs.declared.parsed.ParseRefused.{ParseRefused}
-use Rattle.rd_grammar.specs.declared.parsed.ParseRefused.TheVariants.{Syntax, NoMemory}
+use Rattle.rd_grammar.specs.Grammar.{ParsedTree, MarksSay, disj}
+use Rattle.rd_grammar.specs.declared.parsed.MarksRefused.{MarksRefused}
+use Rattle.rd_grammar.specs.declared.parsed.MarksRefused.TheVariants.{Syntax, NoMemory}
 use Rattle.rd_grammar.specs.declared.marks.Mark.{Mark}
 use Rattle.rd_lines.specs.declared.forms.FormRefused.{FormRefused}
 use Rattle.rd_lines.specs.declared.forms.FormRefused.TheVariants.{Syntax as SyntaxOfLine, NoMemory as NoMemoryForLine}
 use Rattle.rd_lines.specs.declared.forms.Stage.{Stage}
 use Rattle.rd_lines.specs.declared.forms.Stage.TheVariants.{Outside, Methods}
-use Rattle.rd_lines.specs.declared.lines.Head.{Head}
-use Rattle.rd_lines.specs.declared.lines.Head.TheVariants.{Kind, Method, Commute}
-use Rattle.rd_lines.specs.Lines.{Word, plain, words_of, AreMarksFrom, IsOutOfOrder, IsWrongBehind}
+use Rattle.rd_lines.specs.declared.spec_lines.Head.{Head}
+use Rattle.rd_lines.specs.declared.spec_lines.Head.TheVariants.{Kind, Method, Commute}
+use Rattle.rd_lines.specs.Lines.{LineWord, plain, words_of, AreMarksFrom, IsOutOfOrder, IsWrongBehind}
 use Rattle.rd_tokens.specs.declared.sorts.Token.{Token}
 
 -- the word begins no right line
-pub record BeginsNothing (stage : Stage) (word : Word) : Type 0 where
+pub record BeginsNothing (stage : Stage) (word : LineWord) : Type 0 where
   pub no_kind : word ≢ plain (codes "kind")
   pub no_method : stage ≡ Methods → word ≢ plain (codes "method")
   pub no_commute : stage ≢ Outside → word ≢ plain (codes "commute")
 
 -- the word begins such a line, which may stand at the stage
-abbrev pub BeginsLine : Stage → Word → Head → Type 0
+abbrev pub BeginsLine : Stage → LineWord → Head → Type 0
 BeginsLine stage word Kind = word ≡ plain (codes "kind")
 BeginsLine stage word Method = (stage ≡ Methods) × (word ≡ plain (codes "method"))
 BeginsLine stage word Commute = (stage ≢ Outside) × (word ≡ plain (codes "commute"))
 
 -- the first word is no variable
-abbrev pub BeginsNoVariable : List Word → Type 0
+abbrev pub BeginsNoVariable : List LineWord → Type 0
 BeginsNoVariable [] = Unit {0}
 BeginsNoVariable (word ∷ words) = (name : List ℕ) → IsVariable name → word ≢ plain name
 
@@ -41,28 +41,28 @@ pub record AreInFront (line : List ℕ) (tokens behind : List Token) (names : Li
   pub ends : BeginsNoVariable (words_of line behind)
 
 -- what stands behind a method's arguments
-pub record SaysResult (words : List Word) (result : List ℕ) : Type 0 where
+pub record SaysResult (words : List LineWord) (result : List ℕ) : Type 0 where
   pub is : IsVariable result
   pub written : words ≡ plain (codes "->") ∷ plain result ∷ []
 
 -- what stands behind `when`
-pub record SaysFormula (words : List Word) (formula : Tree) : Type 0 where
+pub record WordsSayFormula (words : List LineWord) (formula : ParsedTree) : Type 0 where
   pub marks : List Mark
   pub marked : AreMarksFrom 0 words marks
-  pub says : Says disj marks formula
+  pub says : MarksSay disj marks formula
 
 -- what a refusal says of what stands behind `when`
-abbrev pub IsFormulaRefused : List Word → ParseRefused → Type 0
-IsFormulaRefused words (Syntax count) = IsWrongBehind SaysFormula words count
-IsFormulaRefused words NoMemory = Unit {0}
+abbrev pub IsRefusedBehindWhen : List LineWord → MarksRefused → Type 0
+IsRefusedBehindWhen words (Syntax count) = IsWrongBehind WordsSayFormula words count
+IsRefusedBehindWhen words NoMemory = Unit {0}
 
 -- the number of words before the first wrong one
-abbrev pub count_of : ParseRefused → ℕ
+abbrev pub count_of : MarksRefused → ℕ
 count_of (Syntax count) = count
 count_of NoMemory = 0
 
 -- the same refusal, of the words behind `when`, as one of the line
-abbrev pub behind_when : ParseRefused → FormRefused
+abbrev pub behind_when : MarksRefused → FormRefused
 behind_when (Syntax count) = SyntaxOfLine (4 + count)
 behind_when NoMemory = NoMemoryForLine
 

@@ -3,10 +3,10 @@ ghost use Rattle.std.specs.Prelude.{◌≢◌, ◌∷◌, ℕ, List, All, IfOk, 
 ghost use Rattle.rd_tokens.specs.Tokens.{LiesIn};
 ghost use Rattle.rd_lines.specs.declared.forms.FormRefused.TheVariants.{NoMemory as MemoryRefused};
 ghost use Rattle.rd_lines.specs.declared.forms.Stage.{Stage};
-ghost use Rattle.rd_lines.specs.Lines.{IsRefused, RightLine, plain, said_of, words_of};
+ghost use Rattle.rd_lines.specs.Lines.{IsFormRefused, RightLine, plain, said_of, words_of};
 
 use crate::forms::{Form, FormRefused};
-use crate::words::name_of;
+use crate::words::token_name;
 use rd_tokens::Token;
 
 // What a line with these tokens behind `kind` says. It takes no memory.
@@ -16,13 +16,13 @@ pub(crate) fn read_kind(line: &[u8], tokens: &[Token]) -> Result<Form, FormRefus
         → RightLine stage methods (plain (codes "kind") ∷ words_of line.now tokens.now)
         (said_of form)) }
     ensures refused { IfErr result (λ refused. (stage : Stage) (methods : List (List ℕ))
-        → IsRefused stage methods (plain (codes "kind") ∷ words_of line.now tokens.now) refused) }
+        → IsFormRefused stage methods (plain (codes "kind") ∷ words_of line.now tokens.now) refused) }
     ensures memory { IfErr result (λ refused. refused ≢ MemoryRefused) }
 {
     let Some((second, rest)) = tokens.split_first() else {
         return Err(FormRefused::Syntax(1));
     };
-    let Some(name) = name_of(line, second) else {
+    let Some(name) = token_name(line, second) else {
         return Err(FormRefused::Syntax(1));
     };
     if !rest.is_empty() {

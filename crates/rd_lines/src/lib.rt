@@ -8,12 +8,12 @@
 mod forms;
 mod kinds;
 mod laws;
-mod lines;
 mod methods;
 mod order;
 mod pairs;
+mod spec_lines;
 mod words;
 
 pub use forms::{Form, FormRefused, Stage};
 pub use laws::law_of_lines;
-pub use lines::read_form;
+pub use spec_lines::read_form;

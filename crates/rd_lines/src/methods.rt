@@ -2,11 +2,11 @@
 ghost use Rattle.std.specs.Prelude.{◌≡◌, ◌≤◌, ◌<◌, ◌+◌, ◌^◌, ◌∷◌, ℕ, List, All, IfOk, IfErr, codes, length};
 ghost use Rattle.rd_tokens.specs.Tokens.{LiesIn};
 ghost use Rattle.rd_lines.specs.declared.forms.Stage.TheVariants.{Methods};
-ghost use Rattle.rd_lines.specs.Lines.{IsRefused, IsWrongBehind, RightLine, plain, said_of, words_of};
+ghost use Rattle.rd_lines.specs.Lines.{IsFormRefused, IsWrongBehind, RightLine, plain, said_of, words_of};
 ghost use Rattle.rd_lines.specs.Reading.{AreInFront, SaysResult};
 
 use crate::forms::{Form, FormRefused};
-use crate::words::{is, name_of, variable_of};
+use crate::words::{token_is, token_name, variable_of};
 use rd_base::{Name, NoMemory};
 use rd_ecl::Names;
 use rd_tokens::Token;
@@ -43,7 +43,7 @@ fn read_result(line: &[u8], tokens: &[Token]) -> Result<Name, u32>
     let Some((first, behind)) = tokens.split_first() else {
         return Err(0);
     };
-    if !is(line, first, "->") {
+    if !token_is(line, first, "->") {
         return Err(0);
     }
     let Some((second, rest)) = behind.split_first() else {
@@ -66,13 +66,13 @@ pub(crate) fn read_method(alloc: Global, line: &[u8], tokens: &[Token]) -> Resul
         → RightLine Methods methods (plain (codes "method") ∷ words_of line.now tokens.now)
         (said_of form)) }
     ensures refused { IfErr result (λ refused. (methods : List (List ℕ))
-        → IsRefused Methods methods
+        → IsFormRefused Methods methods
         (plain (codes "method") ∷ words_of line.now tokens.now) refused) }
 {
     let Some((second, rest)) = tokens.split_first() else {
         return Err(FormRefused::Syntax(1));
     };
-    let Some(name) = name_of(line, second) else {
+    let Some(name) = token_name(line, second) else {
         return Err(FormRefused::Syntax(1));
     };
     let (arguments, behind) = read_arguments(alloc, line, rest)?;

@@ -2,18 +2,18 @@
 ghost use Rattle.std.specs.Prelude.{◌≡◌, ◌≢◌, ◌≤◌, ◌∷◌, ℕ, List, All, IfOk, IfErr, codes, length};
 ghost use Rattle.rd_ecl.specs.Specified.{names_of};
 ghost use Rattle.rd_tokens.specs.Tokens.{LiesIn};
-ghost use Rattle.rd_grammar.specs.Grammar.{tree_of};
+ghost use Rattle.rd_grammar.specs.Grammar.{parsed_tree};
 ghost use Rattle.rd_lines.specs.declared.forms.Stage.{Stage};
 ghost use Rattle.rd_lines.specs.declared.forms.Stage.TheVariants.{Outside};
-ghost use Rattle.rd_lines.specs.Lines.{IsRefused, IsShort, RightLine, plain, said_of, words_of};
-ghost use Rattle.rd_lines.specs.Reading.{IsFormulaRefused, IsPairInFront, SaysFormula, behind_when, count_of};
+ghost use Rattle.rd_lines.specs.Lines.{IsFormRefused, HasFewWords, RightLine, plain, said_of, words_of};
+ghost use Rattle.rd_lines.specs.Reading.{IsRefusedBehindWhen, IsPairInFront, WordsSayFormula, behind_when, count_of};
 
 use crate::forms::{Form, FormRefused};
 use crate::order::is_out_of_order;
-use crate::words::{is, name_of};
+use crate::words::{token_is, token_name};
 use rd_base::{MOST_TOKENS, Name};
 use rd_ecl::Method;
-use rd_grammar::{ParseRefused, Parsed, parse_formula};
+use rd_grammar::{MarksRefused, Parsed, parse_formula};
 use rd_tokens::{Token, marks};
 use std::alloc::Global;
 
@@ -29,19 +29,19 @@ fn read_pair<'a>(
         (names_of methods.now) line.now tokens.now read.2.now read.0 read.1) }
     ensures within { IfOk result (λ read. All (LiesIn line.now) read.2.now) }
     ensures refused { IfErr result (λ refused. (stage : Stage) → stage ≢ Outside
-        → IsRefused stage (names_of methods.now)
+        → IsFormRefused stage (names_of methods.now)
         (plain (codes "commute") ∷ words_of line.now tokens.now) refused) }
 {
     let Some((second, behind)) = tokens.split_first() else {
         return Err(FormRefused::Syntax(1));
     };
-    let Some(one) = name_of(line, second) else {
+    let Some(one) = token_name(line, second) else {
         return Err(FormRefused::Syntax(1));
     };
     let Some((third, rest)) = behind.split_first() else {
         return Err(FormRefused::Syntax(2));
     };
-    let Some(other) = name_of(line, third) else {
+    let Some(other) = token_name(line, third) else {
         return Err(FormRefused::Syntax(2));
     };
     if is_out_of_order(methods, &one, &other) {
@@ -50,19 +50,19 @@ fn read_pair<'a>(
     let Some((fourth, formula)) = rest.split_first() else {
         return Err(FormRefused::Syntax(3));
     };
-    if !is(line, fourth, "when") {
+    if !token_is(line, fourth, "when") {
         return Err(FormRefused::Syntax(3));
     }
     Ok((one, other, formula))
 }
 
 // The formula that the tokens say.
-fn read_formula(alloc: Global, line: &[u8], tokens: &[Token]) -> Result<Parsed, ParseRefused>
+fn read_formula(alloc: Global, line: &[u8], tokens: &[Token]) -> Result<Parsed, MarksRefused>
     requires within { All (LiesIn line.now) tokens.now }
     requires few { length tokens.now ≤ MOST_TOKENS }
     ensures ok { IfOk result
-        (λ parsed. SaysFormula (words_of line.now tokens.now) (tree_of parsed)) }
-    ensures refused { IfErr result (IsFormulaRefused (words_of line.now tokens.now)) }
+        (λ parsed. WordsSayFormula (words_of line.now tokens.now) (parsed_tree parsed)) }
+    ensures refused { IfErr result (IsRefusedBehindWhen (words_of line.now tokens.now)) }
     ensures bound { IfErr result (λ refused. count_of refused ≤ MOST_TOKENS) }
 {
     let marks = marks(alloc, line, tokens)?;
@@ -70,13 +70,13 @@ fn read_formula(alloc: Global, line: &[u8], tokens: &[Token]) -> Result<Parsed, 
 }
 
 // The refusal of what stands behind `when`, as one of the line.
-fn behind_when(refused: ParseRefused) -> FormRefused
+fn behind_when(refused: MarksRefused) -> FormRefused
     requires { count_of refused ≤ MOST_TOKENS }
     ensures { result ≡ behind_when refused }
 {
     match refused {
-        ParseRefused::Syntax(count) => FormRefused::Syntax(4 + count),
-        ParseRefused::NoMemory => FormRefused::NoMemory,
+        MarksRefused::Syntax(count) => FormRefused::Syntax(4 + count),
+        MarksRefused::NoMemory => FormRefused::NoMemory,
     }
 }
 
@@ -88,12 +88,12 @@ pub(crate) fn read_commute(
     tokens: &[Token],
 ) -> Result<Form, FormRefused>
     requires within { All (LiesIn line.now) tokens.now }
-    requires short { IsShort (plain (codes "commute") ∷ words_of line.now tokens.now) }
+    requires short { HasFewWords (plain (codes "commute") ∷ words_of line.now tokens.now) }
     ensures ok { IfOk result (λ form. (stage : Stage) → stage ≢ Outside
         → RightLine stage (names_of methods.now)
         (plain (codes "commute") ∷ words_of line.now tokens.now) (said_of form)) }
     ensures refused { IfErr result (λ refused. (stage : Stage) → stage ≢ Outside
-        → IsRefused stage (names_of methods.now)
+        → IsFormRefused stage (names_of methods.now)
         (plain (codes "commute") ∷ words_of line.now tokens.now) refused) }
 {
     let (first, second, behind) = read_pair(methods, line, tokens)?;

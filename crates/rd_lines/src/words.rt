@@ -21,7 +21,7 @@ fn plain_bytes<'a>(line: &'a [u8], token: &Token) -> Option<&'a [u8]>
 }
 
 // Is the token this word?
-pub(crate) fn is(line: &[u8], token: &Token, word: &str) -> bool
+pub(crate) fn token_is(line: &[u8], token: &Token, word: &str) -> bool
     requires { LiesIn line.now token.now }
     ensures { IsTrue result ↔ (word_at line.now token.now ≡ plain word.now) }
 {
@@ -32,7 +32,7 @@ pub(crate) fn is(line: &[u8], token: &Token, word: &str) -> bool
 }
 
 // The name that the token is.
-pub(crate) fn name_of(line: &[u8], token: &Token) -> Option<Name>
+pub(crate) fn token_name(line: &[u8], token: &Token) -> Option<Name>
     requires { LiesIn line.now token.now }
     ensures some { IfSome result (λ name. word_at line.now token.now ≡ plain name) }
     ensures named { IfSome result IsName }

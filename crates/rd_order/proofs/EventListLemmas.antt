@@ -11,7 +11,7 @@ use Rattle.rd_event.specs.declared.events.Event.TheVariants.{Fork, Join, Acquire
 use Rattle.rd_order.specs.Counts.{Counts}
 use Rattle.rd_order.specs.Order.{forked_thread, Hold, exclusive, Against}
 use Rattle.rd_order.specs.OrderTests.{is_this}
-use Rattle.rd_order.specs.EventLists.{calls, forks, givings, joins, takings, Known, MayHappen, Follow, IsBounded, WellFormed}
+use Rattle.rd_order.specs.EventLists.{calls, forks, givings, joins, takings, IsKnownThread, MayHappen, Follow, IsBounded, WellFormed}
 use Rattle.rd_order.proofs.CountsLemmas.{counts_all, counts_below, counts_within}
 
 -- ---- places
@@ -47,7 +47,7 @@ may_follow_at roots es j e formed at = each_from roots [] es formed.follow j e a
 -- ---- bounds
 
 -- a thread is known or not
-pub known_cases : (roots : ℕ → Bool) (es : List Event) (t : ℕ) → Known roots es t ⊎ ¬ (Known roots es t)
+pub known_cases : (roots : ℕ → Bool) (es : List Event) (t : ℕ) → IsKnownThread roots es t ⊎ ¬ (IsKnownThread roots es t)
 known_cases roots es t = elim (cases_Bool (roots t)) [
   | inl root ↦ inl (inl root)
   | inr no_root ↦ elim (cases_lt 0 (forks es t)) [
@@ -61,7 +61,7 @@ unfolding forks
 forks_more es e t = sum_by_push (λ x. if is_this (forked_thread x) t then 1 else 0) es e
 
 -- a thread that was known is known with one event more
-pub known_more : (roots : ℕ → Bool) (es : List Event) (e : Event) (t : ℕ) → Known roots es t → Known roots (es ++ e ∷ []) t
+pub known_more : (roots : ℕ → Bool) (es : List Event) (e : Event) (t : ℕ) → IsKnownThread roots es t → IsKnownThread roots (es ++ e ∷ []) t
 known_more roots es e t (inl root) = inl root
 known_more roots es e t (inr begun) = inr (omega (arith, begun, forks_more es e t))
 
@@ -69,19 +69,19 @@ known_more roots es e t (inr begun) = inr (omega (arith, begun, forks_more es e 
 pub bounded_shorter : (roots : ℕ → Bool) (es : List Event) (e : Event) → IsBounded roots (es ++ e ∷ []) → IsBounded roots es
 bounded_shorter roots es e bounded = record {
   few_events = omega (arith, length-append es (e ∷ []), bounded.few_events);
-  few_threads = λ n c. counts_within (Known roots es) (Known roots (es ++ e ∷ [])) n c 4294967295 (known_cases roots (es ++ e ∷ [])) (known_more roots es e)
+  few_threads = λ n c. counts_within (IsKnownThread roots es) (IsKnownThread roots (es ++ e ∷ [])) n c 4294967295 (known_cases roots (es ++ e ∷ [])) (known_more roots es e)
       (bounded.few_threads n);
 }
 
 -- where the known threads are those below a number that fits, they are few
-pub few_known : (roots : ℕ → Bool) (es : List Event) (total : ℕ) → total ≤ 4294967295 → ((t : ℕ) → Known roots es t ↔ (t < total))
-    → (n c : ℕ) → Counts (Known roots es) n c → c ≤ 4294967295
-few_known roots es total fits known n c a = omega (arith, fits, counts_below (Known roots es) total n c (λ t. (known t).0) a)
+pub few_known : (roots : ℕ → Bool) (es : List Event) (total : ℕ) → total ≤ 4294967295 → ((t : ℕ) → IsKnownThread roots es t ↔ (t < total))
+    → (n c : ℕ) → Counts (IsKnownThread roots es) n c → c ≤ 4294967295
+few_known roots es total fits known n c a = omega (arith, fits, counts_below (IsKnownThread roots es) total n c (λ t. (known t).0) a)
 
 -- and where all below a number that doesn't are known, they aren't
-pub many_known : (roots : ℕ → Bool) (es : List Event) (total : ℕ) → 4294967295 < total → ((t : ℕ) → t < total → Known roots es t) → ¬ (IsBounded roots es)
+pub many_known : (roots : ℕ → Bool) (es : List Event) (total : ℕ) → 4294967295 < total → ((t : ℕ) → t < total → IsKnownThread roots es t) → ¬ (IsBounded roots es)
 many_known roots es total many known bounded =
-    omega (arith, many, bounded.few_threads total total (counts_all (Known roots es) total known))
+    omega (arith, many, bounded.few_threads total total (counts_all (IsKnownThread roots es) total known))
 
 -- ---- one event more
 
@@ -138,16 +138,16 @@ some_counted test (x ∷ es) some = elim (cases_Bool (test x)) [
 ]
 
 -- a thread that was known is known
-pub known_later : (roots : ℕ → Bool) (es : List Event) (j t : ℕ) → Known roots (take j es) t → Known roots es t
+pub known_later : (roots : ℕ → Bool) (es : List Event) (j t : ℕ) → IsKnownThread roots (take j es) t → IsKnownThread roots es t
 unfolding forks
 known_later roots es j t (inl root) = inl root
 known_later roots es j t (inr forked_before) = inr (omega (arith, sum_by-take-le (λ e. cond (is_this (forked_thread e) t) 1 0) es j, forked_before))
 
 -- ---- events that take and give back no hold
 
-pub may_fork : (roots : ℕ → Bool) (before : List Event) (t u : ℕ) → ¬ (Known roots before u) → Known roots before t → joins before t ≡ 0 → MayHappen roots before (Fork t u)
+pub may_fork : (roots : ℕ → Bool) (before : List Event) (t u : ℕ) → ¬ (IsKnownThread roots before u) → IsKnownThread roots before t → joins before t ≡ 0 → MayHappen roots before (Fork t u)
 may_fork roots before t u fresh known running = record {
-  fresh = λ v is known_v. fresh (subst (Known roots before) (sym (same_Some u v is)) known_v);
+  fresh = λ v is known_v. fresh (subst (IsKnownThread roots before) (sym (same_Some u v is)) known_v);
   known_actor = known;
   known_joined = λ v is. absurd (none-some v is);
   running = running;
@@ -157,11 +157,11 @@ may_fork roots before t u fresh known running = record {
   one_kind = λ call is. absurd (none-some call is);
 }
 
-pub may_join : (roots : ℕ → Bool) (before : List Event) (t u : ℕ) → Known roots before u → u ≢ t → Known roots before t → joins before t ≡ 0 → MayHappen roots before (Join t u)
+pub may_join : (roots : ℕ → Bool) (before : List Event) (t u : ℕ) → IsKnownThread roots before u → u ≢ t → IsKnownThread roots before t → joins before t ≡ 0 → MayHappen roots before (Join t u)
 may_join roots before t u known_u other known running = record {
   fresh = λ v is. absurd (none-some v is);
   known_actor = known;
-  known_joined = λ v is. subst (Known roots before) (same_Some u v is) known_u;
+  known_joined = λ v is. subst (IsKnownThread roots before) (same_Some u v is) known_u;
   running = running;
   other_joined = λ v is. subst (λ w. w ≢ t) (same_Some u v is) other;
   free = λ h k is. absurd (none-some h is);
@@ -169,7 +169,7 @@ may_join roots before t u known_u other known running = record {
   one_kind = λ call is. absurd (none-some call is);
 }
 
-pub may_call : (roots : ℕ → Bool) (before : List Event) (call : CallOf) → Known roots before call.thread → joins before call.thread ≡ 0
+pub may_call : (roots : ℕ → Bool) (before : List Event) (call : CallOf) → IsKnownThread roots before call.thread → joins before call.thread ≡ 0
     → ((kind : ℕ) → kind ≢ call.kind → calls before call.object kind ≡ 0) → MayHappen roots before (Call call)
 may_call roots before call known running one_kind = record {
   fresh = λ v is. absurd (none-some v is);
@@ -188,7 +188,7 @@ may_call roots before call known running one_kind = record {
 unfoldable pub lock_in : Hold → ℕ
 lock_in (exclusive lock) = lock
 
-pub may_acquire : (roots : ℕ → Bool) (before : List Event) (t lock : ℕ) → Known roots before t → joins before t ≡ 0
+pub may_acquire : (roots : ℕ → Bool) (before : List Event) (t lock : ℕ) → IsKnownThread roots before t → joins before t ≡ 0
     → ((u : ℕ) → u ≢ t → takings before u (exclusive lock) ≡ givings before u (exclusive lock)) → MayHappen roots before (Acquire t lock)
 unfolding lock_in
 may_acquire roots before t lock known running others = record {
@@ -206,7 +206,7 @@ may_acquire roots before t lock known running others = record {
     free (exclusive a) (exclusive b) is against u other =
         subst (λ m. takings before u (exclusive m) ≡ givings before u (exclusive m)) (ap lock_in (same_Some (exclusive lock) (exclusive a) is) ∙ against) (others u other)
 
-pub may_release : (roots : ℕ → Bool) (before : List Event) (t lock : ℕ) → Known roots before t → joins before t ≡ 0
+pub may_release : (roots : ℕ → Bool) (before : List Event) (t lock : ℕ) → IsKnownThread roots before t → joins before t ≡ 0
     → givings before t (exclusive lock) < takings before t (exclusive lock) → MayHappen roots before (Release t lock)
 may_release roots before t lock known running has = record {
   fresh = λ v is. absurd (none-some v is);

@@ -6,7 +6,7 @@ use Rattle.std.proofs.lemmas.Bool.Decides.{Decides-and, Decides-or, Decides-eqb,
 use Rattle.rd_event.specs.declared.events.Event.{Event}
 use Rattle.rd_order.specs.Order.{thread_of, forked_thread, joined_thread}
 use Rattle.rd_order.specs.OrderTests.{is_this}
-use Rattle.rd_order.specs.EventLists.{acts, forks, joins, Known, MayHappen, WellFormed, implied_roots}
+use Rattle.rd_order.specs.EventLists.{acts, forks, joins, IsKnownThread, MayHappen, WellFormed, implied_roots}
 use Rattle.rd_order.proofs.CountsLemmas.{counts_within}
 use Rattle.rd_order.proofs.EventListLemmas.{counted_once, formed_by_places, known_cases, known_later, may_follow_at, some_counted}
 use Rattle.rd_order.proofs.OrderLemmas.{this_decides}
@@ -36,14 +36,14 @@ root_unforked roots es t formed root = elim (cases_lt 0 (forks es t)) [
 ]
 
 -- who acts or is joined is known
-acting_known : (roots : ℕ → Bool) (es : List Event) (t : ℕ) → WellFormed roots es → 0 < acts es t → Known roots es t
+acting_known : (roots : ℕ → Bool) (es : List Event) (t : ℕ) → WellFormed roots es → 0 < acts es t → IsKnownThread roots es t
 unfolding acts
 acting_known roots es t formed some =
     let x = some_counted (λ e. thread_of e == t) es some in
     known_later roots es x.0 t
-    (subst (Known roots (take x.0 es)) ((Decides-eqb (thread_of x.1) t).0 x.3) (may_follow_at roots es x.0 x.1 formed x.2).known_actor)
+    (subst (IsKnownThread roots (take x.0 es)) ((Decides-eqb (thread_of x.1) t).0 x.3) (may_follow_at roots es x.0 x.1 formed x.2).known_actor)
 
-joined_known : (roots : ℕ → Bool) (es : List Event) (t : ℕ) → WellFormed roots es → 0 < joins es t → Known roots es t
+joined_known : (roots : ℕ → Bool) (es : List Event) (t : ℕ) → WellFormed roots es → 0 < joins es t → IsKnownThread roots es t
 unfolding joins
 joined_known roots es t formed some =
     let x = some_counted (λ e. is_this (joined_thread e) t) es some in
@@ -57,12 +57,12 @@ implied_decides es t = Decides-and _ _ (Decides-or _ _ (Decides-ltb 0 (acts es t
 
 -- who is known, and acts or is joined, is known by the implied roots
 known_by_implied : (roots : ℕ → Bool) (es : List Event) (j t : ℕ) → WellFormed roots es → (0 < acts es t) ⊎ (0 < joins es t)
-    → Known roots (take j es) t → Known (implied_roots es) (take j es) t
+    → IsKnownThread roots (take j es) t → IsKnownThread (implied_roots es) (take j es) t
 known_by_implied roots es j t formed does (inl root) = inl ((implied_decides es t).1 (does, root_unforked roots es t formed root))
 known_by_implied roots es j t formed does (inr begun) = inr begun
 
 -- who is known by the implied roots is known
-implied_known : (roots : ℕ → Bool) (es : List Event) (t : ℕ) → WellFormed roots es → Known (implied_roots es) es t → Known roots es t
+implied_known : (roots : ℕ → Bool) (es : List Event) (t : ℕ) → WellFormed roots es → IsKnownThread (implied_roots es) es t → IsKnownThread roots es t
 implied_known roots es t formed (inl root) = elim ((implied_decides es t).0 root).0 [
   | inl act ↦ acting_known roots es t formed act
   | inr join ↦ joined_known roots es t formed join
@@ -91,7 +91,7 @@ formed_by_implied roots es formed = (formed_by_places (implied_roots es) es).1 (
   λ j e at. may_by_implied roots es j e formed at,
   record {
     few_events = formed.bounded.few_events;
-    few_threads = λ n c. counts_within (Known (implied_roots es) es) (Known roots es) n c 4294967295 (known_cases roots es)
+    few_threads = λ n c. counts_within (IsKnownThread (implied_roots es) es) (IsKnownThread roots es) n c 4294967295 (known_cases roots es)
         (λ t. implied_known roots es t formed) (formed.bounded.few_threads n);
   },
 )

@@ -10,7 +10,7 @@ use Rattle.rd_order.proofs.CountsLemmas.{counts_below}
 use Rattle.rd_order.proofs.OrderLemmas.{this_decides}
 use Rattle.rd_order.specs.Order.{forked_thread}
 use Rattle.rd_order.specs.OrderTests.{is_this}
-use Rattle.rd_order.specs.EventLists.{forks, IsBounded, Known, threads_after}
+use Rattle.rd_order.specs.EventLists.{forks, IsBounded, IsKnownThread, threads_after}
 use Rattle.rd_order.specs.TestLists.{one_root, two_roots, NextNumbers}
 
 -- ---- bounds
@@ -35,10 +35,10 @@ pub few_by_numbers : (roots : ℕ → Bool) (threads : ℕ) (es : List Event) �
     → threads + length es ≤ 4294967294 → IsBounded roots es
 few_by_numbers roots threads es below numbered few = record {
   few_events = omega (arith, few);
-  few_threads = λ n c a. omega (arith, few, counts_below (Known roots es) (threads + length es) n c each a);
+  few_threads = λ n c a. omega (arith, few, counts_below (IsKnownThread roots es) (threads + length es) n c each a);
 }
   where
-    each : (t : ℕ) → Known roots es t → t < threads + length es
+    each : (t : ℕ) → IsKnownThread roots es t → t < threads + length es
     each t (inl root) = omega (arith, below t root)
     each t (inr begun) = begun_below threads es t numbered begun
 
@@ -54,10 +54,10 @@ two_below t root = grind (arith, nat_tests)
 abbrev pub numbered_call : ℕ → CallOf
 numbered_call thread = record { thread = thread; object = thread; kind = 0; method = 0; slots = [] }
 
-pub new_to_one : (before : List Event) (t : ℕ) → 0 < t → forks before t ≡ 0 → ¬ (Known one_root before t)
+pub new_to_one : (before : List Event) (t : ℕ) → 0 < t → forks before t ≡ 0 → ¬ (IsKnownThread one_root before t)
 new_to_one before t other none (inl root) = grind (arith, nat_tests)
 new_to_one before t other none (inr begun) = omega arith
 
-pub new_to_two : (before : List Event) (t : ℕ) → 1 < t → forks before t ≡ 0 → ¬ (Known two_roots before t)
+pub new_to_two : (before : List Event) (t : ℕ) → 1 < t → forks before t ≡ 0 → ¬ (IsKnownThread two_roots before t)
 new_to_two before t other none (inl root) = grind (arith, nat_tests)
 new_to_two before t other none (inr begun) = omega arith

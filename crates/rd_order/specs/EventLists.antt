@@ -1,6 +1,6 @@
 -- Well-formed lists of events: this project's profile. Which threads no event begins is told by a test, `roots`.
 use Rattle.std.specs.Prelude.{◌≡◌, ◌≢◌, ◌⊎◌, ℕ, ◌<◌, ◌≤◌, ◌==◌, nat_lt, Bool, false, ◌+◌, ◌&&◌, ◌||◌, if◌then◌else◌, List, [], ◌∷◌, ◌++◌, length, Option, Some, None, is_some, IsTrue, IfSome, All, count_by}
-use Rattle.rd_ecl.specs.Kinds.{Kind, methods_at, slots_at}
+use Rattle.rd_ecl.specs.Kinds.{Kind, methods_at, kind_slots_at}
 use Rattle.rd_event.specs.declared.events.Call.{Call as CallOf}
 use Rattle.rd_event.specs.declared.events.Event.{Event}
 use Rattle.rd_order.specs.Counts.{Counts}
@@ -42,16 +42,16 @@ calls es object kind = count_by (λ e. is_call_on (call_in e) object kind) es
 -- ---- which event may follow
 
 -- the thread is a root or was forked
-abbrev pub Known : (ℕ → Bool) → List Event → ℕ → Type 0
-Known roots before t = IsTrue (roots t) ⊎ (0 < forks before t)
+abbrev pub IsKnownThread : (ℕ → Bool) → List Event → ℕ → Type 0
+IsKnownThread roots before t = IsTrue (roots t) ⊎ (0 < forks before t)
 
 -- what each event has to meet after the events before it
 pub record MayHappen (roots : ℕ → Bool) (before : List Event) (e : Event) : Type 0 where
   -- a forked thread is new
-  pub fresh : (u : ℕ) → forked_thread e ≡ Some u → ¬ (Known roots before u)
+  pub fresh : (u : ℕ) → forked_thread e ≡ Some u → ¬ (IsKnownThread roots before u)
   -- the acting thread is known, and so is the joined one
-  pub known_actor : Known roots before (thread_of e)
-  pub known_joined : (u : ℕ) → joined_thread e ≡ Some u → Known roots before u
+  pub known_actor : IsKnownThread roots before (thread_of e)
+  pub known_joined : (u : ℕ) → joined_thread e ≡ Some u → IsKnownThread roots before u
   -- the acting thread was not joined
   pub running : joins before (thread_of e) ≡ 0
   -- no thread joins itself
@@ -74,7 +74,7 @@ Follow roots before (e ∷ es) = MayHappen roots before e × Follow roots (befor
 pub record IsBounded (roots : ℕ → Bool) (es : List Event) : Type 0 where
   pub few_events : length es ≤ 4294967294
   -- of the numbers below n, so many are of known threads
-  pub few_threads : (n c : ℕ) → Counts (Known roots es) n c → c ≤ 4294967295
+  pub few_threads : (n c : ℕ) → Counts (IsKnownThread roots es) n c → c ≤ 4294967295
 
 -- each event of the list may follow those in front of it, within the bounds
 pub record WellFormed (roots : ℕ → Bool) (es : List Event) : Type 0 where
@@ -85,7 +85,7 @@ pub record WellFormed (roots : ℕ → Bool) (es : List Event) : Type 0 where
 pub record IsCallOf (kinds : List Kind) (call : CallOf) : Type 0 where
   pub kind : call.kind < length kinds
   pub method : call.method < length (methods_at kinds call.kind)
-  pub slots : length call.slots ≡ slots_at (methods_at kinds call.kind) call.method
+  pub slots : length call.slots ≡ kind_slots_at (methods_at kinds call.kind) call.method
 
 -- a well-formed list whose calls are of the kinds of a specification
 pub record WellFormedWith (kinds : List Kind) (roots : ℕ → Bool) (es : List Event) : Type 0 where

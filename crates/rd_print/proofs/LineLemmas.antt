@@ -3,59 +3,59 @@ use Rattle.std.proofs.Common.{◌≡◌, ℕ, ◌-◌, List, [], ◌∷◌, ◌+
 use Rattle.std.specs.List.{range_with_len}
 use Rattle.std.proofs.lemmas.Grind.{flat_map-append}
 use Rattle.std.proofs.lemmas.List.Folds.{flat_map-map}
-use Rattle.rd_print.specs.Canonical.{plain}
+use Rattle.rd_print.specs.Canonical.{plain_word}
 use Rattle.rd_ecl.specs.declared.kinds.Method.{Method}
 use Rattle.rd_ecl.specs.Specified.{SpecifiedKind}
-use Rattle.rd_print.specs.Text.{text_of}
+use Rattle.rd_print.specs.Text.{words_text}
 use Rattle.rd_print.specs.Printed.{block_lines, block_text, commute_words, kind_words, line_text, method_words, pairs_of, slot_words, spec_text}
-use Rattle.rd_print.specs.Writing.{methods_text, pairs_text, spaced}
+use Rattle.rd_print.specs.Writing.{methods_text, pairs_text, spaced_text}
 use Rattle.rd_print.proofs.JoinLemmas.{flat_of_flat, flat_same}
 
 -- arguments, each behind a space
 abbrev pub arguments_text : List (List ℕ) → List ℕ
 arguments_text arguments = flat_map (λ name. codes " " ++ name) arguments
 
-argument_first : (argument last : List ℕ) (more : List (List ℕ)) → slot_words (argument ∷ more ++ last ∷ []) ≡ plain argument ∷ slot_words (more ++ last ∷ [])
+argument_first : (argument last : List ℕ) (more : List (List ℕ)) → slot_words (argument ∷ more ++ last ∷ []) ≡ plain_word argument ∷ slot_words (more ++ last ∷ [])
 argument_first argument last [] = refl
 argument_first argument last (next ∷ more) = refl
 
-pub slots_text : (arguments : List (List ℕ)) (last : List ℕ) → spaced (slot_words (arguments ++ last ∷ [])) ≡ arguments_text arguments ++ (codes " -> " ++ last)
+pub slots_text : (arguments : List (List ℕ)) (last : List ℕ) → spaced_text (slot_words (arguments ++ last ∷ [])) ≡ arguments_text arguments ++ (codes " -> " ++ last)
 slots_text [] last = ap (λ (xs : List ℕ). codes " -> " ++ xs) (append-nil last)
 slots_text (argument ∷ more) last =
-    ap spaced (argument_first argument last more)
+    ap spaced_text (argument_first argument last more)
     ∙ ap (λ (xs : List ℕ). (codes " " ++ argument) ++ xs) (slots_text more last)
     ∙ sym (append_assoc (codes " " ++ argument) (arguments_text more) (codes " -> " ++ last))
 
 -- what is written of variables: the arguments, then the result
 pub slots_by : (before text new : List ℕ) (variables arguments : List (List ℕ)) (last : List ℕ) → variables ≡ arguments ++ last ∷ []
-    → text ≡ before ++ arguments_text arguments → new ≡ (text ++ codes " -> ") ++ last → new ≡ before ++ spaced (slot_words variables)
+    → text ≡ before ++ arguments_text arguments → new ≡ (text ++ codes " -> ") ++ last → new ≡ before ++ spaced_text (slot_words variables)
 slots_by before text new variables arguments last is done here =
     here ∙ ap (λ (xs : List ℕ). (xs ++ codes " -> ") ++ last) done
     ∙ append_assoc (before ++ arguments_text arguments) (codes " -> ") last
     ∙ append_assoc before (arguments_text arguments) (codes " -> " ++ last)
     ∙ ap (λ (xs : List ℕ). before ++ xs) (sym (slots_text arguments last))
-    ∙ ap (λ (names : List (List ℕ)). before ++ spaced (slot_words names)) (sym is)
+    ∙ ap (λ (names : List (List ℕ)). before ++ spaced_text (slot_words names)) (sym is)
 
 -- variables behind a word
-slots_behind : (bytes : List ℕ) (variables : List (List ℕ)) → text_of (plain bytes ∷ slot_words variables) ≡ bytes ++ spaced (slot_words variables)
+slots_behind : (bytes : List ℕ) (variables : List (List ℕ)) → words_text (plain_word bytes ∷ slot_words variables) ≡ bytes ++ spaced_text (slot_words variables)
 slots_behind bytes [] = sym (append-nil bytes)
 slots_behind bytes (last ∷ []) =
     append_assoc bytes (codes " ") (codes "-> " ++ last) ∙ ap (λ (xs : List ℕ). bytes ++ (codes " -> " ++ xs)) (sym (append-nil last))
 slots_behind bytes (argument ∷ next ∷ more) =
     ap (λ (xs : List ℕ). (bytes ++ codes " ") ++ xs) (slots_behind argument (next ∷ more))
-    ∙ append_assoc bytes (codes " ") (argument ++ spaced (slot_words (next ∷ more)))
+    ∙ append_assoc bytes (codes " ") (argument ++ spaced_text (slot_words (next ∷ more)))
 
 method_line : (method : Method)
-    → line_text (method_words method) ≡ (codes "method " ++ (method.name ++ spaced (slot_words method.variables))) ++ codes "\n"
+    → line_text (method_words method) ≡ (codes "method " ++ (method.name ++ spaced_text (slot_words method.variables))) ++ codes "\n"
 method_line method = ap (λ (xs : List ℕ). (codes "method " ++ xs) ++ codes "\n") (slots_behind method.name method.variables)
 
 method_parts : (text name slots : List ℕ) → (((text ++ codes "method ") ++ name) ++ slots) ++ codes "\n" ≡ text ++ ((codes "method " ++ (name ++ slots)) ++ codes "\n")
 method_parts text name slots = simp append_assoc
 
 pub method_by : (text new : List ℕ) (method : Method)
-    → new ≡ (((text ++ codes "method ") ++ method.name) ++ spaced (slot_words method.variables)) ++ codes "\n" → new ≡ text ++ line_text (method_words method)
+    → new ≡ (((text ++ codes "method ") ++ method.name) ++ spaced_text (slot_words method.variables)) ++ codes "\n" → new ≡ text ++ line_text (method_words method)
 method_by text new method here =
-    here ∙ method_parts text method.name (spaced (slot_words method.variables)) ∙ ap (λ (xs : List ℕ). text ++ xs) (sym (method_line method))
+    here ∙ method_parts text method.name (spaced_text (slot_words method.variables)) ∙ ap (λ (xs : List ℕ). text ++ xs) (sym (method_line method))
 
 -- the lines of the pairs
 pairs_lines : (kind : SpecifiedKind) (count : ℕ) → flat_map line_text (map (commute_words kind) (pairs_of count))

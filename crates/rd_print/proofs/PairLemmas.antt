@@ -3,8 +3,8 @@ use Rattle.std.proofs.Common.{◌≡◌, ℕ, Bool, true, false, List, [], ◌�
 use Rattle.std.specs.Prelude.{option_map, slice_get, unwrap_or}
 use Rattle.rd_base.specs.declared.values.Value.{Value}
 use Rattle.rd_base.specs.declared.values.Value.TheVariants.{Nil, Bool as Truth, Int, Text}
-use Rattle.rd_print.specs.declared.canonical.word_list.Word.{Word}
-use Rattle.rd_print.specs.Canonical.{AreValues, is_or, not_words, part_words, plain, sided_words, sign_of, sort_of_value, term_word, words_of}
+use Rattle.rd_print.specs.declared.canonical.word_list.PrintedWord.{PrintedWord}
+use Rattle.rd_print.specs.Canonical.{AreValues, is_or, not_words, part_words, plain_word, sided_words, relation_sign, sort_of_value, term_word, canonical_words}
 use Rattle.rd_ecl.specs.declared.formulas.Rel.TheVariants.{Eq, Lt, Le}
 use Rattle.rd_ecl.specs.declared.formulas.Side.{Side}
 use Rattle.rd_ecl.specs.declared.formulas.Side.TheVariants.{First, Second}
@@ -16,19 +16,19 @@ use Rattle.rd_ecl.specs.Specified.{SpecifiedKind, formula_at}
 use Rattle.rd_grammar.specs.declared.marks.Sign.{Sign}
 use Rattle.rd_grammar.specs.declared.marks.Sign.TheVariants.{Different}
 use Rattle.rd_tokens.specs.declared.sorts.Sort.TheVariants.{Word as Plain}
-use Rattle.rd_print.specs.Text.{gap, text_of}
+use Rattle.rd_print.specs.Text.{gap, words_text}
 use Rattle.rd_print.specs.Printed.{PairHasValues, name_at, pair_text, variables_at}
 
 -- a space stands before the words, behind a word
-abbrev IsBegun : List Word → Type 0
+abbrev IsBegun : List PrintedWord → Type 0
 IsBegun [] = ⊥
 IsBegun (w ∷ words) = gap Plain w.sort ≡ codes " "
 
-both_begun : (words more : List Word) → IsBegun words → IsBegun (words ++ more)
+both_begun : (words more : List PrintedWord) → IsBegun words → IsBegun (words ++ more)
 both_begun [] more is = absurd is
 both_begun (w ∷ words) more is = is
 
-part_begun : (needs : Bool) (words : List Word) → IsBegun words → IsBegun (part_words needs words)
+part_begun : (needs : Bool) (words : List PrintedWord) → IsBegun words → IsBegun (part_words needs words)
 part_begun false words is = is
 part_begun true words is = refl
 
@@ -47,7 +47,7 @@ module _ (first second : List (List ℕ)) where
   sided_begun First sign left right = term_begun First first left
   sided_begun Second sign left right = term_begun Second second left
 
-  not_begun : (f : Tree) (words : List Word) → IsBegun (not_words first second f words)
+  not_begun : (f : Tree) (words : List PrintedWord) → IsBegun (not_words first second f words)
   not_begun (atom side Eq left right) words = sided_begun side Different left right
   not_begun (atom side Lt left right) words = refl
   not_begun (atom side Le left right) words = refl
@@ -58,19 +58,19 @@ module _ (first second : List (List ℕ)) where
   not_begun (both f g) words = refl
   not_begun (either f g) words = refl
 
-  words_begun : (f : Tree) → IsBegun (words_of first second f)
+  words_begun : (f : Tree) → IsBegun (canonical_words first second f)
   words_begun (truth value) = refl
-  words_begun (atom side rel left right) = sided_begun side (sign_of rel) left right
+  words_begun (atom side rel left right) = sided_begun side (relation_sign rel) left right
   words_begun (cross i j) = refl
   words_begun (mixed rel false i j) = refl
   words_begun (mixed rel true i j) = refl
-  words_begun (negation f) = not_begun f (words_of first second f)
-  words_begun (both f g) = both_begun (part_words (is_or f) (words_of first second f)) _ (part_begun (is_or f) _ (words_begun f))
-  words_begun (either f g) = both_begun (words_of first second f) _ (words_begun f)
+  words_begun (negation f) = not_begun f (canonical_words first second f)
+  words_begun (both f g) = both_begun (part_words (is_or f) (canonical_words first second f)) _ (part_begun (is_or f) _ (words_begun f))
+  words_begun (either f g) = both_begun (canonical_words first second f) _ (words_begun f)
 
-when_text : (words : List Word) → IsBegun words → text_of (plain (codes "when") ∷ words) ≡ codes "when " ++ text_of words
+when_text : (words : List PrintedWord) → IsBegun words → words_text (plain_word (codes "when") ∷ words) ≡ codes "when " ++ words_text words
 when_text [] is = absurd is
-when_text (w ∷ words) is = ap (λ (xs : List ℕ). (codes "when" ++ xs) ++ text_of (w ∷ words)) is
+when_text (w ∷ words) is = ap (λ (xs : List ℕ). (codes "when" ++ xs) ++ words_text (w ∷ words)) is
 
 -- the text of names, and of a formula behind `when`
 abbrev pub parts_text : List ℕ → List ℕ → List ℕ → List ℕ
@@ -81,14 +81,14 @@ parts left right formula = simp append_assoc
 
 pub formula_behind : (kind : SpecifiedKind) (first second : ℕ) (f : Tree) → formula_at kind first second ≡ Some f
     → pair_text kind first second ≡ parts_text (name_at kind.methods first) (name_at kind.methods second)
-    (text_of (words_of (variables_at kind.methods first) (variables_at kind.methods second) f))
+    (words_text (canonical_words (variables_at kind.methods first) (variables_at kind.methods second) f))
 formula_behind kind first second f is =
     let left = name_at kind.methods first in
     let right = name_at kind.methods second in
-    let words = words_of (variables_at kind.methods first) (variables_at kind.methods second) in
-    ap (λ (o : Option Tree). (left ++ codes " ") ++ ((right ++ codes " ") ++ text_of (plain (codes "when") ∷ unwrap_or (option_map words o) []))) is
+    let words = canonical_words (variables_at kind.methods first) (variables_at kind.methods second) in
+    ap (λ (o : Option Tree). (left ++ codes " ") ++ ((right ++ codes " ") ++ words_text (plain_word (codes "when") ∷ unwrap_or (option_map words o) []))) is
     ∙ ap (λ (xs : List ℕ). (left ++ codes " ") ++ ((right ++ codes " ") ++ xs)) (when_text (words f) (words_begun _ _ f))
-    ∙ parts left right (text_of (words f))
+    ∙ parts left right (words_text (words f))
 
 -- the same, by the methods
 regroup : (text left right formula : List ℕ) → (((text ++ left) ++ codes " ") ++ right) ++ codes " when " ++ formula ≡ text ++ parts_text left right formula
@@ -96,14 +96,14 @@ regroup text left right formula = simp append_assoc
 
 pub pair_by : (kind : SpecifiedKind) (first second : ℕ) (left right : Method) (f : Tree) (text : List ℕ) → slice_get kind.methods first ≡ Some left
     → slice_get kind.methods second ≡ Some right → formula_at kind first second ≡ Some f
-    → (((text ++ left.name) ++ codes " ") ++ right.name) ++ codes " when " ++ text_of (words_of left.variables right.variables f) ≡ text ++ pair_text kind first second
+    → (((text ++ left.name) ++ codes " ") ++ right.name) ++ codes " when " ++ words_text (canonical_words left.variables right.variables f) ≡ text ++ pair_text kind first second
 pair_by kind first second left right f text here there is =
     let behind = λ (o p : Option Method).
-    text_of (words_of (unwrap_or (option_map (λ m. m.variables) o) []) (unwrap_or (option_map (λ m. m.variables) p) []) f) in
+    words_text (canonical_words (unwrap_or (option_map (λ m. m.variables) o) []) (unwrap_or (option_map (λ m. m.variables) p) []) f) in
     let named = λ (o p : Option Method).
     parts_text (unwrap_or (option_map (λ m. m.name) o) []) (unwrap_or (option_map (λ m. m.name) p) []) (behind o p) in
     let known = formula_behind kind first second f is ∙ ap (λ (o : Option Method). named o (slice_get kind.methods second)) here ∙ ap (λ (p : Option Method). named (Some left) p) there in
-    regroup text left.name right.name (text_of (words_of left.variables right.variables f)) ∙ ap (λ (xs : List ℕ). text ++ xs) (sym known)
+    regroup text left.name right.name (words_text (canonical_words left.variables right.variables f)) ∙ ap (λ (xs : List ℕ). text ++ xs) (sym known)
 
 same_some : {X : Type 0} (o : Option X) (x y : X) → o ≡ Some x → o ≡ Some y → x ≡ y
 same_some o x y here there = cc

@@ -8,14 +8,14 @@ use Rattle.std.proofs.lemmas.List.Sums.{AllPass-from_list_all}
 use Rattle.std.proofs.lemmas.Option.{slice_get-get_or}
 use Rattle.rd_base.specs.Names.{IsName, is_name_byte}
 use Rattle.rd_base.proofs.FoundLemmas.{each_by_recursion, each_from_recursion}
-use Rattle.rd_print.specs.declared.canonical.word_list.Word.{Word}
-use Rattle.rd_print.specs.Canonical.{AreValues, plain, words_of}
+use Rattle.rd_print.specs.declared.canonical.word_list.PrintedWord.{PrintedWord}
+use Rattle.rd_print.specs.Canonical.{AreValues, plain_word, canonical_words}
 use Rattle.rd_ecl.specs.declared.kinds.Method.{Method}
 use Rattle.rd_ecl.specs.Formulas.{Tree, Fits}
 use Rattle.rd_ecl.specs.Specified.{IsKind, IsMethod, SpecifiedKind, formula_at, slots_at}
 use Rattle.rd_ecl.specs.Variables.{IsVariable, is_variable_byte}
 use Rattle.rd_tokens.specs.Tokens.{is_word_byte}
-use Rattle.rd_print.specs.Text.{IsSound}
+use Rattle.rd_print.specs.Text.{IsRightWord}
 use Rattle.rd_print.proofs.TextSoundLemmas.{AreSound, formula_sound}
 use Rattle.rd_print.specs.Printed.{AreNames, HasNames, HasValues, HaveValues, block_lines, commute_words, formula_words, header_words, kind_words, method_words, name_at, pairs_of, slot_words, spec_lines, variables_at}
 
@@ -23,16 +23,16 @@ use Rattle.rd_print.specs.Printed.{AreNames, HasNames, HasValues, HaveValues, bl
 name_byte : (b : ℕ) → is_name_byte b ≡ true → is_word_byte b ≡ true
 name_byte b is = grind (arith, nat_tests)
 
-name_sound : (name : List ℕ) → IsName name → IsSound (plain name)
+name_sound : (name : List ℕ) → IsName name → IsRightWord (plain_word name)
 name_sound name is = (is.some, All-weaker _ _ name_byte name is.each)
 
 variable_byte : (b : ℕ) → is_variable_byte b ≡ true → is_word_byte b ≡ true
 variable_byte b is = grind (arith, nat_tests)
 
-variable_sound : (name : List ℕ) → IsVariable name → IsSound (plain name)
+variable_sound : (name : List ℕ) → IsVariable name → IsRightWord (plain_word name)
 variable_sound name is = (is.some, All-weaker _ _ variable_byte name is.each)
 
-written_sound : (bytes : List ℕ) → 0 < length bytes → list_all is_word_byte bytes ≡ true → IsSound (plain bytes)
+written_sound : (bytes : List ℕ) → 0 < length bytes → list_all is_word_byte bytes ≡ true → IsRightWord (plain_word bytes)
 written_sound bytes some all = (some, AllPass-from_list_all is_word_byte bytes all)
 
 -- a method
@@ -41,10 +41,10 @@ slots_sound [] each = tt
 slots_sound (last ∷ []) each = (written_sound (codes "->") (omega arith) refl, (variable_sound last each.0, tt))
 slots_sound (argument ∷ next ∷ more) each = (variable_sound argument each.0, slots_sound (next ∷ more) each.1)
 
-line_sound : (words : List Word) → AreSound words → All IsSound words
-line_sound words each = each_from_recursion IsSound words each
+line_sound : (words : List PrintedWord) → AreSound words → All IsRightWord words
+line_sound words each = each_from_recursion IsRightWord words each
 
-pub method_sound : (method : Method) → IsName method.name → IsMethod method → All IsSound (method_words method)
+pub method_sound : (method : Method) → IsName method.name → IsMethod method → All IsRightWord (method_words method)
 method_sound method name is =
     line_sound (method_words method)
     (written_sound (codes "method") (omega arith) refl, (name_sound method.name name, slots_sound method.variables (each_by_recursion IsVariable method.variables is.each)))
@@ -95,9 +95,9 @@ count_at None = refl
 -- the formula of a pair
 some_sound : (first second : List (List ℕ)) (o : Option Tree) → All IsVariable first → All IsVariable second
     → ((f : Tree) → o ≡ Some f → Fits f (length first) (length second)) → ((f : Tree) → o ≡ Some f → AreValues f)
-    → AreSound (unwrap_or (option_map (words_of first second) o) [])
+    → AreSound (unwrap_or (option_map (canonical_words first second) o) [])
 some_sound first second (Some f) firsts seconds fits values =
-    each_by_recursion IsSound (words_of first second f) (formula_sound first second f firsts seconds (fits f refl) (values f refl))
+    each_by_recursion IsRightWord (canonical_words first second f) (formula_sound first second f firsts seconds (fits f refl) (values f refl))
 some_sound first second None firsts seconds fits values = tt
 
 formula_words_sound : (kind : SpecifiedKind) (first second : ℕ) → first < length kind.methods → second < length kind.methods → IsKind kind
@@ -111,7 +111,7 @@ formula_words_sound kind first second here there is values =
     values
 
 pub commute_sound : (kind : SpecifiedKind) → IsKind kind → HasValues kind → HasNames kind → (first second : ℕ) → first ≤ second → second < length kind.methods
-    → All IsSound (commute_words kind (first, second))
+    → All IsRightWord (commute_words kind (first, second))
 commute_sound kind is values names first second ordered within =
     let here : first < length kind.methods = omega arith in
     line_sound (commute_words kind (first, second)) (
@@ -126,22 +126,22 @@ commute_sound kind is values names first second ordered within =
     )
 
 -- a kind
-pub kind_sound : (kind : SpecifiedKind) → IsKind kind → HasValues kind → HasNames kind → AllByRecursion (All IsSound) (block_lines kind)
+pub kind_sound : (kind : SpecifiedKind) → IsKind kind → HasValues kind → HasNames kind → AllByRecursion (All IsRightWord) (block_lines kind)
 kind_sound kind is values names = (
   line_sound (kind_words kind) (written_sound (codes "kind") (omega arith) refl, (name_sound kind.name names.0, tt)),
-  each_two (All IsSound) (map method_words kind.methods) (map (commute_words kind) (pairs_of (length kind.methods)))
-      (each_map (All IsSound) method_words kind.methods
-      (each_by_recursion (λ method. All IsSound (method_words method)) kind.methods
+  each_two (All IsRightWord) (map method_words kind.methods) (map (commute_words kind) (pairs_of (length kind.methods)))
+      (each_map (All IsRightWord) method_words kind.methods
+      (each_by_recursion (λ method. All IsRightWord (method_words method)) kind.methods
       (λ k d inside. method_sound (get_or kind.methods k d) (names.1 k d inside) (is.draft.methods.each k d inside))))
-      (each_map (All IsSound) (commute_words kind) (pairs_of (length kind.methods))
-      (each_pair (λ pair. All IsSound (commute_words kind pair)) (length kind.methods) (commute_sound kind is values names))),
+      (each_map (All IsRightWord) (commute_words kind) (pairs_of (length kind.methods))
+      (each_pair (λ pair. All IsRightWord (commute_words kind pair)) (length kind.methods) (commute_sound kind is values names))),
 )
 
-pub lines_sound : (kinds : List SpecifiedKind) → All IsKind kinds → HaveValues kinds → AreNames kinds → All (All IsSound) (spec_lines kinds)
+pub lines_sound : (kinds : List SpecifiedKind) → All IsKind kinds → HaveValues kinds → AreNames kinds → All (All IsRightWord) (spec_lines kinds)
 lines_sound kinds are values names =
-    each_from_recursion (All IsSound) (spec_lines kinds) (
+    each_from_recursion (All IsRightWord) (spec_lines kinds) (
       line_sound header_words (written_sound (codes "rdspec") (omega arith) refl, (written_sound (codes "1") (omega arith) refl, tt)),
-      each_flat (All IsSound) block_lines kinds
-          (each_by_recursion (λ kind. AllByRecursion (All IsSound) (block_lines kind)) kinds
+      each_flat (All IsRightWord) block_lines kinds
+          (each_by_recursion (λ kind. AllByRecursion (All IsRightWord) (block_lines kind)) kinds
           (λ k d inside. kind_sound (get_or kinds k d) (are k d inside) (values k d inside) (names k d inside))),
     )

@@ -4,7 +4,7 @@ use Rattle.std.specs.Prelude.{All}
 use Rattle.std.proofs.lemmas.List.{take-map, drop-map}
 use Rattle.std.specs.List.{AllByRecursion}
 use Rattle.rd_base.proofs.FoundLemmas.{each_by_recursion}
-use Rattle.rd_print.specs.declared.canonical.word_list.Word.{Word}
+use Rattle.rd_print.specs.declared.canonical.word_list.PrintedWord.{PrintedWord}
 use Rattle.rd_print.specs.Canonical.{AreWords}
 use Rattle.rd_tokens.specs.declared.sorts.Sort.{Sort}
 use Rattle.rd_tokens.specs.declared.sorts.Sort.TheVariants.{Open, Close, Word as Plain, Text, Wrong}
@@ -12,7 +12,7 @@ use Rattle.rd_tokens.specs.declared.sorts.Token.{Token}
 use Rattle.rd_tokens.specs.Tokens.{AreTokens, Cuts, EndsWord, IsToken, bytes_of}
 use Rattle.rd_tokens.specs.Tokens.Cuts.{nothing_left, space_first, token_first}
 use Rattle.rd_tokens.proofs.CutLemmas.{one_list, some_tokens}
-use Rattle.rd_print.specs.Text.{IsRightToken, IsSound, gap, text_of}
+use Rattle.rd_print.specs.Text.{IsRightToken, IsRightWord, gap, words_text}
 use Rattle.rd_print.proofs.TextJoinLemmas.{first_word, text_behind, whole_text}
 
 -- what stands between two words is passed over
@@ -30,7 +30,7 @@ ends_at Plain bytes rest right = refl
 ends_at Text bytes rest right = refl
 ends_at Wrong bytes rest right = absurd right
 
-ends_word : (words : List Word) → AllByRecursion IsSound words → EndsWord (text_behind Plain words)
+ends_word : (words : List PrintedWord) → AllByRecursion IsRightWord words → EndsWord (text_behind Plain words)
 ends_word [] each = tt
 ends_word (w ∷ words) each =
     subst (λ (text : List ℕ). EndsWord (gap Plain w.sort ++ text)) (sym (first_word w words))
@@ -43,7 +43,7 @@ right_token Plain bytes behind right ends = (right.0, right.1, ends refl)
 right_token Text bytes behind right ends = right
 right_token Wrong bytes behind right ends = absurd right
 
-word_token : (w : Word) (words : List Word) → IsSound w → AllByRecursion IsSound words → IsToken w.sort w.bytes (text_behind w.sort words)
+word_token : (w : PrintedWord) (words : List PrintedWord) → IsRightWord w → AllByRecursion IsRightWord words → IsToken w.sort w.bytes (text_behind w.sort words)
 word_token w words sound each =
     right_token w.sort w.bytes (text_behind w.sort words) sound
     (λ same. subst (λ (sort : Sort). EndsWord (text_behind sort words)) (sym same) (ends_word words each))
@@ -57,17 +57,17 @@ bytes_at line before bytes rest place whole here =
     ∙ take_at bytes rest (length bytes) refl
 
 -- the tokens of a text in its line are the words
-record Shown (line : List ℕ) (place : ℕ) (text : List ℕ) (words : List Word) : Type 0 where
+record Shown (line : List ℕ) (place : ℕ) (text : List ℕ) (words : List PrintedWord) : Type 0 where
   tokens : List Token
   cuts : Cuts place text tokens
   are : AreWords line tokens words
 
-first_again : (w : Word) (bytes : List ℕ) (others words : List Word) → bytes ≡ w.bytes → others ≡ words
+first_again : (w : PrintedWord) (bytes : List ℕ) (others words : List PrintedWord) → bytes ≡ w.bytes → others ≡ words
     → record { sort = w.sort; bytes = bytes } ∷ others ≡ w ∷ words
 first_again w bytes others words same more =
-    ap (λ (xs : List ℕ). record { sort = w.sort; bytes = xs } ∷ others) same ∙ ap (λ (ws : List Word). w ∷ ws) more
+    ap (λ (xs : List ℕ). record { sort = w.sort; bytes = xs } ∷ others) same ∙ ap (λ (ws : List PrintedWord). w ∷ ws) more
 
-one_shown : (line front : List ℕ) (sort : Sort) (w : Word) (words : List Word) → line ≡ front ++ text_behind sort (w ∷ words)
+one_shown : (line front : List ℕ) (sort : Sort) (w : PrintedWord) (words : List PrintedWord) → line ≡ front ++ text_behind sort (w ∷ words)
     → IsToken w.sort w.bytes (text_behind w.sort words)
     → Shown line (length ((front ++ gap sort w.sort) ++ w.bytes) + 1) (text_behind w.sort words) words
     → Shown line (length front + 1) (text_behind sort (w ∷ words)) (w ∷ words)
@@ -85,13 +85,13 @@ one_shown line front sort w words whole is more =
     let token : Token = record { place = place; length = length w.bytes; sort = w.sort } in
     record {
       tokens = token ∷ more.tokens;
-      cuts = gap_passed sort w.sort (length front + 1) (text_of (w ∷ words)) (token ∷ more.tokens)
+      cuts = gap_passed sort w.sort (length front + 1) (words_text (w ∷ words)) (token ∷ more.tokens)
           (subst (λ (text : List ℕ). Cuts place text (token ∷ more.tokens)) (sym (first_word w words)) first);
       are = first_again w (bytes_of line token) _ words
           (bytes_at line (front ++ space) w.bytes (text_behind w.sort words) (place - 1) parts here) more.are;
     }
 
-all_shown : (line front : List ℕ) (sort : Sort) (words : List Word) → AllByRecursion IsSound words → line ≡ front ++ text_behind sort words
+all_shown : (line front : List ℕ) (sort : Sort) (words : List PrintedWord) → AllByRecursion IsRightWord words → line ≡ front ++ text_behind sort words
     → Shown line (length front + 1) (text_behind sort words) words
 all_shown line front sort [] each whole = record { tokens = []; cuts = nothing_left; are = refl }
 all_shown line front sort (w ∷ words) each whole =
@@ -103,33 +103,33 @@ all_shown line front sort (w ∷ words) each whole =
     one_shown line front sort w words whole (word_token w words each.0 each.1)
     (all_shown line ((front ++ space) ++ w.bytes) w.sort words each.1 parts)
 
-pub words_again : (words : List Word) (tokens : List Token) → All IsSound words → AreTokens (text_of words) tokens → AreWords (text_of words) tokens words
+pub words_again : (words : List PrintedWord) (tokens : List Token) → All IsRightWord words → AreTokens (words_text words) tokens → AreWords (words_text words) tokens words
 words_again words tokens each are =
-    let shown = all_shown (text_of words) [] Open words (each_by_recursion IsSound words each) (sym (whole_text words)) in
-    let cuts : AreTokens (text_of words) shown.tokens = subst (λ (text : List ℕ). Cuts 1 text shown.tokens) (whole_text words) shown.cuts in
-    subst (λ (ts : List Token). AreWords (text_of words) ts words) (one_list (text_of words) shown.tokens tokens cuts are) shown.are
+    let shown = all_shown (words_text words) [] Open words (each_by_recursion IsRightWord words each) (sym (whole_text words)) in
+    let cuts : AreTokens (words_text words) shown.tokens = subst (λ (text : List ℕ). Cuts 1 text shown.tokens) (whole_text words) shown.cuts in
+    subst (λ (ts : List Token). AreWords (words_text words) ts words) (one_list (words_text words) shown.tokens tokens cuts are) shown.are
 
-pub one_words : (first second : List Word) → All IsSound first → All IsSound second → text_of first ≡ text_of second → first ≡ second
+pub one_words : (first second : List PrintedWord) → All IsRightWord first → All IsRightWord second → words_text first ≡ words_text second → first ≡ second
 one_words first second each other same =
-    let found = some_tokens (text_of first) in
+    let found = some_tokens (words_text first) in
     let here = words_again first found.0 each found.1 in
     let there = words_again second found.0 other (subst (λ (text : List ℕ). AreTokens text found.0) same found.1) in
     sym here ∙ subst (λ (text : List ℕ). AreWords text found.0 second) (sym same) there
 
 -- words in front, and words behind them
-abbrev word_at : List ℕ → Token → Word
+abbrev word_at : List ℕ → Token → PrintedWord
 word_at line t = record { sort = t.sort; bytes = bytes_of line t }
 
-pub front_again : (ws vs : List Word) (tokens : List Token) → All IsSound (ws ++ vs) → AreTokens (text_of (ws ++ vs)) tokens
-    → AreWords (text_of (ws ++ vs)) (take (length ws) tokens) ws
+pub front_again : (ws vs : List PrintedWord) (tokens : List Token) → All IsRightWord (ws ++ vs) → AreTokens (words_text (ws ++ vs)) tokens
+    → AreWords (words_text (ws ++ vs)) (take (length ws) tokens) ws
 front_again ws vs tokens each are =
-    sym (take-map (word_at (text_of (ws ++ vs))) (length ws) tokens)
-    ∙ ap (λ (xs : List Word). take (length ws) xs) (words_again (ws ++ vs) tokens each are)
+    sym (take-map (word_at (words_text (ws ++ vs))) (length ws) tokens)
+    ∙ ap (λ (xs : List PrintedWord). take (length ws) xs) (words_again (ws ++ vs) tokens each are)
     ∙ take_at ws vs (length ws) refl
 
-pub behind_again : (ws vs : List Word) (tokens : List Token) → All IsSound (ws ++ vs) → AreTokens (text_of (ws ++ vs)) tokens
-    → AreWords (text_of (ws ++ vs)) (drop (length ws) tokens) vs
+pub behind_again : (ws vs : List PrintedWord) (tokens : List Token) → All IsRightWord (ws ++ vs) → AreTokens (words_text (ws ++ vs)) tokens
+    → AreWords (words_text (ws ++ vs)) (drop (length ws) tokens) vs
 behind_again ws vs tokens each are =
-    sym (drop-map (word_at (text_of (ws ++ vs))) (length ws) tokens)
-    ∙ ap (λ (xs : List Word). drop (length ws) xs) (words_again (ws ++ vs) tokens each are)
+    sym (drop-map (word_at (words_text (ws ++ vs))) (length ws) tokens)
+    ∙ ap (λ (xs : List PrintedWord). drop (length ws) xs) (words_again (ws ++ vs) tokens each are)
     ∙ drop_at ws vs (length ws) refl

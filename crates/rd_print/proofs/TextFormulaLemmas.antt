@@ -2,8 +2,8 @@
 use Rattle.std.proofs.Common.{◌≡◌, ℕ, true, List, ◌++◌, drop, length, sym, subst}
 use Rattle.std.specs.Prelude.{All}
 use Rattle.rd_base.proofs.FoundLemmas.{each_by_recursion, each_from_recursion}
-use Rattle.rd_print.specs.declared.canonical.word_list.Word.{Word}
-use Rattle.rd_print.specs.Canonical.{AreValues, AreWords, words_of}
+use Rattle.rd_print.specs.declared.canonical.word_list.PrintedWord.{PrintedWord}
+use Rattle.rd_print.specs.Canonical.{AreValues, AreWords, canonical_words}
 use Rattle.rd_print.proofs.WordAgainLemmas.{says_again}
 use Rattle.rd_ecl.specs.Formulas.{Tree, Fits, has_slots}
 use Rattle.rd_ecl.specs.Variables.{IsVariable}
@@ -11,21 +11,21 @@ use Rattle.rd_formulas.specs.declared.scope.Scope.{Scope}
 use Rattle.rd_formulas.specs.Reading.{SaysFormula}
 use Rattle.rd_tokens.specs.declared.sorts.Token.{Token}
 use Rattle.rd_tokens.specs.Tokens.{AreTokens}
-use Rattle.rd_print.specs.Text.{IsSound, text_of}
+use Rattle.rd_print.specs.Text.{IsRightWord, words_text}
 use Rattle.rd_print.proofs.TextAgainLemmas.{behind_again}
 use Rattle.rd_print.proofs.TextSoundLemmas.{formula_sound, sound_both}
 
-all_both : (words more : List Word) → All IsSound words → All IsSound more → All IsSound (words ++ more)
+all_both : (words more : List PrintedWord) → All IsRightWord words → All IsRightWord more → All IsRightWord (words ++ more)
 all_both words more here there =
-    each_from_recursion IsSound (words ++ more)
-    (sound_both words more (each_by_recursion IsSound words here) (each_by_recursion IsSound more there))
+    each_from_recursion IsRightWord (words ++ more)
+    (sound_both words more (each_by_recursion IsRightWord words here) (each_by_recursion IsRightWord more there))
 
-pub says_formula : (front : List Word) (tokens : List Token) (scope : Scope) (f : Tree) → All IsSound front → All IsVariable scope.first.now
+pub says_formula : (front : List PrintedWord) (tokens : List Token) (scope : Scope) (f : Tree) → All IsRightWord front → All IsVariable scope.first.now
     → All IsVariable scope.second.now → Fits f (length scope.first.now) (length scope.second.now) → has_slots f ≡ true → AreValues f
-    → scope.line.now ≡ text_of (front ++ words_of scope.first.now scope.second.now f) → AreTokens scope.line.now tokens
+    → scope.line.now ≡ words_text (front ++ canonical_words scope.first.now scope.second.now f) → AreTokens scope.line.now tokens
     → scope.tokens.now ≡ drop (length front) tokens → SaysFormula scope f
 says_formula front tokens scope f fronts firsts seconds fits slots values line are rest =
-    let words = words_of scope.first.now scope.second.now f in
+    let words = canonical_words scope.first.now scope.second.now f in
     let sound = all_both front words fronts (formula_sound scope.first.now scope.second.now f firsts seconds fits values) in
     let behind = behind_again front words tokens sound (subst (λ (text : List ℕ). AreTokens text tokens) line are) in
     let there : AreWords scope.line.now (drop (length front) tokens) words =

@@ -8,11 +8,11 @@ use Rattle.std.proofs.lemmas.Bool.Decides.{eqb_tells, nat_tests}
 use Rattle.std.proofs.lemmas.List.Elements.{All-weaker}
 use Rattle.rd_base.specs.Spelling.{byte_spelling, bytes_spelling, is_plain}
 use Rattle.rd_base.proofs.FoundLemmas.{each_by_recursion, each_from_recursion}
-use Rattle.rd_print.specs.declared.canonical.word_list.Word.{Word}
+use Rattle.rd_print.specs.declared.canonical.word_list.PrintedWord.{PrintedWord}
 use Rattle.rd_tokens.specs.declared.sorts.Sort.{Sort}
 use Rattle.rd_tokens.specs.declared.sorts.Sort.TheVariants.{Open, Close, Word as Plain, Text, Wrong}
 use Rattle.rd_tokens.specs.Tokens.{SpellsText, is_word_byte}
-use Rattle.rd_print.specs.Text.{IsRightToken, IsSound, gap, text_of}
+use Rattle.rd_print.specs.Text.{IsRightToken, IsRightWord, gap, words_text}
 use Rattle.rd_print.proofs.TextJoinLemmas.{first_word, text_behind, whole_text}
 
 abbrev ArePlain : List ℕ → Type 0
@@ -67,14 +67,14 @@ gap_plain Open second = tt
 gap_plain first Close = tt
 gap_plain first second = (refl, tt)
 
-behind_plain : (sort : Sort) (words : List Word) → AllByRecursion IsSound words → ArePlain (text_behind sort words)
+behind_plain : (sort : Sort) (words : List PrintedWord) → AllByRecursion IsRightWord words → ArePlain (text_behind sort words)
 behind_plain sort [] each = tt
 behind_plain sort (w ∷ words) each =
-    plain_both (gap sort w.sort) (text_of (w ∷ words)) (gap_plain sort w.sort)
+    plain_both (gap sort w.sort) (words_text (w ∷ words)) (gap_plain sort w.sort)
     (subst ArePlain (sym (first_word w words))
     (plain_both w.bytes (text_behind w.sort words) (right_plain w.sort w.bytes each.0) (behind_plain w.sort words each.1)))
 
-pub words_plain : (words : List Word) → All IsSound words → AllPass is_plain (text_of words)
+pub words_plain : (words : List PrintedWord) → All IsRightWord words → AllPass is_plain (words_text words)
 words_plain words each =
-    each_from_recursion (λ b. is_plain b ≡ true) (text_of words)
-    (subst ArePlain (whole_text words) (behind_plain Open words (each_by_recursion IsSound words each)))
+    each_from_recursion (λ b. is_plain b ≡ true) (words_text words)
+    (subst ArePlain (whole_text words) (behind_plain Open words (each_by_recursion IsRightWord words each)))

@@ -6,7 +6,7 @@ use Rattle.std.proofs.lemmas.List.Elements.{All-get_or}
 use Rattle.std.proofs.lemmas.Option.{slice_get-get_or}
 use Rattle.rd_base.specs.declared.values.Value.{Value}
 use Rattle.rd_base.specs.declared.values.Value.TheVariants.{Nil, Bool as Truth, Int, Text}
-use Rattle.rd_base.specs.Spelling.{spelling, IsValue}
+use Rattle.rd_base.specs.Spelling.{value_spelling, IsValue}
 use Rattle.rd_ecl.specs.declared.formulas.Rel.{Rel}
 use Rattle.rd_ecl.specs.declared.formulas.Rel.TheVariants.{Eq, Lt, Le}
 use Rattle.rd_ecl.specs.declared.formulas.Side.{Side}
@@ -18,39 +18,39 @@ use Rattle.rd_ecl.specs.Variables.{IsVariable}
 use Rattle.rd_formulas.specs.declared.scope.Scope.{Scope}
 use Rattle.rd_formulas.specs.declared.terms.Meant.{Meant}
 use Rattle.rd_formulas.specs.declared.terms.Meant.TheVariants.{Slot as SlotOf, Value as ValueOf}
-use Rattle.rd_formulas.specs.Meaning.{Gives, across, related, sided}
+use Rattle.rd_formulas.specs.Meaning.{Gives, cross_relation, relation_of_terms, sided_relation}
 use Rattle.rd_formulas.specs.Reading.{SaysFormula}
-use Rattle.rd_formulas.specs.Scope.{MeansAt, variables_of, word_at}
+use Rattle.rd_formulas.specs.Scope.{MeansAt, variables_of, token_bytes_at}
 use Rattle.rd_grammar.specs.declared.marks.Mark.{Mark}
 use Rattle.rd_grammar.specs.declared.marks.Sign.{Sign}
 use Rattle.rd_grammar.specs.declared.marks.Sign.TheVariants.{Different}
 use Rattle.rd_grammar.specs.declared.marks.Symbol.{Symbol}
 use Rattle.rd_grammar.specs.declared.marks.Symbol.TheVariants.{Open, Close, Not, And, Or, Truth as TruthMark, Sign as SignOf, Term as TermMark}
 use Rattle.rd_grammar.specs.Canonical.{AreCanonical, ArePart, is_either, is_of_two as reads_two, mark}
-use Rattle.rd_grammar.specs.Grammar.{Tree as Read, truth as read_truth, relation, negation as read_not, both as read_and, either as read_or, is_term}
+use Rattle.rd_grammar.specs.Grammar.{ParsedTree, truth as read_truth, relation, negation as read_not, both as read_and, either as read_or, is_term}
 use Rattle.rd_grammar.proofs.CanonicalLemmas.{canonical_are_read}
 use Rattle.rd_tokens.specs.declared.sorts.Sort.TheVariants.{Word as Plain}
 use Rattle.rd_tokens.specs.declared.words.terms.Said.TheVariants.{Variable, Value as ValueSaid}
 use Rattle.rd_tokens.specs.Words.{IsSymbol, IsTerm, side_mark}
 use Rattle.rd_tokens.proofs.WordLemmas.{some_symbol, term_word as word_of_term}
-use Rattle.rd_print.specs.declared.canonical.word_list.Word.{Word}
-use Rattle.rd_print.specs.Canonical.{AreValues, AreWords, IsConstant, is_of_two, is_or, not_words, part_words, plain, relation_words, sign_of, slot_word, term_word, value_word, words_of}
+use Rattle.rd_print.specs.declared.canonical.word_list.PrintedWord.{PrintedWord}
+use Rattle.rd_print.specs.Canonical.{AreValues, AreWords, IsConstant, is_of_two, is_or, not_words, part_words, plain_word, relation_words, relation_sign, slot_word, term_word, value_word, canonical_words}
 use Rattle.rd_print.proofs.WordStandLemmas.{AreFrom, Stand, are_marks, from_append, stand_all, stand_back, stand_front}
 
 -- Terms
 
 -- the word is a term for the grammar
-abbrev IsTermWord : Word → Type 0
+abbrev IsTermWord : PrintedWord → Type 0
 IsTermWord word = (symbol : Symbol) × (is_term symbol ≡ true) × IsSymbol word.sort word.bytes symbol
 
-plain_term : (bytes : List ℕ) → IsTerm bytes → IsTermWord (plain bytes)
+plain_term : (bytes : List ℕ) → IsTerm bytes → IsTermWord (plain_word bytes)
 plain_term bytes is = let found = some_symbol Plain bytes in (found.0, word_of_term bytes found.0 is found.1, found.1)
 
 value_term : (value : Value) → IsValue value → IsTermWord (value_word value)
-value_term Nil is = plain_term (spelling Nil) (ValueSaid Nil, (is, refl))
-value_term (Truth true) is = plain_term (spelling (Truth true)) (ValueSaid (Truth true), (is, refl))
-value_term (Truth false) is = plain_term (spelling (Truth false)) (ValueSaid (Truth false), (is, refl))
-value_term (Int z) is = plain_term (spelling (Int z)) (ValueSaid (Int z), (is, refl))
+value_term Nil is = plain_term (value_spelling Nil) (ValueSaid Nil, (is, refl))
+value_term (Truth true) is = plain_term (value_spelling (Truth true)) (ValueSaid (Truth true), (is, refl))
+value_term (Truth false) is = plain_term (value_spelling (Truth false)) (ValueSaid (Truth false), (is, refl))
+value_term (Int z) is = plain_term (value_spelling (Int z)) (ValueSaid (Int z), (is, refl))
 value_term (Text text) is = (TermMark, refl, refl)
 
 slot_bytes : (side : Side) (names : List (List ℕ)) (slot : ℕ) → slot < length names
@@ -73,20 +73,20 @@ meant side (Slot slot) = SlotOf side slot
 meant side (Const value) = ValueOf value
 
 slot_means : (scope : Scope) (n : ℕ) (side : Side) (slot : ℕ) → All IsVariable (variables_of scope side) → slot < length (variables_of scope side)
-    → word_at scope n ≡ (slot_word side (variables_of scope side) slot).bytes → MeansAt scope n (SlotOf side slot)
+    → token_bytes_at scope n ≡ (slot_word side (variables_of scope side) slot).bytes → MeansAt scope n (SlotOf side slot)
 slot_means scope n side slot each within here =
     let names = variables_of scope side in
     (get_or names slot [], (All-get_or IsVariable names slot [] within each, here ∙ slot_bytes side names slot within), slice_get-get_or names slot [] within)
 
 term_means : (scope : Scope) (n : ℕ) (side : Side) (term : Term) → All IsVariable (variables_of scope side) → FitsTerm term (length (variables_of scope side))
-    → IsConstant term → word_at scope n ≡ (term_word side (variables_of scope side) term).bytes → MeansAt scope n (meant side term)
+    → IsConstant term → token_bytes_at scope n ≡ (term_word side (variables_of scope side) term).bytes → MeansAt scope n (meant side term)
 term_means scope n side (Slot slot) each fits is here = slot_means scope n side slot each fits here
 term_means scope n side (Const value) each fits is here = (is, here)
 
 -- Relations
 
 related_sided : (sign : Sign) (side : Side) (left right : Term) → (is_slot left || is_slot right) ≡ true
-    → related sign (meant side left) (meant side right) ≡ Some (sided sign side left right)
+    → relation_of_terms sign (meant side left) (meant side right) ≡ Some (sided_relation sign side left right)
 related_sided sign First (Slot i) (Slot j) some = refl
 related_sided sign First (Slot i) (Const value) some = refl
 related_sided sign First (Const value) (Slot j) some = refl
@@ -96,12 +96,12 @@ related_sided sign Second (Slot i) (Const value) some = refl
 related_sided sign Second (Const value) (Slot j) some = refl
 related_sided sign Second (Const value) (Const other) some = absurd (cc)
 
-sided_sign : (rel : Rel) (side : Side) (left right : Term) → sided (sign_of rel) side left right ≡ atom side rel left right
+sided_sign : (rel : Rel) (side : Side) (left right : Term) → sided_relation (relation_sign rel) side left right ≡ atom side rel left right
 sided_sign Eq side left right = refl
 sided_sign Lt side left right = refl
 sided_sign Le side left right = refl
 
-across_sign : (rel : Rel) (flipped : Bool) (i j : ℕ) → across (sign_of rel) flipped i j ≡ mixed rel flipped i j
+across_sign : (rel : Rel) (flipped : Bool) (i j : ℕ) → cross_relation (relation_sign rel) flipped i j ≡ mixed rel flipped i j
 across_sign Eq flipped i j = refl
 across_sign Lt flipped i j = refl
 across_sign Le flipped i j = refl
@@ -109,8 +109,8 @@ across_sign Le flipped i j = refl
 -- Words that are read again
 
 -- from this number on, the words are read as the formula
-record IsShown (scope : Scope) (n : ℕ) (words : List Word) (f : Tree) : Type 0 where
-  read : Read
+record IsShown (scope : Scope) (n : ℕ) (words : List PrintedWord) (f : Tree) : Type 0 where
+  read : ParsedTree
   marks : List Mark
   canonical : AreCanonical read marks
   from : AreFrom n words marks
@@ -119,8 +119,8 @@ record IsShown (scope : Scope) (n : ℕ) (words : List Word) (f : Tree) : Type 0
   of_or : is_either read ≡ is_or f
 
 -- the same of a part that may need parentheses
-record IsPart (scope : Scope) (n : ℕ) (words : List Word) (f : Tree) (needs : Bool) : Type 0 where
-  read : Read
+record IsPart (scope : Scope) (n : ℕ) (words : List PrintedWord) (f : Tree) (needs : Bool) : Type 0 where
+  read : ParsedTree
   marks : List Mark
   part : ArePart needs (AreCanonical read) marks
   from : AreFrom n words marks
@@ -128,10 +128,10 @@ record IsPart (scope : Scope) (n : ℕ) (words : List Word) (f : Tree) (needs : 
   of_two : reads_two read ≡ is_of_two f
   of_or : is_either read ≡ is_or f
 
-abbrev Shows : Scope → List Word → Tree → Type 0
+abbrev Shows : Scope → List PrintedWord → Tree → Type 0
 Shows scope words f = (n : ℕ) → Stand scope n words → IsShown scope n words f
 
-part_shown : (scope : Scope) (needs : Bool) (n : ℕ) (words : List Word) (f : Tree) → Shows scope words f → Stand scope n (part_words needs words)
+part_shown : (scope : Scope) (needs : Bool) (n : ℕ) (words : List PrintedWord) (f : Tree) → Shows scope words f → Stand scope n (part_words needs words)
     → IsPart scope n (part_words needs words) f needs
 part_shown scope false n words f shows stand =
     let s = shows n stand in
@@ -149,8 +149,8 @@ part_shown scope true n words f shows stand =
       of_or = s.of_or;
     }
 
-relation_shown : (scope : Scope) (n : ℕ) (left right : Word) (sign : Sign) (x y : Meant) (f : Tree) → IsTermWord left → IsTermWord right
-    → MeansAt scope n x → MeansAt scope (suc (suc n)) y → related sign x y ≡ Some f → is_of_two f ≡ false → is_or f ≡ false
+relation_shown : (scope : Scope) (n : ℕ) (left right : PrintedWord) (sign : Sign) (x y : Meant) (f : Tree) → IsTermWord left → IsTermWord right
+    → MeansAt scope n x → MeansAt scope (suc (suc n)) y → relation_of_terms sign x y ≡ Some f → is_of_two f ≡ false → is_or f ≡ false
     → IsShown scope n (relation_words left sign right) f
 relation_shown scope n left right sign x y f first second here there same two or =
     record {
@@ -174,7 +174,7 @@ named scope Second names = names.second
 
 side_shown : (scope : Scope) (n : ℕ) (side : Side) (sign : Sign) (left right : Term) (f : Tree) → AreNames scope
     → FitsTerm left (length (variables_of scope side)) → FitsTerm right (length (variables_of scope side)) → IsConstant left → IsConstant right
-    → (is_slot left || is_slot right) ≡ true → sided sign side left right ≡ f → is_of_two f ≡ false → is_or f ≡ false
+    → (is_slot left || is_slot right) ≡ true → sided_relation sign side left right ≡ f → is_of_two f ≡ false → is_or f ≡ false
     → Stand scope n (relation_words (term_word side (variables_of scope side) left) sign (term_word side (variables_of scope side) right))
     → IsShown scope n (relation_words (term_word side (variables_of scope side) left) sign (term_word side (variables_of scope side) right)) f
 side_shown scope n side sign left right f names fits more is be some same two or stand =
@@ -187,7 +187,7 @@ side_shown scope n side sign left right f names fits more is be some same two or
 
 across_shown : (scope : Scope) (n : ℕ) (left right : Side) (sign : Sign) (i j : ℕ) (f : Tree) → AreNames scope
     → i < length (variables_of scope left) → j < length (variables_of scope right)
-    → related sign (SlotOf left i) (SlotOf right j) ≡ Some f → is_of_two f ≡ false → is_or f ≡ false
+    → relation_of_terms sign (SlotOf left i) (SlotOf right j) ≡ Some f → is_of_two f ≡ false → is_or f ≡ false
     → Stand scope n (relation_words (slot_word left (variables_of scope left) i) sign (slot_word right (variables_of scope right) j))
     → IsShown scope n (relation_words (slot_word left (variables_of scope left) i) sign (slot_word right (variables_of scope right) j)) f
 across_shown scope n left right sign i j f names within below same two or stand =
@@ -199,8 +199,8 @@ across_shown scope n left right sign i j f names within below same two or stand 
 
 -- Formulas
 
-abbrev words_in : Scope → Tree → List Word
-words_in scope f = words_of scope.first.now scope.second.now f
+abbrev words_in : Scope → Tree → List PrintedWord
+words_in scope f = canonical_words scope.first.now scope.second.now f
 
 -- a formula of the slots that there are, with a slot in each relation and with values
 record IsGood (scope : Scope) (f : Tree) : Type 0 where
@@ -209,7 +209,7 @@ record IsGood (scope : Scope) (f : Tree) : Type 0 where
   values : AreValues f
 
 plain_not : (scope : Scope) (f : Tree) → Shows scope (words_in scope f) f
-    → Shows scope (plain (codes "not") ∷ part_words (is_of_two f) (words_in scope f)) (negation f)
+    → Shows scope (plain_word (codes "not") ∷ part_words (is_of_two f) (words_in scope f)) (negation f)
 plain_not scope f shows n stand =
     let p = part_shown scope (is_of_two f) (suc n) (words_in scope f) f shows stand.1 in
     record {
@@ -301,18 +301,18 @@ shown scope (truth value) names good n stand =
       of_or = refl;
     }
 shown scope (atom First rel left right) names good n stand =
-    side_shown scope n First (sign_of rel) left right (atom First rel left right) names good.fits.0 good.fits.1 good.values.0 good.values.1 good.slots
+    side_shown scope n First (relation_sign rel) left right (atom First rel left right) names good.fits.0 good.fits.1 good.values.0 good.values.1 good.slots
     (sided_sign rel First left right) refl refl stand
 shown scope (atom Second rel left right) names good n stand =
-    side_shown scope n Second (sign_of rel) left right (atom Second rel left right) names good.fits.0 good.fits.1 good.values.0 good.values.1 good.slots
+    side_shown scope n Second (relation_sign rel) left right (atom Second rel left right) names good.fits.0 good.fits.1 good.values.0 good.values.1 good.slots
     (sided_sign rel Second left right) refl refl stand
 shown scope (cross i j) names good n stand =
     across_shown scope n First Second Different i j (cross i j) names good.fits.0 good.fits.1 refl refl refl stand
 shown scope (mixed rel false i j) names good n stand =
-    across_shown scope n First Second (sign_of rel) i j (mixed rel false i j) names good.fits.0 good.fits.1
+    across_shown scope n First Second (relation_sign rel) i j (mixed rel false i j) names good.fits.0 good.fits.1
     (ap (λ (t : Tree). Some t) (across_sign rel false i j)) refl refl stand
 shown scope (mixed rel true i j) names good n stand =
-    across_shown scope n Second First (sign_of rel) j i (mixed rel true i j) names good.fits.1 good.fits.0
+    across_shown scope n Second First (relation_sign rel) j i (mixed rel true i j) names good.fits.1 good.fits.0
     (ap (λ (t : Tree). Some t) (across_sign rel true i j)) refl refl stand
 shown scope (negation f) names good n stand =
     let inner : IsGood scope f = record { fits = good.fits; slots = good.slots; values = good.values } in

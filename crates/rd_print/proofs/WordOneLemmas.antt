@@ -9,10 +9,10 @@ use Rattle.rd_ecl.specs.Formulas.{Tree}
 use Rattle.rd_formulas.specs.declared.scope.Scope.{Scope}
 use Rattle.rd_formulas.specs.declared.terms.Meant.{Meant}
 use Rattle.rd_formulas.specs.declared.terms.Meant.TheVariants.{Slot, Value}
-use Rattle.rd_formulas.specs.Meaning.{Gives, related}
+use Rattle.rd_formulas.specs.Meaning.{Gives, relation_of_terms}
 use Rattle.rd_formulas.specs.Reading.{SaysFormula}
-use Rattle.rd_formulas.specs.Scope.{MeansAt, variables_of, word_at}
-use Rattle.rd_grammar.specs.Grammar.{Tree as Read, truth, relation, negation, both, either, Says, disj}
+use Rattle.rd_formulas.specs.Scope.{MeansAt, variables_of, token_bytes_at}
+use Rattle.rd_grammar.specs.Grammar.{ParsedTree, truth, relation, negation, both, either, MarksSay, disj}
 use Rattle.rd_grammar.specs.declared.marks.Mark.{Mark}
 use Rattle.rd_grammar.proofs.ReadLemmas.{one_tree}
 use Rattle.rd_tokens.specs.declared.words.terms.Said.{Said}
@@ -45,8 +45,8 @@ module _ (scope : Scope) (first : AreDifferent scope.first.now) (second : AreDif
   different First = first
   different Second = second
 
-  one_said : (number : ℕ) (s t : Said) → SaysTerm (word_at scope number) s → SaysTerm (word_at scope number) t → s ≡ t
-  one_said number s t = one_term (word_at scope number) s t
+  one_said : (number : ℕ) (s t : Said) → SaysTerm (token_bytes_at scope number) s → SaysTerm (token_bytes_at scope number) t → s ≡ t
+  one_said number s t = one_term (token_bytes_at scope number) s t
 
   one_slot : (side other : Side) (name word : List ℕ) (i j : ℕ) → Variable side name ≡ Variable other word → slice_get (variables_of scope side) i ≡ Some name
       → slice_get (variables_of scope other) j ≡ Some word → Slot side i ≡ Slot other j
@@ -68,12 +68,12 @@ module _ (scope : Scope) (first : AreDifferent scope.first.now) (second : AreDif
       let same = one_said number (ValueSaid value) (ValueSaid other) says is in
       let values : value ≡ other = cc in cc
 
-  one_formula : (read : Read) (f g : Tree) → Gives (MeansAt scope) read f → Gives (MeansAt scope) read g → f ≡ g
+  one_formula : (read : ParsedTree) (f g : Tree) → Gives (MeansAt scope) read f → Gives (MeansAt scope) read g → f ≡ g
   one_formula (truth value token) f g e k = e ∙ sym k
   one_formula (relation left sign token right) f g (x, y, h, k, e) (z, w, p, q, r) =
       let xs : x ≡ z = one_meaning left x z h p in
       let ys : y ≡ w = one_meaning right y w k q in
-      let both : Some f ≡ Some g = sym e ∙ ap (λ (m : Meant). related sign m y) xs ∙ ap (λ (m : Meant). related sign z m) ys ∙ r in
+      let both : Some f ≡ Some g = sym e ∙ ap (λ (m : Meant). relation_of_terms sign m y) xs ∙ ap (λ (m : Meant). relation_of_terms sign z m) ys ∙ r in
       same_Some f g both
   one_formula (negation token read) f g (h, e, given) (k, r, other) =
       let same : h ≡ k = one_formula read h k given other in cc
@@ -87,5 +87,5 @@ module _ (scope : Scope) (first : AreDifferent scope.first.now) (second : AreDif
   pub says_one : (f g : Tree) → SaysFormula scope f → SaysFormula scope g → f ≡ g
   says_one f g (read, (marks, are, says), given) (other, (others, be, tells), gives) =
       let same : marks ≡ others = one_list scope.line.now scope.tokens.now marks others are be in
-      let trees : read ≡ other = one_tree others read other (subst (λ (ms : List Mark). Says disj ms read) same says) tells in
-      one_formula other f g (subst (λ (r : Read). Gives (MeansAt scope) r f) trees given) gives
+      let trees : read ≡ other = one_tree others read other (subst (λ (ms : List Mark). MarksSay disj ms read) same says) tells in
+      one_formula other f g (subst (λ (r : ParsedTree). Gives (MeansAt scope) r f) trees given) gives

@@ -5,9 +5,9 @@ use Rattle.rd_base.specs.Names.{IsName}
 use Rattle.rd_ecl.specs.declared.kinds.Method.{Method}
 use Rattle.rd_ecl.specs.Formulas.{Tree}
 use Rattle.rd_ecl.specs.Specified.{SpecifiedKind, formula_at}
-use Rattle.rd_print.specs.declared.canonical.word_list.Word.{Word}
-use Rattle.rd_print.specs.Canonical.{AreValues, plain, words_of}
-use Rattle.rd_print.specs.Text.{text_of}
+use Rattle.rd_print.specs.declared.canonical.word_list.PrintedWord.{PrintedWord}
+use Rattle.rd_print.specs.Canonical.{AreValues, plain_word, canonical_words}
+use Rattle.rd_print.specs.Text.{words_text}
 
 -- the name and the variables of the method with this number; none where no method has it
 abbrev pub name_at : List Method → ℕ → List ℕ
@@ -17,51 +17,52 @@ abbrev pub variables_at : List Method → ℕ → List (List ℕ)
 variables_at methods number = unwrap_or (option_map (λ method. method.variables) (slice_get methods number)) []
 
 -- the line of a kind
-abbrev pub kind_words : SpecifiedKind → List Word
-kind_words kind = plain (codes "kind") ∷ plain kind.name ∷ []
+abbrev pub kind_words : SpecifiedKind → List PrintedWord
+kind_words kind = plain_word (codes "kind") ∷ plain_word kind.name ∷ []
 
 -- the variables of a method, with `->` before the last, which names the result
-abbrev pub slot_words : List (List ℕ) → List Word
+abbrev pub slot_words : List (List ℕ) → List PrintedWord
 slot_words [] = []
-slot_words (result ∷ []) = plain (codes "->") ∷ plain result ∷ []
-slot_words (argument ∷ next ∷ more) = plain argument ∷ slot_words (next ∷ more)
+slot_words (result ∷ []) = plain_word (codes "->") ∷ plain_word result ∷ []
+slot_words (argument ∷ next ∷ more) = plain_word argument ∷ slot_words (next ∷ more)
 
 -- the line of a method
-abbrev pub method_words : Method → List Word
-method_words method = plain (codes "method") ∷ plain method.name ∷ slot_words method.variables
+abbrev pub method_words : Method → List PrintedWord
+method_words method = plain_word (codes "method") ∷ plain_word method.name ∷ slot_words method.variables
 
 -- the formula of a pair, where it is set
-abbrev pub formula_words : SpecifiedKind → ℕ → ℕ → List Word
+abbrev pub formula_words : SpecifiedKind → ℕ → ℕ → List PrintedWord
 formula_words kind first second =
-    unwrap_or (option_map (words_of (variables_at kind.methods first) (variables_at kind.methods second)) (formula_at kind first second)) []
+    unwrap_or (option_map (canonical_words (variables_at kind.methods first) (variables_at kind.methods second)) (formula_at kind first second)) []
 
 -- a pair: the names of its methods, and its formula behind `when`
-abbrev pub pair_words : SpecifiedKind → ℕ → ℕ → List Word
+abbrev pub pair_words : SpecifiedKind → ℕ → ℕ → List PrintedWord
 pair_words kind first second =
-    plain (name_at kind.methods first) ∷ plain (name_at kind.methods second) ∷ plain (codes "when") ∷ formula_words kind first second
+    plain_word (name_at kind.methods first) ∷ plain_word (name_at kind.methods second) ∷ plain_word (codes "when")
+    ∷ formula_words kind first second
 
 -- the line of a pair
-abbrev pub commute_words : SpecifiedKind → ℕ × ℕ → List Word
-commute_words kind pair = plain (codes "commute") ∷ pair_words kind pair.0 pair.1
+abbrev pub commute_words : SpecifiedKind → ℕ × ℕ → List PrintedWord
+commute_words kind pair = plain_word (codes "commute") ∷ pair_words kind pair.0 pair.1
 
 -- the pairs of so many methods, by the first, then by the second; a pair's first is not behind its second
 abbrev pub pairs_of : ℕ → List (ℕ × ℕ)
 pairs_of count = flat_map (λ first. map (λ second. (first, second)) (range_with_len first (count - first))) (range_with_len 0 count)
 
 -- the lines of a kind: its own, those of its methods, those of its pairs
-abbrev pub block_lines : SpecifiedKind → List (List Word)
+abbrev pub block_lines : SpecifiedKind → List (List PrintedWord)
 block_lines kind = kind_words kind ∷ map method_words kind.methods ++ map (commute_words kind) (pairs_of (length kind.methods))
 
 -- the lines of a specification: the header, then those of its kinds
-abbrev pub header_words : List Word
-header_words = plain (codes "rdspec") ∷ plain (codes "1") ∷ []
+abbrev pub header_words : List PrintedWord
+header_words = plain_word (codes "rdspec") ∷ plain_word (codes "1") ∷ []
 
-abbrev pub spec_lines : List SpecifiedKind → List (List Word)
+abbrev pub spec_lines : List SpecifiedKind → List (List PrintedWord)
 spec_lines kinds = header_words ∷ flat_map block_lines kinds
 
 -- the text of a line, with its line feed
-abbrev pub line_text : List Word → List ℕ
-line_text words = text_of words ++ codes "\n"
+abbrev pub line_text : List PrintedWord → List ℕ
+line_text words = words_text words ++ codes "\n"
 
 -- the text of a kind's lines, and of a specification
 abbrev pub block_text : SpecifiedKind → List ℕ
@@ -72,7 +73,7 @@ spec_text kinds = flat_map line_text (spec_lines kinds)
 
 -- the text of a pair, as it stands in its line behind `commute`
 abbrev pub pair_text : SpecifiedKind → ℕ → ℕ → List ℕ
-pair_text kind first second = text_of (pair_words kind first second)
+pair_text kind first second = words_text (pair_words kind first second)
 
 -- each constant of a pair's formula is a value
 abbrev pub PairHasValues : SpecifiedKind → ℕ → ℕ → Type 0

@@ -1,7 +1,7 @@
 -- The text of words, which stand one space apart but for those inside a parenthesis at its edges: this project's profile.
 use Rattle.std.specs.Prelude.{◌≡◌, ℕ, ◌<◌, List, [], ◌∷◌, ◌++◌, length, codes}
 use Rattle.std.specs.List.{AllPass}
-use Rattle.rd_print.specs.declared.canonical.word_list.Word.{Word}
+use Rattle.rd_print.specs.declared.canonical.word_list.PrintedWord.{PrintedWord}
 use Rattle.rd_tokens.specs.declared.sorts.Sort.{Sort}
 use Rattle.rd_tokens.specs.declared.sorts.Sort.TheVariants.{Open, Close, Word as Plain, Text, Wrong}
 use Rattle.rd_tokens.specs.Tokens.{SpellsText, is_word_byte}
@@ -13,14 +13,14 @@ gap first Close = []
 gap first second = codes " "
 
 -- the text of words
-abbrev pub text_of : List Word → List ℕ
-text_of [] = []
-text_of (w ∷ []) = w.bytes
-text_of (w ∷ v ∷ words) = w.bytes ++ gap w.sort v.sort ++ text_of (v ∷ words)
+abbrev pub words_text : List PrintedWord → List ℕ
+words_text [] = []
+words_text (w ∷ []) = w.bytes
+words_text (w ∷ v ∷ words) = w.bytes ++ gap w.sort v.sort ++ words_text (v ∷ words)
 
 -- the bytes are the first of the whole
-abbrev pub IsFrontOf : List ℕ → List ℕ → Type 0
-IsFrontOf front whole = (rest : List ℕ) × (whole ≡ front ++ rest)
+abbrev pub IsFront : List ℕ → List ℕ → Type 0
+IsFront front whole = (rest : List ℕ) × (whole ≡ front ++ rest)
 
 -- the bytes alone are a token of the sort, one that is right
 abbrev pub IsRightToken : Sort → List ℕ → Type 0
@@ -31,5 +31,5 @@ IsRightToken Text bytes = SpellsText bytes
 IsRightToken Wrong bytes = ⊥
 
 -- the word alone is a token of its sort
-abbrev pub IsSound : Word → Type 0
-IsSound word = IsRightToken word.sort word.bytes
+abbrev pub IsRightWord : PrintedWord → Type 0
+IsRightWord word = IsRightToken word.sort word.bytes

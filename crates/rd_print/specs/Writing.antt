@@ -3,12 +3,12 @@ use Rattle.std.specs.Prelude.{ℕ, ◌-◌, ◌<◌, ◌≤◌, List, ◌++◌, 
 use Rattle.std.specs.List.{range_with_len}
 use Rattle.rd_ecl.specs.declared.kinds.Method.{Method}
 use Rattle.rd_ecl.specs.Specified.{SpecifiedKind}
-use Rattle.rd_print.specs.declared.canonical.word_list.Word.{Word}
+use Rattle.rd_print.specs.declared.canonical.word_list.PrintedWord.{PrintedWord}
 use Rattle.rd_print.specs.Printed.{PairHasValues, commute_words, line_text, method_words}
 
 -- words, each behind a space
-abbrev pub spaced : List Word → List ℕ
-spaced words = flat_map (λ word. codes " " ++ word.bytes) words
+abbrev pub spaced_text : List PrintedWord → List ℕ
+spaced_text words = flat_map (λ word. codes " " ++ word.bytes) words
 
 -- the lines of methods
 abbrev pub methods_text : List Method → List ℕ

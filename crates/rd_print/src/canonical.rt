@@ -13,5 +13,5 @@ mod word_list;
 mod writing;
 
 pub use laws::law_of_canonical_words;
-pub use word_list::{Word, Words};
+pub use word_list::{PrintedWord, Words};
 pub use writing::words;

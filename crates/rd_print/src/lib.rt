@@ -7,12 +7,12 @@
 
 mod canonical;
 mod laws;
-mod lines;
+mod method_lines;
 mod pairs;
 mod printing;
 mod texts;
 
-pub use canonical::{Word, Words, law_of_canonical_words, words};
+pub use canonical::{PrintedWord, Words, law_of_canonical_words, words};
 pub use laws::law_of_printed_texts;
 pub use pairs::formula_text;
 pub use printing::{print, print_kind};

@@ -2,7 +2,7 @@
 ghost use Rattle.std.specs.Prelude.{◌≡◌, ◌++◌, [], ◌∷◌, IfOk, OnOk};
 ghost use Rattle.rd_print.specs.Printed.{AreNames, HasNames, HasValues, HaveValues, block_text, spec_text};
 
-use crate::lines::{append_head, append_methods};
+use crate::method_lines::{append_head, append_methods};
 use crate::pairs::append_pairs;
 use rd_base::{Bytes, NoMemory};
 use rd_ecl::{KindSpec, Spec};

@@ -11,9 +11,9 @@ use Rattle.rd_ecl.specs.Formulas.{Tree}
 use Rattle.rd_ecl.specs.Specified.{MayAdd, SpecifiedKind, names_of, with_pair}
 use Rattle.rd_ecl.specs.Variables.{IsVariable, is_among, is_variable}
 use Rattle.rd_ecl.proofs.VariableLemmas.{different_decides, variable_decides}
-use Rattle.rd_grammar.specs.Grammar.{Tree as Read}
+use Rattle.rd_grammar.specs.Grammar.{ParsedTree}
 use Rattle.rd_lines.specs.declared.forms.Stage.{Stage}
-use Rattle.rd_lines.specs.Lines.{IsMethodLine, Word, commute, plain, word_at, words_of}
+use Rattle.rd_lines.specs.Lines.{IsMethodLine, LineWord, commute, plain, word_at, words_of}
 use Rattle.rd_tokens.specs.declared.sorts.Token.{Token}
 use Rattle.rd_reading.proofs.RepeatLemmas.{Different}
 use Rattle.rd_base.specs.declared.limits.TheConstants.{MOST_ARGUMENTS, MOST_METHODS}
@@ -36,7 +36,7 @@ argument_count stage line tokens name arguments value right =
     omega (arith, count, length-map tokens (word_at line), length-map arguments plain, length-append (map plain arguments) (plain (codes "->") ∷ plain value ∷ []))
 
 -- the method of a right line may be added
-pub may_add : (kind : SpecifiedKind) (stage : Stage) (words : List Word) (name : List ℕ) (arguments : List (List ℕ)) (value : List ℕ)
+pub may_add : (kind : SpecifiedKind) (stage : Stage) (words : List LineWord) (name : List ℕ) (arguments : List (List ℕ)) (value : List ℕ)
     (held variables : List (List ℕ)) → held ≡ arguments → variables ≡ arguments ++ value ∷ [] → IsMethodLine stage words name arguments value
     → (length kind.methods < MOST_METHODS) × (length held ≤ MOST_ARGUMENTS) → is_among name (names_of kind.methods) ≡ false → Different (held ++ value ∷ [])
     → MayAdd kind name variables
@@ -55,7 +55,7 @@ module _ (known : Known) (block : Block) (is : known.block ≡ Some block) where
   open_kind : kind_in known.block ≡ block.draft
   open_kind = ap kind_in is
 
-  pub pair_added : (line : List ℕ) (tokens : List Token) (first second : List ℕ) (read : Read) (m n : ℕ) (f : Tree) (next : Known)
+  pub pair_added : (line : List ℕ) (tokens : List Token) (first second : List ℕ) (read : ParsedTree) (m n : ℕ) (f : Tree) (next : Known)
       → SaysPair block.draft line tokens first second read m n f → next ≡ with_open known (with_pair block.draft m n f) true
       → FormAdds known line tokens (commute first second read) next
   pair_added line tokens first second read m n f next says added = (

@@ -3,9 +3,9 @@ use Rattle.std.proofs.Common.{◌≡◌, ℕ, ◌<◌, ◌≤◌, List, length, 
 use Rattle.std.specs.Prelude.{IsNone, IsSome, slice_get}
 use Rattle.std.proofs.lemmas.Bool.{cases_lt}
 use Rattle.rd_base.specs.declared.limits.LimitName.TheVariants.{Nodes, FormulaDepth, Predicates}
-use Rattle.rd_reading.specs.declared.causes.Fault.{Fault}
-use Rattle.rd_reading.specs.declared.causes.SpecCause.{SpecCause}
-use Rattle.rd_reading.specs.declared.causes.SpecCause.TheVariants.{UnknownMethod, UnknownVariable, NoVariable, OutsideFragment, Duplicate, Limit}
+use Rattle.rd_reading.specs.declared.spec_causes.Fault.{Fault}
+use Rattle.rd_reading.specs.declared.spec_causes.SpecCause.{SpecCause}
+use Rattle.rd_reading.specs.declared.spec_causes.SpecCause.TheVariants.{UnknownMethod, UnknownVariable, NoVariable, OutsideFragment, Duplicate, Limit}
 use Rattle.rd_reading.specs.Causes.{AreNumbers, FormulaHas, FormulaPasses, HasManyPredicates, HasNone, IsFirstOf, PairHas, SaysPair, place_at, rank, scope_of}
 use Rattle.rd_reading.specs.Known.{variables_at}
 use Rattle.rd_ecl.specs.declared.formulas.Outside.{Outside}
@@ -18,10 +18,10 @@ use Rattle.rd_formulas.specs.declared.reading.FormulaRefused.TheVariants as form
 use Rattle.rd_formulas.specs.Meaning.{Gives, NoneOf, relations_in, terms_in}
 use Rattle.rd_formulas.specs.Reading.{IsFormula, IsTroubled}
 use Rattle.rd_formulas.specs.Scope.{IsBare, IsUnknown, MeansAt}
-use Rattle.rd_grammar.specs.Grammar.{Tree as Read}
+use Rattle.rd_grammar.specs.Grammar.{ParsedTree}
 use Rattle.rd_tokens.specs.declared.sorts.Token.{Token}
 use Rattle.rd_reading.specs.PairJudging.{IsUnknownFault, LateHas, refusal_of}
-use Rattle.rd_reading.specs.Pairs.{IsRefused}
+use Rattle.rd_reading.specs.Pairs.{IsPairRefused}
 use Rattle.rd_reading.proofs.MeaningLemmas.{known_relations, known_terms, no_first, no_first_sign, one_formula}
 use Rattle.rd_reading.proofs.NumberLemmas.{AreDifferent, contained, number_within, one_pair}
 use Rattle.rd_reading.proofs.ScopeLemmas.{slots_are, variables_are}
@@ -31,7 +31,7 @@ no_offence : (o : Option Outside) (found : Outside) → IsNone o → o ≡ Some 
 no_offence None found none is = absurd (cc)
 no_offence (Some other) found none is = absurd (cc)
 
-module _ (kind : SpecifiedKind) (line : List ℕ) (tokens : List Token) (first second : List ℕ) (read : Read) where
+module _ (kind : SpecifiedKind) (line : List ℕ) (tokens : List Token) (first second : List ℕ) (read : ParsedTree) where
   -- the line has the cause at the place
   abbrev Wrong : SpecCause → ℕ → Type 0
   Wrong cause place = PairHas kind line tokens first second read cause place
@@ -114,7 +114,7 @@ module _ (kind : SpecifiedKind) (line : List ℕ) (tokens : List Token) (first s
         least_outside cause place h = absurd h
 
     -- what is wrong with the formula is told first
-    pub troubled_first : (refused : FormulaRefused) → IsTroubled (scope_of kind line tokens m n) read refused → IsRefused Wrong (refusal_of refused)
+    pub troubled_first : (refused : FormulaRefused) → IsTroubled (scope_of kind line tokens m n) read refused → IsPairRefused Wrong (refusal_of refused)
     troubled_first (formula.Syntax place) troubled = absurd troubled
     troubled_first (formula.UnknownVariable place) troubled = record { has = (m, n, are, troubled); first = least_variable }
     troubled_first (formula.NoVariable place) troubled = record { has = (m, n, are, troubled); first = least_bare troubled.1 }
@@ -205,7 +205,7 @@ numbers_are kind methods first second m n same one other = record {
   second_name = subst (λ (ms : List Method). slice_get (names_of ms) n ≡ Some second) same other;
 }
 
-module _ (kind : SpecifiedKind) (line : List ℕ) (tokens : List Token) (first second : List ℕ) (read : Read) (draft : IsDraft kind) (m n : ℕ)
+module _ (kind : SpecifiedKind) (line : List ℕ) (tokens : List Token) (first second : List ℕ) (read : ParsedTree) (draft : IsDraft kind) (m n : ℕ)
     (are : AreNumbers kind first second m n) where
   pub left_known : m < length kind.methods
   left_known = number_within kind.methods first m are.first_name
@@ -214,7 +214,7 @@ module _ (kind : SpecifiedKind) (line : List ℕ) (tokens : List Token) (first s
   right_known = number_within kind.methods second n are.second_name
 
   pub refused_first : (refused : FormulaRefused) → IsTroubled (scope_of kind line tokens m n) read refused
-      → IsRefused (PairHas kind line tokens first second read) (refusal_of refused)
+      → IsPairRefused (PairHas kind line tokens first second read) (refusal_of refused)
   refused_first refused troubled = troubled_first kind line tokens first second read draft.methods.different m n are refused troubled
 
   module _ (f : Tree) (gives : Gives (MeansAt (scope_of kind line tokens m n)) read f) (is : IsFormula (scope_of kind line tokens m n) f) where

@@ -2,11 +2,11 @@
 use Rattle.std.proofs.Common.{◌≡◌, ◌<◌, ◌≤◌, ℕ, true, false, List, length, refl, arith}
 use Rattle.std.specs.Prelude.{Contains}
 use Rattle.rd_base.specs.declared.limits.LimitName.TheVariants.{Kinds}
-use Rattle.rd_reading.specs.declared.causes.SpecCause.{SpecCause}
-use Rattle.rd_reading.specs.declared.causes.SpecCause.TheVariants.{Duplicate, KindTaken, Limit, MissingPair}
+use Rattle.rd_reading.specs.declared.spec_causes.SpecCause.{SpecCause}
+use Rattle.rd_reading.specs.declared.spec_causes.SpecCause.TheVariants.{Duplicate, KindTaken, Limit, MissingPair}
 use Rattle.rd_reading.specs.declared.known.Known.{Known}
 use Rattle.rd_reading.specs.Causes.{HasNone, IsFirstOf, KindHas, LacksPair, place_at, rank}
-use Rattle.rd_reading.specs.Known.{kind_in, kind_names, kinds_so_far}
+use Rattle.rd_reading.specs.Known.{kind_in, specified_kind_names, kinds_so_far}
 use Rattle.rd_ecl.specs.Specified.{IsWhole}
 use Rattle.rd_ecl.specs.Variables.{is_among}
 use Rattle.rd_ecl.proofs.VariableLemmas.{among_decides}
@@ -32,10 +32,10 @@ module _ (taken : List (List ℕ)) (known : Known) (line : List ℕ) (tokens : L
   least_known cause place has = absurd has
 
   -- a kind that is there already is told first
-  pub known_kind : (place : ℕ) → place ≡ place_at line tokens 1 → is_among name (kind_names (kinds_so_far known)) ≡ true → IsFirstOf Wrong Duplicate place
-  known_kind place at is = record { has = ((among_decides name (kind_names (kinds_so_far known))).0 is, at); first = least_known }
+  pub known_kind : (place : ℕ) → place ≡ place_at line tokens 1 → is_among name (specified_kind_names (kinds_so_far known)) ≡ true → IsFirstOf Wrong Duplicate place
+  known_kind place at is = record { has = ((among_decides name (specified_kind_names (kinds_so_far known))).0 is, at); first = least_known }
 
-  module _ (fresh : is_among name (kind_names (kinds_so_far known)) ≡ false) where
+  module _ (fresh : is_among name (specified_kind_names (kinds_so_far known)) ≡ false) where
     least_missing : (cause : SpecCause) (place : ℕ) → Wrong cause place → 8 ≤ rank cause
     least_missing Duplicate place has = absurd (lacks name _ fresh has.0)
     least_missing (MissingPair first second) place has = omega arith

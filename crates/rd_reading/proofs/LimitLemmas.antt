@@ -1,8 +1,8 @@
 -- The first limit that a formula passes is the first thing that is wrong, where the pair isn't set.
 use Rattle.std.proofs.Common.{◌≡◌, ℕ, List, Option, Some, None, refl, false}
 use Rattle.std.specs.Prelude.{IsSome, is_some}
-use Rattle.rd_reading.specs.declared.causes.SpecCause.{SpecCause}
-use Rattle.rd_reading.specs.declared.causes.SpecCause.TheVariants.{Duplicate}
+use Rattle.rd_reading.specs.declared.spec_causes.SpecCause.{SpecCause}
+use Rattle.rd_reading.specs.declared.spec_causes.SpecCause.TheVariants.{Duplicate}
 use Rattle.rd_reading.specs.Causes.{HasNone, IsFirstOf, place_at}
 use Rattle.rd_ecl.specs.Formulas.{Tree}
 use Rattle.rd_ecl.specs.Specified.{SpecifiedKind, formula_at}

@@ -4,35 +4,35 @@ use Rattle.std.specs.Prelude.{IfErr, OnOk}
 use Rattle.std.proofs.Math.Nat.{lt_of_not-le}
 use Rattle.std.proofs.lemmas.List.{take-append-drop}
 use Rattle.rd_base.specs.declared.limits.LimitName.TheVariants.{Arguments, FormulaDepth, Kinds, Methods, Nodes, Predicates, Tokens}
-use Rattle.rd_reading.specs.declared.causes.SpecCause.{SpecCause}
-use Rattle.rd_reading.specs.declared.causes.SpecCause.TheVariants.{Duplicate, Header, KindTaken, Limit, MissingPair, NoVariable, OutsideFragment, Syntax, UnknownMethod, UnknownVariable}
+use Rattle.rd_reading.specs.declared.spec_causes.SpecCause.{SpecCause}
+use Rattle.rd_reading.specs.declared.spec_causes.SpecCause.TheVariants.{Duplicate, Header, KindTaken, Limit, MissingPair, NoVariable, OutsideFragment, Syntax, UnknownMethod, UnknownVariable}
 use Rattle.rd_reading.specs.declared.known.Known.{Known}
 use Rattle.rd_reading.specs.Causes.{FormHas, Has, HasManyTokens, HasNone, IsFirstOf, LineHas, form_has, header_words, line_has, place_at, rank}
-use Rattle.rd_reading.specs.Adding.{Accepts, Adds}
-use Rattle.rd_reading.specs.Known.{kind_in, methods_of, stage_of}
+use Rattle.rd_reading.specs.Adding.{AcceptsSpecLine, Adds}
+use Rattle.rd_reading.specs.Known.{kind_in, open_method_names, stage_of}
 use Rattle.rd_ecl.specs.declared.kinds.Method.{Method}
 use Rattle.rd_ecl.specs.Specified.{names_of}
 use Rattle.rd_lines.specs.declared.forms.Stage.{Stage}
-use Rattle.rd_lines.specs.Lines.{IsShort, IsWrongBehind, RightLine, SaidForm, Word, commute, kind, method, plain, words_of}
+use Rattle.rd_lines.specs.Lines.{HasFewWords, IsWrongBehind, RightLine, SaidForm, LineWord, commute, kind, method, plain, words_of}
 use Rattle.rd_lines.proofs.LawLemmas.{one_form, right_line, same_bytes}
 use Rattle.rd_tokens.specs.declared.sorts.Token.{Token}
 use Rattle.rd_tokens.specs.Tokens.{AreTokens}
-use Rattle.rd_reading.specs.declared.judging.refused.LineRefused.{LineRefused}
-use Rattle.rd_reading.specs.declared.judging.refused.LineRefused.TheVariants.{Fault, NoMemory}
-use Rattle.rd_reading.specs.Judging.{LineRefuses, Refuses}
+use Rattle.rd_reading.specs.declared.judging.refused.SpecLineRefused.{SpecLineRefused}
+use Rattle.rd_reading.specs.declared.judging.refused.SpecLineRefused.TheVariants.{Fault, NoMemory}
+use Rattle.rd_reading.specs.Judging.{LineRefuses, IsSpecLineRefused}
 use Rattle.rd_base.specs.declared.limits.TheConstants.{MOST_TOKENS}
 
 at_most : (n m : ℕ) → ¬ (m < n) → n ≤ m
 at_most n m above = let below : n < m + 1 = lt_of_not-le (λ (h : m + 1 ≤ n). above (omega (arith, h))) in omega (arith, below)
 
 -- a line that hasn't too many tokens is short
-pub short_words : (words : List Word) → ¬ (HasManyTokens words) → IsShort words
+pub short_words : (words : List LineWord) → ¬ (HasManyTokens words) → HasFewWords words
 short_words words few = record {
   few = λ first second behind written.
       at_most (length behind) MOST_TOKENS (λ many. few (record { first = first; second = second; behind = behind; written = written; many = many }));
 }
 
-short_few : (words : List Word) → IsShort words → ¬ (HasManyTokens words)
+short_few : (words : List LineWord) → HasFewWords words → ¬ (HasManyTokens words)
 short_few words short has =
     let few = short.few has.first has.second has.behind has.written in
     let many = has.many in
@@ -61,7 +61,7 @@ least_form taken known line tokens (commute first second read) (Limit Predicates
 least_form taken known line tokens (commute first second read) cause place has = absurd has
 
 -- the header begins as no other line
-first_bytes : (a b : List ℕ) (words rest more : List Word) → words ≡ plain a ∷ rest → words ≡ plain b ∷ more → a ≡ b
+first_bytes : (a b : List ℕ) (words rest more : List LineWord) → words ≡ plain a ∷ rest → words ≡ plain b ∷ more → a ≡ b
 first_bytes a b words rest more same also = same_bytes a b (cc)
 
 no_kind : codes "rdspec" ≢ codes "kind"
@@ -86,7 +86,7 @@ module _ (taken : List (List ℕ)) (known : Known) (line : List ℕ) (tokens : L
     pub no_header : words_of line tokens ≢ header_words → IsFirstOf Wrong Header 0
     no_header other = record { has = line_has (begins, other, refl); first = least_header }
 
-    header_other : (form : SaidForm) → words_of line tokens ≡ header_words → ¬ (RightLine (stage_of known) (methods_of known) (words_of line tokens) form)
+    header_other : (form : SaidForm) → words_of line tokens ≡ header_words → ¬ (RightLine (stage_of known) (open_method_names known) (words_of line tokens) form)
     header_other (kind name) is right = no_kind (first_bytes _ _ _ _ _ is right.written)
     header_other (method name arguments result) is right = no_method (first_bytes _ _ _ _ _ is right.written)
     header_other (commute first second read) is right = no_commute (first_bytes _ _ _ _ _ is right.written)
@@ -116,7 +116,7 @@ module _ (taken : List (List ℕ)) (known : Known) (line : List ℕ) (tokens : L
     pub many_tokens : (place : ℕ) → place ≡ place_at line tokens 3 → HasManyTokens (words_of line tokens) → IsFirstOf Wrong (Limit Tokens MOST_TOKENS) place
     many_tokens place at many = record { has = line_has (many, refl, at); first = least_many }
 
-    module _ (short : IsShort (words_of line tokens)) where
+    module _ (short : HasFewWords (words_of line tokens)) where
       least_syntax : (cause : SpecCause) (place : ℕ) → Wrong cause place → 2 ≤ rank cause
       least_syntax cause place (line_has has) = here cause place has where
         here : (cause : SpecCause) (place : ℕ) → LineHas known line tokens cause place → 2 ≤ rank cause
@@ -127,15 +127,15 @@ module _ (taken : List (List ℕ)) (known : Known) (line : List ℕ) (tokens : L
       least_syntax cause place (form_has form right has) = let least = least_form taken known line tokens form cause place has in omega (arith, least)
 
       -- then a wrong form
-      pub wrong_line : (count place : ℕ) → IsWrongBehind (RightLine (stage_of known) (methods_of known)) (words_of line tokens) count
+      pub wrong_line : (count place : ℕ) → IsWrongBehind (RightLine (stage_of known) (open_method_names known)) (words_of line tokens) count
           → place ≡ place_at line tokens count → IsFirstOf Wrong Syntax place
       wrong_line count place wrong at = record { has = line_has (count, begun, wrong, at); first = least_syntax }
 
-      module _ (form : SaidForm) (right : RightLine (stage_of known) (methods_of known) (words_of line tokens) form) where
-        right_nowhere : (count : ℕ) → ¬ (IsWrongBehind (RightLine (stage_of known) (methods_of known)) (words_of line tokens) count)
+      module _ (form : SaidForm) (right : RightLine (stage_of known) (open_method_names known) (words_of line tokens) form) where
+        right_nowhere : (count : ℕ) → ¬ (IsWrongBehind (RightLine (stage_of known) (open_method_names known)) (words_of line tokens) count)
         right_nowhere count wrong =
-            right_line (stage_of known) (methods_of known) (take count (words_of line tokens)) (drop count (words_of line tokens)) form
-            (subst (λ (words : List Word). RightLine (stage_of known) (methods_of known) words form) (sym (take-append-drop count (words_of line tokens))) right)
+            right_line (stage_of known) (open_method_names known) (take count (words_of line tokens)) (drop count (words_of line tokens)) form
+            (subst (λ (words : List LineWord). RightLine (stage_of known) (open_method_names known) words form) (sym (take-append-drop count (words_of line tokens))) right)
             wrong.1
 
         right_place : (cause : SpecCause) (place : ℕ) → ¬ (LineHas known line tokens cause place)
@@ -149,43 +149,43 @@ module _ (taken : List (List ℕ)) (known : Known) (line : List ℕ) (tokens : L
         has_form cause place (line_has has) = absurd (right_place cause place has)
         has_form cause place (form_has other also has) =
             subst (λ (f : SaidForm). FormHas taken known line tokens f cause place)
-            (one_form (stage_of known) (methods_of known) (words_of line tokens) other form also right) has
+            (one_form (stage_of known) (open_method_names known) (words_of line tokens) other form also right) has
 
         -- so is the first of it
         pub form_none : HasNone (FormHas taken known line tokens form) → HasNone Wrong
         form_none none cause place has = none cause place (has_form cause place has)
 
-        pub form_first : (refused : LineRefused) → Refuses (FormHas taken known line tokens form) refused → Refuses Wrong refused
+        pub form_first : (refused : SpecLineRefused) → IsSpecLineRefused (FormHas taken known line tokens form) refused → IsSpecLineRefused Wrong refused
         form_first (Fault fault) first = record {
           has = form_has form right first.has;
           first = λ other elsewhere has. first.first other elsewhere (has_form other elsewhere has);
         }
         form_first NoMemory first = tt
 
-        pub form_refused : {T : Type 0} (result : Result T LineRefused) → IfErr result (Refuses (FormHas taken known line tokens form)) → IfErr result (Refuses Wrong)
+        pub form_refused : {T : Type 0} (result : Result T SpecLineRefused) → IfErr result (IsSpecLineRefused (FormHas taken known line tokens form)) → IfErr result (IsSpecLineRefused Wrong)
         form_refused (Ok x) refused = tt
         form_refused (Err refused) first = form_first refused first
 
 -- what is said at the stage of what is known
 pub stands_at : {R : Type 0} (known : Known) (stage : Stage) (methods : List Method) (P : Stage → List (List ℕ) → R → Type 0) (x : R) → stage ≡ stage_of known
-    → methods ≡ (kind_in known.block).methods → P stage (names_of methods) x → P (stage_of known) (methods_of known) x
+    → methods ≡ (kind_in known.block).methods → P stage (names_of methods) x → P (stage_of known) (open_method_names known) x
 stands_at known stage methods P x stands are holds =
-    subst (λ (s : Stage). P s (methods_of known) x) stands (subst (λ (m : List Method). P stage (names_of m) x) are holds)
+    subst (λ (s : Stage). P s (open_method_names known) x) stands (subst (λ (m : List Method). P stage (names_of m) x) are holds)
 
 -- what a line is said by its tokens
 pub accepted : {T E : Type 0} (result : Result T E) (taken : List (List ℕ)) (known : Known) (line : List ℕ) (tokens : List Token) (next : Known)
     → AreTokens line tokens → OnOk result (HasNone (Has taken known line tokens)) → OnOk result (Adds known line tokens next)
-    → OnOk result (Accepts taken known line next)
+    → OnOk result (AcceptsSpecLine taken known line next)
 accepted (Ok x) taken known line tokens next cut clean adds = record { tokens = tokens; cut = cut; clean = clean; adds = adds }
 accepted (Err e) taken known line tokens next cut clean adds = tt
 
-line_refuses : (taken : List (List ℕ)) (known : Known) (line : List ℕ) (tokens : List Token) → AreTokens line tokens → (refused : LineRefused)
-    → Refuses (Has taken known line tokens) refused → LineRefuses taken known line refused
+line_refuses : (taken : List (List ℕ)) (known : Known) (line : List ℕ) (tokens : List Token) → AreTokens line tokens → (refused : SpecLineRefused)
+    → IsSpecLineRefused (Has taken known line tokens) refused → LineRefuses taken known line refused
 line_refuses taken known line tokens cut (Fault fault) first = (tokens, cut, first)
 line_refuses taken known line tokens cut NoMemory first = tt
 
-pub first_refused : {T : Type 0} (result : Result T LineRefused) (taken : List (List ℕ)) (known : Known) (line : List ℕ) (tokens : List Token)
-    → AreTokens line tokens → IfErr result (λ refused. (others : List (List ℕ)) → Refuses (Has others known line tokens) refused)
+pub first_refused : {T : Type 0} (result : Result T SpecLineRefused) (taken : List (List ℕ)) (known : Known) (line : List ℕ) (tokens : List Token)
+    → AreTokens line tokens → IfErr result (λ refused. (others : List (List ℕ)) → IsSpecLineRefused (Has others known line tokens) refused)
     → IfErr result (LineRefuses taken known line)
 first_refused (Ok x) taken known line tokens cut first = tt
 first_refused (Err refused) taken known line tokens cut first = line_refuses taken known line tokens cut refused (first taken)

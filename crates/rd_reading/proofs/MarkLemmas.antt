@@ -5,7 +5,7 @@ use Rattle.std.proofs.lemmas.Option.{none-some, same_Some}
 use Rattle.rd_tokens.specs.declared.sorts.Token.{Token}
 use Rattle.rd_grammar.specs.declared.marks.Mark.{Mark}
 use Rattle.rd_tokens.specs.Words.{AreMarks, IsMark, IsSymbol}
-use Rattle.rd_lines.specs.Lines.{AreMarksFrom, Word, word_at, words_of}
+use Rattle.rd_lines.specs.Lines.{AreMarksFrom, LineWord, word_at, words_of}
 
 -- as many, and each of its word
 count_from : (line : List ℕ) (k : ℕ) (tokens : List Token) (marks : List Mark) → AreMarksFrom k (words_of line tokens) marks → length marks ≡ length tokens
@@ -39,7 +39,7 @@ are_marks line tokens marks are = record {
 }
 
 -- the words behind the fourth
-pub behind_four : (line : List ℕ) (tokens : List Token) (a b c d : Word) (behind : List Word) → words_of line tokens ≡ a ∷ b ∷ c ∷ d ∷ behind
+pub behind_four : (line : List ℕ) (tokens : List Token) (a b c d : LineWord) (behind : List LineWord) → words_of line tokens ≡ a ∷ b ∷ c ∷ d ∷ behind
     → (4 ≤ length tokens) × (behind ≡ words_of line (drop 4 tokens))
 behind_four line [] a b c d behind same = absurd (cc)
 behind_four line (x ∷ []) a b c d behind same = absurd (cc)

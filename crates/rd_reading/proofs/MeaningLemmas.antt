@@ -8,11 +8,11 @@ use Rattle.rd_ecl.specs.Formulas.{Tree}
 use Rattle.rd_formulas.specs.declared.scope.Scope.{Scope}
 use Rattle.rd_formulas.specs.declared.terms.Meant.{Meant}
 use Rattle.rd_formulas.specs.declared.terms.Meant.TheVariants.{Slot, Value as ValueOf}
-use Rattle.rd_formulas.specs.Meaning.{Gives, IsFirst, IsFirstSign, NoneOf, Related, related, relations_in, terms_in}
-use Rattle.rd_formulas.specs.Scope.{IsBare, IsUnknown, IsVariableAt, MeansAt, variables_of, word_at}
+use Rattle.rd_formulas.specs.Meaning.{Gives, IsFirst, IsFirstSign, NoneOf, Related, relation_of_terms, relations_in, terms_in}
+use Rattle.rd_formulas.specs.Scope.{IsBare, IsUnknown, IsVariableAt, MeansAt, variables_of, token_bytes_at}
 use Rattle.rd_formulas.proofs.FindingLemmas.{none_both, none_right}
 use Rattle.rd_grammar.specs.declared.marks.Sign.{Sign}
-use Rattle.rd_grammar.specs.Grammar.{Tree as Read, truth, relation, negation, both, either}
+use Rattle.rd_grammar.specs.Grammar.{ParsedTree, truth, relation, negation, both, either}
 use Rattle.rd_tokens.specs.declared.words.terms.Said.{Said}
 use Rattle.rd_tokens.specs.declared.words.terms.Said.TheVariants.{Variable, Value as ValueSaid}
 use Rattle.rd_tokens.specs.Words.{SaysTerm}
@@ -20,8 +20,8 @@ use Rattle.rd_tokens.proofs.TermLemmas.{one_term}
 use Rattle.rd_reading.proofs.NumberLemmas.{AreDifferent, contained, one_place}
 
 module _ (scope : Scope) where
-  one_said : (number : ℕ) (s t : Said) → SaysTerm (word_at scope number) s → SaysTerm (word_at scope number) t → s ≡ t
-  one_said number s t = one_term (word_at scope number) s t
+  one_said : (number : ℕ) (s t : Said) → SaysTerm (token_bytes_at scope number) s → SaysTerm (token_bytes_at scope number) t → s ≡ t
+  one_said number s t = one_term (token_bytes_at scope number) s t
 
   -- a term with a meaning is no unknown variable
   known_term : (number : ℕ) (x : Meant) → MeansAt scope number x → ¬ (IsUnknown scope number)
@@ -34,7 +34,7 @@ module _ (scope : Scope) where
   known_term number (ValueOf value) says (other, word, is, lacks) =
       let same = one_said number (ValueSaid value) (Variable other word) says is in absurd (cc)
 
-  pub known_terms : (read : Read) (f : Tree) → Gives (MeansAt scope) read f → NoneOf (IsUnknown scope) (terms_in read)
+  pub known_terms : (read : ParsedTree) (f : Tree) → Gives (MeansAt scope) read f → NoneOf (IsUnknown scope) (terms_in read)
   known_terms (truth value token) f given = tt
   known_terms (relation left sign token right) f (x, y, h, k, e) = (known_term left x h, (known_term right y k, tt))
   known_terms (negation token read) f (g, e, given) = known_terms read g given
@@ -47,13 +47,13 @@ module _ (scope : Scope) where
   slot_there : (number : ℕ) (side : Side) (i : ℕ) → MeansAt scope number (Slot side i) → IsVariableAt scope number
   slot_there number side i (name, says, here) = (side, name, says)
 
-  never_bare : (sign : Sign) (left token right : ℕ) (x y : Meant) (f : Tree) → MeansAt scope left x → MeansAt scope right y → related sign x y ≡ Some f
+  never_bare : (sign : Sign) (left token right : ℕ) (x y : Meant) (f : Tree) → MeansAt scope left x → MeansAt scope right y → relation_of_terms sign x y ≡ Some f
       → ¬ (IsBare scope (record { sign = token; left = left; right = right }))
   never_bare sign left token right (Slot side i) y f h k e bare = bare.0 (slot_there left side i h)
   never_bare sign left token right (ValueOf value) (Slot side j) f h k e bare = bare.1 (slot_there right side j k)
   never_bare sign left token right (ValueOf value) (ValueOf other) f h k e bare = none-some f e
 
-  pub known_relations : (read : Read) (f : Tree) → Gives (MeansAt scope) read f → NoneOf (IsBare scope) (relations_in read)
+  pub known_relations : (read : ParsedTree) (f : Tree) → Gives (MeansAt scope) read f → NoneOf (IsBare scope) (relations_in read)
   known_relations (truth value token) f given = tt
   known_relations (relation left sign token right) f (x, y, h, k, e) = (never_bare sign left token right x y f h k e, tt)
   known_relations (negation token read) f (g, e, given) = known_relations read g given
@@ -98,12 +98,12 @@ module _ (scope : Scope) (first : AreDifferent scope.first.now) (second : AreDif
       let same = one_said scope number (ValueSaid value) (ValueSaid other) says is in
       let values : value ≡ other = cc in cc
 
-  pub one_formula : (read : Read) (f g : Tree) → Gives (MeansAt scope) read f → Gives (MeansAt scope) read g → f ≡ g
+  pub one_formula : (read : ParsedTree) (f g : Tree) → Gives (MeansAt scope) read f → Gives (MeansAt scope) read g → f ≡ g
   one_formula (truth value token) f g e k = e ∙ sym k
   one_formula (relation left sign token right) f g (x, y, h, k, e) (z, w, p, q, r) =
       let xs : x ≡ z = one_meaning left x z h p in
       let ys : y ≡ w = one_meaning right y w k q in
-      let same : Some f ≡ Some g = sym e ∙ ap (λ (m : Meant). related sign m y) xs ∙ ap (λ (m : Meant). related sign z m) ys ∙ r in
+      let same : Some f ≡ Some g = sym e ∙ ap (λ (m : Meant). relation_of_terms sign m y) xs ∙ ap (λ (m : Meant). relation_of_terms sign z m) ys ∙ r in
       same_Some f g same
   one_formula (negation token read) f g (h, e, given) (k, r, other) =
       let same : h ≡ k = one_formula read h k given other in cc

@@ -3,10 +3,10 @@ use Rattle.std.proofs.Common.{◌≡◌, ◌≢◌, ℕ, ◌<◌, ◌≤◌, Boo
 use Rattle.std.specs.Prelude.{All, Contains}
 use Rattle.std.proofs.lemmas.List.{get_or-map, length-map, map-append}
 use Rattle.std.proofs.lemmas.List.Elements.{All-push}
-use Rattle.rd_reading.specs.Adding.{Accepts, Adds, FormAdds, adds_form, adds_header, with_kind, with_open}
+use Rattle.rd_reading.specs.Adding.{AcceptsSpecLine, Adds, FormAdds, adds_form, adds_header, with_kind, with_open}
 use Rattle.rd_reading.specs.Causes.{FormHas, HasNone, KindHas, form_has}
-use Rattle.rd_reading.specs.Known.{kind_in, kind_names, kind_without, kinds_so_far, methods_of, nothing, opened, stage_in, stage_of}
-use Rattle.rd_reading.specs.declared.causes.SpecCause.TheVariants.{Duplicate, KindTaken, Limit}
+use Rattle.rd_reading.specs.Known.{kind_in, specified_kind_names, kind_without, kinds_so_far, open_method_names, nothing, open_kinds, stage_in, stage_of}
+use Rattle.rd_reading.specs.declared.spec_causes.SpecCause.TheVariants.{Duplicate, KindTaken, Limit}
 use Rattle.rd_reading.specs.declared.known.Block.{Block}
 use Rattle.rd_reading.specs.declared.known.Known.{Known}
 use Rattle.rd_base.specs.declared.limits.LimitName.TheVariants.{Kinds}
@@ -16,7 +16,7 @@ use Rattle.rd_lines.specs.Lines.{kind as kind_said, method as method_said, commu
 use Rattle.rd_lines.specs.declared.forms.Stage.TheVariants.{Outside, Methods}
 use Rattle.rd_reading.proofs.NumberLemmas.{AreDifferent}
 use Rattle.rd_tokens.specs.declared.sorts.Token.{Token}
-use Rattle.rd_reading.specs.Texts.{HasNewNames, Reads, SpecSays, no_more, skips, takes}
+use Rattle.rd_reading.specs.Texts.{HasNewNames, ReadsLines, SpecSays, no_more, skips, takes}
 use Rattle.rd_reading.proofs.OneLemmas.{name_more}
 use Rattle.rd_base.specs.declared.limits.TheConstants.{MOST_KINDS}
 
@@ -27,7 +27,7 @@ record AreNew (taken : List (List ℕ)) (names : List (List ℕ)) : Type 0 where
   free : All (λ name. ¬ (Contains taken name)) names
 
 abbrev names_so_far : Known → List (List ℕ)
-names_so_far known = kind_names (kinds_so_far known)
+names_so_far known = specified_kind_names (kinds_so_far known)
 
 none_new : (taken : List (List ℕ)) → AreNew taken []
 none_new taken = record {
@@ -46,10 +46,10 @@ new_more taken names name new room fresh free = record {
 }
 
 -- the last kind's name stands last
-names_last : (closed : List SpecifiedKind) (kind : SpecifiedKind) → kind_names (closed ++ kind ∷ []) ≡ kind_names closed ++ kind.name ∷ []
+names_last : (closed : List SpecifiedKind) (kind : SpecifiedKind) → specified_kind_names (closed ++ kind ∷ []) ≡ specified_kind_names closed ++ kind.name ∷ []
 names_last closed kind = map-append (λ (one : SpecifiedKind). one.name) closed (kind ∷ [])
 
-count_names : (kinds : List SpecifiedKind) → length (kind_names kinds) ≡ length kinds
+count_names : (kinds : List SpecifiedKind) → length (specified_kind_names kinds) ≡ length kinds
 count_names kinds = length-map kinds (λ (kind : SpecifiedKind). kind.name)
 
 -- where a kind is open, another one of its name leaves the names
@@ -57,10 +57,10 @@ names_kept : (known : Known) (kind : SpecifiedKind) (paired : Bool) → stage_of
     → names_so_far (with_open known kind paired) ≡ names_so_far known
 names_kept known kind paired stands named = names_last known.closed kind ∙ by known.block stands named where
   by : (block : Option Block) → stage_in block ≢ Outside → kind.name ≡ (kind_in block).name
-      → kind_names known.closed ++ kind.name ∷ [] ≡ kind_names (known.closed ++ opened block)
+      → specified_kind_names known.closed ++ kind.name ∷ [] ≡ specified_kind_names (known.closed ++ open_kinds block)
   by None inside same = absurd (inside refl)
   by (Some block) inside same =
-      ap (λ (name : List ℕ). kind_names known.closed ++ name ∷ []) same ∙ sym (names_last known.closed block.draft)
+      ap (λ (name : List ℕ). specified_kind_names known.closed ++ name ∷ []) same ∙ sym (names_last known.closed block.draft)
 
 not_outside : Methods ≢ Outside
 not_outside e = cc
@@ -79,7 +79,7 @@ kind_new taken known line tokens name new clean =
 
 -- an accepted line keeps the names new
 form_new : (taken : List (List ℕ)) (known next : Known) (line : List ℕ) (tokens : List Token) (form : SaidForm) → AreNew taken (names_so_far known)
-    → RightLine (stage_of known) (methods_of known) (words_of line tokens) form → HasNone (FormHas taken known line tokens form)
+    → RightLine (stage_of known) (open_method_names known) (words_of line tokens) form → HasNone (FormHas taken known line tokens form)
     → FormAdds known line tokens form next → AreNew taken (names_so_far next)
 form_new taken known next line tokens (kind_said name) new right clean adds =
     subst (λ (k : Known). AreNew taken (names_so_far k)) (sym adds) (kind_new taken known line tokens name new clean)
@@ -91,7 +91,7 @@ form_new taken known next line tokens (commute_said first second read) new right
     let fuller : SpecifiedKind = with_pair (kind_in known.block) m n f in
     subst (AreNew taken) (sym (ap names_so_far same ∙ names_kept known fuller true right.stands refl)) new
 
-accepted_new : (taken : List (List ℕ)) (known next : Known) (line : List ℕ) → AreNew taken (names_so_far known) → Accepts taken known line next
+accepted_new : (taken : List (List ℕ)) (known next : Known) (line : List ℕ) → AreNew taken (names_so_far known) → AcceptsSpecLine taken known line next
     → AreNew taken (names_so_far next)
 accepted_new taken known next line new accepts = by accepts.adds where
   by : Adds known line accepts.tokens next → AreNew taken (names_so_far next)
@@ -100,7 +100,7 @@ accepted_new taken known next line new accepts = by accepts.adds where
       form_new taken known next line accepts.tokens form new right (λ cause place has. accepts.clean cause place (form_has form right has)) adds
 
 -- so do lines, one after another
-reads_new : (taken : List (List ℕ)) (known last : Known) (lines : List (List ℕ)) → AreNew taken (names_so_far known) → Reads taken known lines last
+reads_new : (taken : List (List ℕ)) (known last : Known) (lines : List (List ℕ)) → AreNew taken (names_so_far known) → ReadsLines taken known lines last
     → AreNew taken (names_so_far last)
 reads_new taken known last lines new no_more = new
 reads_new taken known last lines new (skips {lines = rest} skipped more) = reads_new taken known last rest new more
@@ -108,7 +108,7 @@ reads_new taken known last lines new (takes {mid = mid} {line = line} {lines = r
     reads_new taken mid last rest (accepted_new taken known mid line new accepts) more
 
 -- kinds whose names are new
-has_new : (taken : List (List ℕ)) (kinds : List SpecifiedKind) → AreNew taken (kind_names kinds) → HasNewNames taken kinds
+has_new : (taken : List (List ℕ)) (kinds : List SpecifiedKind) → AreNew taken (specified_kind_names kinds) → HasNewNames taken kinds
 has_new taken kinds new = record {
   few = let count = count_names kinds in let few = new.few in omega (arith, count, few);
   different = new.different;

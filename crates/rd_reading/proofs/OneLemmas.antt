@@ -5,10 +5,10 @@ use Rattle.std.specs.Cmp.Lexicographic.{bytes_decides, nat_list_eq_equiv}
 use Rattle.std.proofs.lemmas.List.{append_assoc, append-nil}
 use Rattle.std.proofs.lemmas.Map.Keys.{IsDistinct-push}
 use Rattle.std.proofs.lemmas.Map.Made.{AllPairs-from_IsDistinct, IsDistinct-from_AllPairs}
-use Rattle.rd_reading.specs.Adding.{Accepts, Adds, FormAdds, adds_form, adds_header, with_open}
+use Rattle.rd_reading.specs.Adding.{AcceptsSpecLine, Adds, FormAdds, adds_form, adds_header, with_open}
 use Rattle.rd_reading.specs.Causes.{EndHas, FormHas, Has, HasNone, IsFirstRepeated, form_has, scope_of}
-use Rattle.rd_reading.specs.Known.{kind_in, kind_without, kinds_so_far, methods_of, nothing, stage_of, variables_at}
-use Rattle.rd_reading.specs.declared.causes.SpecCause.TheVariants.{Duplicate}
+use Rattle.rd_reading.specs.Known.{kind_in, kind_without, kinds_so_far, open_method_names, nothing, stage_of, variables_at}
+use Rattle.rd_reading.specs.declared.spec_causes.SpecCause.TheVariants.{Duplicate}
 use Rattle.rd_reading.specs.declared.known.Known.{Known}
 use Rattle.rd_ecl.specs.declared.kinds.Method.{Method}
 use Rattle.rd_ecl.specs.Formulas.{Tree}
@@ -17,7 +17,7 @@ use Rattle.rd_ecl.specs.Variables.{is_among}
 use Rattle.rd_ecl.proofs.VariableLemmas.{among_decides}
 use Rattle.rd_formulas.specs.Meaning.{Gives}
 use Rattle.rd_formulas.specs.Scope.{MeansAt}
-use Rattle.rd_grammar.specs.Grammar.{Tree as Read}
+use Rattle.rd_grammar.specs.Grammar.{ParsedTree}
 use Rattle.rd_lines.proofs.LawLemmas.{one_form}
 use Rattle.rd_tokens.proofs.CutLemmas.{one_list}
 use Rattle.rd_reading.specs.declared.parsing.SpecRefused.{SpecRefused}
@@ -26,7 +26,7 @@ use Rattle.rd_lines.specs.Lines.{kind as kind_said, method as method_said, commu
 use Rattle.rd_reading.proofs.NumberLemmas.{AreDifferent, one_pair}
 use Rattle.rd_reading.proofs.MeaningLemmas.{one_formula}
 use Rattle.rd_tokens.specs.declared.sorts.Token.{Token}
-use Rattle.rd_reading.specs.Texts.{AreLines, Reads, IsLine, IsSkipped, SpecSays, IsRefusedLine, IsRefusedEnd, IsSpecRefused, no_line, last_line, line_first, no_more, skips, takes}
+use Rattle.rd_reading.specs.Texts.{AreLines, ReadsLines, IsLine, IsSkipped, SpecSays, IsRefusedAtLine, IsRefusedAtEnd, IsSpecRefused, no_line, last_line, line_first, no_more, skips, takes}
 
 -- ---- lines
 
@@ -148,7 +148,7 @@ form_apart taken known next line tokens (method_said name arguments result) apar
 form_apart taken known next line tokens (commute_said first second read) apart clean (m, n, f, says, same) =
     subst IsApart (sym same) (record { names = apart.names; variables = apart.variables })
 
-accepted_apart : (taken : List (List ℕ)) (known next : Known) (line : List ℕ) → IsApart known → Accepts taken known line next → IsApart next
+accepted_apart : (taken : List (List ℕ)) (known next : Known) (line : List ℕ) → IsApart known → AcceptsSpecLine taken known line next → IsApart next
 accepted_apart taken known next line apart accepts = by accepts.adds where
   by : Adds known line accepts.tokens next → IsApart next
   by (adds_header fresh header same) = subst IsApart (sym same) apart
@@ -157,7 +157,7 @@ accepted_apart taken known next line apart accepts = by accepts.adds where
 
 -- ---- an accepted line adds one thing
 
-same_numbers : (kind : SpecifiedKind) (line : List ℕ) (tokens : List Token) (m n i j : ℕ) (read : Read) (f : Tree) → i ≡ m → j ≡ n
+same_numbers : (kind : SpecifiedKind) (line : List ℕ) (tokens : List Token) (m n i j : ℕ) (read : ParsedTree) (f : Tree) → i ≡ m → j ≡ n
     → Gives (MeansAt (scope_of kind line tokens i j)) read f → Gives (MeansAt (scope_of kind line tokens m n)) read f
 same_numbers kind line tokens m n i j read f first second gives =
     subst (λ (x : ℕ). Gives (MeansAt (scope_of kind line tokens x n)) read f) first
@@ -182,35 +182,35 @@ one_next known a b line tokens apart (adds_header fresh header same) (adds_heade
 one_next known a b line tokens apart (adds_header fresh header same) (adds_form begun form right adds) = absurd (cc)
 one_next known a b line tokens apart (adds_form begun form right adds) (adds_header fresh header same) = absurd (cc)
 one_next known a b line tokens apart (adds_form begun form right adds) (adds_form also other fit more) =
-    let forms : other ≡ form = one_form (stage_of known) (methods_of known) (words_of line tokens) other form fit right in
+    let forms : other ≡ form = one_form (stage_of known) (open_method_names known) (words_of line tokens) other form fit right in
     one_added known a b line tokens form apart adds (subst (λ (f : SaidForm). FormAdds known line tokens f b) forms more)
 
-one_accepted : (taken : List (List ℕ)) (known a b : Known) (line : List ℕ) → IsApart known → Accepts taken known line a → Accepts taken known line b → a ≡ b
+one_accepted : (taken : List (List ℕ)) (known a b : Known) (line : List ℕ) → IsApart known → AcceptsSpecLine taken known line a → AcceptsSpecLine taken known line b → a ≡ b
 one_accepted taken known a b line apart one other =
     let tokens : other.tokens ≡ one.tokens = one_list line other.tokens one.tokens other.cut one.cut in
     one_next known a b line one.tokens apart one.adds (subst (λ (ts : List Token). Adds known line ts b) tokens other.adds)
 
-one_read : (taken : List (List ℕ)) (known a b : Known) (lines : List (List ℕ)) → IsApart known → Reads taken known lines a → Reads taken known lines b → a ≡ b
+one_read : (taken : List (List ℕ)) (known a b : Known) (lines : List (List ℕ)) → IsApart known → ReadsLines taken known lines a → ReadsLines taken known lines b → a ≡ b
 one_read taken known a b lines apart no_more no_more = refl
 one_read taken known a b lines apart (skips {lines = rest} skipped more) (skips also others) = one_read taken known a b rest apart more others
 one_read taken known a b lines apart (skips skipped more) (takes kept accepts others) = absurd (kept skipped)
 one_read taken known a b lines apart (takes kept accepts more) (skips skipped others) = absurd (kept skipped)
 one_read taken known a b lines apart (takes {mid = mid} {line = line} {lines = rest} kept accepts more) (takes {mid = other} also accepted others) =
     let same : other ≡ mid = one_accepted taken known other mid line apart accepted accepts in
-    one_read taken mid a b rest (accepted_apart taken known mid line apart accepts) more (subst (λ (k : Known). Reads taken k rest b) same others)
+    one_read taken mid a b rest (accepted_apart taken known mid line apart accepts) more (subst (λ (k : Known). ReadsLines taken k rest b) same others)
 
 pub one_said : (text : List ℕ) (taken : List (List ℕ)) (x y : List SpecifiedKind) → SpecSays text taken x → SpecSays text taken y → x ≡ y
 one_said text taken x y one other =
     let lines : other.lines ≡ one.lines = lines_one text text other.lines one.lines refl other.cut one.cut in
     let known : one.known ≡ other.known = one_read taken nothing one.known other.known one.lines (apart_without []) one.reads
-    (subst (λ (l : List (List ℕ)). Reads taken nothing l other.known) lines other.reads) in
+    (subst (λ (l : List (List ℕ)). ReadsLines taken nothing l other.known) lines other.reads) in
     one.said ∙ ap kinds_so_far known ∙ sym other.said
 
 -- ---- a text that says kinds is refused nowhere
 
 -- the lines in front are read, and the next one is accepted
 front_read : (taken : List (List ℕ)) (known last mid : Known) (before : List (List ℕ)) (line : List ℕ) (behind : List (List ℕ)) → IsApart known
-    → Reads taken known (before ++ line ∷ behind) last → Reads taken known before mid → ¬ (IsSkipped line) → (next : Known) × Accepts taken mid line next
+    → ReadsLines taken known (before ++ line ∷ behind) last → ReadsLines taken known before mid → ¬ (IsSkipped line) → (next : Known) × AcceptsSpecLine taken mid line next
 front_read taken known last mid [] line behind apart (skips skipped more) no_more kept = absurd (kept skipped)
 front_read taken known last mid [] line behind apart (takes {mid = next} also accepts more) no_more kept = (next, accepts)
 front_read taken known last mid (l ∷ before) line behind apart (skips skipped more) (skips also rest) kept =
@@ -220,16 +220,16 @@ front_read taken known last mid (l ∷ before) line behind apart (takes free acc
 front_read taken known last mid (l ∷ before) line behind apart (takes {mid = next} free accepts more) (takes {mid = other} also accepted rest) kept =
     let same : other ≡ next = one_accepted taken known other next l apart accepted accepts in
     front_read taken next last mid before line behind (accepted_apart taken known next l apart accepts) more
-    (subst (λ (k : Known). Reads taken k before mid) same rest) kept
+    (subst (λ (k : Known). ReadsLines taken k before mid) same rest) kept
 
-line_fine : (taken : List (List ℕ)) (lines : List (List ℕ)) (last : Known) (refused : SpecRefused) → Reads taken nothing lines last → ¬ (IsRefusedLine taken lines refused)
+line_fine : (taken : List (List ℕ)) (lines : List (List ℕ)) (last : Known) (refused : SpecRefused) → ReadsLines taken nothing lines last → ¬ (IsRefusedAtLine taken lines refused)
 line_fine taken lines last refused reads wrong =
     let (next, accepts) = front_read taken nothing last wrong.known wrong.before wrong.line wrong.behind (apart_without [])
-    (subst (λ (l : List (List ℕ)). Reads taken nothing l last) wrong.parts reads) wrong.reads wrong.kept in
+    (subst (λ (l : List (List ℕ)). ReadsLines taken nothing l last) wrong.parts reads) wrong.reads wrong.kept in
     let tokens : wrong.tokens ≡ accepts.tokens = one_list wrong.line wrong.tokens accepts.tokens wrong.cut accepts.cut in
     accepts.clean refused.cause refused.place (subst (λ (ts : List Token). Has taken wrong.known wrong.line ts refused.cause refused.place) tokens wrong.first.has)
 
-end_fine : (taken : List (List ℕ)) (lines : List (List ℕ)) (last : Known) (refused : SpecRefused) → Reads taken nothing lines last → HasNone (EndHas last) → ¬ (IsRefusedEnd taken lines refused)
+end_fine : (taken : List (List ℕ)) (lines : List (List ℕ)) (last : Known) (refused : SpecRefused) → ReadsLines taken nothing lines last → HasNone (EndHas last) → ¬ (IsRefusedAtEnd taken lines refused)
 end_fine taken lines last refused reads whole wrong =
     let same : wrong.known ≡ last = one_read taken nothing wrong.known last lines (apart_without []) wrong.reads reads in
     whole refused.cause refused.place (subst (λ (k : Known). EndHas k refused.cause refused.place) same wrong.first.has)
@@ -240,6 +240,6 @@ never_refused text taken x refused says (inr wrong) = by wrong.first where
   same : wrong.lines ≡ says.lines
   same = lines_one text text wrong.lines says.lines refl wrong.cut says.cut
 
-  by : IsRefusedLine taken wrong.lines refused ⊎ IsRefusedEnd taken wrong.lines refused → ⊥
-  by (inl line) = line_fine taken says.lines says.known refused says.reads (subst (λ (l : List (List ℕ)). IsRefusedLine taken l refused) same line)
-  by (inr end) = end_fine taken says.lines says.known refused says.reads says.whole (subst (λ (l : List (List ℕ)). IsRefusedEnd taken l refused) same end)
+  by : IsRefusedAtLine taken wrong.lines refused ⊎ IsRefusedAtEnd taken wrong.lines refused → ⊥
+  by (inl line) = line_fine taken says.lines says.known refused says.reads (subst (λ (l : List (List ℕ)). IsRefusedAtLine taken l refused) same line)
+  by (inr end) = end_fine taken says.lines says.known refused says.reads says.whole (subst (λ (l : List (List ℕ)). IsRefusedAtEnd taken l refused) same end)

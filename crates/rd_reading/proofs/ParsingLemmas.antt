@@ -4,24 +4,24 @@ use Rattle.std.proofs.lemmas.List.{append_assoc, append-nil}
 use Rattle.rd_reading.specs.declared.known.Known.{Known}
 use Rattle.rd_base.specs.declared.limits.LimitName.TheVariants.{SpecText}
 use Rattle.rd_reading.specs.Causes.{EndHas, HasNone}
-use Rattle.rd_reading.specs.declared.causes.SpecCause.TheVariants.{Limit}
+use Rattle.rd_reading.specs.declared.spec_causes.SpecCause.TheVariants.{Limit}
 use Rattle.rd_reading.specs.Known.{kinds_so_far, nothing}
 use Rattle.rd_ecl.specs.Specified.{SpecifiedKind}
 use Rattle.rd_reading.specs.Judging.{EndRefuses}
 use Rattle.rd_reading.proofs.CuttingLemmas.{some_lines}
 use Rattle.rd_reading.specs.declared.parsing.ParseRefused.TheVariants.{Spec}
-use Rattle.rd_reading.specs.declared.judging.refused.LineRefused.{LineRefused}
-use Rattle.rd_reading.specs.declared.judging.refused.LineRefused.TheVariants.{Fault, NoMemory}
-use Rattle.rd_reading.specs.Reading.{Takes, Stops, IsHalfRead, IsRead, at_line}
-use Rattle.rd_reading.specs.Texts.{AreLines, Reads, Refuses, SpecSays, no_line, no_more, skips, takes}
+use Rattle.rd_reading.specs.declared.judging.refused.SpecLineRefused.{SpecLineRefused}
+use Rattle.rd_reading.specs.declared.judging.refused.SpecLineRefused.TheVariants.{Fault, NoMemory}
+use Rattle.rd_reading.specs.Reading.{TakesLine, Stops, IsHalfRead, IsRead, at_line}
+use Rattle.rd_reading.specs.Texts.{AreLines, ReadsLines, IsParseRefused, SpecSays, no_line, no_more, skips, takes}
 use Rattle.rd_base.specs.declared.limits.TheConstants.{MOST_SPEC_BYTES}
 
 module _ (taken : List (List ℕ)) where
-  one_more : {line : List ℕ} {mid next : Known} → Takes taken mid line next → Reads taken mid (line ∷ []) next
-  one_more {line} {mid} {next} (inl (skipped, same)) = subst (λ (k : Known). Reads taken mid (line ∷ []) k) (sym same) (skips skipped no_more)
+  one_more : {line : List ℕ} {mid next : Known} → TakesLine taken mid line next → ReadsLines taken mid (line ∷ []) next
+  one_more {line} {mid} {next} (inl (skipped, same)) = subst (λ (k : Known). ReadsLines taken mid (line ∷ []) k) (sym same) (skips skipped no_more)
   one_more (inr (kept, accepts)) = takes kept accepts no_more
 
-  pub reads_on : {before lines : List (List ℕ)} {start mid next : Known} → Reads taken start before mid → Reads taken mid lines next → Reads taken start (before ++ lines) next
+  pub reads_on : {before lines : List (List ℕ)} {start mid next : Known} → ReadsLines taken start before mid → ReadsLines taken mid lines next → ReadsLines taken start (before ++ lines) next
   reads_on no_more more = more
   reads_on (skips skipped rest) more = skips skipped (reads_on rest more)
   reads_on (takes kept accepts rest) more = takes kept accepts (reads_on rest more)
@@ -32,7 +32,7 @@ module _ (taken : List (List ℕ)) where
 
   -- one line more is read
   pub read_on : (text rest line behind : List ℕ) (number : ℕ) (known next : Known) → IsHalfRead taken text rest number known
-      → ((lines : List (List ℕ)) → AreLines behind lines → AreLines rest (line ∷ lines)) → length behind < length rest → Takes taken known line next
+      → ((lines : List (List ℕ)) → AreLines behind lines → AreLines rest (line ∷ lines)) → length behind < length rest → TakesLine taken known line next
       → IsHalfRead taken text behind (number + 1) next
   read_on text rest line behind number known next half cut less took = record {
     before = half.before ++ line ∷ [];
@@ -56,10 +56,10 @@ module _ (taken : List (List ℕ)) where
   all_read text (b ∷ rest) number known none half = absurd (omega (arith, none))
 
   -- a line is refused
-  pub stopped : (text rest line behind : List ℕ) (number : ℕ) (known : Known) (refused : LineRefused) → length text ≤ MOST_SPEC_BYTES
+  pub stopped : (text rest line behind : List ℕ) (number : ℕ) (known : Known) (refused : SpecLineRefused) → length text ≤ MOST_SPEC_BYTES
       → IsHalfRead taken text rest number known
       → ((lines : List (List ℕ)) → AreLines behind lines → AreLines rest (line ∷ lines)) → Stops taken known line refused
-      → Refuses text taken (at_line (number + 1) refused)
+      → IsParseRefused text taken (at_line (number + 1) refused)
   stopped text rest line behind number known NoMemory short half cut stops = tt
   stopped text rest line behind number known (Fault fault) short half cut (kept, refuses) =
       let more = some_lines behind in
@@ -83,8 +83,8 @@ module _ (taken : List (List ℕ)) where
       })
 
 -- the end is refused
-pub end_stopped : (taken : List (List ℕ)) (text : List ℕ) (number : ℕ) (known : Known) (refused : LineRefused) → length text ≤ MOST_SPEC_BYTES
-    → IsRead taken text number known → EndRefuses known refused → Refuses text taken (at_line (number + 1) refused)
+pub end_stopped : (taken : List (List ℕ)) (text : List ℕ) (number : ℕ) (known : Known) (refused : SpecLineRefused) → length text ≤ MOST_SPEC_BYTES
+    → IsRead taken text number known → EndRefuses known refused → IsParseRefused text taken (at_line (number + 1) refused)
 end_stopped taken text number known NoMemory short read stops = tt
 end_stopped taken text number known (Fault fault) short read first =
     inr (record {
@@ -109,5 +109,5 @@ said_whole taken text number known kinds short read whole said = record {
 
 -- the text is too long
 pub too_long : (text : List ℕ) (taken : List (List ℕ)) → MOST_SPEC_BYTES < length text
-    → Refuses text taken (Spec (record { line = 0; place = 0; cause = Limit SpecText MOST_SPEC_BYTES }))
+    → IsParseRefused text taken (Spec (record { line = 0; place = 0; cause = Limit SpecText MOST_SPEC_BYTES }))
 too_long text taken long = inl (record { long = long; number = refl; place = refl; cause = refl })

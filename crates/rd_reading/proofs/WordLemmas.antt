@@ -5,7 +5,7 @@ use Rattle.std.specs.List.{AllByRecursion}
 use Rattle.std.proofs.lemmas.List.{length-map}
 use Rattle.rd_base.proofs.FoundLemmas.{each_by_recursion}
 use Rattle.rd_reading.specs.Causes.{HasManyTokens}
-use Rattle.rd_lines.specs.Lines.{Word, plain, word_at, words_of}
+use Rattle.rd_lines.specs.Lines.{LineWord, plain, word_at, words_of}
 use Rattle.rd_tokens.specs.declared.sorts.Token.{Token}
 use Rattle.rd_tokens.specs.Tokens.{AreTokens, Cuts, LiesIn, nothing_left, space_first, token_first}
 use Rattle.rd_base.specs.declared.limits.TheConstants.{MOST_TOKENS}
@@ -34,8 +34,8 @@ many_from line (a ∷ b ∷ c ∷ f ∷ rest) d e many is when = record {
   first = word_at line b;
   second = word_at line c;
   behind = words_of line rest;
-  written = ap (λ (w : Word). w ∷ word_at line b ∷ word_at line c ∷ word_at line f ∷ words_of line rest) is
-      ∙ ap (λ (w : Word). plain (codes "commute") ∷ word_at line b ∷ word_at line c ∷ w ∷ words_of line rest) when;
+  written = ap (λ (w : LineWord). w ∷ word_at line b ∷ word_at line c ∷ word_at line f ∷ words_of line rest) is
+      ∙ ap (λ (w : LineWord). plain (codes "commute") ∷ word_at line b ∷ word_at line c ∷ w ∷ words_of line rest) when;
   many = omega (arith, many, length-map rest (word_at line));
 }
 
@@ -45,10 +45,10 @@ many_count line tokens has =
     let many = has.many in
     omega (arith, count, many, length-map tokens (word_at line))
 
-first_same : (x y : Word) (xs ys : List Word) → x ∷ xs ≡ y ∷ ys → x ≡ y
+first_same : (x y : LineWord) (xs ys : List LineWord) → x ∷ xs ≡ y ∷ ys → x ≡ y
 first_same x y xs ys same = cc
 
-rest_same : (x y : Word) (xs ys : List Word) → x ∷ xs ≡ y ∷ ys → xs ≡ ys
+rest_same : (x y : LineWord) (xs ys : List LineWord) → x ∷ xs ≡ y ∷ ys → xs ≡ ys
 rest_same x y xs ys same = cc
 
 pub many_fourth : (line : List ℕ) (tokens : List Token) (e : Token) → HasManyTokens (words_of line tokens)

@@ -4,7 +4,7 @@ use Rattle.rd_ecl.specs.Formulas.{Tree}
 use Rattle.rd_ecl.specs.Specified.{SpecifiedKind, with_method, with_pair}
 use Rattle.rd_reading.specs.declared.known.Known.{Known}
 use Rattle.rd_reading.specs.Causes.{Has, HasNone, SaysPair, header_words}
-use Rattle.rd_reading.specs.Known.{kind_in, kind_without, kinds_so_far, methods_of, stage_of}
+use Rattle.rd_reading.specs.Known.{kind_in, kind_without, kinds_so_far, open_method_names, stage_of}
 use Rattle.rd_lines.specs.Lines.{RightLine, SaidForm, kind as kind_said, method as method_said, commute as commute_said, words_of}
 use Rattle.rd_tokens.specs.declared.sorts.Token.{Token}
 use Rattle.rd_tokens.specs.Tokens.{AreTokens}
@@ -33,11 +33,11 @@ FormAdds known line tokens (commute_said first second read) next =
 -- behind the line, this is known
 pub data Adds (known : Known) (line : List ℕ) (tokens : List Token) (next : Known) : Type 0 where
   adds_header : known.begun ≡ false → words_of line tokens ≡ header_words → next ≡ with_header known → Adds known line tokens next
-  adds_form : known.begun ≡ true → (form : SaidForm) → RightLine (stage_of known) (methods_of known) (words_of line tokens) form
+  adds_form : known.begun ≡ true → (form : SaidForm) → RightLine (stage_of known) (open_method_names known) (words_of line tokens) form
       → FormAdds known line tokens form next → Adds known line tokens next
 
 -- the line is accepted behind what is known, where these names of kinds are taken, and then this is known
-pub record Accepts (taken : List (List ℕ)) (known : Known) (line : List ℕ) (next : Known) : Type 0 where
+pub record AcceptsSpecLine (taken : List (List ℕ)) (known : Known) (line : List ℕ) (next : Known) : Type 0 where
   pub tokens : List Token
   pub cut : AreTokens line tokens
   pub clean : HasNone (Has taken known line tokens)

@@ -5,19 +5,19 @@ use Rattle.rd_base.specs.declared.limits.LimitName.{LimitName}
 use Rattle.rd_base.specs.declared.limits.LimitName.TheVariants.{Tokens, Kinds, Methods as MethodLimit, Arguments, Nodes, FormulaDepth, Predicates}
 use Rattle.rd_ecl.specs.Formulas.{Tree, nodes, levels}
 use Rattle.rd_ecl.specs.Specified.{SpecifiedKind, formula_at, method_predicates, names_of, with_pair}
-use Rattle.rd_reading.specs.declared.causes.SpecCause.{SpecCause}
-use Rattle.rd_reading.specs.declared.causes.SpecCause.TheVariants.{Header, Syntax, UnknownMethod, UnknownVariable, NoVariable, OutsideFragment, Duplicate, MissingPair, KindTaken, Limit}
-use Rattle.rd_reading.specs.declared.causes.Fault.{Fault}
+use Rattle.rd_reading.specs.declared.spec_causes.SpecCause.{SpecCause}
+use Rattle.rd_reading.specs.declared.spec_causes.SpecCause.TheVariants.{Header, Syntax, UnknownMethod, UnknownVariable, NoVariable, OutsideFragment, Duplicate, MissingPair, KindTaken, Limit}
+use Rattle.rd_reading.specs.declared.spec_causes.Fault.{Fault}
 use Rattle.rd_reading.specs.declared.known.Known.{Known}
-use Rattle.rd_reading.specs.Known.{kind_in, kind_names, kinds_so_far, methods_of, stage_of, variables_at}
+use Rattle.rd_reading.specs.Known.{kind_in, specified_kind_names, kinds_so_far, open_method_names, stage_of, variables_at}
 use Rattle.rd_formulas.specs.declared.reading.FormulaRefused.{FormulaRefused}
 use Rattle.rd_formulas.specs.declared.reading.FormulaRefused.TheVariants as formula
 use Rattle.rd_formulas.specs.declared.scope.Scope.{Scope}
 use Rattle.rd_formulas.specs.Meaning.{Gives}
 use Rattle.rd_formulas.specs.Reading.{IsTroubled}
 use Rattle.rd_formulas.specs.Scope.{MeansAt}
-use Rattle.rd_grammar.specs.Grammar.{Tree as Read}
-use Rattle.rd_lines.specs.Lines.{IsWrongBehind, RightLine, SaidForm, Word, kind as kind_said, method as method_said, commute as commute_said, plain, words_of}
+use Rattle.rd_grammar.specs.Grammar.{ParsedTree}
+use Rattle.rd_lines.specs.Lines.{IsWrongBehind, RightLine, SaidForm, LineWord, kind as kind_said, method as method_said, commute as commute_said, plain, words_of}
 use Rattle.rd_tokens.specs.declared.sorts.Token.{Token}
 use Rattle.rd_base.specs.declared.limits.TheConstants.{MOST_ARGUMENTS, MOST_KINDS, MOST_LEVELS, MOST_METHODS, MOST_NODES, MOST_PREDICATES, MOST_TOKENS}
 
@@ -28,14 +28,14 @@ abbrev pub place_at : List ℕ → List Token → ℕ → ℕ
 place_at line tokens number = unwrap_or (option_map (λ token. token.place) (slice_get tokens number)) (length line + 1)
 
 -- the header
-abbrev pub header_words : List Word
+abbrev pub header_words : List LineWord
 header_words = plain (codes "rdspec") ∷ plain (codes "1") ∷ []
 
 -- more than 512 tokens stand behind the `when` of a pair's line
-pub record HasManyTokens (words : List Word) : Type 0 where
-  pub first : Word
-  pub second : Word
-  pub behind : List Word
+pub record HasManyTokens (words : List LineWord) : Type 0 where
+  pub first : LineWord
+  pub second : LineWord
+  pub behind : List LineWord
   pub written : words ≡ plain (codes "commute") ∷ first ∷ second ∷ plain (codes "when") ∷ behind
   pub many : MOST_TOKENS < length behind
 
@@ -49,7 +49,7 @@ LineHas known line tokens (Limit Tokens number) place =
     HasManyTokens (words_of line tokens) × (number ≡ MOST_TOKENS) × (place ≡ place_at line tokens 3)
 -- no right line begins with the tokens up to this one, or the line ends too early
 LineHas known line tokens Syntax place =
-    (count : ℕ) × (known.begun ≡ true) × IsWrongBehind (RightLine (stage_of known) (methods_of known)) (words_of line tokens) count
+    (count : ℕ) × (known.begun ≡ true) × IsWrongBehind (RightLine (stage_of known) (open_method_names known)) (words_of line tokens) count
     × (place ≡ place_at line tokens count)
 LineHas known line tokens cause place = ⊥
 
@@ -71,7 +71,8 @@ pub record LacksPair (kind : SpecifiedKind) (first second : List ℕ) : Type 0 w
   pub second_name : slice_get (names_of kind.methods) second_number ≡ Some second
 
 abbrev pub KindHas : List (List ℕ) → Known → List ℕ → List Token → List ℕ → SpecCause → ℕ → Type 0
-KindHas taken known line tokens name Duplicate place = Contains (kind_names (kinds_so_far known)) name × (place ≡ place_at line tokens 1)
+KindHas taken known line tokens name Duplicate place =
+    Contains (specified_kind_names (kinds_so_far known)) name × (place ≡ place_at line tokens 1)
 KindHas taken known line tokens name (MissingPair first second) place = LacksPair (kind_in known.block) first second × (place ≡ 0)
 KindHas taken known line tokens name KindTaken place = Contains taken name × (place ≡ place_at line tokens 1)
 KindHas taken known line tokens name (Limit Kinds number) place =
@@ -125,7 +126,7 @@ scope_of kind line tokens m n = record {
 }
 
 -- the methods of the pair are known, and its formula is this
-pub record SaysPair (kind : SpecifiedKind) (line : List ℕ) (tokens : List Token) (first second : List ℕ) (read : Read) (m n : ℕ) (formula : Tree) : Type 0 where
+pub record SaysPair (kind : SpecifiedKind) (line : List ℕ) (tokens : List Token) (first second : List ℕ) (read : ParsedTree) (m n : ℕ) (formula : Tree) : Type 0 where
   pub numbers : AreNumbers kind first second m n
   pub gives : Gives (MeansAt (scope_of kind line tokens m n)) read formula
 
@@ -136,7 +137,7 @@ IsUnknownAt methods first second line tokens place =
     ⊎ (Contains methods first × ¬ (Contains methods second) × (place ≡ place_at line tokens 2))
 
 -- the formula, whose methods are known, is troubled by this; variables, relations and the fragment are defined with formulas
-abbrev pub FormulaHas : SpecifiedKind → List ℕ → List Token → List ℕ → List ℕ → Read → FormulaRefused → Type 0
+abbrev pub FormulaHas : SpecifiedKind → List ℕ → List Token → List ℕ → List ℕ → ParsedTree → FormulaRefused → Type 0
 FormulaHas kind line tokens first second read refused =
     (m : ℕ) × (n : ℕ) × AreNumbers kind first second m n × IsTroubled (scope_of kind line tokens m n) read refused
 
@@ -147,11 +148,11 @@ HasManyPredicates kind m n f =
     ⊎ (MOST_PREDICATES < length (method_predicates (with_pair kind m n f) n))
 
 -- the formula is too large in this way; the place is that of the word `when`
-abbrev pub FormulaPasses : (ℕ → ℕ → Tree → Type 0) → SpecifiedKind → List ℕ → List Token → List ℕ → List ℕ → Read → ℕ → Type 0
+abbrev pub FormulaPasses : (ℕ → ℕ → Tree → Type 0) → SpecifiedKind → List ℕ → List Token → List ℕ → List ℕ → ParsedTree → ℕ → Type 0
 FormulaPasses Large kind line tokens first second read place =
     (m : ℕ) × (n : ℕ) × (f : Tree) × SaysPair kind line tokens first second read m n f × Large m n f × (place ≡ place_at line tokens 3)
 
-abbrev pub PairHas : SpecifiedKind → List ℕ → List Token → List ℕ → List ℕ → Read → SpecCause → ℕ → Type 0
+abbrev pub PairHas : SpecifiedKind → List ℕ → List Token → List ℕ → List ℕ → ParsedTree → SpecCause → ℕ → Type 0
 PairHas kind line tokens first second read UnknownMethod place = IsUnknownAt (names_of kind.methods) first second line tokens place
 PairHas kind line tokens first second read UnknownVariable place = FormulaHas kind line tokens first second read (formula.UnknownVariable place)
 PairHas kind line tokens first second read NoVariable place = FormulaHas kind line tokens first second read (formula.NoVariable place)
@@ -181,7 +182,7 @@ FormHas taken known line tokens (commute_said first second read) cause place =
 -- the line has the cause at the place, behind what is known and where these names of kinds are taken
 pub data Has (taken : List (List ℕ)) (known : Known) (line : List ℕ) (tokens : List Token) (cause : SpecCause) (place : ℕ) : Type 0 where
   line_has : LineHas known line tokens cause place → Has taken known line tokens cause place
-  form_has : (form : SaidForm) → RightLine (stage_of known) (methods_of known) (words_of line tokens) form
+  form_has : (form : SaidForm) → RightLine (stage_of known) (open_method_names known) (words_of line tokens) form
       → FormHas taken known line tokens form cause place → Has taken known line tokens cause place
 
 -- the end of the text has the cause, whose place is 0: there was no header, or the open kind has a pair missing

@@ -1,24 +1,24 @@
 -- What a refusal of a line, and of the end, says: this project's profile.
 use Rattle.std.specs.Prelude.{ℕ, List}
 use Rattle.rd_reading.specs.Causes.{EndHas, Has, IsFirstOf}
-use Rattle.rd_reading.specs.declared.causes.SpecCause.{SpecCause}
+use Rattle.rd_reading.specs.declared.spec_causes.SpecCause.{SpecCause}
 use Rattle.rd_reading.specs.declared.known.Known.{Known}
-use Rattle.rd_reading.specs.declared.judging.refused.LineRefused.{LineRefused}
-use Rattle.rd_reading.specs.declared.judging.refused.LineRefused.TheVariants.{Fault, NoMemory}
+use Rattle.rd_reading.specs.declared.judging.refused.SpecLineRefused.{SpecLineRefused}
+use Rattle.rd_reading.specs.declared.judging.refused.SpecLineRefused.TheVariants.{Fault, NoMemory}
 use Rattle.rd_tokens.specs.declared.sorts.Token.{Token}
 use Rattle.rd_tokens.specs.Tokens.{AreTokens}
 
 -- the first cause of the line behind what is known, where these names of kinds are taken; want of memory says nothing
-abbrev pub LineRefuses : List (List ℕ) → Known → List ℕ → LineRefused → Type 0
+abbrev pub LineRefuses : List (List ℕ) → Known → List ℕ → SpecLineRefused → Type 0
 LineRefuses taken known line (Fault fault) = (tokens : List Token) × AreTokens line tokens × IsFirstOf (Has taken known line tokens) fault.cause fault.place
 LineRefuses taken known line NoMemory = Unit {0}
 
 -- the first cause of the end of the text
-abbrev pub EndRefuses : Known → LineRefused → Type 0
+abbrev pub EndRefuses : Known → SpecLineRefused → Type 0
 EndRefuses known (Fault fault) = IsFirstOf (EndHas known) fault.cause fault.place
 EndRefuses known NoMemory = Unit {0}
 
 -- the first of these causes
-abbrev pub Refuses : (SpecCause → ℕ → Type 0) → LineRefused → Type 0
-Refuses H (Fault fault) = IsFirstOf H fault.cause fault.place
-Refuses H NoMemory = Unit {0}
+abbrev pub IsSpecLineRefused : (SpecCause → ℕ → Type 0) → SpecLineRefused → Type 0
+IsSpecLineRefused H (Fault fault) = IsFirstOf H fault.cause fault.place
+IsSpecLineRefused H NoMemory = Unit {0}

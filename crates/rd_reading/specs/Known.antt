@@ -24,19 +24,19 @@ abbrev pub stage_of : Known → Stage
 stage_of known = stage_in known.block
 
 -- the names of the open kind's methods
-abbrev pub methods_of : Known → List (List ℕ)
-methods_of known = names_of (kind_in known.block).methods
+abbrev pub open_method_names : Known → List (List ℕ)
+open_method_names known = names_of (kind_in known.block).methods
 
-abbrev pub opened : Option Block → List SpecifiedKind
-opened None = []
-opened (Some block) = block.draft ∷ []
+abbrev pub open_kinds : Option Block → List SpecifiedKind
+open_kinds None = []
+open_kinds (Some block) = block.draft ∷ []
 
 -- the kinds so far, the open one last
 abbrev pub kinds_so_far : Known → List SpecifiedKind
-kinds_so_far known = known.closed ++ opened known.block
+kinds_so_far known = known.closed ++ open_kinds known.block
 
-abbrev pub kind_names : List SpecifiedKind → List (List ℕ)
-kind_names kinds = map (λ kind. kind.name) kinds
+abbrev pub specified_kind_names : List SpecifiedKind → List (List ℕ)
+specified_kind_names kinds = map (λ kind. kind.name) kinds
 
 -- the variables of the method with this number; none where no method has it
 abbrev pub variables_at : SpecifiedKind → ℕ → List (List ℕ)

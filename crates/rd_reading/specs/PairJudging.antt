@@ -1,9 +1,9 @@
 -- The line of a pair as it is judged. Nobody has to believe these: the public contract speaks of causes alone.
 use Rattle.std.specs.Prelude.{◌≡◌, ◌<◌, ◌≤◌, ◌-◌, ◌^◌, ℕ, List, [], length, drop, All, IsSome}
 use Rattle.rd_base.specs.declared.limits.LimitName.TheVariants.{Nodes, FormulaDepth, Predicates}
-use Rattle.rd_reading.specs.declared.causes.Fault.{Fault}
-use Rattle.rd_reading.specs.declared.causes.SpecCause.{SpecCause}
-use Rattle.rd_reading.specs.declared.causes.SpecCause.TheVariants.{UnknownMethod, UnknownVariable, NoVariable, OutsideFragment, Duplicate, Limit}
+use Rattle.rd_reading.specs.declared.spec_causes.Fault.{Fault}
+use Rattle.rd_reading.specs.declared.spec_causes.SpecCause.{SpecCause}
+use Rattle.rd_reading.specs.declared.spec_causes.SpecCause.TheVariants.{UnknownMethod, UnknownVariable, NoVariable, OutsideFragment, Duplicate, Limit}
 use Rattle.rd_reading.specs.Causes.{HasManyPredicates, IsFirstOf, IsUnknownAt, place_at}
 use Rattle.rd_ecl.specs.declared.kinds.Method.{Method}
 use Rattle.rd_ecl.specs.Formulas.{Tree, levels, nodes}
@@ -11,7 +11,7 @@ use Rattle.rd_ecl.specs.Specified.{SpecifiedKind, formula_at, names_of}
 use Rattle.rd_formulas.specs.declared.reading.FormulaRefused.{FormulaRefused}
 use Rattle.rd_formulas.specs.declared.reading.FormulaRefused.TheVariants as formula
 use Rattle.rd_grammar.specs.declared.marks.Mark.{Mark}
-use Rattle.rd_grammar.specs.Grammar.{Tree as Read, Says, disj}
+use Rattle.rd_grammar.specs.Grammar.{ParsedTree, MarksSay, disj}
 use Rattle.rd_tokens.specs.declared.sorts.Token.{Token}
 use Rattle.rd_tokens.specs.Tokens.{IsTokenOf, LiesIn}
 use Rattle.rd_tokens.specs.Words.{AreMarks}
@@ -20,7 +20,7 @@ use Rattle.rd_reading.specs.declared.pairs.answers.PairRefused.TheVariants.{Faul
 use Rattle.rd_base.specs.declared.limits.TheConstants.{MOST_LEVELS, MOST_NODES, MOST_PREDICATES, MOST_TOKENS}
 
 -- the tokens of a line, of which those behind the fourth say this by the grammar
-pub record HasFormula (line : List ℕ) (tokens : List Token) (read : Read) : Type 0 where
+pub record HasFormula (line : List ℕ) (tokens : List Token) (read : ParsedTree) : Type 0 where
   pub within : All (LiesIn line) tokens
   pub sorts : All (IsTokenOf line) tokens
   pub short : length line < 2 ^ 32 - 1
@@ -28,7 +28,7 @@ pub record HasFormula (line : List ℕ) (tokens : List Token) (read : Read) : Ty
   pub few : length (drop 4 tokens) ≤ MOST_TOKENS
   pub marks : List Mark
   pub marked : AreMarks line (drop 4 tokens) marks
-  pub says : Says disj marks read
+  pub says : MarksSay disj marks read
 
 -- a kind with these methods
 abbrev pub kind_with : List Method → SpecifiedKind

@@ -2,10 +2,10 @@
 use Rattle.std.specs.Prelude.{◌≡◌, ◌≢◌, ◌<◌, ◌≤◌, ◌+◌, ◌⊎◌, ◌==◌, ℕ, Bool, List, [], ◌∷◌, ◌++◌, length, map, EachIndex, slice_index, All, AllPairs, Contains}
 use Rattle.std.specs.List.{AllPass}
 use Rattle.rd_base.specs.declared.limits.LimitName.TheVariants.{SpecText}
-use Rattle.rd_reading.specs.Adding.{Accepts}
+use Rattle.rd_reading.specs.Adding.{AcceptsSpecLine}
 use Rattle.rd_reading.specs.Causes.{EndHas, Has, HasNone, IsFirstOf}
 use Rattle.rd_reading.specs.Known.{kinds_so_far, nothing}
-use Rattle.rd_reading.specs.declared.causes.SpecCause.TheVariants.{Limit}
+use Rattle.rd_reading.specs.declared.spec_causes.SpecCause.TheVariants.{Limit}
 use Rattle.rd_reading.specs.declared.known.Known.{Known}
 use Rattle.rd_ecl.specs.Specified.{SpecifiedKind}
 use Rattle.rd_reading.specs.declared.parsing.ParseRefused.{ParseRefused}
@@ -42,12 +42,12 @@ IsSkipped line = BeginsComment line ⊎ AllPass is_space line
 -- ---- what lines say
 
 -- behind these lines, one after another, this is known, where these names of kinds are taken
-pub data Reads (taken : List (List ℕ)) : Known → List (List ℕ) → Known → Type 0 where
-  no_more : {known : Known} → Reads taken known [] known
-  skips : {known next : Known} {line : List ℕ} {lines : List (List ℕ)} → IsSkipped line → Reads taken known lines next
-      → Reads taken known (line ∷ lines) next
-  takes : {known mid next : Known} {line : List ℕ} {lines : List (List ℕ)} → ¬ (IsSkipped line) → Accepts taken known line mid
-      → Reads taken mid lines next → Reads taken known (line ∷ lines) next
+pub data ReadsLines (taken : List (List ℕ)) : Known → List (List ℕ) → Known → Type 0 where
+  no_more : {known : Known} → ReadsLines taken known [] known
+  skips : {known next : Known} {line : List ℕ} {lines : List (List ℕ)} → IsSkipped line → ReadsLines taken known lines next
+      → ReadsLines taken known (line ∷ lines) next
+  takes : {known mid next : Known} {line : List ℕ} {lines : List (List ℕ)} → ¬ (IsSkipped line) → AcceptsSpecLine taken known line mid
+      → ReadsLines taken mid lines next → ReadsLines taken known (line ∷ lines) next
 
 -- the text says these kinds, where these names of kinds are taken
 pub record SpecSays (text : List ℕ) (taken : List (List ℕ)) (kinds : List SpecifiedKind) : Type 0 where
@@ -55,7 +55,7 @@ pub record SpecSays (text : List ℕ) (taken : List (List ℕ)) (kinds : List Sp
   pub lines : List (List ℕ)
   pub cut : AreLines text lines
   pub known : Known
-  pub reads : Reads taken nothing lines known
+  pub reads : ReadsLines taken nothing lines known
   pub whole : HasNone (EndHas known)
   pub said : kinds ≡ kinds_so_far known
 
@@ -68,28 +68,28 @@ pub record HasNewNames (taken : List (List ℕ)) (kinds : List SpecifiedKind) : 
 -- ---- why a text is refused
 
 -- behind accepted lines comes one that is refused, which this cause is the first of
-pub record IsRefusedLine (taken : List (List ℕ)) (lines : List (List ℕ)) (refused : SpecRefused) : Type 0 where
+pub record IsRefusedAtLine (taken : List (List ℕ)) (lines : List (List ℕ)) (refused : SpecRefused) : Type 0 where
   pub before : List (List ℕ)
   pub line : List ℕ
   pub behind : List (List ℕ)
   pub parts : lines ≡ before ++ line ∷ behind
   pub number : refused.line ≡ length before + 1
   pub known : Known
-  pub reads : Reads taken nothing before known
+  pub reads : ReadsLines taken nothing before known
   pub kept : ¬ (IsSkipped line)
   pub tokens : List Token
   pub cut : AreTokens line tokens
   pub first : IsFirstOf (Has taken known line tokens) refused.cause refused.place
 
 -- all lines are accepted, and their end is refused, at the number of lines and one
-pub record IsRefusedEnd (taken : List (List ℕ)) (lines : List (List ℕ)) (refused : SpecRefused) : Type 0 where
+pub record IsRefusedAtEnd (taken : List (List ℕ)) (lines : List (List ℕ)) (refused : SpecRefused) : Type 0 where
   pub number : refused.line ≡ length lines + 1
   pub known : Known
-  pub reads : Reads taken nothing lines known
+  pub reads : ReadsLines taken nothing lines known
   pub first : IsFirstOf (EndHas known) refused.cause refused.place
 
 -- the text is too long, which is asked before all else
-pub record IsTooLong (text : List ℕ) (refused : SpecRefused) : Type 0 where
+pub record IsTextTooLong (text : List ℕ) (refused : SpecRefused) : Type 0 where
   pub long : MOST_SPEC_BYTES < length text
   pub number : refused.line ≡ 0
   pub place : refused.place ≡ 0
@@ -100,13 +100,13 @@ pub record IsRefusedAt (text : List ℕ) (taken : List (List ℕ)) (refused : Sp
   pub short : length text ≤ MOST_SPEC_BYTES
   pub lines : List (List ℕ)
   pub cut : AreLines text lines
-  pub first : IsRefusedLine taken lines refused ⊎ IsRefusedEnd taken lines refused
+  pub first : IsRefusedAtLine taken lines refused ⊎ IsRefusedAtEnd taken lines refused
 
 -- the text is refused, where these names of kinds are taken
 abbrev pub IsSpecRefused : List ℕ → List (List ℕ) → SpecRefused → Type 0
-IsSpecRefused text taken refused = IsTooLong text refused ⊎ IsRefusedAt text taken refused
+IsSpecRefused text taken refused = IsTextTooLong text refused ⊎ IsRefusedAt text taken refused
 
 -- what a refusal says; want of memory says nothing
-abbrev pub Refuses : List ℕ → List (List ℕ) → ParseRefused → Type 0
-Refuses text taken (Spec refused) = IsSpecRefused text taken refused
-Refuses text taken NoMemory = Unit {0}
+abbrev pub IsParseRefused : List ℕ → List (List ℕ) → ParseRefused → Type 0
+IsParseRefused text taken (Spec refused) = IsSpecRefused text taken refused
+IsParseRefused text taken NoMemory = Unit {0}

@@ -1,13 +1,13 @@
 //! Reading one line of a specification's text behind those before it: what it adds, or the first cause to refuse it.
 
 mod adding;
+mod judged_lines;
 mod kinds;
-mod lines;
 mod methods;
 mod missing;
 mod places;
 mod refused;
 mod repeated;
 
-pub use lines::{finish, read_line};
-pub use refused::LineRefused;
+pub use judged_lines::{finish, read_line};
+pub use refused::SpecLineRefused;

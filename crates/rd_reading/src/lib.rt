@@ -5,17 +5,17 @@
 //! commute. `docs/specifications.md` has the format and each cause.
 #![tactic(auto)]
 
-mod causes;
 mod cutting;
 mod judging;
 mod known;
 mod pairs;
 mod parsing;
 mod refused_texts;
+mod spec_causes;
 
-pub use causes::{Fault, SpecCause};
-pub use judging::{LineRefused, finish, read_line};
+pub use judging::{SpecLineRefused, finish, read_line};
 pub use known::{Block, Known};
 pub use pairs::{Pair, PairRefused, judge_pair};
 pub use parsing::{ParseRefused, SpecRefused, parse};
 pub use refused_texts::spec_refused_line;
+pub use spec_causes::{Fault, SpecCause};

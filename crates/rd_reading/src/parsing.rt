@@ -1,12 +1,12 @@
 //! Reading the text of a specification.
 ghost use Rattle.std.specs.Prelude.{◌≡◌, ◌≤◌, length, IfOk, IfErr, OnOk};
 ghost use Rattle.rd_reading.specs.Known.{nothing};
-ghost use Rattle.rd_reading.specs.Reading.{IsRead, Stops, Takes, at_line};
-ghost use Rattle.rd_reading.specs.Texts.{Refuses, SpecSays};
+ghost use Rattle.rd_reading.specs.Reading.{IsRead, Stops, TakesLine, at_line};
+ghost use Rattle.rd_reading.specs.Texts.{IsParseRefused, SpecSays};
 ghost use Rattle.rd_reading.specs.declared.parsing.ParseRefused.TheVariants.{NoMemory as MemoryRefused};
 
 use crate::cutting::{cut_line, is_skipped};
-use crate::{Known, LineRefused, SpecCause, finish, read_line};
+use crate::{Known, SpecCause, SpecLineRefused, finish, read_line};
 use rd_base::{LimitName, MOST_SPEC_BYTES, Name, NoMemory};
 use rd_ecl::Spec as Specification;
 use std::alloc::Global;
@@ -42,16 +42,16 @@ impl From<NoMemory> for ParseRefused {
 }
 
 // The refusal of the line with this number.
-fn refused_at(number: u32, refused: LineRefused) -> ParseRefused
+fn refused_at(number: u32, refused: SpecLineRefused) -> ParseRefused
     ensures { result ≡ at_line number refused }
 {
     match refused {
-        LineRefused::Fault(fault) => ParseRefused::Spec(SpecRefused {
+        SpecLineRefused::Fault(fault) => ParseRefused::Spec(SpecRefused {
             line: number,
             place: fault.place,
             cause: fault.cause,
         }),
-        LineRefused::NoMemory => ParseRefused::NoMemory,
+        SpecLineRefused::NoMemory => ParseRefused::NoMemory,
     }
 }
 
@@ -61,9 +61,9 @@ fn take_line(
     taken: &[Name],
     known: &mut Known,
     line: &[u8],
-) -> Result<(), LineRefused>
+) -> Result<(), SpecLineRefused>
     requires { length line.now ≤ MOST_SPEC_BYTES }
-    ensures ok { OnOk result (Takes taken.now known.old line.now known.new) }
+    ensures ok { OnOk result (TakesLine taken.now known.old line.now known.new) }
     ensures refused { IfErr result (Stops taken.now known.old line.now) }
 {
     if is_skipped(line) {
@@ -83,7 +83,7 @@ fn read_lines(
     requires fresh { known.old ≡ nothing }
     ensures ok { IfOk result (λ number. IsRead taken.now text.now number known.new) }
     ensures few { IfOk result (λ number. number ≤ MOST_SPEC_BYTES) }
-    ensures refused { IfErr result (Refuses text.now taken.now) }
+    ensures refused { IfErr result (IsParseRefused text.now taken.now) }
 {
     let mut number = 0;
     let mut rest = text;
@@ -103,7 +103,7 @@ fn read_lines(
 /// the text is asked before all else, and that on tokens before the form of a line.
 pub fn parse(alloc: Global, text: &[u8], taken: &[Name]) -> Result<Specification, ParseRefused>
     ensures ok { IfOk result (SpecSays text.now taken.now) }
-    ensures refused { IfErr result (Refuses text.now taken.now) }
+    ensures refused { IfErr result (IsParseRefused text.now taken.now) }
 {
     if text.len() > MOST_SPEC_BYTES as usize {
         return Err(ParseRefused::Spec(SpecRefused {

@@ -2,7 +2,7 @@
 
 use crate::rows::gives;
 use rd_base::{Name, NoMemory};
-use rd_reading::{Known, LineRefused, finish, read_line};
+use rd_reading::{Known, SpecLineRefused, finish, read_line};
 use rd_samples::{push_cause, repeated};
 use std::alloc::Global;
 use std::process::Abort;
@@ -14,7 +14,7 @@ pub(crate) fn read(
     known: &mut Known,
     text: &str,
     start: usize,
-) -> Option<(usize, LineRefused)> {
+) -> Option<(usize, SpecLineRefused)> {
     let taken = [Name::from_bytes(b"dict").unwrap()];
     for (index, line) in text.split('\n').enumerate() {
         if line.is_empty() || line.len() > 10_000 {
@@ -28,10 +28,10 @@ pub(crate) fn read(
 }
 
 // The place and the cause, behind where they are.
-fn show(text: &mut String, refused: &LineRefused) -> Result<(), NoMemory> {
+fn show(text: &mut String, refused: &SpecLineRefused) -> Result<(), NoMemory> {
     match refused {
-        LineRefused::Fault(fault) => push_cause(text, fault.place, &fault.cause),
-        LineRefused::NoMemory => Err(NoMemory),
+        SpecLineRefused::Fault(fault) => push_cause(text, fault.place, &fault.cause),
+        SpecLineRefused::NoMemory => Err(NoMemory),
     }
 }
 
@@ -48,7 +48,7 @@ fn ending(alloc: Global, known: Known) -> Result<String, NoMemory> {
     Ok(text)
 }
 
-fn refusal(alloc: Global, number: usize, refused: &LineRefused) -> Result<String, NoMemory> {
+fn refusal(alloc: Global, number: usize, refused: &SpecLineRefused) -> Result<String, NoMemory> {
     let mut text = format!(in alloc; "{number} ")?;
     show(&mut text, refused)?;
     Ok(text)

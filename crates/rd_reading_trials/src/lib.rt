@@ -4,7 +4,7 @@
 #[cfg(test)]
 mod judging;
 #[cfg(test)]
-mod lines;
+mod line_forms;
 #[cfg(test)]
 mod pairs;
 #[cfg(test)]

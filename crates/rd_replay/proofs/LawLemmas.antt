@@ -14,13 +14,13 @@ use Rattle.rd_object.specs.declared.shapes.Expected.{Expected}
 use Rattle.rd_object.specs.declared.shapes.Expected.TheVariants.{Value}
 use Rattle.rd_object.specs.declared.shapes.ReplayEnd.TheVariants.{Exact, Differs, NotShipped}
 use Rattle.rd_object.specs.declared.shapes.Shape.{Shape}
-use Rattle.rd_replay.specs.Replays.{FirstDiffers, Recorded, ReplaysAll, all_shipped, difference, ended, first_difference, held, object_machine, replay_end, result_of, shape_after, step_at, told, unlike}
+use Rattle.rd_replay.specs.Replays.{FirstDiffers, Recorded, ReplaysAll, all_shipped, difference, end_by_difference, first_difference, held_shape, object_machine, replay_end, result_of, shape_after, step_at, with_line, step_difference}
 use Rattle.rd_replay.proofs.ReplayLemmas.{AreDeclared, difference_here, end_of, exact_parts, held_elsewhere, held_here, nothing_more}
 
 -- ---- one call
 
 -- a step gives what was recorded exactly where there is a shape behind it
-same_or_not : (step : Step) (recorded : Option Result) → unlike step recorded ≡ None → (shape : Shape) × (shape_after step recorded ≡ Some shape)
+same_or_not : (step : Step) (recorded : Option Result) → step_difference step recorded ≡ None → (shape : Shape) × (shape_after step recorded ≡ Some shape)
 same_or_not (goes shape result) (Some recorded) same = by (same_value result recorded) same
   where
     by : (b : Bool) → cond b None (Some (Value result)) ≡ None → (next : Shape) × (cond b (Some shape) None ≡ Some next)
@@ -30,7 +30,7 @@ same_or_not (goes shape result) None same = absurd (none-some _ (sym same))
 same_or_not (refuses slot) recorded same = absurd (none-some _ (sym same))
 same_or_not unknown recorded same = absurd (none-some _ (sym same))
 
-none_behind : (step : Step) (recorded : Option Result) (expected : Expected) → unlike step recorded ≡ Some expected → shape_after step recorded ≡ None
+none_behind : (step : Step) (recorded : Option Result) (expected : Expected) → step_difference step recorded ≡ Some expected → shape_after step recorded ≡ None
 none_behind (goes shape result) (Some recorded) expected other = by (same_value result recorded) other
   where
     by : (b : Bool) → cond b None (Some (Value result)) ≡ Some expected → cond b (Some shape) None ≡ None
@@ -60,7 +60,7 @@ machine_at (kind ∷ kinds) (suc object) shipped inside =
 module _ (kinds : List ℕ) (shipped : all_shipped kinds ≡ true) where
   -- each object holds something behind these calls
   abbrev Holds : List Recorded → Type 0
-  Holds calls = (object : ℕ) → object < length kinds → (shape : Shape) × (held kinds calls object ≡ Some shape)
+  Holds calls = (object : ℕ) → object < length kinds → (shape : Shape) × (held_shape kinds calls object ≡ Some shape)
 
   holds_first : Holds []
   holds_first object inside =
@@ -71,11 +71,11 @@ module _ (kinds : List ℕ) (shipped : all_shipped kinds ≡ true) where
   holds_more : (calls : List Recorded) (last : Recorded) → Holds calls → last.1.object < length kinds → difference kinds calls last.1 ≡ None → Holds (calls ++ last ∷ [])
   holds_more calls last holds declared same object inside =
       elim (cases_eq last.1.object object) [
-        | inl here ↦ subst (λ o. (shape : Shape) × (held kinds (calls ++ last ∷ []) o ≡ Some shape)) here holds_here
+        | inl here ↦ subst (λ o. (shape : Shape) × (held_shape kinds (calls ++ last ∷ []) o ≡ Some shape)) here holds_here
         | inr other ↦ (let (shape, is) = holds object inside in (shape, held_elsewhere kinds calls last object other ∙ is))
       ]
     where
-      holds_here : (shape : Shape) × (held kinds (calls ++ last ∷ []) last.1.object ≡ Some shape)
+      holds_here : (shape : Shape) × (held_shape kinds (calls ++ last ∷ []) last.1.object ≡ Some shape)
       holds_here =
           let (shape, is) = holds last.1.object declared in
           let (machine, has) = machine_at kinds last.1.object shipped declared in
@@ -92,13 +92,13 @@ module _ (kinds : List ℕ) (shipped : all_shipped kinds ≡ true) where
       (holds_more before recorded holds (All-head (λ (r : Recorded). r.1.object < length kinds) recorded calls all) split.0)
       (All-tail (λ (r : Recorded). r.1.object < length kinds) recorded calls all) split.1)
     where
-      neither : (o : Option Expected) (p : Option (ℕ × Expected)) → option_or (told recorded.0 o) p ≡ None → (o ≡ None) × (p ≡ None)
+      neither : (o : Option Expected) (p : Option (ℕ × Expected)) → option_or (with_line recorded.0 o) p ≡ None → (o ≡ None) × (p ≡ None)
       neither None p e = (refl, e)
       neither (Some expected) p e = absurd (none-some _ (sym e))
 
   -- behind one that gives something else its object holds nothing
   holds_nothing : (calls : List Recorded) (last : Recorded) (expected : Expected) → Holds calls → last.1.object < length kinds
-      → difference kinds calls last.1 ≡ Some expected → held kinds (calls ++ last ∷ []) last.1.object ≡ None
+      → difference kinds calls last.1 ≡ Some expected → held_shape kinds (calls ++ last ∷ []) last.1.object ≡ None
   holds_nothing calls last expected holds declared other =
       let (shape, is) = holds last.1.object declared in
       let (machine, has) = machine_at kinds last.1.object shipped declared in
@@ -123,8 +123,8 @@ module _ (kinds : List ℕ) (shipped : all_shipped kinds ≡ true) where
       by (Some expected) is later =
           let (shape, some) = ends recorded.1.object here in
           let nothing = nothing_more kinds (before ++ recorded ∷ []) calls recorded.1.object (holds_nothing before recorded expected holds here is) in
-          absurd (none-some shape (sym nothing ∙ (ap (λ all. held kinds all recorded.1.object) (append_assoc before (recorded ∷ []) calls) ∙ some)))
-      by None is later = ap (λ o. option_or (told recorded.0 o) (first_difference kinds (before ++ recorded ∷ []) calls)) is ∙ later is
+          absurd (none-some shape (sym nothing ∙ (ap (λ all. held_shape kinds all recorded.1.object) (append_assoc before (recorded ∷ []) calls) ∙ some)))
+      by None is later = ap (λ o. option_or (with_line recorded.0 o) (first_difference kinds (before ++ recorded ∷ []) calls)) is ∙ later is
 
   -- where one does, the first that does is behind calls that don't
   differs_first : (before calls : List Recorded) (first : ℕ × Expected) → Holds before → AreDeclared kinds calls → first_difference kinds before calls ≡ Some first
@@ -135,13 +135,13 @@ module _ (kinds : List ℕ) (shipped : all_shipped kinds ≡ true) where
       (λ is. differs_first (before ++ recorded ∷ []) calls first
       (holds_more before recorded holds (All-head (λ (r : Recorded). r.1.object < length kinds) recorded calls all) is)
       (All-tail (λ (r : Recorded). r.1.object < length kinds) recorded calls all)
-      (sym (ap (λ o. option_or (told recorded.0 o) (first_difference kinds (before ++ recorded ∷ []) calls)) is) ∙ some))
+      (sym (ap (λ o. option_or (with_line recorded.0 o) (first_difference kinds (before ++ recorded ∷ []) calls)) is) ∙ some))
     where
       by : (o : Option Expected) → difference kinds before recorded.1 ≡ o
           → (difference kinds before recorded.1 ≡ None → FirstDiffers kinds (before ++ recorded ∷ []) calls first.0 first.1)
           → FirstDiffers kinds before (recorded ∷ calls) first.0 first.1
       by (Some expected) is later =
-          let same : (recorded.0, expected) ≡ first = same_Some (recorded.0, expected) first (sym (ap (λ o. option_or (told recorded.0 o) (first_difference kinds (before ++ recorded ∷ []) calls)) is) ∙ some) in
+          let same : (recorded.0, expected) ≡ first = same_Some (recorded.0, expected) first (sym (ap (λ o. option_or (with_line recorded.0 o) (first_difference kinds (before ++ recorded ∷ []) calls)) is) ∙ some) in
           inl (ap (λ f. f.0) same, is ∙ ap (λ f. Some f.1) same)
       by None is later = inr (is, later is)
 
@@ -150,9 +150,9 @@ first_found : (kinds : List ℕ) (before calls : List Recorded) (line : ℕ) (ex
     → first_difference kinds before calls ≡ Some (line, expected)
 first_found kinds before [] line expected none = absurd none
 first_found kinds before (recorded ∷ calls) line expected (inl (same, is)) =
-    ap (λ o. option_or (told recorded.0 o) (first_difference kinds (before ++ recorded ∷ []) calls)) is ∙ ap (λ l. Some (l, expected)) same
+    ap (λ o. option_or (with_line recorded.0 o) (first_difference kinds (before ++ recorded ∷ []) calls)) is ∙ ap (λ l. Some (l, expected)) same
 first_found kinds before (recorded ∷ calls) line expected (inr (is, later)) =
-    ap (λ o. option_or (told recorded.0 o) (first_difference kinds (before ++ recorded ∷ []) calls)) is
+    ap (λ o. option_or (with_line recorded.0 o) (first_difference kinds (before ++ recorded ∷ []) calls)) is
     ∙ first_found kinds (before ++ recorded ∷ []) calls line expected later
 
 -- ---- the end
@@ -168,7 +168,7 @@ differs_holds : (kinds : List ℕ) (calls : List Recorded) (line : ℕ) (expecte
 unfolding replay_end
 differs_holds kinds calls line expected all differs = by (all_shipped kinds) refl (first_difference kinds [] calls) refl differs
   where
-    by : (b : Bool) → all_shipped kinds ≡ b → (o : Option (ℕ × Expected)) → first_difference kinds [] calls ≡ o → cond b (ended o) NotShipped ≡ Differs line expected
+    by : (b : Bool) → all_shipped kinds ≡ b → (o : Option (ℕ × Expected)) → first_difference kinds [] calls ≡ o → cond b (end_by_difference o) NotShipped ≡ Differs line expected
         → (all_shipped kinds ≡ true) × FirstDiffers kinds [] calls line expected
     by true shipped None none e = cc
     by true shipped (Some first) some e =
@@ -192,9 +192,9 @@ differs_where kinds calls line expected all = (
 
 pub not_shipped_where : (kinds : List ℕ) (calls : List Recorded) → (replay_end kinds calls ≡ NotShipped) ↔ (all_shipped kinds ≡ false)
 unfolding replay_end
-not_shipped_where kinds calls = (λ e. to (all_shipped kinds) (first_difference kinds [] calls) e, λ e. ap (λ b. cond b (ended (first_difference kinds [] calls)) NotShipped) e)
+not_shipped_where kinds calls = (λ e. to (all_shipped kinds) (first_difference kinds [] calls) e, λ e. ap (λ b. cond b (end_by_difference (first_difference kinds [] calls)) NotShipped) e)
   where
-    to : (b : Bool) (o : Option (ℕ × Expected)) → cond b (ended o) NotShipped ≡ NotShipped → b ≡ false
+    to : (b : Bool) (o : Option (ℕ × Expected)) → cond b (end_by_difference o) NotShipped ≡ NotShipped → b ≡ false
     to true None e = cc
     to true (Some first) e = cc
     to false o e = refl

@@ -13,7 +13,7 @@ use Rattle.rd_object.specs.declared.shapes.Expected.{Expected}
 use Rattle.rd_object.specs.declared.shapes.ReplayEnd.TheVariants.{Exact, Differs, NotShipped}
 use Rattle.rd_object.specs.declared.shapes.Shape.{Shape}
 use Rattle.rd_order.proofs.OrderLemmas.{at_front}
-use Rattle.rd_replay.specs.Replays.{Recorded, all_shipped, calls_on, difference, ended, first_difference, held, is_on, object_machine, replay_end, result_of, shape_after, shape_by, step_at, told, unlike}
+use Rattle.rd_replay.specs.Replays.{Recorded, all_shipped, calls_on, difference, end_by_difference, first_difference, held_shape, is_on, object_machine, replay_end, result_of, shape_after, shape_by, step_at, with_line, step_difference}
 
 -- ---- one call more
 
@@ -55,13 +55,13 @@ calls_elsewhere object calls last other =
     ∙ (ap (λ b. filter (is_on object) calls ++ cond b (last ∷ []) []) (ne_eqb last.1.object object other) ∙ append-nil (filter (is_on object) calls))
 
 -- what an object holds behind a call on another
-pub held_elsewhere : (kinds : List ℕ) (calls : List Recorded) (last : Recorded) (object : ℕ) → last.1.object ≢ object → held kinds (calls ++ last ∷ []) object ≡ held kinds calls object
+pub held_elsewhere : (kinds : List ℕ) (calls : List Recorded) (last : Recorded) (object : ℕ) → last.1.object ≢ object → held_shape kinds (calls ++ last ∷ []) object ≡ held_shape kinds calls object
 held_elsewhere kinds calls last object other =
     ap (λ own. option_and_then (λ machine. shape_by machine machine.first own) (object_machine kinds object)) (calls_elsewhere object calls last other)
 
 -- and behind a call on it
 pub held_here : (kinds : List ℕ) (calls : List Recorded) (last : Recorded) (machine : Machine) (shape : Shape) → object_machine kinds last.1.object ≡ Some machine
-    → held kinds calls last.1.object ≡ Some shape → held kinds (calls ++ last ∷ []) last.1.object ≡ shape_then machine shape last
+    → held_shape kinds calls last.1.object ≡ Some shape → held_shape kinds (calls ++ last ∷ []) last.1.object ≡ shape_then machine shape last
 held_here kinds calls last machine shape is holds =
     let before : shape_by machine machine.first (calls_on last.1.object calls) ≡ Some shape =
     ap (option_and_then (λ m. shape_by m m.first (calls_on last.1.object calls))) (sym is) ∙ holds in
@@ -70,7 +70,7 @@ held_here kinds calls last machine shape is holds =
     ∙ (shape_more machine machine.first (calls_on last.1.object calls) last ∙ ap (option_and_then (λ next. shape_then machine next last)) before))
 
 -- an object that holds nothing holds nothing behind more calls
-pub nothing_more : (kinds : List ℕ) (calls more : List Recorded) (object : ℕ) → held kinds calls object ≡ None → held kinds (calls ++ more) object ≡ None
+pub nothing_more : (kinds : List ℕ) (calls more : List Recorded) (object : ℕ) → held_shape kinds calls object ≡ None → held_shape kinds (calls ++ more) object ≡ None
 nothing_more kinds calls more object nothing =
     ap (λ own. option_and_then (λ machine. shape_by machine machine.first own) (object_machine kinds object)) (filter-append (is_on object) calls more)
     ∙ by (object_machine kinds object) nothing
@@ -84,10 +84,10 @@ nothing_more kinds calls more object nothing =
 
 -- what a machine gives at a call in place of what was recorded
 pub difference_here : (kinds : List ℕ) (calls : List Recorded) (call : Call) (machine : Machine) (shape : Shape) → object_machine kinds call.object ≡ Some machine
-    → held kinds calls call.object ≡ Some shape → difference kinds calls call ≡ unlike (step_at machine shape call) (result_of call.slots)
+    → held_shape kinds calls call.object ≡ Some shape → difference kinds calls call ≡ step_difference (step_at machine shape call) (result_of call.slots)
 difference_here kinds calls call machine shape is holds =
-    ap (option_and_then (λ m. option_and_then (λ s. unlike (step_at m s call) (result_of call.slots)) (held kinds calls call.object))) is
-    ∙ ap (option_and_then (λ s. unlike (step_at machine s call) (result_of call.slots))) holds
+    ap (option_and_then (λ m. option_and_then (λ s. step_difference (step_at m s call) (result_of call.slots)) (held_shape kinds calls call.object))) is
+    ∙ ap (option_and_then (λ s. step_difference (step_at machine s call) (result_of call.slots))) holds
 
 or_assoc : {X : Type 0} (a b c : Option X) → option_or a (option_or b c) ≡ option_or (option_or a b) c
 or_assoc None b c = refl
@@ -99,14 +99,14 @@ or_none (Some x) = refl
 
 -- the first that differs, with one call more
 difference_more : (kinds : List ℕ) (before calls : List Recorded) (last : Recorded)
-    → first_difference kinds before (calls ++ last ∷ []) ≡ option_or (first_difference kinds before calls) (told last.0 (difference kinds (before ++ calls) last.1))
+    → first_difference kinds before (calls ++ last ∷ []) ≡ option_or (first_difference kinds before calls) (with_line last.0 (difference kinds (before ++ calls) last.1))
 difference_more kinds before [] last =
-    or_none (told last.0 (difference kinds before last.1)) ∙ ap (λ all. told last.0 (difference kinds all last.1)) (sym (append-nil before))
+    or_none (with_line last.0 (difference kinds before last.1)) ∙ ap (λ all. with_line last.0 (difference kinds all last.1)) (sym (append-nil before))
 difference_more kinds before (recorded ∷ calls) last =
-    let first = told recorded.0 (difference kinds before recorded.1) in
+    let first = with_line recorded.0 (difference kinds before recorded.1) in
     ap (option_or first) (difference_more kinds (before ++ recorded ∷ []) calls last
-    ∙ ap (λ all. option_or (first_difference kinds (before ++ recorded ∷ []) calls) (told last.0 (difference kinds all last.1))) (append_assoc before (recorded ∷ []) calls))
-    ∙ or_assoc first (first_difference kinds (before ++ recorded ∷ []) calls) (told last.0 (difference kinds (before ++ recorded ∷ calls) last.1))
+    ∙ ap (λ all. option_or (first_difference kinds (before ++ recorded ∷ []) calls) (with_line last.0 (difference kinds all last.1))) (append_assoc before (recorded ∷ []) calls))
+    ∙ or_assoc first (first_difference kinds (before ++ recorded ∷ []) calls) (with_line last.0 (difference kinds (before ++ recorded ∷ calls) last.1))
 
 -- ---- how a replay ends
 
@@ -124,19 +124,19 @@ exact_parts kinds calls exact = by (all_shipped kinds) refl (first_difference ki
     by true shipped (Some first) some = absurd (apart (sym (ap2 shipped some) ∙ exact))
       where
         ap2 : all_shipped kinds ≡ true → first_difference kinds [] calls ≡ Some first
-            → cond (all_shipped kinds) (ended (first_difference kinds [] calls)) NotShipped ≡ Differs first.0 first.1
-        ap2 e f = ap (λ b. cond b (ended (first_difference kinds [] calls)) NotShipped) e ∙ ap ended f
+            → cond (all_shipped kinds) (end_by_difference (first_difference kinds [] calls)) NotShipped ≡ Differs first.0 first.1
+        ap2 e f = ap (λ b. cond b (end_by_difference (first_difference kinds [] calls)) NotShipped) e ∙ ap end_by_difference f
 
         apart : Differs first.0 first.1 ≡ Exact → ⊥
         apart e = cc
-    by false shipped o is = absurd (apart (sym (ap (λ b. cond b (ended (first_difference kinds [] calls)) NotShipped) shipped) ∙ exact))
+    by false shipped o is = absurd (apart (sym (ap (λ b. cond b (end_by_difference (first_difference kinds [] calls)) NotShipped) shipped) ∙ exact))
       where
         apart : NotShipped ≡ Exact → ⊥
         apart e = cc
 
-pub end_of : (kinds : List ℕ) (calls : List Recorded) (o : Option (ℕ × Expected)) → all_shipped kinds ≡ true → first_difference kinds [] calls ≡ o → replay_end kinds calls ≡ ended o
+pub end_of : (kinds : List ℕ) (calls : List Recorded) (o : Option (ℕ × Expected)) → all_shipped kinds ≡ true → first_difference kinds [] calls ≡ o → replay_end kinds calls ≡ end_by_difference o
 unfolding replay_end
-end_of kinds calls o shipped is = ap (λ b. cond b (ended (first_difference kinds [] calls)) NotShipped) shipped ∙ ap ended is
+end_of kinds calls o shipped is = ap (λ b. cond b (end_by_difference (first_difference kinds [] calls)) NotShipped) shipped ∙ ap end_by_difference is
 
 -- one call more that gives what was recorded, and one that doesn't
 pub end_same : (kinds : List ℕ) (calls : List Recorded) (last : Recorded) → replay_end kinds calls ≡ Exact → difference kinds calls last.1 ≡ None
@@ -144,24 +144,24 @@ pub end_same : (kinds : List ℕ) (calls : List Recorded) (last : Recorded) → 
 end_same kinds calls last exact same =
     let was = exact_parts kinds calls exact in
     end_of kinds (calls ++ last ∷ []) None was.shipped
-    (difference_more kinds [] calls last ∙ (ap (λ o. option_or o (told last.0 (difference kinds calls last.1))) was.none ∙ ap (told last.0) same))
+    (difference_more kinds [] calls last ∙ (ap (λ o. option_or o (with_line last.0 (difference kinds calls last.1))) was.none ∙ ap (with_line last.0) same))
 
 pub end_differs : (kinds : List ℕ) (calls : List Recorded) (last : Recorded) (expected : Expected) → replay_end kinds calls ≡ Exact
     → difference kinds calls last.1 ≡ Some expected → replay_end kinds (calls ++ last ∷ []) ≡ Differs last.0 expected
 end_differs kinds calls last expected exact other =
     let was = exact_parts kinds calls exact in
     end_of kinds (calls ++ last ∷ []) (Some (last.0, expected)) was.shipped
-    (difference_more kinds [] calls last ∙ (ap (λ o. option_or o (told last.0 (difference kinds calls last.1))) was.none ∙ ap (told last.0) other))
+    (difference_more kinds [] calls last ∙ (ap (λ o. option_or o (with_line last.0 (difference kinds calls last.1))) was.none ∙ ap (with_line last.0) other))
 
 -- one call more behind one that differs, or where a kind isn't built in
 pub end_stopped : (kinds : List ℕ) (calls : List Recorded) (last : Recorded) (line : ℕ) (expected : Expected) → replay_end kinds calls ≡ Differs line expected
     → replay_end kinds (calls ++ last ∷ []) ≡ Differs line expected
 unfolding replay_end
 end_stopped kinds calls last line expected differs =
-    ap (λ o. cond (all_shipped kinds) (ended o) NotShipped) (difference_more kinds [] calls last) ∙ by (all_shipped kinds) (first_difference kinds [] calls) differs
+    ap (λ o. cond (all_shipped kinds) (end_by_difference o) NotShipped) (difference_more kinds [] calls last) ∙ by (all_shipped kinds) (first_difference kinds [] calls) differs
   where
-    by : (b : Bool) (o : Option (ℕ × Expected)) → cond b (ended o) NotShipped ≡ Differs line expected
-        → cond b (ended (option_or o (told last.0 (difference kinds calls last.1)))) NotShipped ≡ Differs line expected
+    by : (b : Bool) (o : Option (ℕ × Expected)) → cond b (end_by_difference o) NotShipped ≡ Differs line expected
+        → cond b (end_by_difference (option_or o (with_line last.0 (difference kinds calls last.1)))) NotShipped ≡ Differs line expected
     by true None e = cc
     by true (Some first) e = e
     by false o e = e
@@ -170,7 +170,7 @@ pub end_foreign : (kinds : List ℕ) (calls more : List Recorded) → replay_end
 unfolding replay_end
 end_foreign kinds calls more foreign = by (all_shipped kinds) (first_difference kinds [] calls) (first_difference kinds [] (calls ++ more)) foreign
   where
-    by : (b : Bool) (o p : Option (ℕ × Expected)) → cond b (ended o) NotShipped ≡ NotShipped → cond b (ended p) NotShipped ≡ NotShipped
+    by : (b : Bool) (o p : Option (ℕ × Expected)) → cond b (end_by_difference o) NotShipped ≡ NotShipped → cond b (end_by_difference p) NotShipped ≡ NotShipped
     by true None p e = cc
     by true (Some first) p e = cc
     by false o p e = refl
@@ -184,21 +184,21 @@ AreDeclared kinds calls = All (λ (recorded : Recorded). recorded.1.object < len
 machine_longer : (kinds more : List ℕ) (object : ℕ) → object < length kinds → object_machine (kinds ++ more) object ≡ object_machine kinds object
 machine_longer kinds more object inside = ap (option_and_then machine_of) (at_front kinds more object inside)
 
-pub held_longer : (kinds more : List ℕ) (calls : List Recorded) (object : ℕ) → object < length kinds → held (kinds ++ more) calls object ≡ held kinds calls object
+pub held_longer : (kinds more : List ℕ) (calls : List Recorded) (object : ℕ) → object < length kinds → held_shape (kinds ++ more) calls object ≡ held_shape kinds calls object
 held_longer kinds more calls object inside =
     ap (option_and_then (λ machine. shape_by machine machine.first (calls_on object calls))) (machine_longer kinds more object inside)
 
 difference_longer : (kinds more : List ℕ) (before : List Recorded) (call : Call) → call.object < length kinds
     → difference (kinds ++ more) before call ≡ difference kinds before call
 difference_longer kinds more before call inside =
-    (λ i. option_and_then (λ machine. option_and_then (λ shape. unlike (step_at machine shape call) (result_of call.slots))
+    (λ i. option_and_then (λ machine. option_and_then (λ shape. step_difference (step_at machine shape call) (result_of call.slots))
     (held_longer kinds more before call.object inside i)) (machine_longer kinds more call.object inside i))
 
 first_longer : (kinds more : List ℕ) (before calls : List Recorded) → AreDeclared kinds calls
     → first_difference (kinds ++ more) before calls ≡ first_difference kinds before calls
 first_longer kinds more before [] all = refl
 first_longer kinds more before (recorded ∷ calls) all =
-    (λ i. option_or (told recorded.0 (difference_longer kinds more before recorded.1 (All-head (λ (r : Recorded). r.1.object < length kinds) recorded calls all) i))
+    (λ i. option_or (with_line recorded.0 (difference_longer kinds more before recorded.1 (All-head (λ (r : Recorded). r.1.object < length kinds) recorded calls all) i))
     (first_longer kinds more (before ++ recorded ∷ []) calls (All-tail (λ (r : Recorded). r.1.object < length kinds) recorded calls all) i))
 
 -- an object more whose kind is built in
@@ -206,7 +206,7 @@ pub end_longer : (kinds : List ℕ) (kind : ℕ) (calls : List Recorded) → Are
     → replay_end (kinds ++ kind ∷ []) calls ≡ replay_end kinds calls
 unfolding replay_end
 end_longer kinds kind calls all known =
-    (λ i. cond (shipped i) (ended (first_longer kinds (kind ∷ []) [] calls all i)) NotShipped)
+    (λ i. cond (shipped i) (end_by_difference (first_longer kinds (kind ∷ []) [] calls all i)) NotShipped)
   where
     shipped : all_shipped (kinds ++ kind ∷ []) ≡ all_shipped kinds
     shipped = list_all-append (λ k. ltb k (length shipped_machines)) kinds (kind ∷ [])
@@ -219,7 +219,7 @@ end_longer kinds kind calls all known =
 -- and one whose kind isn't
 pub end_unknown : (kinds : List ℕ) (kind : ℕ) (calls : List Recorded) → length shipped_machines ≤ kind → replay_end (kinds ++ kind ∷ []) calls ≡ NotShipped
 unfolding replay_end
-end_unknown kinds kind calls past = ap (λ b. cond b (ended (first_difference (kinds ++ kind ∷ []) [] calls)) NotShipped)
+end_unknown kinds kind calls past = ap (λ b. cond b (end_by_difference (first_difference (kinds ++ kind ∷ []) [] calls)) NotShipped)
     (list_all-append (λ k. ltb k (length shipped_machines)) kinds (kind ∷ [])
     ∙ (ap (λ b. all_shipped kinds && (b && true)) (le-ltb kind (length shipped_machines) past) ∙ and_false (all_shipped kinds)))
   where
@@ -229,7 +229,7 @@ end_unknown kinds kind calls past = ap (λ b. cond b (ended (first_difference (k
 
 -- an object that was declared just now holds the first shape of its machine
 pub held_new : (kinds : List ℕ) (kind : ℕ) (calls : List Recorded) (machine : Machine) → AreDeclared kinds calls → machine_of kind ≡ Some machine
-    → slice_get (kinds ++ kind ∷ []) (length kinds) ≡ Some kind → held (kinds ++ kind ∷ []) calls (length kinds) ≡ Some machine.first
+    → slice_get (kinds ++ kind ∷ []) (length kinds) ≡ Some kind → held_shape (kinds ++ kind ∷ []) calls (length kinds) ≡ Some machine.first
 held_new kinds kind calls machine all is at =
     ap (λ own. option_and_then (λ m. shape_by m m.first own) (object_machine (kinds ++ kind ∷ []) (length kinds))) (none_on (length kinds) calls all refl)
     ∙ ap (option_and_then (λ m. Some m.first)) (ap (option_and_then machine_of) at ∙ is)

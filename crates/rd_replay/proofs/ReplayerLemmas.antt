@@ -8,15 +8,15 @@ use Rattle.std.proofs.lemmas.List.Elements.{All-append, All-cons, All-nil, All-w
 use Rattle.std.proofs.lemmas.Option.{none-some, same_Some, slice_get-get_or, slice_get_within}
 use Rattle.rd_event.specs.declared.events.Call.{Call}
 use Rattle.rd_kinds.specs.Machines.{machine_of, shipped_machines}
-use Rattle.rd_kinds.specs.Objects.{kind_of, machine_for, shape_of}
+use Rattle.rd_kinds.specs.Objects.{object_kind, machine_for, shape_of}
 use Rattle.rd_kinds.specs.declared.objects.Object.{Object}
 use Rattle.rd_kinds.specs.declared.objects.Object.TheVariants.{Register, Counter, Set, Dictionary}
 use Rattle.rd_object.specs.Machines.{IsTaken}
 use Rattle.rd_object.specs.declared.shapes.Expected.{Expected}
 use Rattle.rd_object.specs.declared.shapes.ReplayEnd.TheVariants.{Exact, Differs, NotShipped}
 use Rattle.rd_order.proofs.OrderLemmas.{at_end, at_front, length_more}
-use Rattle.rd_replay.specs.Replays.{Recorded, arguments_of, difference, held, object_machine, replay_end, result_of, shape_after, step_at, unlike}
-use Rattle.rd_replay.specs.Replayer.{AreHeld, IsHeld, IsRecordable, StandsFor, match_of}
+use Rattle.rd_replay.specs.Replays.{Recorded, arguments_of, difference, held_shape, object_machine, replay_end, result_of, shape_after, step_at, step_difference}
+use Rattle.rd_replay.specs.Replayer.{AreHeld, IsHeld, IsRecordable, ReplayerStandsFor, match_of}
 use Rattle.rd_replay.specs.declared.replayer.Match.TheVariants as match
 use Rattle.rd_replay.specs.declared.replayer.Replayer.{Replayer}
 use Rattle.rd_replay.proofs.ReplayLemmas.{AreDeclared, difference_here, end_differs, end_foreign, end_longer, end_same, end_stopped, end_unknown, held_elsewhere, held_here, held_longer, held_new}
@@ -38,7 +38,7 @@ set_there (x ∷ xs) (suc k) (suc n) y other = set_there xs k n y (λ e. other (
 -- ---- objects
 
 -- the machine of an object is that of its kind
-pub machine_is : (object : Object) → machine_of (kind_of object) ≡ Some (machine_for object)
+pub machine_is : (object : Object) → machine_of (object_kind object) ≡ Some (machine_for object)
 machine_is (Register held) = refl
 machine_is (Counter number) = refl
 machine_is (Set items) = refl
@@ -47,7 +47,7 @@ machine_is (Dictionary entries) = refl
 none_held : AreHeld [] [] []
 none_held = record { count = refl; each = λ number kind object at. absurd (none-some kind at) }
 
-pub stands_none : (replayer : Replayer) → replayer.end ≡ Exact → replayer.objects.items ≡ [] → StandsFor replayer [] []
+pub stands_none : (replayer : Replayer) → replayer.end ≡ Exact → replayer.objects.items ≡ [] → ReplayerStandsFor replayer [] []
 unfolding replay_end
 stands_none replayer end empty = record {
   end = end;
@@ -56,13 +56,13 @@ stands_none replayer end empty = record {
 }
 
 -- the machine of an object that is kept
-machine_held : (kinds : List ℕ) (number kind : ℕ) (object : Object) → slice_get kinds number ≡ Some kind → kind_of object ≡ kind
-    → machine_of (kind_of object) ≡ Some (machine_for object) → object_machine kinds number ≡ Some (machine_for object)
+machine_held : (kinds : List ℕ) (number kind : ℕ) (object : Object) → slice_get kinds number ≡ Some kind → object_kind object ≡ kind
+    → machine_of (object_kind object) ≡ Some (machine_for object) → object_machine kinds number ≡ Some (machine_for object)
 machine_held kinds number kind object at is machine = ap (option_and_then machine_of) at ∙ (ap machine_of (sym is) ∙ machine)
 
 -- one object more
 held_push : (kinds : List ℕ) (calls : List Recorded) (objects : List Object) (kind : ℕ) (object : Object) → AreDeclared kinds calls → AreHeld kinds calls objects
-    → kind_of object ≡ kind → machine_of (kind_of object) ≡ Some (machine_for object) → shape_of object ≡ (machine_for object).first
+    → object_kind object ≡ kind → machine_of (object_kind object) ≡ Some (machine_for object) → shape_of object ≡ (machine_for object).first
     → AreHeld (kinds ++ kind ∷ []) calls (objects ++ object ∷ [])
 held_push kinds calls objects kind object all kept is machine first = record {
   count = omega (arith, kept.count, length_more objects object, length_more kinds kind);
@@ -82,9 +82,9 @@ held_push kinds calls objects kind object all kept is machine first = record {
   where
     last_held : (number k : ℕ) (o : Object) → number ≡ length kinds → k ≡ kind → o ≡ object → IsHeld (kinds ++ kind ∷ []) calls number k o
     last_held number k o last same_kind same_object = record {
-      kind_is = ap kind_of same_object ∙ (is ∙ sym same_kind);
+      kind_is = ap object_kind same_object ∙ (is ∙ sym same_kind);
       holds =
-          ap (held (kinds ++ kind ∷ []) calls) last
+          ap (held_shape (kinds ++ kind ∷ []) calls) last
           ∙ (held_new kinds kind calls (machine_for object) all (ap machine_of (sym is) ∙ machine) (at_end kinds kind)
           ∙ ap Some (sym first ∙ ap shape_of (sym same_object)));
     }
@@ -94,10 +94,10 @@ more_declared kinds kind calls all =
     All-weaker (λ (r : Recorded). r.1.object < length kinds) (λ (r : Recorded). r.1.object < length (kinds ++ kind ∷ []))
     (λ r inside. omega (arith, inside, length_more kinds kind)) calls all
 
-pub stands_declared : (old now : Replayer) (kinds : List ℕ) (calls : List Recorded) (kind : ℕ) (object : Object) → StandsFor old kinds calls → old.end ≡ Exact
+pub stands_declared : (old now : Replayer) (kinds : List ℕ) (calls : List Recorded) (kind : ℕ) (object : Object) → ReplayerStandsFor old kinds calls → old.end ≡ Exact
     → now.end ≡ old.end → now.objects.items ≡ old.objects.items ++ object ∷ [] → kind < length shipped_machines
-    → kind_of object ≡ kind → machine_of (kind_of object) ≡ Some (machine_for object) → shape_of object ≡ (machine_for object).first
-    → StandsFor now (kinds ++ kind ∷ []) calls
+    → object_kind object ≡ kind → machine_of (object_kind object) ≡ Some (machine_for object) → shape_of object ≡ (machine_for object).first
+    → ReplayerStandsFor now (kinds ++ kind ∷ []) calls
 stands_declared old now kinds calls kind object stands exact same pushed known is machine first = record {
   end = same ∙ (stands.end ∙ sym (end_longer kinds kind calls stands.declared known));
   declared = more_declared kinds kind calls stands.declared;
@@ -106,8 +106,8 @@ stands_declared old now kinds calls kind object stands exact same pushed known i
 }
 
 -- where the replay has stopped already
-pub stands_unkept : (old now : Replayer) (kinds : List ℕ) (calls : List Recorded) (kind : ℕ) → StandsFor old kinds calls → old.end ≢ Exact → now.end ≡ old.end
-    → kind < length shipped_machines → StandsFor now (kinds ++ kind ∷ []) calls
+pub stands_unkept : (old now : Replayer) (kinds : List ℕ) (calls : List Recorded) (kind : ℕ) → ReplayerStandsFor old kinds calls → old.end ≢ Exact → now.end ≡ old.end
+    → kind < length shipped_machines → ReplayerStandsFor now (kinds ++ kind ∷ []) calls
 stands_unkept old now kinds calls kind stands stopped same known = record {
   end = same ∙ (stands.end ∙ sym (end_longer kinds kind calls stands.declared known));
   declared = more_declared kinds kind calls stands.declared;
@@ -115,8 +115,8 @@ stands_unkept old now kinds calls kind stands stopped same known = record {
 }
 
 -- where the kind isn't built in
-pub stands_foreign : (old now : Replayer) (kinds : List ℕ) (calls : List Recorded) (kind : ℕ) → StandsFor old kinds calls → now.end ≡ NotShipped
-    → length shipped_machines ≤ kind → StandsFor now (kinds ++ kind ∷ []) calls
+pub stands_foreign : (old now : Replayer) (kinds : List ℕ) (calls : List Recorded) (kind : ℕ) → ReplayerStandsFor old kinds calls → now.end ≡ NotShipped
+    → length shipped_machines ≤ kind → ReplayerStandsFor now (kinds ++ kind ∷ []) calls
 stands_foreign old now kinds calls kind stands foreign past = record {
   end = foreign ∙ sym (end_unknown kinds kind calls past);
   declared = more_declared kinds kind calls stands.declared;
@@ -132,16 +132,16 @@ push_declared kinds calls last kind all at =
     (All-cons (λ (r : Recorded). r.1.object < length kinds) last [] (slice_get_within kinds last.1.object kind at) (All-nil (λ (r : Recorded). r.1.object < length kinds)))
 
 -- a call that isn't run, since the replay has stopped
-pub stands_stopped : (old now : Replayer) (kinds : List ℕ) (calls : List Recorded) (last : Recorded) (line : ℕ) (expected : Expected) → StandsFor old kinds calls
-    → IsRecordable kinds last.1 → old.end ≡ Differs line expected → now.end ≡ old.end → StandsFor now kinds (calls ++ last ∷ [])
+pub stands_stopped : (old now : Replayer) (kinds : List ℕ) (calls : List Recorded) (last : Recorded) (line : ℕ) (expected : Expected) → ReplayerStandsFor old kinds calls
+    → IsRecordable kinds last.1 → old.end ≡ Differs line expected → now.end ≡ old.end → ReplayerStandsFor now kinds (calls ++ last ∷ [])
 stands_stopped old now kinds calls last line expected stands may differs same = record {
   end = same ∙ (differs ∙ sym (end_stopped kinds calls last line expected (sym stands.end ∙ differs)));
   declared = push_declared kinds calls last last.1.kind stands.declared may.declared;
   objects = λ exact. let apart : Differs line expected ≡ Exact = sym differs ∙ (sym same ∙ exact) in cc;
 }
 
-pub stands_unshipped : (old now : Replayer) (kinds : List ℕ) (calls : List Recorded) (last : Recorded) → StandsFor old kinds calls
-    → IsRecordable kinds last.1 → old.end ≡ NotShipped → now.end ≡ old.end → StandsFor now kinds (calls ++ last ∷ [])
+pub stands_unshipped : (old now : Replayer) (kinds : List ℕ) (calls : List Recorded) (last : Recorded) → ReplayerStandsFor old kinds calls
+    → IsRecordable kinds last.1 → old.end ≡ NotShipped → now.end ≡ old.end → ReplayerStandsFor now kinds (calls ++ last ∷ [])
 stands_unshipped old now kinds calls last stands may foreign same = record {
   end = same ∙ (foreign ∙ sym (end_foreign kinds calls (last ∷ []) (sym stands.end ∙ foreign)));
   declared = push_declared kinds calls last last.1.kind stands.declared may.declared;
@@ -151,14 +151,14 @@ stands_unshipped old now kinds calls last stands may foreign same = record {
 -- a call that is run: the object that it is on, before it and then
 module _ (kinds : List ℕ) (calls : List Recorded) (objects : List Object) (last : Recorded) (object next : Object) (kept : AreHeld kinds calls objects)
     (may : IsRecordable kinds last.1) (at : slice_get objects last.1.object ≡ Some object)
-    (machine : machine_of (kind_of object) ≡ Some (machine_for object)) (kind : kind_of next ≡ kind_of object) where
+    (machine : machine_of (object_kind object) ≡ Some (machine_for object)) (kind : object_kind next ≡ object_kind object) where
   here : IsHeld kinds calls last.1.object last.1.kind object
   here = kept.each last.1.object last.1.kind object may.declared at
 
   pub machine_here : object_machine kinds last.1.object ≡ Some (machine_for object)
   machine_here = machine_held kinds last.1.object last.1.kind object may.declared here.kind_is machine
 
-  pub unlike_here : difference kinds calls last.1 ≡ unlike (step_at (machine_for object) (shape_of object) last.1) (result_of last.1.slots)
+  pub unlike_here : difference kinds calls last.1 ≡ step_difference (step_at (machine_for object) (shape_of object) last.1) (result_of last.1.slots)
   unlike_here = difference_here kinds calls last.1 (machine_for object) (shape_of object) machine_here here.holds
 
   -- it gave what was recorded
@@ -180,9 +180,9 @@ module _ (kinds : List ℕ) (calls : List Recorded) (objects : List Object) (las
     where
       run_here : (number k : ℕ) (o : Object) → number ≡ last.1.object → k ≡ last.1.kind → o ≡ next → IsHeld kinds (calls ++ last ∷ []) number k o
       run_here number k o same same_kind same_object = record {
-        kind_is = ap kind_of same_object ∙ (kind ∙ (here.kind_is ∙ sym same_kind));
+        kind_is = ap object_kind same_object ∙ (kind ∙ (here.kind_is ∙ sym same_kind));
         holds =
-            ap (held kinds (calls ++ last ∷ [])) same
+            ap (held_shape kinds (calls ++ last ∷ [])) same
             ∙ (held_here kinds calls last (machine_for object) (shape_of object) machine_here here.holds ∙ (goes ∙ ap (λ x. Some (shape_of x)) (sym same_object)));
       }
 
@@ -202,15 +202,15 @@ module _ (kinds : List ℕ) (calls : List Recorded) (objects : List Object) (las
     where
       still_here : (number k : ℕ) (o : Object) → number ≡ last.1.object → k ≡ last.1.kind → o ≡ next → IsHeld kinds calls number k o
       still_here number k o same same_kind same_object = record {
-        kind_is = ap kind_of same_object ∙ (kind ∙ (here.kind_is ∙ sym same_kind));
-        holds = ap (held kinds calls) same ∙ (here.holds ∙ ap Some (sym still ∙ ap shape_of (sym same_object)));
+        kind_is = ap object_kind same_object ∙ (kind ∙ (here.kind_is ∙ sym same_kind));
+        holds = ap (held_shape kinds calls) same ∙ (here.holds ∙ ap Some (sym still ∙ ap shape_of (sym same_object)));
       }
 
 -- ---- what a call leaves
 
 -- nothing changed
-pub stands_unchanged : (kinds : List ℕ) (calls : List Recorded) (old now : Replayer) → StandsFor old kinds calls → now.end ≡ old.end
-    → now.objects.items ≡ old.objects.items → StandsFor now kinds calls
+pub stands_unchanged : (kinds : List ℕ) (calls : List Recorded) (old now : Replayer) → ReplayerStandsFor old kinds calls → now.end ≡ old.end
+    → now.objects.items ≡ old.objects.items → ReplayerStandsFor now kinds calls
 stands_unchanged kinds calls old now stands end items = record {
   end = end ∙ stands.end;
   declared = stands.declared;
@@ -231,16 +231,16 @@ pub inside_here : (kinds : List ℕ) (calls : List Recorded) (objects : List Obj
     → call.object < length objects
 inside_here kinds calls objects call kept may = omega (arith, kept.count, slice_get_within kinds call.object call.kind may.declared)
 
-module _ (kinds : List ℕ) (calls : List Recorded) (old now : Replayer) (last : Recorded) (object next : Object) (stands : StandsFor old kinds calls)
+module _ (kinds : List ℕ) (calls : List Recorded) (old now : Replayer) (last : Recorded) (object next : Object) (stands : ReplayerStandsFor old kinds calls)
     (may : IsRecordable kinds last.1) (exact : old.end ≡ Exact) (at : slice_get old.objects.items last.1.object ≡ Some object)
-    (kind : kind_of next ≡ kind_of object) where
+    (kind : object_kind next ≡ object_kind object) where
   was_exact : replay_end kinds calls ≡ Exact
   was_exact = sym stands.end ∙ exact
 
   -- its object gave what was recorded
-  pub same_stands : unlike (step_at (machine_for object) (shape_of object) last.1) (result_of last.1.slots) ≡ None
+  pub same_stands : step_difference (step_at (machine_for object) (shape_of object) last.1) (result_of last.1.slots) ≡ None
       → shape_after (step_at (machine_for object) (shape_of object) last.1) (result_of last.1.slots) ≡ Some (shape_of next)
-      → now.end ≡ old.end → now.objects.items ≡ set old.objects.items last.1.object next → StandsFor now kinds (calls ++ last ∷ [])
+      → now.end ≡ old.end → now.objects.items ≡ set old.objects.items last.1.object next → ReplayerStandsFor now kinds (calls ++ last ∷ [])
   same_stands same goes end items = record {
     end = end ∙ (exact ∙ sym (end_same kinds calls last was_exact
         (unlike_here kinds calls old.objects.items last object next (stands.objects exact) may at (machine_is object) kind ∙ same)));
@@ -249,15 +249,15 @@ module _ (kinds : List ℕ) (calls : List Recorded) (old now : Replayer) (last :
         (held_run kinds calls old.objects.items last object next (stands.objects exact) may at (machine_is object) kind goes);
   }
 
-  pub same_answer : unlike (step_at (machine_for object) (shape_of object) last.1) (result_of last.1.slots) ≡ None
+  pub same_answer : step_difference (step_at (machine_for object) (shape_of object) last.1) (result_of last.1.slots) ≡ None
       → match.Same ≡ match_of (replay_end kinds calls) (replay_end kinds (calls ++ last ∷ []))
   same_answer same =
       sym (λ i. match_of (was_exact i) (end_same kinds calls last was_exact
       (unlike_here kinds calls old.objects.items last object next (stands.objects exact) may at (machine_is object) kind ∙ same) i))
 
   -- it gave something else
-  pub differs_stands : (expected : Expected) → unlike (step_at (machine_for object) (shape_of object) last.1) (result_of last.1.slots) ≡ Some expected
-      → now.end ≡ Differs last.0 expected → StandsFor now kinds (calls ++ last ∷ [])
+  pub differs_stands : (expected : Expected) → step_difference (step_at (machine_for object) (shape_of object) last.1) (result_of last.1.slots) ≡ Some expected
+      → now.end ≡ Differs last.0 expected → ReplayerStandsFor now kinds (calls ++ last ∷ [])
   differs_stands expected other end = record {
     end = end ∙ sym (end_differs kinds calls last expected was_exact
         (unlike_here kinds calls old.objects.items last object next (stands.objects exact) may at (machine_is object) kind ∙ other));
@@ -265,7 +265,7 @@ module _ (kinds : List ℕ) (calls : List Recorded) (old now : Replayer) (last :
     objects = λ is_exact. let apart : Differs last.0 expected ≡ Exact = sym end ∙ is_exact in cc;
   }
 
-  pub differs_answer : (expected : Expected) → unlike (step_at (machine_for object) (shape_of object) last.1) (result_of last.1.slots) ≡ Some expected
+  pub differs_answer : (expected : Expected) → step_difference (step_at (machine_for object) (shape_of object) last.1) (result_of last.1.slots) ≡ Some expected
       → match.Differs ≡ match_of (replay_end kinds calls) (replay_end kinds (calls ++ last ∷ []))
   differs_answer expected other =
       sym (λ i. match_of (was_exact i) (end_differs kinds calls last expected was_exact
@@ -273,7 +273,7 @@ module _ (kinds : List ℕ) (calls : List Recorded) (old now : Replayer) (last :
 
   -- it was refused for want of memory
   pub still_stands : shape_of next ≡ shape_of object → now.end ≡ old.end → now.objects.items ≡ set old.objects.items last.1.object next
-      → StandsFor now kinds calls
+      → ReplayerStandsFor now kinds calls
   still_stands still end items = record {
     end = end ∙ stands.end;
     declared = stands.declared;
@@ -292,6 +292,6 @@ unshipped_answer kinds calls last foreign = sym (ap (λ end. match_of end (repla
 
 -- what an object holds that is kept
 pub held_state : (kinds : List ℕ) (calls : List Recorded) (objects : List Object) (number : ℕ) (object : Object) → AreHeld kinds calls objects
-    → number < length kinds → slice_get objects number ≡ Some object → held kinds calls number ≡ Some (shape_of object)
+    → number < length kinds → slice_get objects number ≡ Some object → held_shape kinds calls number ≡ Some (shape_of object)
 held_state kinds calls objects number object kept inside at =
     (kept.each number (get_or kinds number 0) object (slice_get-get_or kinds number 0 inside) at).holds

@@ -3,20 +3,20 @@ use Rattle.std.specs.Prelude.{◌≡◌, ℕ, ◌<◌, List, length, slice_get, 
 use Rattle.rd_ecl.specs.Specified.{slots_at}
 use Rattle.rd_event.specs.declared.events.Call.{Call}
 use Rattle.rd_kinds.specs.Machines.{machine_of}
-use Rattle.rd_kinds.specs.Objects.{kind_of, shape_of}
+use Rattle.rd_kinds.specs.Objects.{object_kind, shape_of}
 use Rattle.rd_kinds.specs.declared.objects.Object.{Object}
 use Rattle.rd_object.specs.Machines.{Machine}
 use Rattle.rd_object.specs.declared.shapes.ReplayEnd.{ReplayEnd}
 use Rattle.rd_object.specs.declared.shapes.ReplayEnd.TheVariants.{Exact, Differs, NotShipped}
-use Rattle.rd_replay.specs.Replays.{Recorded, held, replay_end}
+use Rattle.rd_replay.specs.Replays.{Recorded, held_shape, replay_end}
 use Rattle.rd_replay.specs.declared.replayer.Match.{Match}
 use Rattle.rd_replay.specs.declared.replayer.Match.TheVariants as match
 use Rattle.rd_replay.specs.declared.replayer.Replayer.{Replayer}
 
 -- the object is of the kind with this number, and holds what the calls on it leave
 pub record IsHeld (kinds : List ℕ) (calls : List Recorded) (number kind : ℕ) (object : Object) : Type 0 where
-  pub kind_is : kind_of object ≡ kind
-  pub holds : held kinds calls number ≡ Some (shape_of object)
+  pub kind_is : object_kind object ≡ kind
+  pub holds : held_shape kinds calls number ≡ Some (shape_of object)
 
 -- so is each object, by its number
 pub record AreHeld (kinds : List ℕ) (calls : List Recorded) (objects : List Object) : Type 0 where
@@ -26,7 +26,7 @@ pub record AreHeld (kinds : List ℕ) (calls : List Recorded) (objects : List Ob
 
 -- The replayer stands for objects of these kinds and for these calls with the numbers of their lines: it keeps how their replay ends, and
 -- while each call gave what was recorded, it keeps the objects.
-pub record StandsFor (replayer : Replayer) (kinds : List ℕ) (calls : List Recorded) : Type 0 where
+pub record ReplayerStandsFor (replayer : Replayer) (kinds : List ℕ) (calls : List Recorded) : Type 0 where
   pub end : replayer.end ≡ replay_end kinds calls
   pub declared : All (λ (recorded : Recorded). recorded.1.object < length kinds) calls
   pub objects : replayer.end ≡ Exact → AreHeld kinds calls replayer.objects.items

@@ -34,11 +34,11 @@ shape_after _ _ = None
 
 -- What a step gives in place of what was recorded, where that is something else. A step that isn't known, which no call of the kind takes,
 -- counts as one that refuses.
-abbrev pub unlike : Step → Option Result → Option Expected
-unlike (goes shape result) (Some recorded) = if same_value result recorded then None else Some (Value result)
-unlike (goes shape result) None = Some (Value result)
-unlike (refuses slot) recorded = Some (BadArgument slot)
-unlike unknown recorded = Some (BadArgument 0)
+abbrev pub step_difference : Step → Option Result → Option Expected
+step_difference (goes shape result) (Some recorded) = if same_value result recorded then None else Some (Value result)
+step_difference (goes shape result) None = Some (Value result)
+step_difference (refuses slot) recorded = Some (BadArgument slot)
+step_difference unknown recorded = Some (BadArgument 0)
 
 -- ---- the calls on an object
 
@@ -64,30 +64,31 @@ abbrev pub object_machine : List ℕ → ℕ → Option Machine
 object_machine kinds object = option_and_then machine_of (slice_get kinds object)
 
 -- what an object holds behind its own calls among these
-abbrev pub held : List ℕ → List Recorded → ℕ → Option Shape
-held kinds calls object = option_and_then (λ machine. shape_by machine machine.first (calls_on object calls)) (object_machine kinds object)
+abbrev pub held_shape : List ℕ → List Recorded → ℕ → Option Shape
+held_shape kinds calls object =
+    option_and_then (λ machine. shape_by machine machine.first (calls_on object calls)) (object_machine kinds object)
 
 -- ---- all calls
 
 -- what a machine gives at a call behind others in place of what was recorded
 abbrev pub difference : List ℕ → List Recorded → Call → Option Expected
 difference kinds before call =
-    option_and_then (λ machine. option_and_then (λ shape. unlike (step_at machine shape call) (result_of call.slots)) (held kinds before call.object))
+    option_and_then (λ machine. option_and_then (λ shape. step_difference (step_at machine shape call) (result_of call.slots)) (held_shape kinds before call.object))
     (object_machine kinds call.object)
 
 -- with the number of its line
-abbrev pub told : ℕ → Option Expected → Option (ℕ × Expected)
-told line expected = option_map (λ e. (line, e)) expected
+abbrev pub with_line : ℕ → Option Expected → Option (ℕ × Expected)
+with_line line expected = option_map (λ e. (line, e)) expected
 
 -- the first of the calls behind others that differs: the number of its line, and what the machine gives
 abbrev pub first_difference : List ℕ → List Recorded → List Recorded → Option (ℕ × Expected)
 first_difference kinds before [] = None
 first_difference kinds before (recorded ∷ calls) =
-    option_or (told recorded.0 (difference kinds before recorded.1)) (first_difference kinds (before ++ recorded ∷ []) calls)
+    option_or (with_line recorded.0 (difference kinds before recorded.1)) (first_difference kinds (before ++ recorded ∷ []) calls)
 
-abbrev pub ended : Option (ℕ × Expected) → ReplayEnd
-ended None = Exact
-ended (Some first) = Differs first.0 first.1
+abbrev pub end_by_difference : Option (ℕ × Expected) → ReplayEnd
+end_by_difference None = Exact
+end_by_difference (Some first) = Differs first.0 first.1
 
 -- the kinds are built in
 abbrev pub all_shipped : List ℕ → Bool
@@ -95,11 +96,11 @@ all_shipped kinds = list_all (λ kind. nat_lt kind (length shipped_machines)) ki
 
 -- how the replay of calls on objects of these kinds ends
 unfoldable pub replay_end : List ℕ → List Recorded → ReplayEnd
-replay_end kinds calls = if all_shipped kinds then ended (first_difference kinds [] calls) else NotShipped
+replay_end kinds calls = if all_shipped kinds then end_by_difference (first_difference kinds [] calls) else NotShipped
 
 -- all objects are of kinds that are built in, and each object's calls alone lead its machine from the first shape to one that it has in the end
 abbrev pub ReplaysAll : List ℕ → List Recorded → Type 0
-ReplaysAll kinds calls = (all_shipped kinds ≡ true) × ((object : ℕ) → object < length kinds → (shape : Shape) × (held kinds calls object ≡ Some shape))
+ReplaysAll kinds calls = (all_shipped kinds ≡ true) × ((object : ℕ) → object < length kinds → (shape : Shape) × (held_shape kinds calls object ≡ Some shape))
 
 -- Behind the ones before, this line has the first of the calls that gives something else than was recorded, and this is what the machine
 -- gives there: it is the first of them, or that one gives what was recorded, and it is so of the others.

@@ -1,10 +1,10 @@
 //! What replays recorded calls.
 ghost use Rattle.std.specs.Prelude.{◌≡◌, ◌≢◌, ◌<◌, ℕ, List, [], ◌∷◌, ◌++◌, length, None, Some, IfOk, OnOk, OnErr};
 ghost use Rattle.rd_ecl.specs.Formulas.{same_value};
-ghost use Rattle.rd_kinds.specs.Objects.{kind_of, machine_for, shape_of};
+ghost use Rattle.rd_kinds.specs.Objects.{object_kind, machine_for, shape_of};
 ghost use Rattle.rd_object.specs.Machines.{IsTaken};
-ghost use Rattle.rd_replay.specs.Replays.{Recorded, arguments_of, held, replay_end, result_of, shape_after, step_at, unlike};
-ghost use Rattle.rd_replay.specs.Replayer.{IsRecordable, StandsFor, match_of};
+ghost use Rattle.rd_replay.specs.Replays.{Recorded, arguments_of, held_shape, replay_end, result_of, shape_after, step_at, step_difference};
+ghost use Rattle.rd_replay.specs.Replayer.{IsRecordable, ReplayerStandsFor, match_of};
 
 use rd_base::{NoMemory, Value};
 use rd_event::Call;
@@ -48,9 +48,9 @@ fn compare(object: &mut Object, call: &Call) -> Result<Option<Expected>, NoMemor
     requires some { 0 < length call.now.slots }
     requires taken { IsTaken (machine_for object.old) call.now.method
         (arguments_of call.now.slots) }
-    ensures kind { kind_of object.new ≡ kind_of object.old }
+    ensures kind { object_kind object.new ≡ object_kind object.old }
     ensures answer { IfOk result
-        (λ expected. expected ≡ unlike
+        (λ expected. expected ≡ step_difference
         (step_at (machine_for object.old) (shape_of object.old) call.now)
         (result_of call.now.slots)) }
     ensures same { IfOk result (λ expected. expected ≡ None →
@@ -74,7 +74,7 @@ fn compare(object: &mut Object, call: &Call) -> Result<Option<Expected>, NoMemor
 impl Replayer {
     /// A replayer of no objects and no calls. It takes no memory.
     pub fn new(alloc: Global) -> Replayer
-        ensures { StandsFor result [] [] }
+        ensures { ReplayerStandsFor result [] [] }
     {
         Replayer {
             alloc,
@@ -87,12 +87,12 @@ impl Replayer {
     /// replayer stands for what it stood for before.
     pub fn declare(&mut self, object: u32, kind: u32) -> Result<(), NoMemory>
         ensures ok { OnOk result
-            ((kinds : List ℕ) (calls : List Recorded) → StandsFor self.old kinds calls →
+            ((kinds : List ℕ) (calls : List Recorded) → ReplayerStandsFor self.old kinds calls →
             object ≡ length kinds →
-            StandsFor self.new (kinds ++ kind ∷ []) calls) }
+            ReplayerStandsFor self.new (kinds ++ kind ∷ []) calls) }
         ensures err { OnErr result
-            ((kinds : List ℕ) (calls : List Recorded) → StandsFor self.old kinds calls →
-            StandsFor self.new kinds calls) }
+            ((kinds : List ℕ) (calls : List Recorded) → ReplayerStandsFor self.old kinds calls →
+            ReplayerStandsFor self.new kinds calls) }
     {
         let _next = object;
         if kind >= shipped_count() {
@@ -110,20 +110,20 @@ impl Replayer {
     /// declared with its kind, and where that is built in, its method is the kind's and it has as many slots as the method. After want
     /// of memory the replayer stands for what it stood for before.
     pub fn call(&mut self, line: u64, call: &Call) -> Result<Match, NoMemory>
-        requires { (kinds : List ℕ) × (calls : List Recorded) × StandsFor self.old kinds calls
+        requires { (kinds : List ℕ) × (calls : List Recorded) × ReplayerStandsFor self.old kinds calls
             × IsRecordable kinds call.now }
         ensures answer { IfOk result
-            (λ answer. (kinds : List ℕ) (calls : List Recorded) → StandsFor self.old kinds calls →
+            (λ answer. (kinds : List ℕ) (calls : List Recorded) → ReplayerStandsFor self.old kinds calls →
             IsRecordable kinds call.now →
             answer ≡ match_of (replay_end kinds calls)
             (replay_end kinds (calls ++ (line, call.now) ∷ []))) }
         ensures stands { OnOk result
-            ((kinds : List ℕ) (calls : List Recorded) → StandsFor self.old kinds calls →
+            ((kinds : List ℕ) (calls : List Recorded) → ReplayerStandsFor self.old kinds calls →
             IsRecordable kinds call.now →
-            StandsFor self.new kinds (calls ++ (line, call.now) ∷ [])) }
+            ReplayerStandsFor self.new kinds (calls ++ (line, call.now) ∷ [])) }
         ensures err { OnErr result
-            ((kinds : List ℕ) (calls : List Recorded) → StandsFor self.old kinds calls →
-            StandsFor self.new kinds calls) }
+            ((kinds : List ℕ) (calls : List Recorded) → ReplayerStandsFor self.old kinds calls →
+            ReplayerStandsFor self.new kinds calls) }
     {
         match self.end {
             ReplayEnd::NotShipped => return Ok(Match::NotShipped),
@@ -144,7 +144,7 @@ impl Replayer {
     /// `Differs` exactly where a call gave something else than was recorded, with the line of the first and what it gave.
     pub fn end(&self) -> Result<ReplayEnd, NoMemory>
         ensures { IfOk result
-            (λ end. (kinds : List ℕ) (calls : List Recorded) → StandsFor self.now kinds calls →
+            (λ end. (kinds : List ℕ) (calls : List Recorded) → ReplayerStandsFor self.now kinds calls →
             end ≡ replay_end kinds calls) }
     {
         self.end.copy(self.alloc)
@@ -153,12 +153,12 @@ impl Replayer {
     /// What an object holds, by its number. It was declared, all objects are of kinds that are built in, and each call gave what was
     /// recorded.
     pub fn state(&self, object: u32) -> Result<Shape, NoMemory>
-        requires { (kinds : List ℕ) × (calls : List Recorded) × StandsFor self.now kinds calls
+        requires { (kinds : List ℕ) × (calls : List Recorded) × ReplayerStandsFor self.now kinds calls
             × (object < length kinds) × (replay_end kinds calls ≡ ReplayEnd.Exact) }
         ensures { IfOk result
-            (λ shape. (kinds : List ℕ) (calls : List Recorded) → StandsFor self.now kinds calls →
+            (λ shape. (kinds : List ℕ) (calls : List Recorded) → ReplayerStandsFor self.now kinds calls →
             object < length kinds →
-            held kinds calls object ≡ Some shape) }
+            held_shape kinds calls object ≡ Some shape) }
     {
         self.objects[object as usize].shape()
     }

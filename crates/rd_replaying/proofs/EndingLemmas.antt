@@ -1,14 +1,14 @@
 -- The status of an ending.
 use Rattle.rd_object.specs.declared.shapes.ReplayEnd.{ReplayEnd}
 use Rattle.rd_walk.specs.Output.{IsWell}
-use Rattle.rd_replaying.specs.Endings.{check_status, is_limit, reported}
+use Rattle.rd_replaying.specs.Endings.{check_status, is_limit, ending_of_report}
 use Rattle.rd_walk.specs.declared.status.Status.TheVariants.{TraceRefused, LimitReached}
 use Rattle.rd_walk.specs.declared.walk.WalkEnd.TheVariants as walk
 use Rattle.rd_walk.specs.declared.walk.WalkEnd.{WalkEnd}
 use Rattle.std.proofs.Common.{◌≡◌, ℕ, Bool, true, false, cond, refl, inl, inr}
 
 -- a status that says that a trace was read to its end comes only where it was
-pub well_end : (races : ℕ) (replay : ReplayEnd) (ending : WalkEnd) → IsWell (check_status races (reported replay ending)) → ending ≡ walk.End
+pub well_end : (races : ℕ) (replay : ReplayEnd) (ending : WalkEnd) → IsWell (check_status races (ending_of_report replay ending)) → ending ≡ walk.End
 unfolding check_status
 well_end races replay walk.End well = refl
 well_end races replay (walk.Refused number cause) well = absurd (by (is_limit cause) well)

@@ -13,9 +13,9 @@ use Rattle.rd_replaying.proofs.EndingLemmas.{well_end}
 use Rattle.rd_walk.proofs.FileLemmas.{ending_at, entries_at}
 use Rattle.rd_walk.specs.Output.{HasOutcome, IsOutput, IsWell, Outcome, IsFront}
 use Rattle.rd_replaying.specs.States.{replay_outcome, replayed_text, states_text, built_in_kinds}
-use Rattle.rd_replaying.specs.Endings.{check_status, replay_status, reported, thread_names}
+use Rattle.rd_replaying.specs.Endings.{check_status, replay_status, ending_of_report, thread_names}
 use Rattle.rd_replaying.specs.Replaying.{replay_of}
-use Rattle.rd_walk.specs.Traces.{IsTraceOutcome, IsWhole, walk_on, ReportsTrace}
+use Rattle.rd_walk.specs.Traces.{IsTraceOutcome, IsWholeOutput, walk_on, ReportsTrace}
 use Rattle.rd_walk.specs.Meanings.{Runs, WritesAll}
 use Rattle.rd_walk.specs.Walk.{Entry, Walked, after, ending_of, ends, entries_of, trace_of}
 use Rattle.rd_walk.specs.declared.status.Status.TheVariants.{Raced, OutputFault, NoMemory}
@@ -40,18 +40,18 @@ replayed_so names states ending = record { text = replayed_text names states end
 
 pub replay_concluded : (status : Status) (part : List ℕ) (kinds : List Kind) (entries : List Entry) (last : WalkEnd)
     (names : List (List ℕ)) (states : List ℕ) (ending : Ending) → names ≡ thread_names entries → states ≡ states_text kinds entries
-    → ending ≡ reported (replay_of kinds entries) last → IsOutput status part (replayed_so names states ending)
+    → ending ≡ ending_of_report (replay_of kinds entries) last → IsOutput status part (replayed_so names states ending)
     → IsOutput status part (replay_outcome kinds (after entries (ends last)))
 replay_concluded status part kinds entries last names states ending named stated ended output =
     subst (IsOutput status part)
     ((λ i. replayed_so (named i) (stated i) (ended i))
-    ∙ (λ i. let es = sym (entries_at entries last) i in replayed_so (thread_names es) (states_text kinds es) (reported (replay_of kinds es) (sym (ending_at entries last) i)))) output
+    ∙ (λ i. let es = sym (entries_at entries last) i in replayed_so (thread_names es) (states_text kinds es) (ending_of_report (replay_of kinds es) (sym (ending_at entries last) i)))) output
 
 pub replay_front : (kinds : List Kind) (entries : List Entry) (last : WalkEnd) → IsOutput NoMemory [] (replay_outcome kinds (after entries (ends last)))
 replay_front kinds entries last = ((replay_outcome kinds (after entries (ends last))).text, refl)
 
 -- a report ends with an exact replay only where the replay is exact
-pub exact_end : (replay : ReplayEnd) (last : WalkEnd) → reported replay last ≡ report.End Exact → replay ≡ Exact
+pub exact_end : (replay : ReplayEnd) (last : WalkEnd) → ending_of_report replay last ≡ report.End Exact → replay ≡ Exact
 exact_end replay End same = inside replay Exact same
   where
     inside : (a b : ReplayEnd) → report.End a ≡ report.End b → a ≡ b
@@ -67,7 +67,7 @@ pub replay_well : (kinds : List Kind) (walked : Walked) → IsWell (replay_outco
 replay_well kinds walked = well_end 0 (replay_of kinds (entries_of walked)) (ending_of walked)
 
 -- what ends well says so
-pub ends_well : (races : ℕ) (ended : ReplayEnd) → IsWell (check_status races (reported ended End))
+pub ends_well : (races : ℕ) (ended : ReplayEnd) → IsWell (check_status races (ending_of_report ended End))
 unfolding check_status
 ends_well races ended = by (eqb races 0) ended
   where
@@ -80,7 +80,7 @@ ends_well races ended = by (eqb races 0) ended
 replayed_well : (kinds : List Kind) (walked : Walked) → ending_of walked ≡ End → IsWell (replay_outcome kinds walked).status
 replayed_well kinds walked well =
     let entries = entries_of walked in
-    subst (λ e. IsWell (check_status 0 (reported (replay_of kinds entries) e))) (sym well) (ends_well 0 (replay_of kinds entries))
+    subst (λ e. IsWell (check_status 0 (ending_of_report (replay_of kinds entries) e))) (sym well) (ends_well 0 (replay_of kinds entries))
 
 -- a replay
 pub whole_replay : (trace : List ℕ) (limits : Limits) (old new : Source) (part : List ℕ) (status : Status)
@@ -93,7 +93,7 @@ whole_replay trace limits old new part status has other bytes at well =
     ]
   where
     by : (outcome : Outcome) → IsTraceOutcome (replay_outcome built_in_kinds) built_in_kinds trace limits false old new outcome → part ≡ outcome.text → status ≡ outcome.status
-        → IsWhole (replay_outcome built_in_kinds (trace_of built_in_kinds limits end bytes)) part status
+        → IsWholeOutput (replay_outcome built_in_kinds (trace_of built_in_kinds limits end bytes)) part status
     by outcome (inl faulted) text told = absurd (true≢false (sym faulted.risen))
     by outcome (inr (opened, is)) text told =
         whole_from (replay_outcome built_in_kinds (trace_of built_in_kinds limits end bytes)) outcome part status

@@ -6,10 +6,10 @@ use Rattle.std.specs.Option.{option_and_then}
 use Rattle.std.proofs.lemmas.List.{append-nil, append_assoc, length-map}
 use Rattle.std.proofs.lemmas.List.Elements.{All-head, All-tail, filter_map-append}
 use Rattle.std.proofs.lemmas.Option.{none-some, same_Some, slice_get-map}
-use Rattle.rd_ecl.specs.Kinds.{Kind, kind_names, kind_of, method_of, methods_at, slots_at}
+use Rattle.rd_ecl.specs.Kinds.{Kind, kind_names, kind_of, method_of, methods_at, kind_slots_at}
 use Rattle.rd_ecl.specs.Specified as specified
 use Rattle.rd_ecl.specs.Specified.{IsKind, SpecifiedKind}
-use Rattle.rd_ecl.specs.declared.kinds.Method.{Method as SpecifiedMethod}
+use Rattle.rd_ecl.specs.declared.kinds.Method.{Method}
 use Rattle.rd_event.specs.declared.events.Call.{Call as CallOf}
 use Rattle.rd_event.specs.declared.events.Event.{Event as Numbered}
 use Rattle.rd_event.specs.declared.events.Event.TheVariants as numbered
@@ -23,7 +23,7 @@ use Rattle.rd_object.specs.Machines.{Machine}
 use Rattle.rd_order.specs.EventLists.{IsCallOf}
 use Rattle.rd_order.specs.Order.{call_in}
 use Rattle.rd_replay.specs.Replays.{Recorded}
-use Rattle.rd_replay.specs.Replayer.{IsRecordable, StandsFor}
+use Rattle.rd_replay.specs.Replayer.{IsRecordable, ReplayerStandsFor}
 use Rattle.rd_replay.specs.declared.replayer.Replayer.{Replayer}
 use Rattle.rd_wf.specs.Events.{AreTold, event_of, events_of}
 use Rattle.rd_wf.specs.MayFollow.{MayFollow, accepted_of, declared_kind, is_skip, object_kinds, objects_of, place}
@@ -34,7 +34,7 @@ use Rattle.rd_wf.proofs.EventsLemmas.{events_more, kinds_placed, told_more}
 use Rattle.rd_wf.proofs.FollowLemmas.{met}
 use Rattle.rd_wf.proofs.PlaceLemmas.{place_below}
 use Rattle.rd_walk.specs.Analysis.{IsNextEntry}
-use Rattle.rd_replaying.specs.Replaying.{AreNumbered, Replayed, recorded_at, recorded_from, recorded_of}
+use Rattle.rd_replaying.specs.Replaying.{BeginWithBuiltIn, Replayed, recorded_at, recorded_from, recorded_of}
 use Rattle.rd_walk.specs.Walk.{Entry, items}
 use Rattle.rd_walk.proofs.WalkLemmas.{items_more}
 
@@ -60,18 +60,18 @@ kind_at_machine more (suc (suc (suc zero))) machine is = let same = same_Some di
 kind_at_machine more (suc (suc (suc (suc number)))) machine is = absurd (none-some machine is)
 
 -- a method that is specified has as many slots as it has in a trace, and at least one
-slots_same : (methods : List SpecifiedMethod) (number : ℕ) → slots_at (map method_of methods) number ≡ specified.slots_at methods number
+slots_same : (methods : List Method) (number : ℕ) → kind_slots_at (map method_of methods) number ≡ specified.slots_at methods number
 slots_same [] number = refl
 slots_same (m ∷ ms) zero = refl
 slots_same (m ∷ ms) (suc number) = slots_same ms number
 
-slots_some : (methods : List SpecifiedMethod) (number : ℕ) → All specified.IsMethod methods → number < length methods → 0 < specified.slots_at methods number
+slots_some : (methods : List Method) (number : ℕ) → All specified.IsMethod methods → number < length methods → 0 < specified.slots_at methods number
 slots_some [] number all inside = absurd (omega arith)
 slots_some (m ∷ ms) zero all inside = let some = (All-head specified.IsMethod m ms all).some in omega (arith, some)
 slots_some (m ∷ ms) (suc number) all inside = slots_some ms number (All-tail specified.IsMethod m ms all) (omega arith)
 
 -- so a call of such a kind may be replayed
-shipped_fits : (kinds : List Kind) → AreNumbered kinds → (call : CallOf) → IsCallOf kinds call → (machine : Machine) → machine_of call.kind ≡ Some machine
+shipped_fits : (kinds : List Kind) → BeginWithBuiltIn kinds → (call : CallOf) → IsCallOf kinds call → (machine : Machine) → machine_of call.kind ≡ Some machine
     → (0 < length call.slots) × (call.method < length machine.kind.methods) × (specified.slots_at machine.kind.methods call.method ≡ length call.slots)
 shipped_fits kinds (more, are) call fits machine of =
     let (at, is_kind) = kind_at_machine more call.kind machine of in
@@ -81,7 +81,7 @@ shipped_fits kinds (more, are) call fits machine of =
     let known : call.method < length machine.kind.methods =
     omega (arith, fits.method, ap length here, length-map machine.kind.methods method_of) in
     let slots : length call.slots ≡ specified.slots_at machine.kind.methods call.method =
-    fits.slots ∙ (ap (λ ms. slots_at ms call.method) here ∙ slots_same machine.kind.methods call.method) in
+    fits.slots ∙ (ap (λ ms. kind_slots_at ms call.method) here ∙ slots_same machine.kind.methods call.method) in
     let some = slots_some machine.kind.methods call.method is_kind.draft.methods.each known in
     (omega (arith, some, slots), known, sym slots)
 
@@ -137,7 +137,7 @@ module _ (kinds : List Kind) (before : List Entry) (entry : Entry) where
     quiet_line no_call no_object = record {
       numbered = replayed.numbered;
       told = told_longer;
-      stands = subst (λ (T : Type 0). T) (λ i. StandsFor replayer
+      stands = subst (λ (T : Type 0). T) (λ i. ReplayerStandsFor replayer
           (sym (kinds_more ∙ (ap (λ o. object_kinds kinds (items before) ++ cons_option o []) no_object ∙ append-nil (object_kinds kinds (items before)))) i)
           (sym (recorded_more ∙ (ap (λ o. recorded_of kinds before ++ cons_option o []) no_call ∙ append-nil (recorded_of kinds before))) i)) replayed.stands;
     }
@@ -194,13 +194,13 @@ module _ (kinds : List Kind) (before : List Entry) (entry : Entry) where
         by (Event event) line = (let other = sym is ∙ (next.numbers ∙ ap (accepted_of kinds (items before)) line) in cc)
 
     pub replayed_object : (object kind : ℕ) → numbers ≡ accepted.Object object kind
-        → ((those : List ℕ) (calls : List Recorded) → StandsFor replayer those calls → object ≡ length those → StandsFor new (those ++ kind ∷ []) calls)
+        → ((those : List ℕ) (calls : List Recorded) → ReplayerStandsFor replayer those calls → object ≡ length those → ReplayerStandsFor new (those ++ kind ∷ []) calls)
         → Replayed kinds (before ++ entry ∷ []) new
     replayed_object object kind is declares =
         let line = object_line object kind is in record {
           numbered = replayed.numbered;
           told = told_longer;
-          stands = subst (λ (T : Type 0). T) (λ i. StandsFor new
+          stands = subst (λ (T : Type 0). T) (λ i. ReplayerStandsFor new
               (sym (kinds_more ∙ ap (λ o. object_kinds kinds (items before) ++ cons_option o []) line.kind_is) i)
               (sym (recorded_more ∙ (ap (λ o. recorded_of kinds before ++ cons_option o []) line.no_call ∙ append-nil (recorded_of kinds before))) i))
               (declares (object_kinds kinds (items before)) (recorded_of kinds before) replayed.stands line.last);
@@ -256,13 +256,13 @@ module _ (kinds : List Kind) (before : List Entry) (entry : Entry) where
     }
 
     pub replayed_call : (call : CallOf) → numbers ≡ accepted.Event (numbered.Call call)
-        → ((those : List ℕ) (calls : List Recorded) → StandsFor replayer those calls → IsRecordable those call → StandsFor new those (calls ++ (entry.number, call) ∷ []))
+        → ((those : List ℕ) (calls : List Recorded) → ReplayerStandsFor replayer those calls → IsRecordable those call → ReplayerStandsFor new those (calls ++ (entry.number, call) ∷ []))
         → Replayed kinds (before ++ entry ∷ []) new
     replayed_call call is calls =
         let line = call_line call is in record {
           numbered = replayed.numbered;
           told = told_longer;
-          stands = subst (λ (T : Type 0). T) (λ i. StandsFor new
+          stands = subst (λ (T : Type 0). T) (λ i. ReplayerStandsFor new
               (sym (kinds_more ∙ (ap (λ o. object_kinds kinds (items before) ++ cons_option o []) line.no_object ∙ append-nil (object_kinds kinds (items before)))) i)
               (sym (recorded_more ∙ ap (λ o. recorded_of kinds before ++ cons_option (numbered_by entry.number o) []) line.called) i))
               (calls (object_kinds kinds (items before)) (recorded_of kinds before) replayed.stands (call_recordable call is));

@@ -1,7 +1,7 @@
 -- The texts that `replay` writes: what objects hold, one after another, and what stands in front of them.
 use Rattle.std.proofs.Common.{◌≡◌, ℕ, zero, suc, ◌+◌, List, [], ◌++◌, refl, sym, ap, ◌∙◌, arith}
 use Rattle.std.proofs.lemmas.List.{append_assoc, append-nil}
-use Rattle.rd_replay.specs.Replays.{Recorded, held}
+use Rattle.rd_replay.specs.Replays.{Recorded, held_shape}
 use Rattle.rd_object.specs.declared.shapes.ReplayEnd.{ReplayEnd}
 use Rattle.rd_object.specs.declared.shapes.ReplayEnd.TheVariants.{Exact, Differs, NotShipped}
 use Rattle.rd_report.specs.Texts.{name_of, replay_line}
@@ -11,7 +11,7 @@ use Rattle.rd_replaying.specs.States.{held_text, replayed_text, states_before}
 
 module _ (names : List (List ℕ)) (kinds : List ℕ) (calls : List Recorded) where
   abbrev text_of : ℕ → List ℕ
-  text_of object = held_text (name_of names object) (held kinds calls object)
+  text_of object = held_text (name_of names object) (held_shape kinds calls object)
 
   -- one more
   pub states_more : (object : ℕ) → states_before names kinds calls (suc object) ≡ states_before names kinds calls object ++ text_of object

@@ -40,7 +40,7 @@ check_status races (report.Refused number cause) = if is_limit cause then LimitR
 check_status races report.Fault = InputFault
 
 -- how a report ends: as the walk does, and at the end of the trace with how the replay of the calls ends
-abbrev pub reported : ReplayEnd → WalkEnd → Ending
-reported replay End = report.End replay
-reported replay (Refused number cause) = report.Refused number cause
-reported replay Fault = report.Fault
+abbrev pub ending_of_report : ReplayEnd → WalkEnd → Ending
+ending_of_report replay End = report.End replay
+ending_of_report replay (Refused number cause) = report.Refused number cause
+ending_of_report replay Fault = report.Fault

@@ -4,7 +4,7 @@ use Rattle.rd_base.specs.declared.limits.Limits.{Limits}
 use Rattle.rd_io.specs.Inputs.{Source, file_of}
 use Rattle.rd_io.specs.Lines.Stop.{end}
 use Rattle.rd_replaying.specs.States.{replay_outcome, built_in_kinds}
-use Rattle.rd_walk.specs.Traces.{IsReadWhole, IsTraceOutcome, IsWhole, TakesTrace}
+use Rattle.rd_walk.specs.Traces.{IsReadWhole, IsTraceOutcome, IsWholeOutput, TakesTrace}
 use Rattle.rd_walk.specs.Meanings.{Meaning}
 use Rattle.rd_walk.specs.Walk.{ending_of, trace_of}
 use Rattle.rd_walk.specs.declared.status.Status.{Status}
@@ -21,7 +21,7 @@ TakesReplayed trace limits rose old new before after =
 abbrev pub WritesReplayed : List ℕ → Limits → Source → List ℕ → Status → Type 0
 WritesReplayed trace limits old part status =
     (bytes : List ℕ) → file_of old.files trace ≡ Some bytes → ending_of (trace_of built_in_kinds limits end bytes) ≡ End
-    → (status ≡ NoMemory) ⊎ IsWhole (replay_outcome built_in_kinds (trace_of built_in_kinds limits end bytes)) part status
+    → (status ≡ NoMemory) ⊎ IsWholeOutput (replay_outcome built_in_kinds (trace_of built_in_kinds limits end bytes)) part status
 
 -- `replay TRACE`
 abbrev pub replay_meaning : List ℕ → Meaning

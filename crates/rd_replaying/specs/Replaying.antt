@@ -9,7 +9,7 @@ use Rattle.rd_kinds.specs.Shipped.{shipped_kinds}
 use Rattle.rd_object.specs.declared.shapes.ReplayEnd.{ReplayEnd}
 use Rattle.rd_order.specs.Order.{call_in}
 use Rattle.rd_replay.specs.Replays.{Recorded, replay_end}
-use Rattle.rd_replay.specs.Replayer.{StandsFor}
+use Rattle.rd_replay.specs.Replayer.{ReplayerStandsFor}
 use Rattle.rd_replay.specs.declared.replayer.Replayer.{Replayer}
 use Rattle.rd_wf.specs.Events.{AreTold, event_of}
 use Rattle.rd_wf.specs.MayFollow.{object_kinds}
@@ -33,11 +33,11 @@ abbrev pub replay_of : List Kind → List Entry → ReplayEnd
 replay_of kinds entries = replay_end (object_kinds kinds (items entries)) (recorded_of kinds entries)
 
 -- the first kinds are those that are built in, so that they have the numbers of their machines
-abbrev pub AreNumbered : List Kind → Type 0
-AreNumbered kinds = (more : List SpecifiedKind) × (kinds ≡ kinds_of (shipped_kinds ++ more))
+abbrev pub BeginWithBuiltIn : List Kind → Type 0
+BeginWithBuiltIn kinds = (more : List SpecifiedKind) × (kinds ≡ kinds_of (shipped_kinds ++ more))
 
 -- the replayer stands for the objects and the calls of these accepted lines
 pub record Replayed (kinds : List Kind) (entries : List Entry) (replayer : Replayer) : Type 0 where
-  pub numbered : AreNumbered kinds
+  pub numbered : BeginWithBuiltIn kinds
   pub told : AreTold kinds (items entries)
-  pub stands : StandsFor replayer (object_kinds kinds (items entries)) (recorded_of kinds entries)
+  pub stands : ReplayerStandsFor replayer (object_kinds kinds (items entries)) (recorded_of kinds entries)

@@ -1,11 +1,11 @@
 -- What `replay` writes. This project's profile.
-use Rattle.rd_replaying.specs.Endings.{thread_names, reported, check_status}
+use Rattle.rd_replaying.specs.Endings.{thread_names, ending_of_report, check_status}
 use Rattle.rd_ecl.specs.Kinds.{Kind, kinds_of}
 use Rattle.rd_io.specs.Inputs.{fault_line}
 use Rattle.rd_kinds.specs.Shipped.{shipped_kinds}
 use Rattle.rd_object.specs.declared.shapes.ReplayEnd.TheVariants.{Exact}
 use Rattle.rd_object.specs.declared.shapes.Shape.{Shape}
-use Rattle.rd_replay.specs.Replays.{Recorded, held}
+use Rattle.rd_replay.specs.Replays.{Recorded, held_shape}
 use Rattle.rd_report.specs.States.{state_line}
 use Rattle.rd_report.specs.Texts.{name_of, refused_line, replay_line}
 use Rattle.rd_report.specs.declared.endings.Ending.TheVariants as report
@@ -25,7 +25,7 @@ held_text name (Some shape) = state_line name shape
 unfoldable pub states_before : List (List ℕ) → List ℕ → List Recorded → ℕ → List ℕ
 states_before names kinds calls zero = []
 states_before names kinds calls (suc object) =
-    states_before names kinds calls object ++ held_text (name_of names object) (held kinds calls object)
+    states_before names kinds calls object ++ held_text (name_of names object) (held_shape kinds calls object)
 
 -- what each object holds behind the calls of the accepted lines
 abbrev pub states_text : List Kind → List Entry → List ℕ
@@ -43,7 +43,7 @@ replayed_text names states report.Fault = fault_line
 abbrev pub replay_outcome : List Kind → Walked → Outcome
 replay_outcome kinds walked =
     let entries = entries_of walked in
-    let ending = reported (replay_of kinds entries) (ending_of walked) in
+    let ending = ending_of_report (replay_of kinds entries) (ending_of walked) in
     record { text = replayed_text (thread_names entries) (states_text kinds entries) ending; status = check_status 0 ending }
 
 -- those of a trace that is replayed

@@ -2,8 +2,8 @@
 ghost use Rattle.std.specs.Prelude.{◌≡◌, ◌≢◌, ◌↔◌, ℕ, List, Ok, IfOk};
 ghost use Rattle.rd_walk.specs.Output.{report_status};
 ghost use Rattle.rd_replay.specs.Replays.{Recorded, replay_end};
-ghost use Rattle.rd_replay.specs.Replayer.{StandsFor as Replays};
-ghost use Rattle.rd_replaying.specs.Endings.{check_status, is_limit, replay_status, reported};
+ghost use Rattle.rd_replay.specs.Replayer.{ReplayerStandsFor};
+ghost use Rattle.rd_replaying.specs.Endings.{check_status, is_limit, replay_status, ending_of_report};
 
 use rd_base::NoMemory;
 use rd_object::ReplayEnd;
@@ -35,8 +35,8 @@ fn replay_status(replay: &ReplayEnd) -> TraceStatus
 /// How a report ends, by how the walk does and what the replayer was told.
 pub fn reported(replayer: &Replayer, ending: WalkEnd) -> Result<Ending, NoMemory>
     ensures reported { IfOk result
-        (λ report. (kinds : List ℕ) (calls : List Recorded) → Replays replayer.now kinds calls →
-        report ≡ reported (replay_end kinds calls) ending) }
+        (λ report. (kinds : List ℕ) (calls : List Recorded) → ReplayerStandsFor replayer.now kinds calls →
+        report ≡ ending_of_report (replay_end kinds calls) ending) }
     ensures fault { IfOk result (λ report. (report ≡ Ending.Fault) ↔ (ending ≡ WalkEnd.Fault)) }
 {
     Ok(match ending {

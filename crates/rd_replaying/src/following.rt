@@ -4,7 +4,7 @@ ghost use Rattle.rd_event.specs.declared.items.Line.{Line as LineOf};
 ghost use Rattle.rd_ecl.specs.Kinds.{Kind};
 ghost use Rattle.rd_wf.specs.declared.roster.Roster.{Roster as RosterOf};
 ghost use Rattle.rd_replay.specs.Replays.{Recorded};
-ghost use Rattle.rd_replay.specs.Replayer.{IsRecordable, StandsFor};
+ghost use Rattle.rd_replay.specs.Replayer.{IsRecordable, ReplayerStandsFor};
 ghost use Rattle.rd_walk.specs.Analysis.{IsNextEntry};
 ghost use Rattle.rd_replaying.specs.Replaying.{Replayed};
 ghost use Rattle.rd_walk.specs.Walk.{Entry};
@@ -18,9 +18,9 @@ use rd_wf::Accepted;
 #[inline(never)]
 fn follow_object(replayer: &mut Replayer, object: u32, kind: u32) -> Result<(), NoMemory>
     ensures { OnOk result
-        ((those : List ℕ) (calls : List Recorded) → StandsFor replayer.old those calls →
+        ((those : List ℕ) (calls : List Recorded) → ReplayerStandsFor replayer.old those calls →
         object ≡ length those →
-        StandsFor replayer.new (those ++ kind ∷ []) calls) }
+        ReplayerStandsFor replayer.new (those ++ kind ∷ []) calls) }
 {
     replayer.declare(object, kind)
 }
@@ -28,12 +28,12 @@ fn follow_object(replayer: &mut Replayer, object: u32, kind: u32) -> Result<(), 
 /// Hands the next call to the replayer.
 #[inline(never)]
 fn follow_call(replayer: &mut Replayer, number: u64, call: &Call) -> Result<(), NoMemory>
-    requires { (those : List ℕ) × (calls : List Recorded) × StandsFor replayer.old those calls
+    requires { (those : List ℕ) × (calls : List Recorded) × ReplayerStandsFor replayer.old those calls
         × IsRecordable those call.now }
     ensures { OnOk result
-        ((those : List ℕ) (calls : List Recorded) → StandsFor replayer.old those calls →
+        ((those : List ℕ) (calls : List Recorded) → ReplayerStandsFor replayer.old those calls →
         IsRecordable those call.now →
-        StandsFor replayer.new those (calls ++ (number, call.now) ∷ [])) }
+        ReplayerStandsFor replayer.new those (calls ++ (number, call.now) ∷ [])) }
 {
     replayer.call(number, call)?;
     Ok(())

@@ -20,12 +20,12 @@ pub struct Replaying<A> {
 
 impl<A> Replaying<A> {
     ghost use Rattle.std.specs.Prelude.{◌≡◌, []};
-    ghost use Rattle.rd_replay.specs.Replayer.{StandsFor};
+    ghost use Rattle.rd_replay.specs.Replayer.{ReplayerStandsFor};
 
     /// The analysis, and the replay of no calls.
     pub fn new(alloc: Global, inner: A) -> Replaying<A>
         ensures inner { result.inner ≡ inner }
-        ensures none { StandsFor result.replayer [] [] }
+        ensures none { ReplayerStandsFor result.replayer [] [] }
     {
         Replaying {
             inner,
@@ -37,8 +37,8 @@ impl<A> Replaying<A> {
 impl<A: Analysis> Analysis for Replaying<A> {
     ghost use Rattle.std.specs.Prelude.{List, []};
     ghost use Rattle.rd_ecl.specs.Kinds.{Kind};
-    ghost use Rattle.rd_replay.specs.Replayer.{StandsFor};
-    ghost use Rattle.rd_replaying.specs.Replaying.{AreNumbered, Replayed};
+    ghost use Rattle.rd_replay.specs.Replayer.{ReplayerStandsFor};
+    ghost use Rattle.rd_replaying.specs.Replaying.{BeginWithBuiltIn, Replayed};
 
     ghost begins = { λ kinds start. A.begins kinds start.inner × Replayed kinds [] start.replayer };
 

@@ -7,7 +7,7 @@ ghost use Rattle.rd_walk.specs.Analysis.{TellsFault};
 ghost use Rattle.rd_walk.specs.Output.{IsFront, IsOutput, IsWell, Outcome, report_status};
 ghost use Rattle.rd_walk.specs.Walk.{Entry, Walked, after, ending_of, ends, entries_of, items};
 ghost use Rattle.rd_wf.specs.Events.{AreAccepted};
-ghost use Rattle.rd_wf.specs.Roster.{StandsFor};
+ghost use Rattle.rd_wf.specs.Roster.{RosterStandsFor};
 
 use crate::replaying::Replaying;
 use either::Either;
@@ -35,13 +35,13 @@ pub trait ReplayedReport: Analysis {
         requires { (kinds : List Kind) × (start : Self) × (entries : List Entry)
             × Self.leads kinds start entries self.now
             × Replayed kinds entries replayer.now
-            × StandsFor kinds names.now (items entries) }
+            × RosterStandsFor kinds names.now (items entries) }
 
         // the outcome is written behind the texts of the lines
         ensures output { (kinds : List Kind) (start : Self) (entries : List Entry) →
             Self.leads kinds start entries self.now →
             Replayed kinds entries replayer.now →
-            StandsFor kinds names.now (items entries) → (part : List ℕ)
+            RosterStandsFor kinds names.now (items entries) → (part : List ℕ)
             × Appends (S.written out.old) (S.written out.new) part
             × IsOutput (report_status result) (Self.text kinds start entries ++ part)
             (outcome kinds start (after entries (ends ending))) }

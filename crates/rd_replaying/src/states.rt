@@ -2,8 +2,8 @@
 ghost use Rattle.std.specs.Prelude.{◌≡◌, ◌↔◌, ◌<◌, ℕ, true, List, [], length, IfOk, OnOk, OnErr};
 ghost use Rattle.rd_io.specs.Sinks.{Appends};
 ghost use Rattle.rd_object.specs.declared.shapes.ReplayEnd.TheVariants.{Exact};
-ghost use Rattle.rd_replay.specs.Replays.{Recorded, held, replay_end};
-ghost use Rattle.rd_replay.specs.Replayer.{StandsFor};
+ghost use Rattle.rd_replay.specs.Replays.{Recorded, held_shape, replay_end};
+ghost use Rattle.rd_replay.specs.Replayer.{ReplayerStandsFor};
 ghost use Rattle.rd_report.specs.Texts.{name_of};
 ghost use Rattle.rd_walk.specs.Analysis.{TellsFault, WritesFront};
 ghost use Rattle.rd_walk.specs.Output.{IsOutput, report_status};
@@ -33,13 +33,13 @@ fn set_state(
 ) -> Result<(), NoMemory>
     requires known { object < length (object_names_in names.now) }
     requires stands { (kinds : List ℕ) × (calls : List Recorded)
-        × StandsFor replayer.now kinds calls × (object < length kinds)
+        × ReplayerStandsFor replayer.now kinds calls × (object < length kinds)
         × (replay_end kinds calls ≡ Exact) }
     ensures { OnOk result
-        ((kinds : List ℕ) (calls : List Recorded) → StandsFor replayer.now kinds calls →
+        ((kinds : List ℕ) (calls : List Recorded) → ReplayerStandsFor replayer.now kinds calls →
         object < length kinds →
         text.new ≡ held_text (name_of (object_names_in names.now) object)
-        (held kinds calls object)) }
+        (held_shape kinds calls object)) }
 {
     let shape = replayer.state(object)?;
     text.clear();
@@ -56,18 +56,18 @@ fn write_state<S: Sink>(
 ) -> Result<(), Halt>
     requires known { object < length (object_names_in names.now) }
     requires stands { (kinds : List ℕ) × (calls : List Recorded)
-        × StandsFor replayer.now kinds calls × (object < length kinds)
+        × ReplayerStandsFor replayer.now kinds calls × (object < length kinds)
         × (replay_end kinds calls ≡ Exact) }
     ensures ok { OnOk result
-        ((kinds : List ℕ) (calls : List Recorded) → StandsFor replayer.now kinds calls →
+        ((kinds : List ℕ) (calls : List Recorded) → ReplayerStandsFor replayer.now kinds calls →
         object < length kinds →
         Appends (S.written out.old) (S.written out.new)
-        (held_text (name_of (object_names_in names.now) object) (held kinds calls object))) }
+        (held_text (name_of (object_names_in names.now) object) (held_shape kinds calls object))) }
     ensures front { OnErr result
-        ((kinds : List ℕ) (calls : List Recorded) → StandsFor replayer.now kinds calls →
+        ((kinds : List ℕ) (calls : List Recorded) → ReplayerStandsFor replayer.now kinds calls →
         object < length kinds →
         WritesFront (S.written out.old) (S.written out.new) []
-        (held_text (name_of (object_names_in names.now) object) (held kinds calls object))) }
+        (held_text (name_of (object_names_in names.now) object) (held_shape kinds calls object))) }
     ensures fault { TellsFault (S.faults out.old) (S.faults out.new) (S.at_fault out.new)
         (S.written out.new) result }
 {
@@ -82,17 +82,17 @@ fn write_states<S: Sink>(
     replayer: &Replayer,
     out: &mut S,
 ) -> Result<(), Halt>
-    requires { (kinds : List ℕ) × (calls : List Recorded) × StandsFor replayer.now kinds calls
+    requires { (kinds : List ℕ) × (calls : List Recorded) × ReplayerStandsFor replayer.now kinds calls
         × (length kinds ≡ length (object_names_in names.now))
         × (replay_end kinds calls ≡ Exact) }
     ensures ok { OnOk result
-        ((kinds : List ℕ) (calls : List Recorded) → StandsFor replayer.now kinds calls →
+        ((kinds : List ℕ) (calls : List Recorded) → ReplayerStandsFor replayer.now kinds calls →
         length kinds ≡ length (object_names_in names.now) →
         Appends (S.written out.old) (S.written out.new)
         (states_before (object_names_in names.now) kinds calls
         (length (object_names_in names.now)))) }
     ensures front { OnErr result
-        ((kinds : List ℕ) (calls : List Recorded) → StandsFor replayer.now kinds calls →
+        ((kinds : List ℕ) (calls : List Recorded) → ReplayerStandsFor replayer.now kinds calls →
         length kinds ≡ length (object_names_in names.now) →
         WritesFront (S.written out.old) (S.written out.new) []
         (states_before (object_names_in names.now) kinds calls
@@ -163,17 +163,17 @@ fn write_replayed<S: Sink>(
     out: &mut S,
 ) -> Result<(), Halt>
     requires { ending.now ≡ Ending.End Exact → (kinds : List ℕ) × (calls : List Recorded)
-        × StandsFor replayer.now kinds calls
+        × ReplayerStandsFor replayer.now kinds calls
         × (length kinds ≡ length (object_names_in names.now)) × (replay_end kinds calls ≡ Exact) }
     ensures ok { OnOk result
-        ((kinds : List ℕ) (calls : List Recorded) → StandsFor replayer.now kinds calls →
+        ((kinds : List ℕ) (calls : List Recorded) → ReplayerStandsFor replayer.now kinds calls →
         length kinds ≡ length (object_names_in names.now) →
         Appends (S.written out.old) (S.written out.new)
         (replayed_text (names_in names.now)
         (states_before (object_names_in names.now) kinds calls
         (length (object_names_in names.now))) ending.now)) }
     ensures front { OnErr result
-        ((kinds : List ℕ) (calls : List Recorded) → StandsFor replayer.now kinds calls →
+        ((kinds : List ℕ) (calls : List Recorded) → ReplayerStandsFor replayer.now kinds calls →
         length kinds ≡ length (object_names_in names.now) →
         WritesFront (S.written out.old) (S.written out.new) []
         (replayed_text (names_in names.now)
@@ -198,9 +198,9 @@ pub fn write_replay<S: Sink>(
     out: &mut S,
 ) -> Result<TraceStatus, Halt>
     requires { ending.now ≡ Ending.End Exact → (kinds : List ℕ) × (calls : List Recorded)
-        × StandsFor replayer.now kinds calls
+        × ReplayerStandsFor replayer.now kinds calls
         × (length kinds ≡ length (object_names_in names.now)) × (replay_end kinds calls ≡ Exact) }
-    ensures output { (kinds : List ℕ) (calls : List Recorded) → StandsFor replayer.now kinds calls →
+    ensures output { (kinds : List ℕ) (calls : List Recorded) → ReplayerStandsFor replayer.now kinds calls →
         length kinds ≡ length (object_names_in names.now) →
         (part : List ℕ) × Appends (S.written out.old) (S.written out.new) part
         × IsOutput (report_status result) part (record {

@@ -3,7 +3,7 @@ use Rattle.std.proofs.Common.{◌≡◌, ℕ, suc, ◌+◌, ◌<◌, ◌≤◌, 
 use Rattle.std.proofs.lemmas.Bool.Decides.{nat_tests}
 use Rattle.std.proofs.lemmas.List.{drop_all, drop_more}
 use Rattle.rd_report.specs.Races.{counts_from, clock_text, with_commas}
-use Rattle.rd_report.specs.Writing.{comma, part_text}
+use Rattle.rd_report.specs.Writing.{comma, clock_part_text}
 
 -- parts, behind others if some stand there
 abbrev pub parts_text : Bool → List (List ℕ) → List ℕ
@@ -37,17 +37,17 @@ part_tested false false part parts = refl
 
 part_first : (some : Bool) (name : List ℕ) (count : ℕ) (parts : List (List ℕ))
     → parts_text some (if count == 0 then parts else (name ++ codes ":" ++ decimal count) ∷ parts)
-    ≡ part_text some name count ++ parts_text (some || nat_lt 0 count) parts
+    ≡ clock_part_text some name count ++ parts_text (some || nat_lt 0 count) parts
 part_first some name count parts =
     part_tested some (count == 0) (name ++ codes ":" ++ decimal count) parts
-    ∙ ap (λ (b : Bool). part_text some name count ++ parts_text (some || b) parts) (above_zero count)
+    ∙ ap (λ (b : Bool). clock_part_text some name count ++ parts_text (some || b) parts) (above_zero count)
 
 regroup : (text front name number : List ℕ) → (((text ++ front) ++ name) ++ codes ":") ++ number ≡ text ++ (front ++ ((name ++ codes ":") ++ number))
 regroup text front name number = simp append_assoc
 
 -- what is written for a thread of which some are counted
 pub part_written : (text new name : List ℕ) (some : Bool) (count : ℕ) → ¬ (count ≡ 0)
-    → new ≡ (((text ++ comma some) ++ name) ++ codes ":") ++ decimal count → new ≡ text ++ part_text some name count
+    → new ≡ (((text ++ comma some) ++ name) ++ codes ":") ++ decimal count → new ≡ text ++ clock_part_text some name count
 part_written text new name some count apart here =
     here ∙ regroup text (comma some) name (decimal count)
     ∙ ap (λ (b : Bool). text ++ (if b then [] else comma some ++ ((name ++ codes ":") ++ decimal count))) (not_zero count apart)
@@ -61,7 +61,7 @@ parts_whole names count = parts_by (counts_from 0 names count)
 
 -- one thread more
 pub part_more : (whole text new : List ℕ) (some now : Bool) (names : List (List ℕ)) (count : ℕ → ℕ) (i n : ℕ) → i < length names
-    → whole ≡ text ++ parts_from some i names count → n ≡ count i → now ≡ (some || nat_lt 0 n) → new ≡ text ++ part_text some (get_or names i []) n
+    → whole ≡ text ++ parts_from some i names count → n ≡ count i → now ≡ (some || nat_lt 0 n) → new ≡ text ++ clock_part_text some (get_or names i []) n
     → whole ≡ new ++ parts_from now (i + 1) names count
 part_more whole text new some now names count i n within all counted put here =
     let name = get_or names i [] in
@@ -69,8 +69,8 @@ part_more whole text new some now names count i n within all counted put here =
     all
     ∙ ap (λ (xs : List (List ℕ)). text ++ parts_text some (counts_from i xs count)) (drop_more names i [] within)
     ∙ ap (λ (xs : List ℕ). text ++ xs) (part_first some name (count i) (counts_from (suc i) (drop (i + 1) names) count))
-    ∙ sym (append_assoc text (part_text some name (count i)) (after (some || nat_lt 0 (count i))))
-    ∙ ap (λ (m : ℕ). (text ++ part_text some name m) ++ after (some || nat_lt 0 m)) (sym counted)
+    ∙ sym (append_assoc text (clock_part_text some name (count i)) (after (some || nat_lt 0 (count i))))
+    ∙ ap (λ (m : ℕ). (text ++ clock_part_text some name m) ++ after (some || nat_lt 0 m)) (sym counted)
     ∙ ap (λ (xs : List ℕ). xs ++ after (some || nat_lt 0 n)) (sym here)
     ∙ ap (λ (b : Bool). new ++ after b) (sym put)
     ∙ ap (λ (m : ℕ). new ++ parts_text now (counts_from m (drop (i + 1) names) count)) (sym (add-one i))

@@ -2,7 +2,7 @@
 use Rattle.std.specs.Prelude.{◌≡◌, List}
 use Rattle.rd_ecl.specs.Specified.{SpecifiedKind, kind_at}
 use Rattle.rd_report.specs.Races.{formula_line}
-use Rattle.rd_report.specs.declared.formulas.Kept.{Kept}
+use Rattle.rd_report.specs.declared.formula_lines.Kept.{Kept}
 
 -- it is the line of its methods, by these kinds
 abbrev pub IsKept : List SpecifiedKind → Kept → Type 0

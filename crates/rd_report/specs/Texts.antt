@@ -1,7 +1,7 @@
 -- How a trace ends, in words, and the names by which a report tells of threads and objects: this project's profile.
 use Rattle.std.specs.Prelude.{ℕ, ◌+◌, List, [], ◌++◌, codes, decimal, slice_index_or}
 use Rattle.rd_base.specs.Limits.{limit_cause_text}
-use Rattle.rd_base.specs.Spelling.{spelling}
+use Rattle.rd_base.specs.Spelling.{value_spelling}
 use Rattle.rd_event.specs.declared.items.Line.{Line as Item}
 use Rattle.rd_io.specs.Inputs.{fault_line}
 use Rattle.rd_object.specs.declared.shapes.Expected.{Expected}
@@ -65,7 +65,7 @@ cause_text names (cause.Limit name number) = limit_cause_text name number
 
 -- what a machine gives in place of what was recorded: a result, or none, since it doesn't take that argument, counted from 1
 unfoldable pub expected_text : Expected → List ℕ
-expected_text (Value value) = codes "expected " ++ spelling value
+expected_text (Value value) = codes "expected " ++ value_spelling value
 expected_text (BadArgument argument) = codes "argument " ++ decimal (argument + 1)
 
 -- the line that tells how a replay ended

@@ -6,5 +6,5 @@ abbrev pub comma : Bool → List ℕ
 comma some = if some then codes "," else []
 
 -- the part of a thread of which so many events are counted; nothing for none
-abbrev pub part_text : Bool → List ℕ → ℕ → List ℕ
-part_text some name count = if count == 0 then [] else comma some ++ (name ++ codes ":" ++ decimal count)
+abbrev pub clock_part_text : Bool → List ℕ → ℕ → List ℕ
+clock_part_text some name count = if count == 0 then [] else comma some ++ (name ++ codes ":" ++ decimal count)

@@ -3,7 +3,7 @@ ghost use Rattle.std.specs.Prelude.{◌≡◌, ◌<◌, ◌++◌, ◌||◌, nat_
 ghost use Rattle.rd_clock.specs.Clock.{component};
 ghost use Rattle.rd_report.specs.Races.{clock_text};
 ghost use Rattle.rd_report.specs.Texts.{name_of};
-ghost use Rattle.rd_report.specs.Writing.{comma, part_text};
+ghost use Rattle.rd_report.specs.Writing.{comma, clock_part_text};
 ghost use Rattle.rd_wf.specs.Roster.{names_in, thread_count};
 
 use rd_base::{Bytes, NoMemory, Steps, append_number};
@@ -29,7 +29,7 @@ fn append_part(
 ) -> Result<bool, NoMemory>
     requires { thread < thread_count names.now }
     ensures text { OnOk result
-        (text.new ≡ text.old ++ part_text some (name_of (names_in names.now) thread) count) }
+        (text.new ≡ text.old ++ clock_part_text some (name_of (names_in names.now) thread) count) }
     ensures some { IfOk result (λ now. now ≡ (some || nat_lt 0 count)) }
 {
     if count == 0 {

@@ -1,18 +1,18 @@
 //! The texts of a report.
 #![tactic(auto)]
 
-mod causes;
+mod cause_texts;
 mod clocks;
 mod endings;
-mod formulas;
+mod formula_lines;
 mod laws;
 mod races;
 mod replays;
 mod states;
 
-pub use causes::{ending_text, refused_text};
+pub use cause_texts::{ending_text, refused_text};
 pub use endings::Ending;
-pub use formulas::Formulas;
+pub use formula_lines::Formulas;
 pub use laws::law_of_shipped_texts;
 pub use races::{append_race, formula_line, race_text};
 pub use rd_wf::TraceCause;

@@ -1,6 +1,6 @@
 //! What objects hold, in words.
 ghost use Rattle.std.specs.Prelude.{◌≡◌, ◌++◌, OnOk};
-ghost use Rattle.rd_report.specs.States.{count_text, counts_text, pair_text, pairs_text, shape_text, state_line, value_text, values_text};
+ghost use Rattle.rd_report.specs.States.{count_text, counts_text, entry_text, entries_text, shape_text, state_line, value_text, values_text};
 
 use rd_base::{Bytes, Name, NoMemory, Value, append_number, append_value};
 use rd_object::Shape;
@@ -15,7 +15,7 @@ fn append_held(text: &mut Bytes, value: &Value) -> Result<(), NoMemory>
 
 // Puts a key and its value behind the text, each behind a blank.
 fn append_pair(text: &mut Bytes, pair: &(Value, Value)) -> Result<(), NoMemory>
-    ensures { OnOk result (text.new ≡ text.old ++ pair_text pair.now) }
+    ensures { OnOk result (text.new ≡ text.old ++ entry_text pair.now) }
 {
     append_held(text, &pair.0)?;
     append_held(text, &pair.1)
@@ -42,7 +42,7 @@ fn append_values(text: &mut Bytes, values: &[Value]) -> Result<(), NoMemory>
 
 // Puts values by their keys behind the text.
 fn append_pairs(text: &mut Bytes, pairs: &[(Value, Value)]) -> Result<(), NoMemory>
-    ensures { OnOk result (text.new ≡ text.old ++ pairs_text pairs.now) }
+    ensures { OnOk result (text.new ≡ text.old ++ entries_text pairs.now) }
 {
     for pair in pairs {
         append_pair(text, pair)?;

@@ -2,7 +2,7 @@
 ghost use Rattle.std.specs.Prelude.{◌≡◌, ℕ};
 ghost use Rattle.rd_kinds.specs.Machines.{machine_of};
 ghost use Rattle.rd_kinds.specs.Shipped.{shipped_kinds};
-ghost use Rattle.rd_report_trials.specs.Replays.{Fits, HasOne};
+ghost use Rattle.rd_report_trials.specs.Replays.{FitsMachine, HasOne};
 
 use crate::samples::{built_in, has_slots, is_so, is_state, slots, value};
 use rd_base::Slots;
@@ -28,7 +28,7 @@ fn begun(rt: &impl Abort, alloc: Global, kind: u32) -> Replayer
 // Where the kind is built in, it has the method, with so many slots.
 fn fits(rt: &impl Abort, kinds: &Spec, kind: u32, method: u8, slots: &Slots)
     requires { kinds.now ≡ shipped_kinds }
-    ensures { Fits (machine_of kind) method slots.now }
+    ensures { FitsMachine (machine_of kind) method slots.now }
 {
     if let Some(kind) = kinds.kinds().get(kind as usize) {
         assert!(rt; !slots.items().is_empty());

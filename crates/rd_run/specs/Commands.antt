@@ -62,13 +62,13 @@ meaning_of (Some (kind built_in)) = kind_meaning built_in
 
 -- ---- as the program has them
 
-abbrev pub asked : Option Asked → Option Command
-asked None = None
-asked (Some (Check trace)) = Some (check trace.now None)
-asked (Some (CheckWith trace file)) = Some (check trace.now (Some file.now))
-asked (Some (Replay trace)) = Some (replay trace.now)
-asked (Some (Spec file)) = Some (spec file.now)
-asked (Some (BuiltIn number)) = option_map kind (slice_get shipped_kinds number)
+abbrev pub asked_command : Option Asked → Option Command
+asked_command None = None
+asked_command (Some (Check trace)) = Some (check trace.now None)
+asked_command (Some (CheckWith trace file)) = Some (check trace.now (Some file.now))
+asked_command (Some (Replay trace)) = Some (replay trace.now)
+asked_command (Some (Spec file)) = Some (spec file.now)
+asked_command (Some (BuiltIn number)) = option_map kind (slice_get shipped_kinds number)
 
 -- the number of the built-in kind with this name
 abbrev pub named_number : List ℕ → Option ℕ

@@ -7,11 +7,11 @@ ghost use Rattle.rd_ecl.specs.Kinds.{kind_names, kinds_of};
 ghost use Rattle.rd_io.specs.Inputs.{Source, Rose};
 ghost use Rattle.rd_io.specs.Sinks.{Appends};
 ghost use Rattle.rd_kinds.specs.Shipped.{shipped_kinds};
-ghost use Rattle.rd_run.specs.Commands.{asked, named_number, command_of, meaning_of, usage_outcome};
+ghost use Rattle.rd_run.specs.Commands.{asked_command, named_number, command_of, meaning_of, usage_outcome};
 ghost use Rattle.rd_walk.specs.Analysis.{TellsFaults};
 ghost use Rattle.rd_walk.specs.Output.{IsOutput, StatusTellsFault, report_status};
 ghost use Rattle.rd_check.specs.Checked.{check_outcome};
-ghost use Rattle.rd_replaying.specs.Replaying.{AreNumbered};
+ghost use Rattle.rd_replaying.specs.Replaying.{BeginWithBuiltIn};
 ghost use Rattle.rd_walk.specs.Traces.{ReportsTrace};
 ghost use Rattle.rd_walk.specs.Meanings.{Runs, WritesAll};
 ghost use Rattle.rd_run.specs.Commands.Command.{check, replay};
@@ -70,7 +70,7 @@ fn shipped_number(name: &Word) -> Option<u32>
 }
 
 fn command_of(words: &[Word]) -> Option<Command<'_>>
-    ensures asked { asked result ≡ command_of words.now }
+    ensures asked { asked_command result ≡ command_of words.now }
     ensures known { IfSome result
         (λ command. (number : ℕ) → command ≡ Command.Kind number → number < 4) }
 {
@@ -102,7 +102,7 @@ fn check<I: Inputs, S: Sink, L: Ledger>(
     requires usable { AreUsable limits.now }
     requires few { length spec.now < 2 ^ 32 }
     requires different { AllPairs (λ x y. x ≢ y) (kind_names (kinds_of spec.now)) }
-    requires numbered { AreNumbered (kinds_of spec.now) }
+    requires numbered { BeginWithBuiltIn (kinds_of spec.now) }
 
     // the report, and each fault is told as one
     ensures reports { (old : Source) → I.told inputs.old ≡ Some old → I.faults inputs.old < 2 ^ 63 →

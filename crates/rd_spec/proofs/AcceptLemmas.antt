@@ -4,14 +4,14 @@ use Rattle.std.specs.Prelude.{Contains, slice_index, is_some}
 use Rattle.std.proofs.lemmas.List.{take-append-drop}
 use Rattle.rd_base.specs.declared.limits.LimitName.{LimitName}
 use Rattle.rd_base.specs.declared.limits.LimitName.TheVariants.{Bytes, Line, Events, Threads, Locks, Objects, Depth, SpecText, Tokens, Kinds, Methods as MethodLimit, Arguments, Nodes, FormulaDepth, Predicates}
-use Rattle.rd_reading.specs.Adding.{Accepts, FormAdds, adds_form, adds_header, with_header}
+use Rattle.rd_reading.specs.Adding.{AcceptsSpecLine, FormAdds, adds_form, adds_header, with_header}
 use Rattle.rd_reading.specs.Causes.{FormHas, Has, HasManyTokens, HasNone, IsFirstRepeated, KindHas, LacksPair, LineHas, MethodHas, form_has, header_words, line_has}
-use Rattle.rd_reading.specs.Known.{kind_in, kind_names, kinds_so_far, methods_of, nothing, stage_of}
-use Rattle.rd_reading.specs.declared.causes.SpecCause.{SpecCause}
-use Rattle.rd_reading.specs.declared.causes.SpecCause.TheVariants.{Header, Syntax, UnknownMethod, UnknownVariable, NoVariable, OutsideFragment, Duplicate, MissingPair, KindTaken, Limit}
+use Rattle.rd_reading.specs.Known.{kind_in, specified_kind_names, kinds_so_far, open_method_names, nothing, stage_of}
+use Rattle.rd_reading.specs.declared.spec_causes.SpecCause.{SpecCause}
+use Rattle.rd_reading.specs.declared.spec_causes.SpecCause.TheVariants.{Header, Syntax, UnknownMethod, UnknownVariable, NoVariable, OutsideFragment, Duplicate, MissingPair, KindTaken, Limit}
 use Rattle.rd_reading.specs.declared.known.Known.{Known}
 use Rattle.rd_ecl.specs.Specified.{IsWhole, SpecifiedKind, formula_at, names_of}
-use Rattle.rd_lines.specs.Lines.{RightLine, SaidForm, Word, plain, words_of, kind as kind_said, method as method_said, commute as commute_said}
+use Rattle.rd_lines.specs.Lines.{RightLine, SaidForm, LineWord, plain, words_of, kind as kind_said, method as method_said, commute as commute_said}
 use Rattle.rd_lines.proofs.LawLemmas.{one_form, right_line, same_bytes}
 use Rattle.rd_lines.specs.declared.forms.Stage.{Stage}
 use Rattle.rd_tokens.specs.declared.sorts.Token.{Token}
@@ -21,7 +21,7 @@ use Rattle.rd_base.specs.declared.limits.TheConstants.{MOST_ARGUMENTS, MOST_KIND
 module _ (taken : List (List ℕ)) (known : Known) (line : List ℕ) (tokens : List Token) where
   -- a line that is right and not too long has nothing that any line may have
   module _ (form : SaidForm) (begun : known.begun ≡ true) (short : ¬ (HasManyTokens (words_of line tokens)))
-      (right : RightLine (stage_of known) (methods_of known) (words_of line tokens) form) where
+      (right : RightLine (stage_of known) (open_method_names known) (words_of line tokens) form) where
     no_limit : (name : LimitName) (number place : ℕ) → ¬ (LineHas known line tokens (Limit name number) place)
     no_limit Bytes number place has = has
     no_limit Line number place has = has
@@ -42,9 +42,9 @@ module _ (taken : List (List ℕ)) (known : Known) (line : List ℕ) (tokens : L
     line_clean : (cause : SpecCause) (place : ℕ) → ¬ (LineHas known line tokens cause place)
     line_clean Header place (late, words, at) = absurd (cc)
     line_clean Syntax place (count, early, (within, wrong), at) =
-        let words : List Word = words_of line tokens in
-        right_line (stage_of known) (methods_of known) (take count words) (drop count words) form
-        (subst (λ (ws : List Word). RightLine (stage_of known) (methods_of known) ws form) (sym (take-append-drop count words)) right) wrong
+        let words : List LineWord = words_of line tokens in
+        right_line (stage_of known) (open_method_names known) (take count words) (drop count words) form
+        (subst (λ (ws : List LineWord). RightLine (stage_of known) (open_method_names known) ws form) (sym (take-append-drop count words)) right) wrong
     line_clean UnknownMethod place has = has
     line_clean UnknownVariable place has = has
     line_clean NoVariable place has = has
@@ -57,17 +57,17 @@ module _ (taken : List (List ℕ)) (known : Known) (line : List ℕ) (tokens : L
     pub clean_line : HasNone (FormHas taken known line tokens form) → HasNone (Has taken known line tokens)
     clean_line clean cause place (line_has has) = line_clean cause place has
     clean_line clean cause place (form_has other fit has) =
-        let same : other ≡ form = one_form (stage_of known) (methods_of known) (words_of line tokens) other form fit right in
+        let same : other ≡ form = one_form (stage_of known) (open_method_names known) (words_of line tokens) other form fit right in
         clean cause place (subst (λ (f : SaidForm). FormHas taken known line tokens f cause place) same has)
 
     pub accepted : (next : Known) → AreTokens line tokens → HasNone (FormHas taken known line tokens form) → FormAdds known line tokens form next
-        → Accepts taken known line next
+        → AcceptsSpecLine taken known line next
     accepted next cut clean adds = record { tokens = tokens; cut = cut; clean = clean_line clean; adds = adds_form begun form right adds }
 
 -- ---- the header
 
 -- lines that begin alike begin with one word
-pub same_first : (a b : List ℕ) (rest more : List Word) → plain a ∷ rest ≡ plain b ∷ more → a ≡ b
+pub same_first : (a b : List ℕ) (rest more : List LineWord) → plain a ∷ rest ≡ plain b ∷ more → a ≡ b
 same_first a b rest more e = let words : plain a ≡ plain b = cc in same_bytes a b words
 
 no_kind : codes "rdspec" ≢ codes "kind"
@@ -85,7 +85,7 @@ no_form stage methods (method_said name arguments result) right = no_method (sam
 no_form stage methods (commute_said first second read) right = no_commute (same_first (codes "rdspec") (codes "commute") _ _ right.written)
 
 -- a line that begins otherwise isn't one of a pair
-pub other_first : (bytes : List ℕ) (rest : List Word) → bytes ≢ codes "commute" → ¬ (HasManyTokens (plain bytes ∷ rest))
+pub other_first : (bytes : List ℕ) (rest : List LineWord) → bytes ≢ codes "commute" → ¬ (HasManyTokens (plain bytes ∷ rest))
 other_first bytes rest other many = other (same_first bytes (codes "commute") rest _ many.written)
 
 module _ (taken : List (List ℕ)) (line : List ℕ) (tokens : List Token) (words : words_of line tokens ≡ header_words) where
@@ -124,9 +124,9 @@ module _ (taken : List (List ℕ)) (line : List ℕ) (tokens : List Token) (word
   header_clean : HasNone (Has taken nothing line tokens)
   header_clean cause place (line_has has) = header_line cause place has
   header_clean cause place (form_has form fit has) =
-      no_form (stage_of nothing) (methods_of nothing) form (subst (λ (ws : List Word). RightLine (stage_of nothing) (methods_of nothing) ws form) words fit)
+      no_form (stage_of nothing) (open_method_names nothing) form (subst (λ (ws : List LineWord). RightLine (stage_of nothing) (open_method_names nothing) ws form) words fit)
 
-  pub header_accepted : AreTokens line tokens → Accepts taken nothing line (with_header nothing)
+  pub header_accepted : AreTokens line tokens → AcceptsSpecLine taken nothing line (with_header nothing)
   header_accepted cut = record { tokens = tokens; cut = cut; clean = header_clean; adds = adds_header refl words refl }
 
 -- ---- the line of a kind
@@ -159,7 +159,7 @@ lacks_none kind first second whole lacks =
     let never : is_some (formula_at kind lacks.first_number lacks.second_number) ≡ false = ap is_some none in absurd (cc)
 
 pub kind_clean : (taken : List (List ℕ)) (known : Known) (line : List ℕ) (tokens : List Token) (name : List ℕ)
-    → ¬ (Contains (kind_names (kinds_so_far known)) name) → IsWhole (kind_in known.block) → ¬ (Contains taken name) → length (kinds_so_far known) < MOST_KINDS
+    → ¬ (Contains (specified_kind_names (kinds_so_far known)) name) → IsWhole (kind_in known.block) → ¬ (Contains taken name) → length (kinds_so_far known) < MOST_KINDS
     → HasNone (KindHas taken known line tokens name)
 kind_clean taken known line tokens name new whole free few Header place has = has
 kind_clean taken known line tokens name new whole free few Syntax place has = has

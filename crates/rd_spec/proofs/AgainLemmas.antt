@@ -6,11 +6,11 @@ use Rattle.std.proofs.lemmas.List.{append_assoc, append-nil, map-append, get_or_
 use Rattle.rd_base.specs.Names.{IsName}
 use Rattle.rd_base.proofs.FoundLemmas.{each_by_recursion}
 use Rattle.std.proofs.lemmas.List.Elements.{Contains-append_right}
-use Rattle.rd_print.specs.Canonical.{plain as printed}
+use Rattle.rd_print.specs.Canonical.{plain_word}
 use Rattle.rd_reading.specs.Adding.{with_header, with_kind}
 use Rattle.rd_reading.specs.Causes.{EndHas, HasNone}
-use Rattle.rd_reading.specs.Known.{kind_in, kind_names, kind_without, kinds_so_far, nothing, variables_at}
-use Rattle.rd_reading.specs.declared.causes.SpecCause.TheVariants.{Header, Syntax, UnknownMethod, UnknownVariable, NoVariable, OutsideFragment, Duplicate, MissingPair, KindTaken, Limit}
+use Rattle.rd_reading.specs.Known.{kind_in, specified_kind_names, kind_without, kinds_so_far, nothing, variables_at}
+use Rattle.rd_reading.specs.declared.spec_causes.SpecCause.TheVariants.{Header, Syntax, UnknownMethod, UnknownVariable, NoVariable, OutsideFragment, Duplicate, MissingPair, KindTaken, Limit}
 use Rattle.rd_reading.specs.declared.known.Known.{Known}
 use Rattle.rd_ecl.specs.declared.kinds.Method.{Method}
 use Rattle.rd_ecl.specs.Formulas.{Tree}
@@ -19,9 +19,9 @@ use Rattle.rd_ecl.specs.Variables.{AreVariables, IsVariable}
 use Rattle.rd_reading.proofs.NumberLemmas.{AreDifferent}
 use Rattle.rd_print.specs.Printed.{HasNames, HasValues, block_lines, commute_words, header_words, kind_words, method_words, pairs_of, spec_lines, spec_text}
 use Rattle.rd_print.proofs.SoundLemmas.{commute_sound, kind_sound, lines_sound, method_sound, name_at_is}
-use Rattle.rd_print.specs.Text.{IsSound, text_of}
+use Rattle.rd_print.specs.Text.{IsRightWord, words_text}
 use Rattle.rd_spec.specs.Again.{AreSame, IsSame, MayBeRead}
-use Rattle.rd_reading.specs.Texts.{Reads, SpecSays, no_more}
+use Rattle.rd_reading.specs.Texts.{ReadsLines, SpecSays, no_more}
 use Rattle.rd_spec.proofs.AcceptLemmas.{header_accepted, lacks_none}
 use Rattle.rd_reading.proofs.ParsingLemmas.{reads_on}
 use Rattle.rd_spec.proofs.MethodLines.{IsUnset, IsWritten, at, kind_read, fresh_behind, line_read, methods_more, methods_read, methods_unset, name_kept, with_methods}
@@ -104,20 +104,20 @@ module _ (kind : SpecifiedKind) (is : IsKind kind) (values : HasValues kind) (na
 
   -- its methods and pairs are read
   pub body_read : (taken : List (List ℕ)) (closed : List SpecifiedKind)
-      → RowRead taken closed kind (kind_without kind.name) false (map text_of (map method_words kind.methods ++ map (commute_words kind) (pairs_of (length kind.methods))))
+      → RowRead taken closed kind (kind_without kind.name) false (map words_text (map method_words kind.methods ++ map (commute_words kind) (pairs_of (length kind.methods))))
       (length kind.methods) (length kind.methods)
   unfolding empty
   body_read taken closed =
       let bare : SpecifiedKind = kind_without kind.name in
       let pairs = pairs_read taken closed kind source empty false begins in
-      let lines : map text_of (map method_words kind.methods ++ map (commute_words kind) (pairs_of (length kind.methods)))
-      ≡ map text_of (map method_words kind.methods) ++ map text_of (map (commute_words kind) (pairs_of (length kind.methods))) =
-      map-append text_of (map method_words kind.methods) (map (commute_words kind) (pairs_of (length kind.methods))) in
+      let lines : map words_text (map method_words kind.methods ++ map (commute_words kind) (pairs_of (length kind.methods)))
+      ≡ map words_text (map method_words kind.methods) ++ map words_text (map (commute_words kind) (pairs_of (length kind.methods))) =
+      map-append words_text (map method_words kind.methods) (map (commute_words kind) (pairs_of (length kind.methods))) in
       record {
         next = pairs.next;
         then_paired = pairs.then_paired;
         is = pairs.is;
-        reads = subst (λ (l : List (List ℕ)). Reads taken (at closed bare false) l (at closed pairs.next pairs.then_paired)) (sym lines)
+        reads = subst (λ (l : List (List ℕ)). ReadsLines taken (at closed bare false) l (at closed pairs.next pairs.then_paired)) (sym lines)
             (reads_on taken (methods_read taken closed bare kind.methods is.draft.methods.different is.draft.methods.few written) pairs.reads);
       }
 
@@ -138,12 +138,12 @@ module _ (kind : SpecifiedKind) (is : IsKind kind) (values : HasValues kind) (na
 
 -- ---- kinds, one after another
 
-same_names : (kinds others : List SpecifiedKind) → AreSame kinds others → kind_names kinds ≡ kind_names others
+same_names : (kinds others : List SpecifiedKind) → AreSame kinds others → specified_kind_names kinds ≡ specified_kind_names others
 same_names [] [] same = refl
 same_names [] (other ∷ others) same = absurd same
 same_names (kind ∷ kinds) [] same = absurd same
 same_names (kind ∷ kinds) (other ∷ others) (here, rest) =
-    ap (λ (name : List ℕ). name ∷ kind_names kinds) here.name ∙ ap (λ (names : List (List ℕ)). other.name ∷ names) (same_names kinds others rest)
+    ap (λ (name : List ℕ). name ∷ specified_kind_names kinds) here.name ∙ ap (λ (names : List (List ℕ)). other.name ∷ names) (same_names kinds others rest)
 
 same_more : (kinds others : List SpecifiedKind) (kind other : SpecifiedKind) → AreSame kinds others → IsSame kind other → AreSame (kinds ++ kind ∷ []) (others ++ other ∷ [])
 same_more [] [] kind other same one = (one, tt)
@@ -162,30 +162,30 @@ pub record BlocksRead (taken : List (List ℕ)) (known : Known) (lines : List (L
   pub begun : last.begun ≡ true
   pub same : AreSame kinds (kinds_so_far last)
   pub whole : IsWhole (kind_in last.block)
-  pub reads : Reads taken known lines last
+  pub reads : ReadsLines taken known lines last
 
 opened_at : (known : Known) (name : List ℕ) → known.begun ≡ true → with_kind known name ≡ at (kinds_so_far known) (kind_without name) false
 opened_at known name begun = ap (λ (b : Bool). record { begun = b; closed = kinds_so_far known; block = Some (record { draft = kind_without name; paired = false }) }) begun
 
-kinds_more : (xs : List SpecifiedKind) (one : SpecifiedKind) (ys : List SpecifiedKind) → kind_names (xs ++ one ∷ ys) ≡ kind_names xs ++ one.name ∷ kind_names ys
+kinds_more : (xs : List SpecifiedKind) (one : SpecifiedKind) (ys : List SpecifiedKind) → specified_kind_names (xs ++ one ∷ ys) ≡ specified_kind_names xs ++ one.name ∷ specified_kind_names ys
 kinds_more [] one ys = refl
 kinds_more (x ∷ xs) one ys = ap (λ (l : List (List ℕ)). x.name ∷ l) (kinds_more xs one ys)
 
-count_names : (kinds : List SpecifiedKind) → length (kind_names kinds) ≡ length kinds
+count_names : (kinds : List SpecifiedKind) → length (specified_kind_names kinds) ≡ length kinds
 count_names kinds = length-map kinds (λ (kind : SpecifiedKind). kind.name)
 
 -- the lines of a kind
 block_read : (taken : List (List ℕ)) (done : List SpecifiedKind) (kind : SpecifiedKind) (kinds : List SpecifiedKind) (known : Known) → known.begun ≡ true
     → AreSame done (kinds_so_far known) → IsWhole (kind_in known.block) → IsPrintable kind → length (done ++ kind ∷ kinds) ≤ 32
-    → AllPairs (λ x y. x ≢ y) (kind_names (done ++ kind ∷ kinds)) → ((name : List ℕ) → Contains taken name → ¬ (Contains (kind_names (done ++ kind ∷ kinds)) name))
-    → BlocksRead taken known (map text_of (block_lines kind)) (done ++ kind ∷ [])
+    → AllPairs (λ x y. x ≢ y) (specified_kind_names (done ++ kind ∷ kinds)) → ((name : List ℕ) → Contains taken name → ¬ (Contains (specified_kind_names (done ++ kind ∷ kinds)) name))
+    → BlocksRead taken known (map words_text (block_lines kind)) (done ++ kind ∷ [])
 block_read taken done kind kinds known begun same whole may few different free =
-    let named : kind_names (done ++ kind ∷ kinds) ≡ kind_names done ++ kind.name ∷ kind_names kinds = kinds_more done kind kinds in
-    let names : kind_names done ≡ kind_names (kinds_so_far known) = same_names done (kinds_so_far known) same in
-    let fresh : ¬ (Contains (kind_names done) kind.name) =
-    fresh_behind (kind_names done) kind.name (kind_names kinds) (subst (λ (l : List (List ℕ)). AllPairs (λ x y. x ≢ y) l) named different) in
-    let here : Contains (kind_names done ++ kind.name ∷ kind_names kinds) kind.name =
-    Contains-append_right (kind_names done) (kind.name ∷ kind_names kinds) kind.name (0, omega arith, refl) in
+    let named : specified_kind_names (done ++ kind ∷ kinds) ≡ specified_kind_names done ++ kind.name ∷ specified_kind_names kinds = kinds_more done kind kinds in
+    let names : specified_kind_names done ≡ specified_kind_names (kinds_so_far known) = same_names done (kinds_so_far known) same in
+    let fresh : ¬ (Contains (specified_kind_names done) kind.name) =
+    fresh_behind (specified_kind_names done) kind.name (specified_kind_names kinds) (subst (λ (l : List (List ℕ)). AllPairs (λ x y. x ≢ y) l) named different) in
+    let here : Contains (specified_kind_names done ++ kind.name ∷ specified_kind_names kinds) kind.name =
+    Contains-append_right (specified_kind_names done) (kind.name ∷ specified_kind_names kinds) kind.name (0, omega arith, refl) in
     let counts : length (kinds_so_far known) ≡ length done = sym (count_names (kinds_so_far known)) ∙ sym (ap length names) ∙ count_names done in
     let sum = length-append done (kind ∷ kinds) in
     let sound = (kind_sound kind may.is may.values may.names).0 in
@@ -197,13 +197,13 @@ block_read taken done kind kinds known begun same whole may few different free =
       begun = refl;
       same = same_more done (kinds_so_far known) kind body.next same (same_kind kind may.is may.values may.names body.next body.is);
       whole = whole_kind kind may.is may.values may.names body.next body.is;
-      reads = reads_on taken (subst (λ (k : Known). Reads taken known (text_of (kind_words kind) ∷ []) k) (opened_at known kind.name begun) head) body.reads;
+      reads = reads_on taken (subst (λ (k : Known). ReadsLines taken known (words_text (kind_words kind) ∷ []) k) (opened_at known kind.name begun) head) body.reads;
     }
 
 blocks_read : (taken : List (List ℕ)) (kinds done : List SpecifiedKind) (known : Known) → known.begun ≡ true → AreSame done (kinds_so_far known)
-    → IsWhole (kind_in known.block) → AllByRecursion IsPrintable kinds → length (done ++ kinds) ≤ 32 → AllPairs (λ x y. x ≢ y) (kind_names (done ++ kinds))
-    → ((name : List ℕ) → Contains taken name → ¬ (Contains (kind_names (done ++ kinds)) name))
-    → BlocksRead taken known (map text_of (flat_map block_lines kinds)) (done ++ kinds)
+    → IsWhole (kind_in known.block) → AllByRecursion IsPrintable kinds → length (done ++ kinds) ≤ 32 → AllPairs (λ x y. x ≢ y) (specified_kind_names (done ++ kinds))
+    → ((name : List ℕ) → Contains taken name → ¬ (Contains (specified_kind_names (done ++ kinds)) name))
+    → BlocksRead taken known (map words_text (flat_map block_lines kinds)) (done ++ kinds)
 blocks_read taken [] done known begun same whole each few different free = record {
   last = known;
   begun = begun;
@@ -215,14 +215,14 @@ blocks_read taken (kind ∷ kinds) done known begun same whole (may, rest) few d
     let one = block_read taken done kind kinds known begun same whole may few different free in
     let more : (done ++ kind ∷ []) ++ kinds ≡ done ++ kind ∷ kinds = append_assoc done (kind ∷ []) kinds in
     let others = blocks_read taken kinds (done ++ kind ∷ []) one.last one.begun one.same one.whole rest
-    (subst (λ (l : List SpecifiedKind). length l ≤ 32) (sym more) few) (subst (λ (l : List SpecifiedKind). AllPairs (λ x y. x ≢ y) (kind_names l)) (sym more) different)
-    (subst (λ (l : List SpecifiedKind). (name : List ℕ) → Contains taken name → ¬ (Contains (kind_names l) name)) (sym more) free) in
+    (subst (λ (l : List SpecifiedKind). length l ≤ 32) (sym more) few) (subst (λ (l : List SpecifiedKind). AllPairs (λ x y. x ≢ y) (specified_kind_names l)) (sym more) different)
+    (subst (λ (l : List SpecifiedKind). (name : List ℕ) → Contains taken name → ¬ (Contains (specified_kind_names l) name)) (sym more) free) in
     record {
       last = others.last;
       begun = others.begun;
       same = subst (λ (l : List SpecifiedKind). AreSame l (kinds_so_far others.last)) more others.same;
       whole = others.whole;
-      reads = subst (λ (l : List (List ℕ)). Reads taken known l others.last) (sym (map-append text_of (block_lines kind) (flat_map block_lines kinds)))
+      reads = subst (λ (l : List (List ℕ)). ReadsLines taken known l others.last) (sym (map-append words_text (block_lines kind) (flat_map block_lines kinds)))
           (reads_on taken one.reads others.reads);
     }
 
@@ -246,16 +246,16 @@ printable (kind ∷ kinds) (is, are) (value, values) (name, names) = (record { i
 
 pub read_again : (kinds : List SpecifiedKind) (taken : List (List ℕ)) → MayBeRead kinds taken → (read : List SpecifiedKind) × SpecSays (spec_text kinds) taken read × AreSame kinds read
 read_again kinds taken may =
-    let sound : AllByRecursion (All IsSound) (spec_lines kinds) = each_by_recursion (All IsSound) (spec_lines kinds) (lines_sound kinds may.each may.values may.names) in
-    let head = line_read taken nothing (with_header nothing) header_words sound.0 (kept_line 114 (codes "dspec") (printed (codes "1") ∷ []) (λ e. omega (arith, e)) (λ e. omega (arith, e)))
-    (λ tokens are words. header_accepted taken (text_of header_words) tokens words are) in
+    let sound : AllByRecursion (All IsRightWord) (spec_lines kinds) = each_by_recursion (All IsRightWord) (spec_lines kinds) (lines_sound kinds may.each may.values may.names) in
+    let head = line_read taken nothing (with_header nothing) header_words sound.0 (kept_line 114 (codes "dspec") (plain_word (codes "1") ∷ []) (λ e. omega (arith, e)) (λ e. omega (arith, e)))
+    (λ tokens are words. header_accepted taken (words_text header_words) tokens words are) in
     let blocks = blocks_read taken kinds [] (with_header nothing) refl tt (λ first second up low. absurd (omega (arith, low)))
     (printable kinds (each_by_recursion IsKind kinds may.each) (each_by_recursion HasValues kinds may.values) (each_by_recursion HasNames kinds may.names))
     may.few may.different may.free in (
       kinds_so_far blocks.last,
       record {
         short = may.short;
-        lines = map text_of (spec_lines kinds);
+        lines = map words_text (spec_lines kinds);
         cut = lines_cut (spec_lines kinds) sound;
         known = blocks.last;
         reads = reads_on taken head blocks.reads;

@@ -7,23 +7,23 @@ use Rattle.std.proofs.Math.Seq.{get_or-append_seam}
 use Rattle.std.proofs.lemmas.List.{append_assoc, append-nil, get_or-take, length-take}
 use Rattle.std.proofs.lemmas.Option.{slice_get_within, get_or_from_slice_get}
 use Rattle.rd_base.specs.Names.{IsName}
-use Rattle.rd_print.specs.declared.canonical.word_list.Word.{Word as PrintedWord}
-use Rattle.rd_print.specs.Canonical.{plain as printed}
-use Rattle.rd_reading.specs.Adding.{Accepts, with_kind}
+use Rattle.rd_print.specs.declared.canonical.word_list.PrintedWord.{PrintedWord}
+use Rattle.rd_print.specs.Canonical.{plain_word}
+use Rattle.rd_reading.specs.Adding.{AcceptsSpecLine, with_kind}
 use Rattle.rd_reading.specs.Causes.{HasManyTokens, IsFirstRepeated}
-use Rattle.rd_reading.specs.Known.{kind_in, kind_names, kinds_so_far}
+use Rattle.rd_reading.specs.Known.{kind_in, specified_kind_names, kinds_so_far}
 use Rattle.rd_reading.specs.declared.known.Known.{Known}
 use Rattle.rd_ecl.specs.declared.kinds.Method.{Method}
 use Rattle.rd_ecl.specs.Specified.{IsWhole, SpecifiedKind, names_of, with_method}
 use Rattle.rd_ecl.specs.Formulas.{Tree}
 use Rattle.rd_ecl.specs.Variables.{AreVariables, IsVariable}
-use Rattle.rd_lines.specs.Lines.{Word, plain, words_of, kind as kind_said, method as method_said}
+use Rattle.rd_lines.specs.Lines.{LineWord, plain, words_of, kind as kind_said, method as method_said}
 use Rattle.rd_print.specs.Printed.{kind_words, method_words, slot_words}
-use Rattle.rd_print.specs.Text.{IsSound, text_of}
+use Rattle.rd_print.specs.Text.{IsRightWord, words_text}
 use Rattle.rd_tokens.specs.declared.sorts.Token.{Token}
 use Rattle.rd_tokens.specs.Tokens.{AreTokens}
 use Rattle.rd_tokens.proofs.CutLemmas.{some_tokens}
-use Rattle.rd_reading.specs.Texts.{IsSkipped, Reads, no_more, takes}
+use Rattle.rd_reading.specs.Texts.{IsSkipped, ReadsLines, no_more, takes}
 use Rattle.rd_spec.proofs.AcceptLemmas.{accepted, kind_clean, method_clean, other_first}
 use Rattle.rd_reading.proofs.ParsingLemmas.{reads_on}
 use Rattle.rd_spec.proofs.TextLemmas.{kept_line, lift, words_read}
@@ -34,11 +34,11 @@ abbrev pub at : List SpecifiedKind → SpecifiedKind → Bool → Known
 at closed kind paired = record { begun = true; closed = closed; block = Some (record { draft = kind; paired = paired }) }
 
 -- a line whose words are accepted is read
-pub line_read : (taken : List (List ℕ)) (known next : Known) (words : List PrintedWord) → All IsSound words → ¬ (IsSkipped (text_of words))
-    → ((tokens : List Token) → AreTokens (text_of words) tokens → words_of (text_of words) tokens ≡ map lift words → Accepts taken known (text_of words) next)
-    → Reads taken known (text_of words ∷ []) next
+pub line_read : (taken : List (List ℕ)) (known next : Known) (words : List PrintedWord) → All IsRightWord words → ¬ (IsSkipped (words_text words))
+    → ((tokens : List Token) → AreTokens (words_text words) tokens → words_of (words_text words) tokens ≡ map lift words → AcceptsSpecLine taken known (words_text words) next)
+    → ReadsLines taken known (words_text words ∷ []) next
 line_read taken known next words sound kept accepts =
-    let found = some_tokens (text_of words) in
+    let found = some_tokens (words_text words) in
     takes kept (accepts found.0 found.1 (words_read words found.0 sound found.1)) no_more
 
 kind_no_commute : codes "kind" ≢ codes "commute"
@@ -48,12 +48,12 @@ method_no_commute : codes "method" ≢ codes "commute"
 method_no_commute e = cc
 
 -- the line of a kind
-pub kind_read : (taken : List (List ℕ)) (known : Known) (kind : SpecifiedKind) → known.begun ≡ true → ¬ (Contains (kind_names (kinds_so_far known)) kind.name)
-    → IsWhole (kind_in known.block) → ¬ (Contains taken kind.name) → length (kinds_so_far known) < MOST_KINDS → IsName kind.name → All IsSound (kind_words kind)
-    → Reads taken known (text_of (kind_words kind) ∷ []) (with_kind known kind.name)
+pub kind_read : (taken : List (List ℕ)) (known : Known) (kind : SpecifiedKind) → known.begun ≡ true → ¬ (Contains (specified_kind_names (kinds_so_far known)) kind.name)
+    → IsWhole (kind_in known.block) → ¬ (Contains taken kind.name) → length (kinds_so_far known) < MOST_KINDS → IsName kind.name → All IsRightWord (kind_words kind)
+    → ReadsLines taken known (words_text (kind_words kind) ∷ []) (with_kind known kind.name)
 kind_read taken known kind begun new whole free few named sound =
-    let line = text_of (kind_words kind) in
-    line_read taken known (with_kind known kind.name) (kind_words kind) sound (kept_line 107 (codes "ind") (printed kind.name ∷ []) (λ e. omega (arith, e)) (λ e. omega (arith, e)))
+    let line = words_text (kind_words kind) in
+    line_read taken known (with_kind known kind.name) (kind_words kind) sound (kept_line 107 (codes "ind") (plain_word kind.name ∷ []) (λ e. omega (arith, e)) (λ e. omega (arith, e)))
     (λ tokens are words. accepted taken known line tokens (kind_said kind.name) begun
     (λ many. other_first (codes "kind") (plain kind.name ∷ []) kind_no_commute (subst HasManyTokens words many))
     (record { named = named; written = words }) (with_kind known kind.name) are (kind_clean taken known line tokens kind.name new whole free few) refl)
@@ -70,7 +70,7 @@ split_more argument next more rest = record {
   arguments = argument ∷ rest.arguments;
   result = rest.result;
   is = ap (λ (l : List (List ℕ)). argument ∷ l) rest.is;
-  words = ap (λ (l : List Word). plain argument ∷ l) rest.words;
+  words = ap (λ (l : List LineWord). plain argument ∷ l) rest.words;
 }
 
 split : (variables : List (List ℕ)) → 1 ≤ length variables → Split variables
@@ -100,17 +100,17 @@ front_each P (b ∷ before) last (here, rest) = let (all, one) = front_each P be
 
 -- the line of a method
 pub method_read : (taken : List (List ℕ)) (closed : List SpecifiedKind) (kind : SpecifiedKind) (method : Method) → ¬ (Contains (names_of kind.methods) method.name)
-    → length kind.methods < MOST_METHODS → AreVariables method.variables → AllByRecursion IsVariable method.variables → IsName method.name → All IsSound (method_words method)
-    → Reads taken (at closed kind false) (text_of (method_words method) ∷ []) (at closed (with_method kind method) false)
+    → length kind.methods < MOST_METHODS → AreVariables method.variables → AllByRecursion IsVariable method.variables → IsName method.name → All IsRightWord (method_words method)
+    → ReadsLines taken (at closed kind false) (words_text (method_words method) ∷ []) (at closed (with_method kind method) false)
 method_read taken closed kind method new room variables each named sound =
-    let line = text_of (method_words method) in
+    let line = words_text (method_words method) in
     let parts : Split method.variables = split method.variables variables.some in
     let arguments : List (List ℕ) = parts.arguments in
     let sides = front_each IsVariable arguments parts.result (subst (AllByRecursion IsVariable) parts.is each) in
     let count : length arguments + 1 ≤ MOST_ARGUMENTS + 1 = (let few = variables.few in let same = ap length parts.is in let sum = length-append arguments (parts.result ∷ []) in omega (arith, few, same, sum)) in
     let whole : record { name = method.name; variables = arguments ++ parts.result ∷ [] } ≡ method = ap (λ (vs : List (List ℕ)). record { name = method.name; variables = vs }) (sym parts.is) in
     line_read taken (at closed kind false) (at closed (with_method kind method) false) (method_words method) sound
-    (kept_line 109 (codes "ethod") (printed method.name ∷ slot_words method.variables) (λ e. omega (arith, e)) (λ e. omega (arith, e)))
+    (kept_line 109 (codes "ethod") (plain_word method.name ∷ slot_words method.variables) (λ e. omega (arith, e)) (λ e. omega (arith, e)))
     (λ tokens are words. accepted taken (at closed kind false) line tokens (method_said method.name arguments parts.result) refl
     (λ many. other_first (codes "method") _ method_no_commute (subst HasManyTokens words many))
     (record {
@@ -118,7 +118,7 @@ method_read taken closed kind method new room variables each named sound =
       named = named;
       each_argument = sides.0;
       gives = sides.1;
-      written = words ∙ ap (λ (l : List Word). plain (codes "method") ∷ plain method.name ∷ l) parts.words;
+      written = words ∙ ap (λ (l : List LineWord). plain (codes "method") ∷ plain method.name ∷ l) parts.words;
     }) (at closed (with_method kind method) false) are
     (method_clean kind line tokens method.name arguments parts.result new
     (once (arguments ++ parts.result ∷ []) (subst (λ (l : List (List ℕ)). AllPairs (λ x y. x ≢ y) l) parts.is variables.different)) room (omega (arith, count)))
@@ -138,12 +138,12 @@ pub record IsWritten (method : Method) : Type 0 where
   pub variables : AreVariables method.variables
   pub each : AllByRecursion IsVariable method.variables
   pub named : IsName method.name
-  pub sound : All IsSound (method_words method)
+  pub sound : All IsRightWord (method_words method)
 
 -- the lines of methods
 pub methods_read : (taken : List (List ℕ)) (closed : List SpecifiedKind) (kind : SpecifiedKind) (methods : List Method)
     → AllPairs (λ x y. x ≢ y) (names_of (kind.methods ++ methods)) → length (kind.methods ++ methods) ≤ MOST_METHODS → AllByRecursion IsWritten methods
-    → Reads taken (at closed kind false) (map text_of (map method_words methods)) (at closed (with_methods kind methods) false)
+    → ReadsLines taken (at closed kind false) (map words_text (map method_words methods)) (at closed (with_methods kind methods) false)
 unfolding with_methods
 methods_read taken closed kind [] different few each = no_more
 methods_read taken closed kind (one ∷ methods) different few (here, rest) =

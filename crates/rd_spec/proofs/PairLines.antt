@@ -8,13 +8,13 @@ use Rattle.rd_base.specs.Names.{IsName}
 use Rattle.rd_base.specs.declared.limits.LimitName.{LimitName}
 use Rattle.rd_base.specs.declared.limits.LimitName.TheVariants.{Bytes, Line, Events, Threads, Locks, Objects, Depth, SpecText, Tokens, Kinds, Methods as MethodLimit, Arguments, Nodes, FormulaDepth, Predicates}
 use Rattle.rd_base.proofs.FoundLemmas.{each_by_recursion, each_from_recursion}
-use Rattle.rd_print.specs.declared.canonical.word_list.Word.{Word as PrintedWord}
-use Rattle.rd_print.specs.Canonical.{AreValues, plain as printed, words_of as formula_of}
+use Rattle.rd_print.specs.declared.canonical.word_list.PrintedWord.{PrintedWord}
+use Rattle.rd_print.specs.Canonical.{AreValues, plain_word, canonical_words}
 use Rattle.rd_print.proofs.WordFewLemmas.{few_words}
-use Rattle.rd_reading.specs.Adding.{Accepts}
+use Rattle.rd_reading.specs.Adding.{AcceptsSpecLine}
 use Rattle.rd_reading.specs.Causes.{AreNumbers, HasManyPredicates, HasManyTokens, HasNone, PairHas, SaysPair, scope_of}
 use Rattle.rd_reading.specs.Known.{stage_of, variables_at}
-use Rattle.rd_reading.specs.declared.causes.SpecCause.TheVariants.{Header, Syntax, UnknownMethod, UnknownVariable, NoVariable, OutsideFragment, Duplicate, MissingPair, KindTaken, Limit}
+use Rattle.rd_reading.specs.declared.spec_causes.SpecCause.TheVariants.{Header, Syntax, UnknownMethod, UnknownVariable, NoVariable, OutsideFragment, Duplicate, MissingPair, KindTaken, Limit}
 use Rattle.rd_ecl.specs.declared.kinds.Method.{Method}
 use Rattle.rd_ecl.specs.Formulas.{Tree, Fits, InFragment, first_offence, levels, nodes, post_order}
 use Rattle.rd_ecl.specs.Specified.{AreMethods, IsPair, SpecifiedKind, formula_at, names_of, slots_at, with_pair}
@@ -25,19 +25,19 @@ use Rattle.rd_formulas.specs.Reading.{IsTroubled, SaysFormula}
 use Rattle.rd_formulas.specs.declared.reading.FormulaRefused.TheVariants as formula
 use Rattle.rd_ecl.specs.declared.formulas.Reason.{Reason}
 use Rattle.rd_formulas.specs.Scope.{IsBare, IsUnknown, MeansAt}
-use Rattle.rd_grammar.specs.Grammar.{Tree as Read}
-use Rattle.rd_lines.specs.Lines.{AreMarksFrom, IsOutOfOrder, Word, plain, word_at, words_of, commute as commute_said}
+use Rattle.rd_grammar.specs.Grammar.{ParsedTree}
+use Rattle.rd_lines.specs.Lines.{AreMarksFrom, IsOutOfOrder, LineWord, plain, word_at, words_of, commute as commute_said}
 use Rattle.rd_lines.proofs.FormulaLemmas.{words_marked}
 use Rattle.rd_lines.specs.declared.forms.Stage.TheVariants.{Outside}
 use Rattle.rd_reading.proofs.ScopeLemmas.{slots_are}
 use Rattle.rd_reading.proofs.NumberLemmas.{AreDifferent, contained, one_pair, one_place}
 use Rattle.rd_reading.proofs.MeaningLemmas.{known_relations, known_terms, no_first, no_first_sign, one_formula}
 use Rattle.rd_print.specs.Printed.{commute_words, formula_words, name_at}
-use Rattle.rd_print.specs.Text.{IsSound, text_of}
+use Rattle.rd_print.specs.Text.{IsRightWord, words_text}
 use Rattle.rd_print.proofs.TextFormulaLemmas.{says_formula}
 use Rattle.rd_tokens.specs.declared.sorts.Token.{Token}
 use Rattle.rd_tokens.specs.Tokens.{AreTokens}
-use Rattle.rd_reading.specs.Texts.{Reads}
+use Rattle.rd_reading.specs.Texts.{ReadsLines}
 use Rattle.rd_spec.proofs.AcceptLemmas.{accepted}
 use Rattle.rd_spec.proofs.MethodLines.{at, line_read}
 use Rattle.rd_spec.proofs.TextLemmas.{kept_line, lift}
@@ -55,7 +55,7 @@ pub record IsReady (kind : SpecifiedKind) (m n : ℕ) (f : Tree) : Type 0 where
   pub unset : formula_at kind m n ≡ None
   pub room : ¬ (HasManyPredicates kind m n f)
 
-module _ (kind : SpecifiedKind) (line : List ℕ) (tokens : List Token) (first second : List ℕ) (read : Read) (m n : ℕ) (f : Tree)
+module _ (kind : SpecifiedKind) (line : List ℕ) (tokens : List Token) (first second : List ℕ) (read : ParsedTree) (m n : ℕ) (f : Tree)
     (ready : IsReady kind m n f) (are : AreNumbers kind first second m n) (gives : Gives (MeansAt (scope_of kind line tokens m n)) read f) where
   moved : (P : ℕ → ℕ → Type 0) (i j : ℕ) → AreNumbers kind first second i j → P i j → P m n
   moved P i j others here =
@@ -166,7 +166,7 @@ pub record IsPrinted (kind : SpecifiedKind) (i j : ℕ) (f : Tree) : Type 0 wher
   pub methods : AreMethods kind.methods
   pub first_name : IsName (name_at kind.methods i)
   pub second_name : IsName (name_at kind.methods j)
-  pub sound : All IsSound (commute_words kind (i, j))
+  pub sound : All IsRightWord (commute_words kind (i, j))
 
 commute_first : codes "commute" ≡ 99 ∷ codes "ommute"
 commute_first = refl
@@ -184,21 +184,21 @@ module _ (taken : List (List ℕ)) (closed : List SpecifiedKind) (kind part : Sp
   second = name_at kind.methods j
 
   abbrev pub words : List PrintedWord
-  words = formula_of (variables_at kind i) (variables_at kind j) f
+  words = canonical_words (variables_at kind i) (variables_at kind j) f
 
   abbrev pub front : List PrintedWord
-  front = printed (codes "commute") ∷ printed first ∷ printed second ∷ printed (codes "when") ∷ []
+  front = plain_word (codes "commute") ∷ plain_word first ∷ plain_word second ∷ plain_word (codes "when") ∷ []
 
   all_words : commute_words kind (i, j) ≡ front ++ words
   all_words = rw printed_there.there refl
 
-  sound_front : All IsSound front
+  sound_front : All IsRightWord front
   sound_front =
-      let each = each_by_recursion IsSound (commute_words kind (i, j)) printed_there.sound in
-      each_from_recursion IsSound front (each.0, (each.1.0, (each.1.1.0, (each.1.1.1.0, tt))))
+      let each = each_by_recursion IsRightWord (commute_words kind (i, j)) printed_there.sound in
+      each_from_recursion IsRightWord front (each.0, (each.1.0, (each.1.1.0, (each.1.1.1.0, tt))))
 
   abbrev pub line : List ℕ
-  line = text_of (commute_words kind (i, j))
+  line = words_text (commute_words kind (i, j))
 
   within_first : i < length kind.methods
   within_first = let ordered = printed_there.ordered in let known = printed_there.known in omega (arith, ordered, known)
@@ -222,12 +222,12 @@ module _ (taken : List (List ℕ)) (closed : List SpecifiedKind) (kind part : Sp
       let scope = scope_of kind line tokens i j in
       says_formula front tokens scope f sound_front variables_first.each variables_second.each
       (subst (λ (x : ℕ). Fits f x (length (variables_at kind j))) (sym (slots_are kind i)) (subst (λ (y : ℕ). Fits f (slots_at kind.methods i) y) (sym (slots_are kind j)) pair.fits))
-      pair.slots printed_there.values (ap text_of all_words) are refl
+      pair.slots printed_there.values (ap words_text all_words) are refl
 
   -- the words behind `when`
   behind : (tokens : List Token) → words_of line tokens ≡ map lift (commute_words kind (i, j)) → words_of line (drop 4 tokens) ≡ map lift words
   behind tokens read =
-      sym (drop-map (word_at line) 4 tokens) ∙ ap (λ (l : List Word). drop 4 l) (read ∙ ap (map lift) all_words)
+      sym (drop-map (word_at line) 4 tokens) ∙ ap (λ (l : List LineWord). drop 4 l) (read ∙ ap (map lift) all_words)
 
   few_behind : length words ≤ 192
   few_behind = let few = ready.few in let count = few_words (variables_at kind i) (variables_at kind j) f in omega (arith, few, count)
@@ -236,7 +236,7 @@ module _ (taken : List (List ℕ)) (closed : List SpecifiedKind) (kind part : Sp
   short_line tokens read many =
       let same : plain (codes "commute") ∷ many.first ∷ many.second ∷ plain (codes "when") ∷ many.behind ≡ map lift (front ++ words) =
       sym many.written ∙ read ∙ ap (map lift) all_words in
-      let rest : many.behind ≡ map lift words = ap (λ (l : List Word). drop 4 l) same in
+      let rest : many.behind ≡ map lift words = ap (λ (l : List LineWord). drop 4 l) same in
       let count : length many.behind ≡ length words = ap length rest ∙ length-map words lift in
       let long = many.many in
       let few = few_behind in
@@ -245,18 +245,18 @@ module _ (taken : List (List ℕ)) (closed : List SpecifiedKind) (kind part : Sp
   same_variables : (n : ℕ) → variables_at part n ≡ variables_at kind n
   same_variables n = ap (λ (ms : List Method). unwrap_or (option_map (λ (m : Method). m.variables) (slice_get ms n)) []) methods
 
-  same_scope : (tokens : List Token) (read : Read) → Gives (MeansAt (scope_of kind line tokens i j)) read f → Gives (MeansAt (scope_of part line tokens i j)) read f
+  same_scope : (tokens : List Token) (read : ParsedTree) → Gives (MeansAt (scope_of kind line tokens i j)) read f → Gives (MeansAt (scope_of part line tokens i j)) read f
   same_scope tokens read gives =
       subst (λ (ms : List Method). Gives (MeansAt (scope_of (record part { methods = ms }) line tokens i j)) read f) (sym methods) gives
 
-  pub pair_read : Reads taken (at closed part paired) (line ∷ []) (at closed (with_pair part i j f) true)
+  pub pair_read : ReadsLines taken (at closed part paired) (line ∷ []) (at closed (with_pair part i j f) true)
   pair_read =
       line_read taken (at closed part paired) (at closed (with_pair part i j f) true) (commute_words kind (i, j)) printed_there.sound
-      (kept_line 99 (codes "ommute") (printed first ∷ printed second ∷ printed (codes "when") ∷ formula_words kind i j) (λ e. omega (arith, e)) (λ e. omega (arith, e)))
+      (kept_line 99 (codes "ommute") (plain_word first ∷ plain_word second ∷ plain_word (codes "when") ∷ formula_words kind i j) (λ e. omega (arith, e)) (λ e. omega (arith, e)))
       (λ tokens are read. accept tokens are read (says tokens are)) where
-        accept : (tokens : List Token) → AreTokens (text_of (commute_words kind (i, j))) tokens → words_of (text_of (commute_words kind (i, j))) tokens ≡ map lift (commute_words kind (i, j))
-            → SaysFormula (scope_of kind (text_of (commute_words kind (i, j))) tokens i j) f
-            → Accepts taken (at closed part paired) (text_of (commute_words kind (i, j))) (at closed (with_pair part i j f) true)
+        accept : (tokens : List Token) → AreTokens (words_text (commute_words kind (i, j))) tokens → words_of (words_text (commute_words kind (i, j))) tokens ≡ map lift (commute_words kind (i, j))
+            → SaysFormula (scope_of kind (words_text (commute_words kind (i, j))) tokens i j) f
+            → AcceptsSpecLine taken (at closed part paired) (words_text (commute_words kind (i, j))) (at closed (with_pair part i j f) true)
         accept tokens are read (tree, (marks, marked, said), gives) =
             let fits = same_scope tokens tree gives in
             accepted taken (at closed part paired) line tokens (commute_said first second tree) refl (short_line tokens read)
@@ -270,7 +270,7 @@ module _ (taken : List (List ℕ)) (closed : List SpecifiedKind) (kind part : Sp
               behind = map lift words;
               marks = marks;
               written = read ∙ ap (map lift) all_words;
-              marked = subst (λ (ws : List Word). AreMarksFrom 0 ws marks) (behind tokens read) (words_marked line (drop 4 tokens) marks marked);
+              marked = subst (λ (ws : List LineWord). AreMarksFrom 0 ws marks) (behind tokens read) (words_marked line (drop 4 tokens) marks marked);
               says = said;
             }) (at closed (with_pair part i j f) true) are
             (pair_clean part line tokens first second tree i j f ready numbers fits)

@@ -12,8 +12,8 @@ use Rattle.rd_reading.specs.Causes.{HasManyPredicates}
 use Rattle.rd_reading.specs.Known.{variables_at}
 use Rattle.rd_reading.proofs.NumberLemmas.{AreDifferent}
 use Rattle.rd_print.specs.Printed.{commute_words, pairs_of}
-use Rattle.rd_print.specs.Text.{text_of}
-use Rattle.rd_reading.specs.Texts.{Reads, no_more}
+use Rattle.rd_print.specs.Text.{words_text}
+use Rattle.rd_reading.specs.Texts.{ReadsLines, no_more}
 use Rattle.rd_spec.proofs.FewLemmas.{few_parts}
 use Rattle.rd_reading.proofs.ParsingLemmas.{reads_on}
 use Rattle.rd_spec.proofs.MethodLines.{at}
@@ -151,12 +151,12 @@ pub record RowRead (taken : List (List ℕ)) (closed : List SpecifiedKind) (kind
   pub next : SpecifiedKind
   pub then_paired : Bool
   pub is : IsPart kind next i j
-  pub reads : Reads taken (at closed part paired) lines (at closed next then_paired)
+  pub reads : ReadsLines taken (at closed part paired) lines (at closed next then_paired)
 
 -- the lines of the pairs whose first method has this number
 row_read : (taken : List (List ℕ)) (closed : List SpecifiedKind) (kind : SpecifiedKind) → IsSource kind → (i : ℕ) → (count j : ℕ) (part : SpecifiedKind) (paired : Bool)
     → i ≤ j → j + count ≡ length kind.methods → IsPart kind part i j
-    → RowRead taken closed kind part paired (map text_of (map (commute_words kind) (map (λ second. (i, second)) (range_with_len j count)))) i (length kind.methods)
+    → RowRead taken closed kind part paired (map words_text (map (commute_words kind) (map (λ second. (i, second)) (range_with_len j count)))) i (length kind.methods)
 row_read taken closed kind source i zero j part paired up end is = record {
   next = part;
   then_paired = paired;
@@ -200,7 +200,7 @@ row_done kind part i is = record {
 rows_read : (taken : List (List ℕ)) (closed : List SpecifiedKind) (kind : SpecifiedKind) → IsSource kind → (count i : ℕ) (part : SpecifiedKind) (paired : Bool)
     → i + count ≡ length kind.methods → IsPart kind part i i
     → RowRead taken closed kind part paired
-    (map text_of (map (commute_words kind) (flat_map (λ first. map (λ second. (first, second)) (range_with_len first (length kind.methods - first))) (range_with_len i count))))
+    (map words_text (map (commute_words kind) (flat_map (λ first. map (λ second. (first, second)) (range_with_len first (length kind.methods - first))) (range_with_len i count))))
     (length kind.methods) (length kind.methods)
 rows_read taken closed kind source zero i part paired end is = record {
   next = part;
@@ -215,16 +215,16 @@ rows_read taken closed kind source (suc count) i part paired end is =
     let rest = rows_read taken closed kind source count (i + 1) here.next here.then_paired (omega (arith, end)) (row_done kind here.next i here.is) in
     let row : List (ℕ × ℕ) = map (λ (second : ℕ). (i, second)) (range_with_len i (length kind.methods - i)) in
     let more : List (ℕ × ℕ) = flat_map (λ (first : ℕ). map (λ (second : ℕ). (first, second)) (range_with_len first (length kind.methods - first))) (range_with_len (i + 1) count) in
-    let lines : map text_of (map (commute_words kind) (row ++ more)) ≡ map text_of (map (commute_words kind) row) ++ map text_of (map (commute_words kind) more) =
-    ap (map text_of) (map-append (commute_words kind) row more) ∙ map-append text_of (map (commute_words kind) row) (map (commute_words kind) more) in
+    let lines : map words_text (map (commute_words kind) (row ++ more)) ≡ map words_text (map (commute_words kind) row) ++ map words_text (map (commute_words kind) more) =
+    ap (map words_text) (map-append (commute_words kind) row more) ∙ map-append words_text (map (commute_words kind) row) (map (commute_words kind) more) in
     record {
       next = rest.next;
       then_paired = rest.then_paired;
       is = rest.is;
-      reads = subst (λ (l : List (List ℕ)). Reads taken (at closed part paired) l (at closed rest.next rest.then_paired)) (sym lines) (reads_on taken here.reads rest.reads);
+      reads = subst (λ (l : List (List ℕ)). ReadsLines taken (at closed part paired) l (at closed rest.next rest.then_paired)) (sym lines) (reads_on taken here.reads rest.reads);
     }
 
 pub pairs_read : (taken : List (List ℕ)) (closed : List SpecifiedKind) (kind : SpecifiedKind) → IsSource kind → (part : SpecifiedKind) (paired : Bool)
     → IsPart kind part 0 0
-    → RowRead taken closed kind part paired (map text_of (map (commute_words kind) (pairs_of (length kind.methods)))) (length kind.methods) (length kind.methods)
+    → RowRead taken closed kind part paired (map words_text (map (commute_words kind) (pairs_of (length kind.methods)))) (length kind.methods) (length kind.methods)
 pairs_read taken closed kind source part paired is = rows_read taken closed kind source (length kind.methods) 0 part paired (omega arith) is

@@ -1,6 +1,6 @@
 -- What is read of a text that was printed: this project's profile.
 use Rattle.std.specs.Prelude.{◌≡◌, ◌≢◌, ◌<◌, ◌≤◌, ℕ, List, [], ◌∷◌, length, All, AllPairs, Contains}
-use Rattle.rd_reading.specs.Known.{kind_names}
+use Rattle.rd_reading.specs.Known.{specified_kind_names}
 use Rattle.rd_ecl.specs.Specified.{IsKind, SpecifiedKind, formula_at}
 use Rattle.rd_print.specs.Printed.{AreNames, HaveValues, spec_text}
 use Rattle.rd_base.specs.declared.limits.TheConstants.{MOST_KINDS, MOST_SPEC_BYTES}
@@ -24,6 +24,6 @@ pub record MayBeRead (kinds : List SpecifiedKind) (taken : List (List ℕ)) : Ty
   pub values : HaveValues kinds
   pub names : AreNames kinds
   pub few : length kinds ≤ MOST_KINDS
-  pub different : AllPairs (λ x y. x ≢ y) (kind_names kinds)
-  pub free : (name : List ℕ) → Contains taken name → ¬ (Contains (kind_names kinds) name)
+  pub different : AllPairs (λ x y. x ≢ y) (specified_kind_names kinds)
+  pub free : (name : List ℕ) → Contains taken name → ¬ (Contains (specified_kind_names kinds) name)
   pub short : length (spec_text kinds) ≤ MOST_SPEC_BYTES

@@ -21,7 +21,7 @@ pub record IsSpecText (old : Source) (file bytes : List ℕ) : Type 0 where
   pub front : bytes ≡ take most_bytes whole
 
 -- where the specification is refused: the trace isn't opened
-pub record IsRefused (file : List ℕ) (rose : Bool) (old new : Source) (outcome : Outcome) : Type 0 where
+pub record IsSpecFileRefused (file : List ℕ) (rose : Bool) (old new : Source) (outcome : Outcome) : Type 0 where
   pub calm : rose ≡ false
   pub one_opened : new.opens ≡ old.opens + 1
   pub bytes : List ℕ

@@ -1,7 +1,7 @@
 -- What `spec` writes for the bytes of a specification, and its status. This project's profile.
 use Rattle.std.specs.Prelude.{◌≡◌, ◌⊎◌, ◌+◌, ℕ, List, [], Result, Ok, Err}
-use Rattle.rd_reading.specs.declared.causes.SpecCause.{SpecCause}
-use Rattle.rd_reading.specs.declared.causes.SpecCause.TheVariants.{Limit}
+use Rattle.rd_reading.specs.declared.spec_causes.SpecCause.{SpecCause}
+use Rattle.rd_reading.specs.declared.spec_causes.SpecCause.TheVariants.{Limit}
 use Rattle.rd_ecl.specs.Specified.{SpecifiedKind}
 use Rattle.rd_kinds.specs.Shipped.{reserved_names}
 use Rattle.rd_print.specs.Printed.{spec_text}

@@ -10,7 +10,7 @@ use Rattle.rd_base.specs.ReadingValues.{value_of}
 use Rattle.rd_base.proofs.FoundLemmas.{each_by_recursion}
 use Rattle.rd_tokens.specs.declared.sorts.Sort.{Sort}
 use Rattle.rd_tokens.specs.declared.sorts.Sort.TheVariants.{Open, Close, Word, Text, Wrong}
-use Rattle.rd_tokens.specs.Tokens.{is_word_byte, EndsWord, IsInside, quoted, HasNoEnd, SpellsText, IsWrong, IsToken}
+use Rattle.rd_tokens.specs.Tokens.{is_word_byte, EndsWord, IsInside, in_quotes, HasNoEnd, SpellsText, IsWrong, IsToken}
 use Rattle.rd_tokens.specs.Tokens.IsWrong.{wrong_byte, wrong_text, no_end}
 use Rattle.rd_tokens.specs.ReadingTokens.{inside_length, first_length, sort_of}
 use Rattle.rd_tokens.proofs.InsideLemmas.{inside_found, inside_said}
@@ -83,7 +83,7 @@ word_found (b ∷ bytes) behind some each ends =
     }
 
 -- what is quoted goes to the quote that ends it
-quoted_found : (sort : Sort) (inside behind : List ℕ) → IsInside inside → sort_of (quoted inside) ≡ sort → Found sort (quoted inside) behind
+quoted_found : (sort : Sort) (inside behind : List ℕ) → IsInside inside → sort_of (in_quotes inside) ≡ sort → Found sort (in_quotes inside) behind
 unfolding first_length
 quoted_found sort inside behind there is =
     record {
@@ -99,7 +99,7 @@ sort_of_quoted : (bytes : List ℕ) → sort_of (34 ∷ bytes) ≡ cond (is_some
 unfolding sort_of
 sort_of_quoted bytes = refl
 
-text_sort : (text : List ℕ) → is_some (value_of (quoted (bytes_spelling text))) ≡ true → sort_of (quoted (bytes_spelling text)) ≡ Text
+text_sort : (text : List ℕ) → is_some (value_of (in_quotes (bytes_spelling text))) ≡ true → sort_of (in_quotes (bytes_spelling text)) ≡ Text
 text_sort text found = sort_of_quoted (bytes_spelling text ++ 34 ∷ []) ∙ ap (λ test. cond test Text Wrong) found
 
 wrong_sort : (bytes : List ℕ) → ¬ (SpellsText (34 ∷ bytes)) → sort_of (34 ∷ bytes) ≡ Wrong
@@ -181,10 +181,10 @@ first_word b bytes word =
       is = (omega (arith, long, some), word_passes (b ∷ bytes), word_ends (b ∷ bytes));
     }
 
-first_closed : (inside behind : List ℕ) → IsInside inside → First (quoted inside ++ behind)
+first_closed : (inside behind : List ℕ) → IsInside inside → First (in_quotes inside ++ behind)
 first_closed inside behind there = elim (text_told (inside ++ 34 ∷ [])) [
-  | inl text ↦ record { sort = Text; bytes = quoted inside; behind = behind; whole = refl; is = text.1 }
-  | inr wrong ↦ record { sort = Wrong; bytes = quoted inside; behind = behind; whole = refl; is = wrong_text inside there wrong.1 }
+  | inl text ↦ record { sort = Text; bytes = in_quotes inside; behind = behind; whole = refl; is = text.1 }
+  | inr wrong ↦ record { sort = Wrong; bytes = in_quotes inside; behind = behind; whole = refl; is = wrong_text inside there wrong.1 }
 ]
 
 first_unended : (bytes : List ℕ) → length bytes ≤ inside_length false bytes → HasNoEnd bytes
@@ -198,7 +198,7 @@ first_quote bytes = elim (cases_lt (inside_length false bytes) (length bytes)) [
       let said = inside_said bytes within in
       let inside = take (inside_length false bytes) bytes in
       let behind = drop (suc (inside_length false bytes)) bytes in
-      let whole : 34 ∷ bytes ≡ quoted inside ++ behind = ap (λ xs. 34 ∷ xs) (said.1 ∙ sym (append_assoc inside (34 ∷ []) behind)) in
+      let whole : 34 ∷ bytes ≡ in_quotes inside ++ behind = ap (λ xs. 34 ∷ xs) (said.1 ∙ sym (append_assoc inside (34 ∷ []) behind)) in
       subst First (sym whole) (first_closed inside behind said.0)
   | inr all ↦ record {
     sort = Wrong;

@@ -6,15 +6,15 @@ use Rattle.std.proofs.lemmas.List.{at_drop_all, drop_more}
 use Rattle.std.proofs.lemmas.List.Sums.{prefix_len-le-length}
 use Rattle.rd_base.proofs.NameLemmas.{first_other}
 use Rattle.rd_tokens.specs.Tokens.{is_word_byte}
-use Rattle.rd_tokens.specs.ReadingTokens.{is_end, takes_next, inside_length}
+use Rattle.rd_tokens.specs.ReadingTokens.{ends_quote, takes_next, inside_length}
 
 -- the quote that ends what is quoted
-pub ends_here : (taken : Bool) (bytes : List ℕ) (index : ℕ) → index < length bytes → is_end taken (get_or bytes index 0) ≡ true
+pub ends_here : (taken : Bool) (bytes : List ℕ) (index : ℕ) → index < length bytes → ends_quote taken (get_or bytes index 0) ≡ true
     → inside_length taken (drop index bytes) ≡ 0
 unfolding inside_length
 ends_here taken bytes index within here = rw (drop_more bytes index 0 within, here) refl
 
-pub goes_on : (taken : Bool) (bytes : List ℕ) (index : ℕ) → index < length bytes → is_end taken (get_or bytes index 0) ≡ false
+pub goes_on : (taken : Bool) (bytes : List ℕ) (index : ℕ) → index < length bytes → ends_quote taken (get_or bytes index 0) ≡ false
     → inside_length taken (drop index bytes) ≡ suc (inside_length (takes_next taken (get_or bytes index 0)) (drop (index + 1) bytes))
 unfolding inside_length
 goes_on taken bytes index within on = rw (drop_more bytes index 0 within, on) refl

@@ -12,7 +12,7 @@ use Rattle.std.proofs.lemmas.Result.{IfOk-weaker}
 use Rattle.rd_base.specs.declared.values.Value.{Value}
 use Rattle.rd_base.specs.declared.values.Value.TheVariants.{Nil, Bool as Truth, Int, Text}
 use Rattle.rd_base.specs.Names.{IsName, is_name_byte}
-use Rattle.rd_base.specs.Spelling.{spelling, IsValue}
+use Rattle.rd_base.specs.Spelling.{value_spelling, IsValue}
 use Rattle.rd_base.specs.ReadingValues.{value_of}
 use Rattle.rd_base.proofs.FoundLemmas.{if_some, map_found}
 use Rattle.rd_base.proofs.IntegerLemmas.{first_is_digit}
@@ -109,7 +109,7 @@ other_mark : (side : Side) (b c : ℕ) → b ≢ 64 → side_mark side ≡ b ∷
 other_mark First b c other same = other (sym (ap (λ (xs : List ℕ). get_or xs 0 0) same))
 other_mark Second b c other same = other (sym (ap (λ (xs : List ℕ). get_or xs 0 0) same))
 
-apart : (side : Side) (name : List ℕ) (value : Value) → IsVariable name → IsValue value → name ++ side_mark side ≡ spelling value → ⊥
+apart : (side : Side) (name : List ℕ) (value : Value) → IsVariable name → IsValue value → name ++ side_mark side ≡ value_spelling value → ⊥
 apart side name Nil is range same = other_mark side 105 108 (omega arith) (sym (mark_found name side) ∙ ap mark_behind same)
 apart side name (Truth true) is range same = other_mark side 117 101 (omega arith) (sym (mark_found name side) ∙ ap mark_behind same)
 apart side name (Truth false) is range same = other_mark side 115 101 (omega arith) (sym (mark_found name side) ∙ ap mark_behind same)
@@ -122,7 +122,7 @@ apart side name (Text text) is range same =
 
 -- a variable with its side is no value's spelling, so the test of variables leaves it
 only_variable : (bytes : List ℕ) (value : Value) (found : Option Said) → variable_of bytes ≡ found → IfSome found (SaysVariable bytes)
-    → IsValue value → bytes ≡ spelling value → variable_of bytes ≡ None
+    → IsValue value → bytes ≡ value_spelling value → variable_of bytes ≡ None
 only_variable bytes value None is says range same = is
 only_variable bytes value (Some (Variable side name)) is says range same = absurd (apart side name value says.0 range (sym says.1 ∙ same))
 only_variable bytes value (Some (ValueTerm other)) is says range same = absurd says
@@ -175,7 +175,7 @@ IsNoTerm word = (variable_of word ≡ None) × (is_other word ≡ true)
 inside_first : (b : ℕ) → 45 ≤ b → b ≤ 57 → has_other_first b ≡ true → ⊥
 inside_first b low high other = grind (arith, nat_tests)
 
-no_value : (value : Value) → IsValue value → is_other (spelling value) ≡ true → ⊥
+no_value : (value : Value) → IsValue value → is_other (value_spelling value) ≡ true → ⊥
 no_value Nil range other = cc
 no_value (Truth true) range other = cc
 no_value (Truth false) range other = cc

@@ -7,11 +7,11 @@ use Rattle.std.proofs.lemmas.Option.{none-some}
 use Rattle.std.proofs.lemmas.Str.Parse.{digit_from_value}
 use Rattle.rd_base.specs.declared.values.Value.{Value}
 use Rattle.rd_base.specs.declared.values.Value.TheVariants.{Nil, Bool as Truth, Int, Text}
-use Rattle.rd_base.specs.Spelling.{bytes_spelling, spelling, IsText, IsValue}
+use Rattle.rd_base.specs.Spelling.{bytes_spelling, value_spelling, IsText, IsValue}
 use Rattle.rd_base.specs.ReadingValues.{value_of}
 use Rattle.rd_base.proofs.FoundLemmas.{each_by_recursion}
 use Rattle.rd_base.proofs.ValueLemmas.{value_found, found_said}
-use Rattle.rd_tokens.specs.Tokens.{IsInside, SpellsText, quoted}
+use Rattle.rd_tokens.specs.Tokens.{IsInside, SpellsText, in_quotes}
 use Rattle.rd_tokens.proofs.InsideLemmas.{spelled_inside}
 
 -- no integer begins with a quote
@@ -29,7 +29,7 @@ other_first_byte : (b : ℕ) (bytes word : List ℕ) → 34 ≢ b → 34 ∷ byt
 other_first_byte b bytes word other is = other (ap (λ (xs : List ℕ). get_or xs 0 0) is)
 
 -- a value whose spelling begins with a quote is a text
-only_text : (value : Value) (bytes : List ℕ) → IsValue value → 34 ∷ bytes ≡ spelling value → SpellsText (34 ∷ bytes)
+only_text : (value : Value) (bytes : List ℕ) → IsValue value → 34 ∷ bytes ≡ value_spelling value → SpellsText (34 ∷ bytes)
 only_text Nil bytes range is = absurd (other_first_byte 110 bytes _ (omega arith) is)
 only_text (Truth true) bytes range is = absurd (other_first_byte 116 bytes _ (omega arith) is)
 only_text (Truth false) bytes range is = absurd (other_first_byte 102 bytes _ (omega arith) is)
@@ -52,7 +52,7 @@ pub text_told : (bytes : List ℕ)
 text_told bytes = told bytes (value_of (34 ∷ bytes)) refl
 
 -- the spelling of a text is found
-pub text_found : (text : List ℕ) → IsText text → is_some (value_of (quoted (bytes_spelling text))) ≡ true
+pub text_found : (text : List ℕ) → IsText text → is_some (value_of (in_quotes (bytes_spelling text))) ≡ true
 text_found text range = ap is_some (value_found (Text text) range)
 
 -- what spells a text is quoted

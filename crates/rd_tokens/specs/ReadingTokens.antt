@@ -9,8 +9,8 @@ use Rattle.rd_tokens.specs.Tokens.{is_word_byte}
 use Rattle.rd_base.specs.Bytes.{backslash, quote}
 
 -- a quote that no `\` took with it
-abbrev pub is_end : Bool → ℕ → Bool
-is_end taken b = not taken && b == quote
+abbrev pub ends_quote : Bool → ℕ → Bool
+ends_quote taken b = not taken && b == quote
 
 -- a `\` that no other took with it
 abbrev pub takes_next : Bool → ℕ → Bool
@@ -19,7 +19,7 @@ takes_next taken b = not taken && b == backslash
 -- how many bytes stand before the quote that ends them
 unfoldable pub inside_length : Bool → List ℕ → ℕ
 inside_length taken [] = 0
-inside_length taken (b ∷ bytes) = if is_end taken b then 0 else suc (inside_length (takes_next taken b) bytes)
+inside_length taken (b ∷ bytes) = if ends_quote taken b then 0 else suc (inside_length (takes_next taken b) bytes)
 
 -- how long the first token of bytes is that begin with no space
 unfoldable pub first_length : List ℕ → ℕ

@@ -3,7 +3,7 @@ use Rattle.std.specs.Prelude.{◌≡◌, ◌≢◌, ℕ, ◌+◌, ◌-◌, ◌<�
 use Rattle.std.specs.Char.{is_ascii_graphic}
 use Rattle.std.specs.List.{AllPass, list_any}
 use Rattle.rd_base.specs.declared.values.Value.TheVariants.{Text as TextValue}
-use Rattle.rd_base.specs.Spelling.{is_plain, spelling, IsText}
+use Rattle.rd_base.specs.Spelling.{is_plain, value_spelling, IsText}
 use Rattle.rd_tokens.specs.declared.sorts.Sort.{Sort}
 use Rattle.rd_tokens.specs.declared.sorts.Sort.TheVariants.{Open, Close, Word, Text, Wrong}
 use Rattle.rd_tokens.specs.declared.sorts.Token.{Token}
@@ -25,8 +25,8 @@ pub data IsInside : List ℕ → Type 0 where
   other_first : {b : ℕ} {bytes : List ℕ} → b ≢ quote → b ≢ backslash → IsInside bytes → IsInside (b ∷ bytes)
 
 -- the bytes with a quote before and after them
-abbrev pub quoted : List ℕ → List ℕ
-quoted inside = quote ∷ inside ++ quote ∷ []
+abbrev pub in_quotes : List ℕ → List ℕ
+in_quotes inside = quote ∷ inside ++ quote ∷ []
 
 -- behind a quote, the bytes have no quote that ends what it begins
 abbrev pub HasNoEnd : List ℕ → Type 0
@@ -34,12 +34,12 @@ HasNoEnd bytes = (inside behind : List ℕ) → IsInside inside → ¬ (bytes �
 
 -- the spelling of a text
 abbrev pub SpellsText : List ℕ → Type 0
-SpellsText bytes = (text : List ℕ) × IsText text × (bytes ≡ spelling (TextValue text))
+SpellsText bytes = (text : List ℕ) × IsText text × (bytes ≡ value_spelling (TextValue text))
 
 -- what is wrong, with the bytes behind it: a byte that isn't plain, what is quoted and spells no text, a quote without an end
 pub data IsWrong : List ℕ → List ℕ → Type 0 where
   wrong_byte : {b : ℕ} {behind : List ℕ} → is_plain b ≡ false → IsWrong (b ∷ []) behind
-  wrong_text : (inside : List ℕ) {behind : List ℕ} → IsInside inside → ¬ (SpellsText (quoted inside)) → IsWrong (quoted inside) behind
+  wrong_text : (inside : List ℕ) {behind : List ℕ} → IsInside inside → ¬ (SpellsText (in_quotes inside)) → IsWrong (in_quotes inside) behind
   no_end : {bytes : List ℕ} → HasNoEnd bytes → IsWrong (quote ∷ bytes) []
 
 -- the bytes are a token of the sort, where others stand behind them

@@ -1,6 +1,6 @@
 -- The words of a formula: this project's profile.
 use Rattle.std.specs.Prelude.{◌≡◌, ◌≢◌, ℕ, Bool, true, false, Some, List, ◌++◌, length, codes, slice_get}
-use Rattle.rd_base.specs.Spelling.{spelling, IsValue}
+use Rattle.rd_base.specs.Spelling.{value_spelling, IsValue}
 use Rattle.rd_ecl.specs.declared.formulas.Side.{Side}
 use Rattle.rd_ecl.specs.declared.formulas.Side.TheVariants.{First, Second}
 use Rattle.rd_ecl.specs.Variables.{IsVariable}
@@ -24,7 +24,7 @@ side_mark Second = codes "@2"
 -- the bytes say the term: a variable with its side, or the one spelling of a value
 abbrev pub SaysTerm : List ℕ → Said → Type 0
 SaysTerm bytes (Variable side name) = IsVariable name × (bytes ≡ name ++ side_mark side)
-SaysTerm bytes (ValueTerm value) = IsValue value × (bytes ≡ spelling value)
+SaysTerm bytes (ValueTerm value) = IsValue value × (bytes ≡ value_spelling value)
 
 -- the bytes say a term
 abbrev pub IsTerm : List ℕ → Type 0

@@ -6,7 +6,7 @@ ghost use Rattle.rd_base.specs.ReadingValues.{value_of};
 ghost use Rattle.rd_tokens.specs.declared.sorts.Sort.TheVariants.{Text, Wrong, Word};
 ghost use Rattle.rd_tokens.specs.declared.sorts.Token.{Token};
 ghost use Rattle.rd_tokens.specs.Tokens.{is_word_byte, IsToken, IsTokenOf, AreTokens, LiesIn, HasByte, ComesAfter, bytes_of, bytes_behind};
-ghost use Rattle.rd_tokens.specs.ReadingTokens.{is_end, takes_next, inside_length, first_length, sort_of, token_of};
+ghost use Rattle.rd_tokens.specs.ReadingTokens.{ends_quote, takes_next, inside_length, first_length, sort_of, token_of};
 
 use crate::sorts::{Sort, Token, Tokens};
 use rd_base::{NoMemory, is_value};
@@ -25,8 +25,8 @@ fn is_word_byte(byte: u8) -> bool
 }
 
 // Does the byte end what is quoted, if the byte before took it with it or not?
-fn is_end(taken: bool, byte: u8) -> bool
-    ensures { result ≡ is_end taken byte }
+fn ends_quote(taken: bool, byte: u8) -> bool
+    ensures { result ≡ ends_quote taken byte }
 {
     !taken && byte == b'"'
 }
@@ -45,7 +45,7 @@ fn inside_length(bytes: &[u8]) -> usize
 {
     let mut taken = false;
     for (index, byte) in bytes.iter().enumerate() {
-        if is_end(taken, *byte) {
+        if ends_quote(taken, *byte) {
             return index;
         }
         taken = takes_next(taken, *byte);

@@ -10,7 +10,7 @@ use Rattle.rd_wf.proofs.FollowLemmas.{follows_from_none}
 use Rattle.rd_wf.specs.Events.{AreAccepted, AreAcceptedFrom}
 use Rattle.rd_ecl.specs.Kinds.{Kind}
 use Rattle.rd_wf.specs.MayFollow.{MayFollow, first_broken}
-use Rattle.rd_walk.specs.Walk.{accepted_or, entries_of, goes_or_ends, items, judged, judged_item, trace_of, walk}
+use Rattle.rd_walk.specs.Walk.{accepted_or, entries_of, goes_or_ends, items, judgement_of, judgement_of_item, trace_of, walk}
 use Rattle.rd_wf.specs.declared.causes.TraceCause.{TraceCause}
 use Rattle.rd_wf.specs.declared.causes.WfCause.{WfCause}
 
@@ -25,13 +25,13 @@ module _ (kinds : List Kind) (limits : Limits) (before : List Line) (item : Line
   item_follows found (Some cause) is e = cc
   item_follows found None is e = subst (MayFollow kinds limits before) (same_item found e) (follows_from_none kinds limits before found is)
 
-  found_follows : (found : Option Line) → judged_item kinds limits before found ≡ Ok item → MayFollow kinds limits before item
+  found_follows : (found : Option Line) → judgement_of_item kinds limits before found ≡ Ok item → MayFollow kinds limits before item
   found_follows None e = cc
   found_follows (Some found) e = item_follows found (first_broken kinds limits before found) refl e
 
   -- a line that is accepted may follow
-  judged_follows : (bytes : List ℕ) → judged kinds limits before bytes ≡ Ok item → MayFollow kinds limits before item
-  unfolding judged
+  judged_follows : (bytes : List ℕ) → judgement_of kinds limits before bytes ≡ Ok item → MayFollow kinds limits before item
+  unfolding judgement_of
   judged_follows bytes e = found_follows (item_of bytes) e
 
 walk_accepted : (kinds : List Kind) (limits : Limits) → AreUsable limits → limits.threads < 2 ^ 32 → (before : List Line) (number : ℕ) (lines : Reading)
@@ -39,9 +39,9 @@ walk_accepted : (kinds : List Kind) (limits : Limits) → AreUsable limits → l
 unfolding walk entries_of
 walk_accepted kinds limits usable range before number (stops ending) = tt
 walk_accepted kinds limits usable range before number (line bytes more) =
-    by (judged kinds limits before bytes) refl (λ item. walk_accepted kinds limits usable range (before ++ item ∷ []) (number + 1) more)
+    by (judgement_of kinds limits before bytes) refl (λ item. walk_accepted kinds limits usable range (before ++ item ∷ []) (number + 1) more)
   where
-    by : (r : Result Line TraceCause) → judged kinds limits before bytes ≡ r
+    by : (r : Result Line TraceCause) → judgement_of kinds limits before bytes ≡ r
         → ((item : Line) → AreAcceptedFrom kinds (before ++ item ∷ []) (items (entries_of (walk kinds limits (before ++ item ∷ []) (number + 1) more))))
         → AreAcceptedFrom kinds before (items (entries_of (goes_or_ends number r (λ item. walk kinds limits (before ++ item ∷ []) (number + 1) more))))
     by (Ok item) is rest = (record { limits = limits; usable = usable; range = range; follows = judged_follows kinds limits before item bytes is }, rest item)

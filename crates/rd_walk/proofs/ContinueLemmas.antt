@@ -1,18 +1,18 @@
 -- The walk goes on as the reader gives lines.
 use Rattle.std.proofs.Common.{◌≡◌, ℕ, ◌+◌, Bool, true, false, cond, List, [], ◌∷◌, ◌++◌, Ok, Err, sym, ap, ◌∙◌, refl, eqb}
 use Rattle.std.proofs.lemmas.List.{append_assoc, append-nil}
-use Rattle.rd_io.specs.Lines.{Stop, Ending as LinesEnding}
+use Rattle.rd_io.specs.Lines.{Stop, LinesEnding}
 use Rattle.rd_io.specs.Lines.Stop.{end, fault}
-use Rattle.rd_io.specs.Lines.Ending.{at_end, no_final_newline, line_too_long, bytes_limit, faulted}
+use Rattle.rd_io.specs.Lines.LinesEnding.{at_end, no_final_newline, line_too_long, bytes_limit, faulted}
 use Rattle.rd_io.specs.Lines.Reading.{stops, line}
-use Rattle.rd_io.specs.LineReader.{Reader, left, fresh, Tells, Moves, IsAtEnd}
+use Rattle.rd_io.specs.LineReader.{Reader, lines_left, fresh, Tells, Moves, IsAtEnd}
 use Rattle.rd_base.specs.declared.limits.Limits.{Limits}
 use Rattle.rd_io.specs.declared.lines.ReadEnd.{ReadEnd}
 use Rattle.rd_io.specs.declared.lines.ReadEnd.TheVariants.{ReadFault, LineTooLong, BytesLimit, NoFinalNewline}
 use Rattle.rd_event.specs.declared.items.Line.{Line}
 use Rattle.rd_wf.specs.MayFollow.{headers}
 use Rattle.rd_ecl.specs.Kinds.{Kind}
-use Rattle.rd_walk.specs.Walk.{Entry, after, ended, ends, items, judged, trace_of, walk}
+use Rattle.rd_walk.specs.Walk.{Entry, after, trace_end_of, ends, items, judgement_of, trace_of, walk}
 use Rattle.rd_walk.specs.Progress.{Continues, WalksOn, WalksTo, ending_for}
 use Rattle.rd_wf.specs.declared.causes.TraceCause.{TraceCause}
 use Rattle.rd_wf.specs.declared.causes.TraceCause.TheVariants.{Wf}
@@ -34,20 +34,20 @@ module _ (kinds : List Kind) where
   module _ (limits : Limits) (taken bytes : List ℕ) (old new : Reader) (entries : List Entry) (so_far : Continues kinds limits taken old entries) where
     -- further bytes of the same input
     further : (stop : Stop) (more : List ℕ) → trace_of kinds limits stop (taken ++ bytes ++ more)
-        ≡ after entries (walk kinds limits (items entries) (old.number + 1) (left old stop (bytes ++ more)))
+        ≡ after entries (walk kinds limits (items entries) (old.number + 1) (lines_left old stop (bytes ++ more)))
     further stop more = ap (trace_of kinds limits stop) (append_assoc taken bytes more) ∙ so_far stop (bytes ++ more)
 
     -- where the lines end behind those that were given
-    stopped : (stop : Stop) (ending : LinesEnding) → left old stop bytes ≡ stops ending
-        → trace_of kinds limits stop (taken ++ bytes) ≡ after entries (ends (ended limits (items entries) (old.number + 1) ending))
+    stopped : (stop : Stop) (ending : LinesEnding) → lines_left old stop bytes ≡ stops ending
+        → trace_of kinds limits stop (taken ++ bytes) ≡ after entries (ends (trace_end_of limits (items entries) (old.number + 1) ending))
     stopped stop ending is =
         so_far stop bytes
         ∙ ap (λ r. after entries (walk kinds limits (items entries) (old.number + 1) r)) is
         ∙ ap (after entries) (walk_stops kinds limits (items entries) (old.number + 1) ending)
 
     -- the same, whatever comes behind them
-    cut : (ending : LinesEnding) → ((stop : Stop) (more : List ℕ) → left old stop (bytes ++ more) ≡ stops ending) → (more : List ℕ)
-        → trace_of kinds limits end (taken ++ bytes ++ more) ≡ after entries (ends (ended limits (items entries) (old.number + 1) ending))
+    cut : (ending : LinesEnding) → ((stop : Stop) (more : List ℕ) → lines_left old stop (bytes ++ more) ≡ stops ending) → (more : List ℕ)
+        → trace_of kinds limits end (taken ++ bytes ++ more) ≡ after entries (ends (trace_end_of limits (items entries) (old.number + 1) ending))
     cut ending is more =
         further end more
         ∙ ap (λ r. after entries (walk kinds limits (items entries) (old.number + 1) r)) (is end more)
@@ -56,8 +56,8 @@ module _ (kinds : List Kind) where
     at_held : (held : List ℕ) → held ≡ [] → taken ++ bytes ++ held ≡ taken ++ bytes
     at_held held none = ap (λ h. taken ++ bytes ++ h) none ∙ append-nil (taken ++ bytes)
 
-    pub walks_end : (held : List ℕ) → left old end bytes ≡ stops at_end → new.number ≡ old.number → held ≡ []
-        → WalksTo kinds limits (taken ++ bytes) held entries (ended limits (items entries) (new.number + 1) at_end)
+    pub walks_end : (held : List ℕ) → lines_left old end bytes ≡ stops at_end → new.number ≡ old.number → held ≡ []
+        → WalksTo kinds limits (taken ++ bytes) held entries (trace_end_of limits (items entries) (new.number + 1) at_end)
     walks_end held is same none =
         rw same
         (to_ended limits (taken ++ bytes) held entries (old.number + 1) (Wf HeaderFirst) (eqb (headers (items entries)) 0) none
@@ -71,35 +71,35 @@ module _ (kinds : List Kind) where
     walks_refused held NoFinalNewline tells moves none =
         rw moves.number (ap (trace_of kinds limits end) (at_held held (none tt)) ∙ stopped end no_final_newline tells.0)
 
-    module _ (gives : (stop : Stop) (more : List ℕ) → left old stop (bytes ++ more) ≡ line new.line (left new stop more))
+    module _ (gives : (stop : Stop) (more : List ℕ) → lines_left old stop (bytes ++ more) ≡ line new.line (lines_left new stop more))
         (next : new.number ≡ old.number + 1) where
-      pub continues_line : (item : Line) → judged kinds limits (items entries) new.line ≡ Ok item
+      pub continues_line : (item : Line) → judgement_of kinds limits (items entries) new.line ≡ Ok item
           → Continues kinds limits (taken ++ bytes) new (entries ++ record { number = new.number; item = item } ∷ [])
       continues_line item says stop more =
           let entry : Entry = record { number = new.number; item = item } in
           further stop more
           ∙ ap (λ r. after entries (walk kinds limits (items entries) (old.number + 1) r)) (gives stop more)
-          ∙ ap (λ n. after entries (walk kinds limits (items entries) n (line new.line (left new stop more)))) (sym next)
-          ∙ ap (after entries) (walk_accepts kinds limits (items entries) new.number new.line (left new stop more) item says)
-          ∙ after_more entries entry (walk kinds limits (items entries ++ item ∷ []) (new.number + 1) (left new stop more))
-          ∙ ap (λ before. after (entries ++ entry ∷ []) (walk kinds limits before (new.number + 1) (left new stop more))) (sym (items_more entries entry))
+          ∙ ap (λ n. after entries (walk kinds limits (items entries) n (line new.line (lines_left new stop more)))) (sym next)
+          ∙ ap (after entries) (walk_accepts kinds limits (items entries) new.number new.line (lines_left new stop more) item says)
+          ∙ after_more entries entry (walk kinds limits (items entries ++ item ∷ []) (new.number + 1) (lines_left new stop more))
+          ∙ ap (λ before. after (entries ++ entry ∷ []) (walk kinds limits before (new.number + 1) (lines_left new stop more))) (sym (items_more entries entry))
 
-      pub walks_to_refusal : (held : List ℕ) (cause : TraceCause) → judged kinds limits (items entries) new.line ≡ Err cause
+      pub walks_to_refusal : (held : List ℕ) (cause : TraceCause) → judgement_of kinds limits (items entries) new.line ≡ Err cause
           → WalksTo kinds limits (taken ++ bytes) held entries (Refused new.number cause)
       walks_to_refusal held cause says =
           further end held
           ∙ ap (λ r. after entries (walk kinds limits (items entries) (old.number + 1) r)) (gives end held)
-          ∙ ap (λ n. after entries (walk kinds limits (items entries) n (line new.line (left new end held)))) (sym next)
-          ∙ ap (after entries) (walk_refuses kinds limits (items entries) new.number new.line (left new end held) cause says)
+          ∙ ap (λ n. after entries (walk kinds limits (items entries) n (line new.line (lines_left new end held)))) (sym next)
+          ∙ ap (after entries) (walk_refuses kinds limits (items entries) new.number new.line (lines_left new end held) cause says)
 
   pub walks_on : (limits : Limits) (taken : List ℕ) (reader : Reader) (entries : List Entry) → Continues kinds limits taken reader entries → WalksOn kinds limits taken entries
   walks_on limits taken reader entries so_far stop more =
-      (walk kinds limits (items entries) (reader.number + 1) (left reader stop more), so_far stop more)
+      (walk kinds limits (items entries) (reader.number + 1) (lines_left reader stop more), so_far stop more)
 
   -- the same with further bytes behind those, of which nothing was given yet
   pub walks_further : (limits : Limits) (taken bytes : List ℕ) (reader : Reader) (entries : List Entry) → Continues kinds limits taken reader entries
       → WalksOn kinds limits (taken ++ bytes) entries
   walks_further limits taken bytes reader entries so_far stop more = (
-    walk kinds limits (items entries) (reader.number + 1) (left reader stop (bytes ++ more)),
+    walk kinds limits (items entries) (reader.number + 1) (lines_left reader stop (bytes ++ more)),
     ap (trace_of kinds limits stop) (append_assoc taken bytes more) ∙ so_far stop (bytes ++ more),
   )

@@ -5,7 +5,7 @@ use Rattle.std.proofs.lemmas.List.{append_assoc, append-nil, length-append}
 use Rattle.std.proofs.lemmas.List.Elements.{All-nil, All-push}
 use Rattle.rd_base.specs.declared.limits.Limits.{Limits}
 use Rattle.rd_io.specs.LineReader.{GivesLine, HasNoFeed, Reader, fresh, with_more}
-use Rattle.rd_walk.specs.Progress.{IsCut, IsRead, with_feed}
+use Rattle.rd_walk.specs.Progress.{IsCut, IsTakenOfTrace, with_feed}
 
 feeds_more : (lines : List (List ℕ)) (line : List ℕ) → flat_map with_feed (lines ++ line ∷ []) ≡ flat_map with_feed lines ++ with_feed line
 feeds_more [] line = append-nil (with_feed line)
@@ -35,7 +35,7 @@ module _ (limits : Limits) (taken bytes : List ℕ) (old : Reader) (lines : List
 
   -- and no more was taken than may be
   pub read_so_far : (accepted : ℕ) → length lines ≤ accepted → length (old.pending ++ bytes) ≤ old.room + 1 → length (old.pending ++ bytes) ≤ old.limit
-      → IsRead limits (taken ++ bytes) accepted
+      → IsTakenOfTrace limits (taken ++ bytes) accepted
   read_so_far accepted few past fits = record {
     lines = lines;
     rest = old.pending ++ bytes;
@@ -46,7 +46,7 @@ module _ (limits : Limits) (taken bytes : List ℕ) (old : Reader) (lines : List
     bound = omega (arith, ap length all_taken, length-append (flat_map with_feed lines) (old.pending ++ bytes), past, so_far.room);
   }
 
-pub read_more : (limits : Limits) (taken now : List ℕ) (accepted more : ℕ) → now ≡ taken → accepted ≤ more → IsRead limits taken accepted → IsRead limits now more
+pub read_more : (limits : Limits) (taken now : List ℕ) (accepted more : ℕ) → now ≡ taken → accepted ≤ more → IsTakenOfTrace limits taken accepted → IsTakenOfTrace limits now more
 read_more limits taken now accepted more same further read = record {
   lines = read.lines;
   rest = read.rest;

@@ -17,7 +17,7 @@ use Rattle.rd_walk.specs.Output.{IsFront, IsOutput, IsWell, Outcome, fault_outco
 use Rattle.rd_walk.specs.declared.analysis.Halt.{Halt}
 use Rattle.rd_walk.specs.declared.status.TraceStatus.{TraceStatus}
 use Rattle.std.specs.Result.{IsErr, IsErrAnd}
-use Rattle.rd_walk.specs.Progress.{IsRead}
+use Rattle.rd_walk.specs.Progress.{IsTakenOfTrace}
 use Rattle.rd_walk.specs.Walk.{Entry, Walked, after, ending_of, ends, entries_of, items, step_bound, trace_of}
 use Rattle.rd_walk.specs.declared.status.Status.{Status}
 use Rattle.rd_walk.specs.declared.status.Status.TheVariants.{NoMemory}
@@ -64,7 +64,7 @@ module _ (report : Walked → Outcome) (kinds : List Kind) (name : List ℕ) (li
       (well : (walked : Walked) → IsWell (report walked).status → ending_of walked ≡ End)
       (usable : AreUsable limits) (range : limits.threads < 2 ^ 32) (before now : ℕ) (old mid new : Source) (entries : List Entry) (taken part : List ℕ)
       (status : Status) (from to : ℕ) (few : before < 2 ^ 63) (few_opens : old.opens ≤ 2 ^ 63) (opened : IsOpened old mid name) (takes : Takes mid new taken)
-      (cost : to ≤ from + step_bound entries) (read : IsRead limits taken (length entries)) where
+      (cost : to ≤ from + step_bound entries) (read : IsTakenOfTrace limits taken (length entries)) where
     module _ (walked : Walked) (rose : Bool) (is_rose : ltb before now ≡ rose) where
       -- the walk of the whole file, or of what was taken of it
       reports_over : (walk_is : walk_of kinds name limits rose old new ≡ after entries walked)

@@ -1,31 +1,31 @@
 -- The walk over the lines of a trace, one line after another.
 use Rattle.std.proofs.Common.{◌≡◌, ℕ, ◌+◌, ◌≤◌, List, [], ◌∷◌, ◌++◌, Some, Ok, Err, ap, ◌∙◌, refl, arith}
 use Rattle.std.proofs.lemmas.List.{append_assoc, append-nil, map-append}
-use Rattle.rd_io.specs.Lines.{Reading, Ending as LinesEnding}
+use Rattle.rd_io.specs.Lines.{Reading, LinesEnding}
 use Rattle.rd_io.specs.Lines.Reading.{stops, line}
 use Rattle.rd_base.specs.declared.limits.Limits.{Limits}
 use Rattle.rd_event.specs.Reading.{item_of}
 use Rattle.rd_event.specs.declared.items.Line.{Line}
 use Rattle.rd_ecl.specs.Kinds.{Kind}
 use Rattle.rd_wf.specs.MayFollow.{first_broken}
-use Rattle.rd_walk.specs.Walk.{Entry, Walked, accepted_or, after, bound_from, ended, ending_of, ends, entries_of, goes, goes_or_ends, items, judged, judged_item, line_bound, walk}
+use Rattle.rd_walk.specs.Walk.{Entry, Walked, accepted_or, after, bound_from, trace_end_of, ending_of, ends, entries_of, goes, goes_or_ends, items, judgement_of, judgement_of_item, line_bound, walk}
 use Rattle.rd_wf.specs.declared.causes.WfCause.{WfCause}
 use Rattle.rd_wf.specs.declared.causes.TraceCause.{TraceCause}
 use Rattle.rd_wf.specs.declared.causes.TraceCause.TheVariants.{Wf}
 use Rattle.rd_walk.specs.declared.walk.WalkEnd.TheVariants.{Refused}
 
 pub judged_broken : (kinds : List Kind) (limits : Limits) (before : List Line) (bytes : List ℕ) (item : Line) (cause : WfCause)
-    → item_of bytes ≡ Some item → first_broken kinds limits before item ≡ Some cause → judged kinds limits before bytes ≡ Err (Wf cause)
-unfolding judged
-judged_broken kinds limits before bytes item cause says broken = ap (judged_item kinds limits before) says ∙ ap (accepted_or item) broken
+    → item_of bytes ≡ Some item → first_broken kinds limits before item ≡ Some cause → judgement_of kinds limits before bytes ≡ Err (Wf cause)
+unfolding judgement_of
+judged_broken kinds limits before bytes item cause says broken = ap (judgement_of_item kinds limits before) says ∙ ap (accepted_or item) broken
 
 pub walk_stops : (kinds : List Kind) (limits : Limits) (before : List Line) (number : ℕ) (ending : LinesEnding)
-    → walk kinds limits before number (stops ending) ≡ ends (ended limits before number ending)
+    → walk kinds limits before number (stops ending) ≡ ends (trace_end_of limits before number ending)
 unfolding walk
 walk_stops kinds limits before number ending = refl
 
 pub walk_accepts : (kinds : List Kind) (limits : Limits) (before : List Line) (number : ℕ) (bytes : List ℕ) (more : Reading) (item : Line)
-    → judged kinds limits before bytes ≡ Ok item
+    → judgement_of kinds limits before bytes ≡ Ok item
     → walk kinds limits before number (line bytes more)
     ≡ goes (record { number = number; item = item }) (walk kinds limits (before ++ item ∷ []) (number + 1) more)
 unfolding walk
@@ -33,7 +33,7 @@ walk_accepts kinds limits before number bytes more item h =
     ap (λ r. goes_or_ends number r (λ item'. walk kinds limits (before ++ item' ∷ []) (number + 1) more)) h
 
 pub walk_refuses : (kinds : List Kind) (limits : Limits) (before : List Line) (number : ℕ) (bytes : List ℕ) (more : Reading) (cause : TraceCause)
-    → judged kinds limits before bytes ≡ Err cause → walk kinds limits before number (line bytes more) ≡ ends (Refused number cause)
+    → judgement_of kinds limits before bytes ≡ Err cause → walk kinds limits before number (line bytes more) ≡ ends (Refused number cause)
 unfolding walk
 walk_refuses kinds limits before number bytes more cause h =
     ap (λ r. goes_or_ends number r (λ item. walk kinds limits (before ++ item ∷ []) (number + 1) more)) h

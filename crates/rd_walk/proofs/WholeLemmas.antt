@@ -1,7 +1,7 @@
 -- A run in which nothing failed writes all.
 use Rattle.rd_io.specs.Inputs.{next_count}
 use Rattle.rd_walk.specs.Output.{HasOutcome, IsWell, Outcome, StatusTellsFault}
-use Rattle.rd_walk.specs.Traces.{IsWhole}
+use Rattle.rd_walk.specs.Traces.{IsWholeOutput}
 use Rattle.rd_walk.specs.declared.status.Status.TheVariants.{Clean, Raced, Usage, SpecRefused, TraceRefused, ReplayDiffers, InputFault, OutputFault, NoMemory, LimitReached}
 use Rattle.rd_walk.specs.declared.status.Status.{Status}
 use Rattle.std.proofs.Common.{◌≡◌, ◌≢◌, ◌⊎◌, ◌<◌, ◌^◌, ℕ, false, arith, List, Option, refl, sym, ap, ◌∙◌, subst, inl, inr}
@@ -28,7 +28,7 @@ all_written Is NoMemory part has other = inl refl
 all_written Is LimitReached part has other = inr (record { outcome = has.0; is = has.1; text = has.2.0; told = has.2.1 })
 
 pub whole_from : (whole outcome : Outcome) (part : List ℕ) (status : Status) → IsWell whole.status → outcome ≡ whole → part ≡ outcome.text → status ≡ outcome.status
-    → IsWhole whole part status
+    → IsWholeOutput whole part status
 whole_from whole outcome part status well is text told =
     let same : status ≡ whole.status = told ∙ ap (λ o. o.status) is in record {
       text = text ∙ ap (λ o. o.text) is;

@@ -7,7 +7,7 @@ use Rattle.rd_io.specs.Inputs.{next_count, Rose}
 use Rattle.rd_io.specs.Sinks.{Appends}
 use Rattle.rd_ecl.specs.Kinds.{Kind}
 use Rattle.rd_wf.specs.MayFollow.{MayFollow, accepted_of, threads_of}
-use Rattle.rd_wf.specs.Roster.{StandsFor}
+use Rattle.rd_wf.specs.Roster.{RosterStandsFor}
 use Rattle.rd_wf.specs.declared.causes.Accepted.{Accepted}
 use Rattle.rd_wf.specs.declared.roster.Roster.{Roster}
 use Rattle.rd_walk.specs.Walk.{Entry, items}
@@ -20,7 +20,7 @@ pub record IsNextEntry (kinds : List Kind) (roster : Roster) (before : List Entr
   pub usable : AreUsable limits
   pub follows : MayFollow kinds limits (items before) item
   pub numbers : accepted ≡ accepted_of kinds (items before) item
-  pub stands : StandsFor kinds roster (items before ++ item ∷ [])
+  pub stands : RosterStandsFor kinds roster (items before ++ item ∷ [])
   pub few : length (threads_of (items before ++ item ∷ [])) ≤ 4294967295
 
 -- where the text was `before`, it is `now` with what was written between

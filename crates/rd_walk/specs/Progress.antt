@@ -1,7 +1,7 @@
 -- Where a walk over the lines of an input has come.
 use Rattle.std.specs.Prelude.{◌≡◌, ◌≤◌, ℕ, ◌+◌, List, [], ◌∷◌, ◌++◌, All, length}
 use Rattle.std.specs.List.{flat_map}
-use Rattle.rd_io.specs.LineReader.{HasNoFeed, Reader, left}
+use Rattle.rd_io.specs.LineReader.{HasNoFeed, Reader, lines_left}
 use Rattle.rd_io.specs.Lines.{Stop}
 use Rattle.rd_io.specs.Lines.Stop.{end, fault}
 use Rattle.rd_io.specs.declared.lines.ReadEnd.{ReadEnd}
@@ -38,7 +38,7 @@ WalksOn kinds limits taken entries =
 abbrev pub Continues : List Kind → Limits → List ℕ → Reader → List Entry → Type 0
 Continues kinds limits taken reader entries =
     (stop : Stop) (more : List ℕ) → trace_of kinds limits stop (taken ++ more)
-    ≡ after entries (walk kinds limits (items entries) (reader.number + 1) (left reader stop more))
+    ≡ after entries (walk kinds limits (items entries) (reader.number + 1) (lines_left reader stop more))
 
 -- a line with its line feed
 abbrev pub with_feed : List ℕ → List ℕ
@@ -53,7 +53,7 @@ pub record IsCut (limits : Limits) (taken : List ℕ) (reader : Reader) (lines :
 
 -- What was taken of a trace of which so many lines are accepted: some or all of these lines, and behind them no more bytes than a line
 -- may have, which hold whatever line was refused; and all in all at most one byte past the limit on bytes.
-pub record IsRead (limits : Limits) (taken : List ℕ) (accepted : ℕ) : Type 0 where
+pub record IsTakenOfTrace (limits : Limits) (taken : List ℕ) (accepted : ℕ) : Type 0 where
   pub lines : List (List ℕ)
   pub rest : List ℕ
   pub cut : taken ≡ flat_map with_feed lines ++ rest

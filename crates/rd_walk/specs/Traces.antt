@@ -5,7 +5,7 @@ use Rattle.rd_ecl.specs.Kinds.{Kind}
 use Rattle.rd_io.specs.Inputs.{Rose, Source, file_of}
 use Rattle.rd_io.specs.Lines.Stop.{end, fault}
 use Rattle.rd_io.specs.Lines.{Stop}
-use Rattle.rd_walk.specs.Progress.{IsRead, WalksOn, WalksTo}
+use Rattle.rd_walk.specs.Progress.{IsTakenOfTrace, WalksOn, WalksTo}
 use Rattle.rd_walk.specs.Walk.{Entry, Walked, after, ends, ending_of, entries_of, step_bound, trace_of}
 use Rattle.rd_walk.specs.declared.analysis.Halt.{Halt}
 use Rattle.rd_walk.specs.declared.status.Status.{Status}
@@ -59,7 +59,7 @@ pub record OpensOnly (names : List (List ℕ)) (old new : Source) : Type 0 where
 -- more was taken than may be by how many of its lines are accepted; and the steps are those of these lines.
 pub record TakesTrace (kinds : List Kind) (trace : List ℕ) (limits : Limits) (rose : Bool) (old new : Source) (before after : ℕ) : Type 0 where
   pub whole : file_of old.files trace ≡ Some (new.taken ++ new.held)
-  pub read : IsRead limits new.taken (length (entries_of (walk_of kinds trace limits rose old new)))
+  pub read : IsTakenOfTrace limits new.taken (length (entries_of (walk_of kinds trace limits rose old new)))
   pub cost : after ≤ before + step_bound (entries_of (walk_of kinds trace limits rose old new))
 
 -- all of a trace was taken, and in the walk over it no line is refused
@@ -69,7 +69,7 @@ pub record IsReadWhole (kinds : List Kind) (trace : List ℕ) (limits : Limits) 
   pub well : ending_of (trace_of kinds limits end new.taken) ≡ End
 
 -- what was written and answered is the whole of an outcome over a trace that was read to its end
-pub record IsWhole (outcome : Outcome) (part : List ℕ) (status : Status) : Type 0 where
+pub record IsWholeOutput (outcome : Outcome) (part : List ℕ) (status : Status) : Type 0 where
   pub text : part ≡ outcome.text
   pub told : status ≡ outcome.status
   pub well : IsWell status

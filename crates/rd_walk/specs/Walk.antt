@@ -1,7 +1,7 @@
 -- The walk over the lines of a trace: which are accepted, and how they end. This project's profile.
 use Rattle.std.specs.Prelude.{ℕ, ◌+◌, ◌*◌, ◌==◌, List, [], ◌∷◌, ◌++◌, map, length, Option, Some, None, Result, Ok, Err, if◌then◌else◌}
-use Rattle.rd_io.specs.Lines.{Stop, Reading, reading, Ending as LinesEnding}
-use Rattle.rd_io.specs.Lines.Ending.{at_end, no_final_newline, line_too_long, bytes_limit, faulted}
+use Rattle.rd_io.specs.Lines.{Stop, Reading, reading, LinesEnding}
+use Rattle.rd_io.specs.Lines.LinesEnding.{at_end, no_final_newline, line_too_long, bytes_limit, faulted}
 use Rattle.rd_io.specs.Lines.Reading.{stops, line}
 use Rattle.rd_base.specs.declared.limits.Limits.{Limits}
 use Rattle.rd_base.specs.declared.limits.LimitName.TheVariants.{Bytes, Line as LineBytes}
@@ -42,22 +42,22 @@ abbrev pub accepted_or : Line → Option WfCause → Result Line TraceCause
 accepted_or item None = Ok item
 accepted_or item (Some cause) = Err (Wf cause)
 
-abbrev pub judged_item : List Kind → Limits → List Line → Option Line → Result Line TraceCause
-judged_item kinds limits before None = Err BadLine
-judged_item kinds limits before (Some item) = accepted_or item (first_broken kinds limits before item)
+abbrev pub judgement_of_item : List Kind → Limits → List Line → Option Line → Result Line TraceCause
+judgement_of_item kinds limits before None = Err BadLine
+judgement_of_item kinds limits before (Some item) = accepted_or item (first_broken kinds limits before item)
 
 -- what the bytes of a line behind the accepted ones say, or the first cause to refuse it: it says no item, or its item may not
 -- follow
-unfoldable pub judged : List Kind → Limits → List Line → List ℕ → Result Line TraceCause
-judged kinds limits before bytes = judged_item kinds limits before (item_of bytes)
+unfoldable pub judgement_of : List Kind → Limits → List Line → List ℕ → Result Line TraceCause
+judgement_of kinds limits before bytes = judgement_of_item kinds limits before (item_of bytes)
 
 -- how a trace ends where its lines end so behind the accepted ones. The number is that of the next line
-abbrev pub ended : Limits → List Line → ℕ → LinesEnding → WalkEnd
-ended limits before number at_end = if headers before == 0 then Refused number (Wf HeaderFirst) else End
-ended limits before number no_final_newline = Refused number NoFinalNewline
-ended limits before number line_too_long = Refused number (Limit LineBytes limits.line)
-ended limits before number bytes_limit = Refused number (Limit Bytes limits.bytes)
-ended limits before number faulted = Fault
+abbrev pub trace_end_of : Limits → List Line → ℕ → LinesEnding → WalkEnd
+trace_end_of limits before number at_end = if headers before == 0 then Refused number (Wf HeaderFirst) else End
+trace_end_of limits before number no_final_newline = Refused number NoFinalNewline
+trace_end_of limits before number line_too_long = Refused number (Limit LineBytes limits.line)
+trace_end_of limits before number bytes_limit = Refused number (Limit Bytes limits.bytes)
+trace_end_of limits before number faulted = Fault
 
 abbrev pub goes_or_ends : ℕ → Result Line TraceCause → (Line → Walked) → Walked
 goes_or_ends number (Ok item) more = goes (record { number = number; item = item }) (more item)
@@ -65,9 +65,9 @@ goes_or_ends number (Err cause) more = ends (Refused number cause)
 
 -- the walk over lines that come behind the accepted ones, the first of them with this number
 unfoldable pub walk : List Kind → Limits → List Line → ℕ → Reading → Walked
-walk kinds limits before number (stops ending) = ends (ended limits before number ending)
+walk kinds limits before number (stops ending) = ends (trace_end_of limits before number ending)
 walk kinds limits before number (line bytes more) =
-    goes_or_ends number (judged kinds limits before bytes) (λ item. walk kinds limits (before ++ item ∷ []) (number + 1) more)
+    goes_or_ends number (judgement_of kinds limits before bytes) (λ item. walk kinds limits (before ++ item ∷ []) (number + 1) more)
 
 -- the walk over the lines of the bytes of a trace
 unfoldable pub trace_of : List Kind → Limits → Stop → List ℕ → Walked

@@ -3,10 +3,10 @@ ghost use Rattle.std.specs.Prelude.{◌≡◌, ◌≤◌, ◌++◌, [], ◌∷�
 ghost use Rattle.rd_base.specs.Limits.{AreUsable};
 ghost use Rattle.rd_event.specs.Reading.{item_of};
 ghost use Rattle.rd_event.specs.declared.items.Line.{Line as Item};
-ghost use Rattle.rd_walk.specs.Walk.{judged};
+ghost use Rattle.rd_walk.specs.Walk.{judgement_of};
 ghost use Rattle.rd_ecl.specs.Kinds.{Kind};
 ghost use Rattle.rd_wf.specs.MayFollow.{MayFollow, accepted_of, threads_of};
-ghost use Rattle.rd_wf.specs.Roster.{StandsFor};
+ghost use Rattle.rd_wf.specs.Roster.{RosterStandsFor};
 
 use rd_base::Limits;
 use rd_event::{Line, LineRefused, read_into};
@@ -25,7 +25,7 @@ pub enum Refusal {
 /// Reads the bytes of a line into `line`, and asks the roster whether what they say may follow its lines. It then has it, and the
 /// answer says what it is in numbers. A refusal leaves the roster as it was, and the line may be anything. Want of memory comes only
 /// for bytes that say an item.
-#[tactic(auto, unfolding(crate::specs::Walk::judged))]
+#[tactic(auto, unfolding(crate::specs::Walk::judgement_of))]
 pub fn judge(
     alloc: Global,
     bytes: &[u8],
@@ -38,31 +38,31 @@ pub fn judge(
     // what the bytes say may follow, and is told in numbers
     ensures says { OnOk result (item_of bytes.now ≡ Some line.new) }
     ensures judged { OnOk result
-        ((kinds : List Kind) (before : List Item) → StandsFor kinds roster.old before →
-        judged kinds limits.now before bytes.now ≡ Ok line.new) }
+        ((kinds : List Kind) (before : List Item) → RosterStandsFor kinds roster.old before →
+        judgement_of kinds limits.now before bytes.now ≡ Ok line.new) }
     ensures follows { OnOk result
-        ((kinds : List Kind) (before : List Item) → StandsFor kinds roster.old before →
+        ((kinds : List Kind) (before : List Item) → RosterStandsFor kinds roster.old before →
         MayFollow kinds limits.now before line.new) }
     ensures numbers { IfOk result
-        (λ accepted. (kinds : List Kind) (before : List Item) → StandsFor kinds roster.old before →
+        (λ accepted. (kinds : List Kind) (before : List Item) → RosterStandsFor kinds roster.old before →
         accepted ≡ accepted_of kinds before line.new) }
     ensures stands { OnOk result
-        ((kinds : List Kind) (before : List Item) → StandsFor kinds roster.old before →
-        StandsFor kinds roster.new (before ++ line.new ∷ [])) }
+        ((kinds : List Kind) (before : List Item) → RosterStandsFor kinds roster.old before →
+        RosterStandsFor kinds roster.new (before ++ line.new ∷ [])) }
     ensures few { OnOk result
-        ((kinds : List Kind) (before : List Item) → StandsFor kinds roster.old before →
+        ((kinds : List Kind) (before : List Item) → RosterStandsFor kinds roster.old before →
         length (threads_of (before ++ line.new ∷ [])) ≤ 4294967295) }
 
     // or the first cause against it is told
     ensures refused { IfErr result
         (λ e. (cause : TraceCause) → e ≡ Refusal.Cause cause →
         (kinds : List Kind) (before : List Item) →
-        StandsFor kinds roster.old before → judged kinds limits.now before bytes.now ≡ Err cause) }
+        RosterStandsFor kinds roster.old before → judgement_of kinds limits.now before bytes.now ≡ Err cause) }
     ensures memory { IfErr result
         (λ e. e ≡ Refusal.NoMemory → (item : Item) × (item_of bytes.now ≡ Some item)) }
     ensures same { OnErr result
-        ((kinds : List Kind) (before : List Item) → StandsFor kinds roster.old before →
-        StandsFor kinds roster.new before) }
+        ((kinds : List Kind) (before : List Item) → RosterStandsFor kinds roster.old before →
+        RosterStandsFor kinds roster.new before) }
 {
     match read_into(alloc, bytes, line) {
         Ok(()) => {}

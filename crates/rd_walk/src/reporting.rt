@@ -8,10 +8,10 @@ ghost use Rattle.rd_io.specs.Sinks.{Appends};
 ghost use Rattle.rd_walk.specs.Traces.{HasReported, ReportsTrace};
 ghost use Rattle.rd_walk.specs.Analysis.{TellsFault, TellsFaults};
 ghost use Rattle.rd_walk.specs.Output.{IsFront, IsOutput, IsWell, Outcome, report_status};
-ghost use Rattle.rd_walk.specs.Progress.{IsRead};
+ghost use Rattle.rd_walk.specs.Progress.{IsTakenOfTrace};
 ghost use Rattle.rd_walk.specs.Walk.{Entry, Walked, after, ending_of, ends, entries_of, items, step_bound};
 ghost use Rattle.rd_wf.specs.Events.{AreAccepted};
-ghost use Rattle.rd_wf.specs.Roster.{StandsFor, kinds_in};
+ghost use Rattle.rd_wf.specs.Roster.{RosterStandsFor, kinds_in};
 
 use crate::analysis::{Analysis, Halt};
 use crate::faults::write_fault;
@@ -38,12 +38,12 @@ pub trait Report: Analysis {
     ) -> Result<TraceStatus, Halt>
         requires { (kinds : List Kind) × (start : Self) × (entries : List Entry)
             × Self.leads kinds start entries self.now
-            × StandsFor kinds names.now (items entries) }
+            × RosterStandsFor kinds names.now (items entries) }
 
         // the outcome is written behind the texts of the lines
         ensures output { (kinds : List Kind) (start : Self) (entries : List Entry) →
             Self.leads kinds start entries self.now →
-            StandsFor kinds names.now (items entries) → (part : List ℕ)
+            RosterStandsFor kinds names.now (items entries) → (part : List ℕ)
             × Appends (S.written out.old) (S.written out.new) part
             × IsOutput (report_status result) (Self.text kinds start entries ++ part)
             (outcome kinds start (after entries (ends ending))) }
@@ -76,14 +76,14 @@ fn report_opened<A: Report, I: Inputs, S: Sink, L: Ledger>(
 ) -> Result<TraceStatus, Halt>
     requires usable { AreUsable walker.old.limits }
     requires fresh { reader.old ≡ fresh walker.old.limits }
-    requires none { StandsFor (kinds_in walker.old.roster) walker.old.roster [] }
+    requires none { RosterStandsFor (kinds_in walker.old.roster) walker.old.roster [] }
     requires begins { A.begins (kinds_in walker.old.roster) walker.old.analysis }
 
     // the report, and each fault is told as one
     ensures reported { (entries : List Entry) × (taken : List ℕ) × (part : List ℕ)
         × Appends (S.written out.old) (S.written out.new) part
         × (steps.new ≤ steps.old + step_bound entries)
-        × IsRead walker.old.limits taken (length entries)
+        × IsTakenOfTrace walker.old.limits taken (length entries)
         × Goes (I.told inputs.old) (I.told inputs.new) (λ old new. Takes old new taken
         × HasReported (A.text (kinds_in walker.old.roster) walker.old.analysis)
         (A.outcome (kinds_in walker.old.roster) walker.old.analysis)
@@ -107,7 +107,7 @@ pub fn report_trace<A: Report, I: Inputs, S: Sink, L: Ledger>(
     steps: &mut Steps<L>,
 ) -> Result<TraceStatus, Halt>
     requires usable { AreUsable walker.old.limits }
-    requires none { StandsFor (kinds_in walker.old.roster) walker.old.roster [] }
+    requires none { RosterStandsFor (kinds_in walker.old.roster) walker.old.roster [] }
     requires begins { A.begins (kinds_in walker.old.roster) walker.old.analysis }
 
     // the report, and each fault is told as one

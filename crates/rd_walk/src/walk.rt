@@ -5,13 +5,13 @@ ghost use Rattle.rd_event.specs.Reading.{item_of};
 ghost use Rattle.rd_event.specs.declared.items.Line.{Line as Item};
 ghost use Rattle.rd_io.specs.Inputs.{Goes, Takes, Rose};
 ghost use Rattle.rd_io.specs.LineReader.{fresh};
-ghost use Rattle.rd_io.specs.Lines.Ending.{at_end};
+ghost use Rattle.rd_io.specs.Lines.LinesEnding.{at_end};
 ghost use Rattle.rd_io.specs.Sinks.{Appends};
 ghost use Rattle.rd_walk.specs.Analysis.{TellsFault, WritesBetween, WritesFront};
-ghost use Rattle.rd_walk.specs.Progress.{IsRead, WalksOn, WalksTo, ending_for};
-ghost use Rattle.rd_walk.specs.Walk.{Entry, ended, items, judged, line_bound, step_bound};
+ghost use Rattle.rd_walk.specs.Progress.{IsTakenOfTrace, WalksOn, WalksTo, ending_for};
+ghost use Rattle.rd_walk.specs.Walk.{Entry, trace_end_of, items, judgement_of, line_bound, step_bound};
 ghost use Rattle.rd_ecl.specs.Kinds.{Kind};
-ghost use Rattle.rd_wf.specs.Roster.{StandsFor, kinds_in};
+ghost use Rattle.rd_wf.specs.Roster.{RosterStandsFor, kinds_in};
 
 use crate::analysis::{Analysis, Halt};
 use crate::judging::{Refusal, judge};
@@ -47,8 +47,8 @@ pub struct Walker<A> {
 /// How a trace ends whose lines ended well. The number is that of its last line.
 fn at_end(roster: &Roster, number: u64) -> WalkEnd
     requires { number < 2 ^ 64 - 1 }
-    ensures ending { (kinds : List Kind) (before : List Item) → StandsFor kinds roster.now before →
-        (limits : _) → result ≡ ended limits before (number + 1) at_end }
+    ensures ending { (kinds : List Kind) (before : List Item) → RosterStandsFor kinds roster.now before →
+        (limits : _) → result ≡ trace_end_of limits before (number + 1) at_end }
     ensures whole { result ≢ WalkEnd.Fault }
 {
     match roster.finish() {
@@ -86,17 +86,17 @@ fn take_line<A: Analysis, S: Sink, L: Ledger>(
 ) -> Result<Option<TraceCause>, Halt>
     requires usable { AreUsable walker.old.limits }
     requires stands { (kinds : List Kind) × (start : A) × (before : List Entry)
-        × StandsFor kinds walker.old.roster (items before)
+        × RosterStandsFor kinds walker.old.roster (items before)
         × A.leads kinds start before walker.old.analysis }
     ensures limits { walker.new.limits ≡ walker.old.limits }
 
     // a line is accepted and handed on
     ensures taken { IfOk result
         (λ refused. refused ≡ None → (kinds : List Kind) (start : A) (before : List Entry) →
-        StandsFor kinds walker.old.roster (items before) →
+        RosterStandsFor kinds walker.old.roster (items before) →
         A.leads kinds start before walker.old.analysis →
-        (item : Item) × (judged kinds walker.old.limits (items before) bytes.now ≡ Ok item)
-        × StandsFor kinds walker.new.roster (items before ++ item ∷ [])
+        (item : Item) × (judgement_of kinds walker.old.limits (items before) bytes.now ≡ Ok item)
+        × RosterStandsFor kinds walker.new.roster (items before ++ item ∷ [])
         × A.leads kinds start
         (before ++ record { number = number; item = item } ∷ []) walker.new.analysis
         × WritesBetween (S.written out.old) (S.written out.new)
@@ -108,9 +108,9 @@ fn take_line<A: Analysis, S: Sink, L: Ledger>(
     ensures refused { IfOk result
         (λ refused. (cause : TraceCause) → refused ≡ Some cause →
         (kinds : List Kind) (before : List Entry) →
-        StandsFor kinds walker.old.roster (items before) →
-        (judged kinds walker.old.limits (items before) bytes.now ≡ Err cause)
-        × StandsFor kinds walker.new.roster (items before)) }
+        RosterStandsFor kinds walker.old.roster (items before) →
+        (judgement_of kinds walker.old.limits (items before) bytes.now ≡ Err cause)
+        × RosterStandsFor kinds walker.new.roster (items before)) }
     ensures silent { IfOk result (λ refused. (cause : TraceCause) → refused ≡ Some cause →
         (out.new ≡ out.old) × (walker.new.analysis ≡ walker.old.analysis)
         × (steps.new ≡ steps.old)) }
@@ -120,10 +120,10 @@ fn take_line<A: Analysis, S: Sink, L: Ledger>(
         (λ halt. halt ≡ Halt.NoMemory → (item : Item) × (item_of bytes.now ≡ Some item)) }
     ensures halted { OnErr result
         ((kinds : List Kind) (start : A) (before : List Entry) →
-        StandsFor kinds walker.old.roster (items before) →
+        RosterStandsFor kinds walker.old.roster (items before) →
         A.leads kinds start before walker.old.analysis →
         ((S.written out.new ≡ S.written out.old) × (steps.new ≡ steps.old))
-        ⊎ ((item : Item) × (judged kinds walker.old.limits (items before) bytes.now ≡ Ok item)
+        ⊎ ((item : Item) × (judgement_of kinds walker.old.limits (items before) bytes.now ≡ Ok item)
         × WritesFront (S.written out.old) (S.written out.new)
         (A.text kinds start before)
         (A.text kinds start (before ++ record { number = number; item = item } ∷ []))
@@ -159,7 +159,7 @@ fn take_line<A: Analysis, S: Sink, L: Ledger>(
 
 /// Walks over the lines of the current input from its first byte on, and hands each accepted line to the analysis. The roster then has
 /// all of them. The answer says how the lines end, or why the walk stopped before that: a write failed, or memory ran out. A turn
-/// takes at least one byte of the input, and no more is taken than `IsRead` says.
+/// takes at least one byte of the input, and no more is taken than `IsTakenOfTrace` says.
 pub fn walk_lines<A: Analysis, I: Inputs, S: Sink, L: Ledger>(
     walker: &mut Walker<A>,
     reader: &mut LineReader,
@@ -169,17 +169,17 @@ pub fn walk_lines<A: Analysis, I: Inputs, S: Sink, L: Ledger>(
 ) -> Result<WalkEnd, Halt>
     requires usable { AreUsable walker.old.limits }
     requires fresh { reader.old ≡ fresh walker.old.limits }
-    requires none { StandsFor (kinds_in walker.old.roster) walker.old.roster [] }
+    requires none { RosterStandsFor (kinds_in walker.old.roster) walker.old.roster [] }
     requires begins { A.begins (kinds_in walker.old.roster) walker.old.analysis }
 
     // all lines were walked over, as far as they go
     ensures walked { IfOk result (λ ending. (entries : List Entry) × (taken : List ℕ)
         × A.leads (kinds_in walker.old.roster) walker.old.analysis entries walker.new.analysis
-        × StandsFor (kinds_in walker.old.roster) walker.new.roster (items entries)
+        × RosterStandsFor (kinds_in walker.old.roster) walker.new.roster (items entries)
         × Appends (S.written out.old) (S.written out.new)
         (A.text (kinds_in walker.old.roster) walker.old.analysis entries)
         × (steps.new ≤ steps.old + step_bound entries)
-        × IsRead walker.old.limits taken (length entries)
+        × IsTakenOfTrace walker.old.limits taken (length entries)
         × Goes (I.told inputs.old) (I.told inputs.new)
         (λ old new. Takes old new taken
         × WalksTo (kinds_in walker.old.roster) walker.old.limits taken new.held entries ending)) }
@@ -189,7 +189,7 @@ pub fn walk_lines<A: Analysis, I: Inputs, S: Sink, L: Ledger>(
         × WritesFront (S.written out.old) (S.written out.new) []
         (A.text (kinds_in walker.old.roster) walker.old.analysis entries)
         × (steps.new ≤ steps.old + step_bound entries)
-        × IsRead walker.old.limits taken (length entries)
+        × IsTakenOfTrace walker.old.limits taken (length entries)
         × WalksOn (kinds_in walker.old.roster) walker.old.limits taken entries
         × Goes (I.told inputs.old) (I.told inputs.new) (λ old new. Takes old new taken)) }
 

@@ -9,7 +9,7 @@ use Rattle.rd_wf.specs.declared.roster.judge.Broken.{Broken}
 use Rattle.rd_wf.specs.MayFollow.{passes, causes, threads_of}
 use Rattle.rd_base.specs.declared.limits.Limits.{Limits}
 use Rattle.rd_event.specs.declared.items.Line.{Line}
-use Rattle.rd_wf.specs.Roster.{flag, unbroken}
+use Rattle.rd_wf.specs.Roster.{flag, nothing_broken}
 
 -- ---- of the threads, the one that has the lock
 
@@ -46,5 +46,5 @@ module _ (broken : Broken) (rest : List WfCause) where
           ap (λ b. cond b (Some (LockHeld a)) (from (a + 1) n)) is ∙ rest (omega (arith, other))
 
 -- where no rule is broken, no cause is found
-pub none_found : (limits : Limits) (before : List Line) → find (flag unbroken) (causes limits before) ≡ None
-none_found limits before = none_holds unbroken _ refl 0 (length (threads_of before))
+pub none_found : (limits : Limits) (before : List Line) → find (flag nothing_broken) (causes limits before) ≡ None
+none_found limits before = none_holds nothing_broken _ refl 0 (length (threads_of before))

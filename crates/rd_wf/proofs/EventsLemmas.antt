@@ -18,7 +18,7 @@ use Rattle.rd_event.specs.declared.items.Line.TheVariants.{Skip, Header, Thread,
 use Rattle.rd_event.specs.declared.items.LineEvent.{LineEvent}
 use Rattle.rd_event.specs.declared.items.LineEvent.TheVariants.{Fork, Join, Acquire, Release, Call}
 use Rattle.rd_order.proofs.EventListLemmas.{few_known, formed_more, may_acquire, may_call, may_fork, may_join, may_release}
-use Rattle.rd_order.specs.EventLists.{calls, Follow, forks, is_call_on, joins, IsBounded, IsCallOf, Known, MayHappen, WellFormedWith}
+use Rattle.rd_order.specs.EventLists.{calls, Follow, forks, is_call_on, joins, IsBounded, IsCallOf, IsKnownThread, MayHappen, WellFormedWith}
 use Rattle.rd_order.specs.Order.{call_in, forked_thread, joined_thread}
 use Rattle.rd_order.specs.OrderTests.{is_this}
 use Rattle.rd_wf.proofs.FollowLemmas.{Meets, met}
@@ -27,7 +27,7 @@ use Rattle.rd_wf.proofs.PlaceLemmas.{OnePlace, got_left, got_push, one_place_mor
 use Rattle.rd_wf.specs.declared.causes.Accepted.TheVariants as accepted
 use Rattle.rd_wf.specs.laws.NoLines.{told_none}
 use Rattle.rd_wf.specs.Events.{AreAccepted, AreAcceptedFrom, AreTold, AreUsed, IsTold, event_of, events_from, events_of, root_count, roots_of}
-use Rattle.rd_ecl.specs.Kinds.{Kind, Method, kind_names, method_names}
+use Rattle.rd_ecl.specs.Kinds.{Kind, KindMethod, kind_names, method_names}
 use Rattle.rd_wf.specs.MayFollow.{MayFollow, accepted_of, acquired_name, acquires, acting_name, begun_name, declared_kind, events, is_acquire_of, is_event, is_release_of, is_root, is_skip, joined_name, joined_of, kind_number, locks_of, method_number, methods_of, numbered_event, object_kinds, objects_of, passes, place, released_name, releases, same_name, threads_of, with_lock, with_locks}
 
 -- ---- one more name, and one more join
@@ -68,7 +68,7 @@ marks_more count after names marked name marks places there adds t = (
 
 -- known by number where it is one of the first n
 abbrev KnownBelow : (ℕ → Bool) → List Numbered → ℕ → Type 0
-KnownBelow roots es n = (t : ℕ) → Known roots es t ↔ (t < n)
+KnownBelow roots es n = (t : ℕ) → IsKnownThread roots es t ↔ (t < n)
 
 known_fork : (roots : ℕ → Bool) (es : List Numbered) (n thread : ℕ) → KnownBelow roots es n → KnownBelow roots (es ++ numbered.Fork thread n ∷ []) (n + 1)
 unfolding forks
@@ -163,7 +163,7 @@ bounded roots es n known fits few = record { few_events = few; few_threads = few
 
 module _ (roots : ℕ → Bool) (es : List Numbered) (count : ℕ) (threads joined : List (List ℕ)) (objects : List ℕ) (told : IsTold roots es count threads joined objects) where
   -- a thread with this name is known, and runs where it isn't joined
-  known_name : (name : List ℕ) → Contains threads name → Known roots es (place threads name)
+  known_name : (name : List ℕ) → Contains threads name → IsKnownThread roots es (place threads name)
   known_name name there = (told.known (place threads name)).1 (place_below threads name there)
 
   running : (name : List ℕ) → Contains threads name → ¬ (Contains joined name) → joins es (place threads name) ≡ 0
@@ -191,7 +191,7 @@ module _ (roots : ℕ → Bool) (es : List Numbered) (count : ℕ) (threads join
           bounded roots (es ++ event ∷ []) (length threads + 1) (known_fork roots es (length threads) (place threads thread) told.known) (omega arith) (omega (arith, length-append es (event ∷ []))),
         );
         counted = omega (arith, length-append es (event ∷ []));
-        known = λ t. subst (λ n. Known roots (es ++ event ∷ []) t ↔ (t < n)) (sym more) (known_fork roots es (length threads) (place threads thread) told.known t);
+        known = λ t. subst (λ n. IsKnownThread roots (es ++ event ∷ []) t ↔ (t < n)) (sym more) (known_fork roots es (length threads) (place threads thread) told.known t);
         ended = λ t. subst (λ n. (0 < n) ↔ ((name : List ℕ) × (slice_get (threads ++ child ∷ []) t ≡ Some name) × Contains joined name)) (sym (joins_fork es (place threads thread) (length threads) t))
             (marks_name (joins es) threads joined child told.ended told.begun fresh t);
         begun = λ name over. Contains-append_left threads (child ∷ []) name (told.begun name over);
@@ -233,7 +233,7 @@ module _ (roots : ℕ → Bool) (es : List Numbered) (count : ℕ) (threads join
       let so_many : length es ≡ count = told.counted in
       let room : length threads ≤ 4294967295 = told.few in
       let may : MayHappen roots es event = may_call roots es call
-      (subst (Known roots es) (sym acts) (known_name thread there)) (subst (λ t. joins es t ≡ 0) (sym acts) (running thread there runs)) (no_other_kind es objects call at told.one_kind) in record {
+      (subst (IsKnownThread roots es) (sym acts) (known_name thread there)) (subst (λ t. joins es t ≡ 0) (sym acts) (running thread there runs)) (no_other_kind es objects call at told.one_kind) in record {
         formed = (formed_more roots es event).1 (
           told.formed,
           may,
@@ -313,7 +313,7 @@ told_root r es count threads joined objects name none told fresh room =
         bounded = bounded (λ t. ltb t (r + 1)) es (r + 1) (known_roots es (r + 1) none) (omega arith) (omega (arith, ap length none));
       };
       counted = told.counted;
-      known = λ t. subst (λ n. Known (λ u. ltb u (r + 1)) es t ↔ (t < n)) (sym more) (known_roots es (r + 1) none t);
+      known = λ t. subst (λ n. IsKnownThread (λ u. ltb u (r + 1)) es t ↔ (t < n)) (sym more) (known_roots es (r + 1) none t);
       ended = marks_name (joins es) threads joined name told.ended told.begun fresh;
       begun = λ other over. Contains-append_left threads (name ∷ []) other (told.begun other over);
       places = one_place_more threads name told.places fresh;
@@ -627,7 +627,7 @@ told_called kinds limits lines thread object method slots usable may told =
     let at : slice_get (object_kinds kinds lines) call.object ≡ Some call.kind = got_inside (object_kinds kinds lines) (place (objects_of lines) object) (length kinds) inside in
     let kind : kind_number kinds lines object < length kinds =
     rw unwrap_or-slice_get (told.declared (place (objects_of lines) object) (length kinds) inside) in
-    let methods : List Method = methods_of kinds lines object in
+    let methods : List KindMethod = methods_of kinds lines object in
     let method_below : method_number kinds lines object method < length (method_names methods) = place_below (method_names methods) method may.known_method in
     grown kinds lines line told
     (told_event kinds limits lines (Call thread object method slots) usable may (threads_of lines) (joined_of lines) begins (joined_more lines line ∙ append-nil (joined_of lines))

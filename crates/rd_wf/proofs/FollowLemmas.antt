@@ -16,7 +16,7 @@ use Rattle.rd_event.specs.declared.items.LineEvent.TheVariants.{Fork, Join, Acqu
 use Rattle.rd_wf.specs.declared.causes.WfCause.{WfCause}
 use Rattle.rd_wf.specs.declared.causes.WfCause.TheVariants.{HeaderFirst, LateRoot, NameTaken, UnknownThread, ThreadEnded, OwnThread, UnknownKind, UnknownObject, UnknownMethod, WrongCount, LockHeld, NotHeld, Limit}
 use Rattle.rd_ecl.specs.Kinds.{Kind, kind_names, method_names}
-use Rattle.rd_wf.specs.MayFollow.{SpelledCall, line_call, methods_of, slots_of, is_skip, is_header, is_root, is_event, begun_name, acting_name, joined_name, acquired_name, released_name, declared_name, kind_name, threads_of, joined_of, locks_of, objects_of, acquires, releases, headers, events, Rule, causes, holders, MayFollow, IsBrokenFirst, same_name, is_among, passes, is_broken, first_broken}
+use Rattle.rd_wf.specs.MayFollow.{SpelledCall, line_call, methods_of, slot_count_of, is_skip, is_header, is_root, is_event, begun_name, acting_name, joined_name, acquired_name, released_name, declared_name, kind_name, threads_of, joined_of, locks_of, objects_of, acquires, releases, headers, events, Rule, causes, holders, MayFollow, IsBrokenFirst, same_name, is_among, passes, is_broken, first_broken}
 
 -- ---- tests of names
 
@@ -155,8 +155,8 @@ module _ (kinds : List Kind) (before : List Line) where
   method_decides : (call : SpelledCall) → Decides (not (is_among (method_names (methods_of kinds before call.object)) call.method)) (¬ (Contains (method_names (methods_of kinds before call.object)) call.method))
   method_decides call = absent_decides (method_names (methods_of kinds before call.object)) call.method
 
-  count_decides : (call : SpelledCall) → Decides (not (length call.slots == slots_of kinds before call)) (length call.slots ≢ slots_of kinds before call)
-  count_decides call = Decides-not _ (Decides-eqb (length call.slots) (slots_of kinds before call))
+  count_decides : (call : SpelledCall) → Decides (not (length call.slots == slot_count_of kinds before call)) (length call.slots ≢ slot_count_of kinds before call)
+  count_decides call = Decides-not _ (Decides-eqb (length call.slots) (slot_count_of kinds before call))
 
 -- ---- locks
 
@@ -197,7 +197,7 @@ module _ (kinds : List Kind) (before : List Line) (line : Line) where
   rule_holds UnknownKind h = is_contained (kind_names kinds) (kind_name line) h
   rule_holds UnknownObject h = none_passes (line_call line) _ _ (λ call e. (among_decides (objects_of before) call.object).0 (not-false _ e)) h
   rule_holds UnknownMethod h = none_passes (line_call line) _ _ (λ call e. (among_decides (method_names (methods_of kinds before call.object)) call.method).0 (not-false _ e)) h
-  rule_holds WrongCount h = none_passes (line_call line) _ _ (λ call e. (Decides-eqb (length call.slots) (slots_of kinds before call)).0 (not-false _ e)) h
+  rule_holds WrongCount h = none_passes (line_call line) _ _ (λ call e. (Decides-eqb (length call.slots) (slot_count_of kinds before call)).0 (not-false _ e)) h
   rule_holds (LockHeld holder) h =
       none_passes (acquired_name line) _ _ (λ lock e. none_passes (slice_get (threads_of before) holder) _ _ (λ thread f. free_from before line lock thread f) e) h
   rule_holds NotHeld h =
@@ -356,7 +356,7 @@ pub record Meets (kinds : List Kind) (limits : Limits) (before : List Line) (lin
   pub known_kind : IfSome (kind_name line) (Contains (kind_names kinds))
   pub known_object : IfSome (line_call line) (λ call. Contains (objects_of before) call.object)
   pub known_method : IfSome (line_call line) (λ call. Contains (method_names (methods_of kinds before call.object)) call.method)
-  pub right_count : IfSome (line_call line) (λ call. length call.slots ≡ slots_of kinds before call)
+  pub right_count : IfSome (line_call line) (λ call. length call.slots ≡ slot_count_of kinds before call)
   pub free : (holder : ℕ) → holder < length (threads_of before) → Rule kinds before line (LockHeld holder)
   pub held : IfSome (released_name line) (λ lock. IfSome (acting_name line) (λ thread. releases before thread lock < acquires before thread lock))
   pub few_events : IsTrue (is_event line) → events before < limits.events

@@ -7,7 +7,7 @@ use Rattle.std.proofs.lemmas.Option.{same_Some, slice_get-map, slice_get_within,
 use Rattle.rd_event.specs.declared.items.Line.{Line}
 use Rattle.rd_ecl.specs.Kinds.{Kind}
 use Rattle.rd_wf.specs.MayFollow.{acquired_name, threads_of, locks_of, same_name, is_among, place, with_lock, with_locks}
-use Rattle.rd_wf.specs.Roster.{StandsFor, thread_entry, found_thread}
+use Rattle.rd_wf.specs.Roster.{RosterStandsFor, thread_entry, found_thread}
 use Rattle.rd_wf.specs.declared.roster.Lock.{Lock}
 use Rattle.rd_wf.specs.declared.roster.Roster.{Roster}
 use Rattle.rd_wf.proofs.LockLemmas.{place_at}
@@ -40,7 +40,7 @@ locks_differ lines = locks_from_differ [] lines tt
 
 -- ---- what stands at a number
 
-module _ (kinds : List Kind) (roster : Roster) (lines : List Line) (stands : StandsFor kinds roster lines) where
+module _ (kinds : List Kind) (roster : Roster) (lines : List Line) (stands : RosterStandsFor kinds roster lines) where
   thread_at : (i : ℕ) (e : List ℕ × Bool) → slice_get roster.threads.entries i ≡ Some e → slice_get (threads_of lines) i ≡ Some e.0
   thread_at i e at =
       ap (λ names. slice_get names i) (sym (thread_keys kinds roster lines stands))

@@ -26,7 +26,7 @@ use Rattle.rd_wf.specs.declared.causes.Accepted.{Accepted}
 use Rattle.rd_wf.specs.declared.roster.Lock.{Lock}
 use Rattle.rd_wf.specs.declared.roster.Roster.{Roster}
 use Rattle.rd_wf.specs.MayFollow.{begun_name, acting_name, joined_name, acquired_name, released_name, is_header, is_event, passes, threads_of, joined_of, with_lock, locks_of, is_acquire_of, is_release_of, acquires, releases, headers, same_name, is_among, place, first_broken, MayFollow, IsBrokenFirst, takes_memory}
-use Rattle.rd_wf.specs.Roster.{StandsFor, kinds_in, kind_entry, thread_entry, object_entry, free_lock, lock_in, depth_of, thread_count, lock_count, Accepts, Refuses}
+use Rattle.rd_wf.specs.Roster.{RosterStandsFor, kinds_in, kind_entry, thread_entry, object_entry, free_lock, lock_in, depth_of, thread_count, lock_count, Accepts, Refuses}
 use Rattle.rd_wf.proofs.FollowLemmas.{among_decides, follows_from_none, broken_from_some}
 use Rattle.rd_wf.proofs.LockLemmas.{and-true, and-false, place_known, place_below, found_written, found_pushed, same_place, depth_stays, deeper, shallower, locks_push, acquires_push, releases_push}
 use Rattle.rd_wf.proofs.RosterLemmas.{or-false, or-true, keys-objects, not_joined, inserted_lock}
@@ -74,7 +74,7 @@ module _ (flag : List ℕ → Bool) (child : List ℕ) where
 -- ---- no lines
 
 pub empty_stands : (kinds : List Kind) (roster : Roster) → kinds_in roster ≡ kinds → roster.header ≡ false → roster.events ≡ 0
-    → roster.threads.entries ≡ [] → roster.locks.entries ≡ [] → roster.objects.entries ≡ [] → StandsFor kinds roster []
+    → roster.threads.entries ≡ [] → roster.locks.entries ≡ [] → roster.objects.entries ≡ [] → RosterStandsFor kinds roster []
 unfolding acquires releases IsDistinct
 empty_stands kinds roster same header none threads locks objects =
     let free : (lock : List ℕ) → lock_in roster lock ≡ free_lock = λ lock. ap (λ entries. unwrap_or (lookup (same_name lock) entries) free_lock) locks in
@@ -102,7 +102,7 @@ record HoldsLocks (roster : Roster) (lines : List Line) : Type 0 where
   depths : (lock thread : List ℕ) → acquires lines thread lock ≡ releases lines thread lock + depth_of (lock_in roster lock) (place (threads_of lines) thread)
   begun : (lock : List ℕ) → 0 < (lock_in roster lock).depth → (lock_in roster lock).holder < length (threads_of lines)
 
-module _ (kinds : List Kind) (old new : Roster) (lines : List Line) (stands : StandsFor kinds old lines) where
+module _ (kinds : List Kind) (old new : Roster) (lines : List Line) (stands : RosterStandsFor kinds old lines) where
   -- a line that neither acquires nor releases leaves them, also where it begins a thread
   locks_stay : (line : Line) → new.locks.entries ≡ old.locks.entries → acquired_name line ≡ None → released_name line ≡ None → HoldsLocks new (lines ++ line ∷ [])
   locks_stay line same no_acquire no_release =
@@ -250,14 +250,14 @@ more_headers zero false = refl
 more_headers (suc n) true = grind (arith, nat_tests)
 more_headers (suc n) false = grind (arith, nat_tests)
 
-module _ (kinds : List Kind) (old : Roster) (lines : List Line) (stands : StandsFor kinds old lines) (line : Line) where
+module _ (kinds : List Kind) (old : Roster) (lines : List Line) (stands : RosterStandsFor kinds old lines) (line : Line) where
   grown : (new : Roster) → new.kinds.entries ≡ old.kinds.entries → new.header ≡ (old.header || is_header line) → new.events ≡ old.events + cond (is_event line) 1 0
       → new.threads.entries ≡ map (thread_entry (lines ++ line ∷ [])) (threads_of (lines ++ line ∷ []))
       → new.objects.entries ≡ filter_map (object_entry kinds) (lines ++ line ∷ [])
       → HoldsLocks new (lines ++ line ∷ [])
       → IsDistinct same_name (threads_of (lines ++ line ∷ []))
       → ((name : List ℕ) → Contains (joined_of (lines ++ line ∷ [])) name → Contains (threads_of (lines ++ line ∷ [])) name)
-      → StandsFor kinds new (lines ++ line ∷ [])
+      → RosterStandsFor kinds new (lines ++ line ∷ [])
   grown new same_kinds header events threads objects locks differ begun = record {
     kind_entries = ap (map kind_entry) same_kinds ∙ stands.kind_entries;
     has_header = header ∙ ap (λ b. b || is_header line) stands.has_header ∙ sym (more_headers (headers lines) (is_header line)) ∙ ap (nat_lt 0) (sym (sum_by_push _ lines line));
@@ -289,7 +289,7 @@ module _ (kinds : List Kind) (old : Roster) (lines : List Line) (stands : Stands
       → new.kinds.entries ≡ old.kinds.entries → HoldsLocks new (lines ++ line ∷ [])
       → new.header ≡ (old.header || is_header line) → new.events ≡ old.events + cond (is_event line) 1 0
       → new.threads.entries ≡ old.threads.entries ++ flagged (λ name. false) (cons_option (begun_name line) [])
-      → new.objects.entries ≡ old.objects.entries ++ cons_option (object_entry kinds line) [] → StandsFor kinds new (lines ++ line ∷ [])
+      → new.objects.entries ≡ old.objects.entries ++ cons_option (object_entry kinds line) [] → RosterStandsFor kinds new (lines ++ line ∷ [])
   no_join new joins fresh same_kinds locks header events threads objects =
       let more : threads_of (lines ++ line ∷ []) ≡ threads_of lines ++ cons_option (begun_name line) [] = filter_map-append begun_name lines (line ∷ []) in
       let same : joined_of (lines ++ line ∷ []) ≡ joined_of lines =
@@ -310,44 +310,44 @@ module _ (kinds : List Kind) (old : Roster) (lines : List Line) (stands : Stands
 new_name : (threads : List (List ℕ)) (name : List ℕ) → is_among threads name ≡ false → (other : List ℕ) → Some name ≡ Some other → is_among threads other ≡ false
 new_name threads name fresh other e = subst (λ n. is_among threads n ≡ false) (same_Some name other e) fresh
 
-module _ (kinds : List Kind) (old new : Roster) (lines : List Line) (stands : StandsFor kinds old lines) (same_kinds : new.kinds.entries ≡ old.kinds.entries)
+module _ (kinds : List Kind) (old new : Roster) (lines : List Line) (stands : RosterStandsFor kinds old lines) (same_kinds : new.kinds.entries ≡ old.kinds.entries)
     (same_locks : new.locks.entries ≡ old.locks.entries) where
   pub after_skip : new.header ≡ old.header → new.events ≡ old.events → new.threads.entries ≡ old.threads.entries → new.objects.entries ≡ old.objects.entries
-      → StandsFor kinds new (lines ++ Skip ∷ [])
+      → RosterStandsFor kinds new (lines ++ Skip ∷ [])
   after_skip header events threads objects =
       no_join kinds old lines stands Skip new refl (λ name e. cc) same_kinds (locks_stay kinds old new lines stands Skip same_locks refl refl)
       (header ∙ sym (or-false old.header)) (events ∙ sym (add-zero old.events)) (threads ∙ sym (append-nil _)) (objects ∙ sym (append-nil _))
 
   pub after_header : (version : ℕ) → new.header ≡ true → new.events ≡ old.events → new.threads.entries ≡ old.threads.entries → new.objects.entries ≡ old.objects.entries
-      → StandsFor kinds new (lines ++ Header version ∷ [])
+      → RosterStandsFor kinds new (lines ++ Header version ∷ [])
   after_header version header events threads objects =
       no_join kinds old lines stands (Header version) new refl (λ name e. cc) same_kinds (locks_stay kinds old new lines stands (Header version) same_locks refl refl)
       (header ∙ or-true old.header) (events ∙ sym (add-zero old.events)) (threads ∙ sym (append-nil _)) (objects ∙ sym (append-nil _))
 
   pub after_root : (name : List ℕ) → is_among (threads_of lines) name ≡ false → new.header ≡ old.header → new.events ≡ old.events
       → new.threads.entries ≡ old.threads.entries ++ (name, false) ∷ [] → new.objects.entries ≡ old.objects.entries
-      → StandsFor kinds new (lines ++ Thread name ∷ [])
+      → RosterStandsFor kinds new (lines ++ Thread name ∷ [])
   after_root name fresh header events threads objects =
       no_join kinds old lines stands (Thread name) new refl (new_name (threads_of lines) name fresh) same_kinds (locks_stay kinds old new lines stands (Thread name) same_locks refl refl)
       (header ∙ sym (or-false old.header)) (events ∙ sym (add-zero old.events)) threads (objects ∙ sym (append-nil _))
 
   pub after_object : (name kind : List ℕ) → new.header ≡ old.header → new.events ≡ old.events → new.threads.entries ≡ old.threads.entries
       → new.objects.entries ≡ old.objects.entries ++ (name, place (kind_names kinds) kind) ∷ []
-      → StandsFor kinds new (lines ++ Object name kind ∷ [])
+      → RosterStandsFor kinds new (lines ++ Object name kind ∷ [])
   after_object name kind header events threads objects =
       no_join kinds old lines stands (Object name kind) new refl (λ name e. cc) same_kinds (locks_stay kinds old new lines stands (Object name kind) same_locks refl refl)
       (header ∙ sym (or-false old.header)) (events ∙ sym (add-zero old.events)) (threads ∙ sym (append-nil _)) objects
 
   pub after_fork : (thread child : List ℕ) → is_among (threads_of lines) child ≡ false → new.header ≡ old.header → new.events ≡ old.events + 1
       → new.threads.entries ≡ old.threads.entries ++ (child, false) ∷ [] → new.objects.entries ≡ old.objects.entries
-      → StandsFor kinds new (lines ++ Event (Fork thread child) ∷ [])
+      → RosterStandsFor kinds new (lines ++ Event (Fork thread child) ∷ [])
   after_fork thread child fresh header events threads objects =
       no_join kinds old lines stands (Event (Fork thread child)) new refl (new_name (threads_of lines) child fresh) same_kinds
       (locks_stay kinds old new lines stands (Event (Fork thread child)) same_locks refl refl)
       (header ∙ sym (or-false old.header)) events threads (objects ∙ sym (append-nil _))
 
   pub after_call : (thread object method : List ℕ) (slots : List Value) → new.header ≡ old.header → new.events ≡ old.events + 1
-      → new.threads.entries ≡ old.threads.entries → new.objects.entries ≡ old.objects.entries → StandsFor kinds new (lines ++ Event (Call thread object method slots) ∷ [])
+      → new.threads.entries ≡ old.threads.entries → new.objects.entries ≡ old.objects.entries → RosterStandsFor kinds new (lines ++ Event (Call thread object method slots) ∷ [])
   after_call thread object method slots header events threads objects =
       no_join kinds old lines stands (Event (Call thread object method slots)) new refl (λ name e. cc) same_kinds
       (locks_stay kinds old new lines stands (Event (Call thread object method slots)) same_locks refl refl)
@@ -355,7 +355,7 @@ module _ (kinds : List Kind) (old new : Roster) (lines : List Line) (stands : St
 
   pub after_join : (thread child : List ℕ) → is_among (threads_of lines) child ≡ true → new.header ≡ old.header → new.events ≡ old.events + 1
       → new.threads.entries ≡ set_value_at old.threads.entries (place (threads_of lines) child) true → new.objects.entries ≡ old.objects.entries
-      → StandsFor kinds new (lines ++ Event (Join thread child) ∷ [])
+      → RosterStandsFor kinds new (lines ++ Event (Join thread child) ∷ [])
   after_join thread child known header events threads objects =
       let line : Line = Event (Join thread child) in
       let more : joined_of (lines ++ line ∷ []) ≡ joined_of lines ++ child ∷ [] = filter_map-append joined_name lines (line ∷ []) in
@@ -375,25 +375,25 @@ module _ (kinds : List Kind) (old new : Roster) (lines : List Line) (stands : St
       ]))
 
 -- a line that takes or gives back a lock leaves the rest
-module _ (kinds : List Kind) (old new : Roster) (lines : List Line) (stands : StandsFor kinds old lines) (same_kinds : new.kinds.entries ≡ old.kinds.entries)
+module _ (kinds : List Kind) (old new : Roster) (lines : List Line) (stands : RosterStandsFor kinds old lines) (same_kinds : new.kinds.entries ≡ old.kinds.entries)
     (thread lock : List ℕ) (held : Lock) (header : new.header ≡ old.header) (events : new.events ≡ old.events + 1) (threads : new.threads.entries ≡ old.threads.entries)
     (objects : new.objects.entries ≡ old.objects.entries) (known : is_among (threads_of lines) thread ≡ true) (holder : held.holder ≡ place (threads_of lines) thread)
     (own : depth_of (lock_in old lock) (place (threads_of lines) thread) ≡ (lock_in old lock).depth)
     (written : (other : List ℕ) → lookup (same_name other) new.locks.entries ≡ cond (same_name other lock) (Some held) (lookup (same_name other) old.locks.entries)) where
-  pub after_acquire : keys_of new.locks.entries ≡ with_lock (locks_of lines) (Some lock) → held.depth ≡ (lock_in old lock).depth + 1 → StandsFor kinds new (lines ++ Event (Acquire thread lock) ∷ [])
+  pub after_acquire : keys_of new.locks.entries ≡ with_lock (locks_of lines) (Some lock) → held.depth ≡ (lock_in old lock).depth + 1 → RosterStandsFor kinds new (lines ++ Event (Acquire thread lock) ∷ [])
   after_acquire names deep =
       no_join kinds old lines stands (Event (Acquire thread lock)) new refl (λ name e. cc) same_kinds
       (locks_acquired kinds old new lines stands thread lock held known holder own written names deep)
       (header ∙ sym (or-false old.header)) events (threads ∙ sym (append-nil _)) (objects ∙ sym (append-nil _))
 
-  pub after_release : keys_of new.locks.entries ≡ locks_of lines → 0 < (lock_in old lock).depth → held.depth ≡ (lock_in old lock).depth - 1 → StandsFor kinds new (lines ++ Event (Release thread lock) ∷ [])
+  pub after_release : keys_of new.locks.entries ≡ locks_of lines → 0 < (lock_in old lock).depth → held.depth ≡ (lock_in old lock).depth - 1 → RosterStandsFor kinds new (lines ++ Event (Release thread lock) ∷ [])
   after_release names some less =
       no_join kinds old lines stands (Event (Release thread lock)) new refl (λ name e. cc) same_kinds
       (locks_released kinds old new lines stands thread lock held known holder own written names some less)
       (header ∙ sym (or-false old.header)) events (threads ∙ sym (append-nil _)) (objects ∙ sym (append-nil _))
 
 -- a table of locks after a write: what it finds by a name, and its names
-module _ (kinds : List Kind) (old : Roster) (lines : List Line) (stands : StandsFor kinds old lines) (lock : List ℕ) (held : Lock) where
+module _ (kinds : List Kind) (old : Roster) (lines : List Line) (stands : RosterStandsFor kinds old lines) (lock : List ℕ) (held : Lock) where
   abbrev pub IsWritten : List (List ℕ × Lock) → Type 0
   IsWritten entries =
       ((other : List ℕ) → lookup (same_name other) entries ≡ cond (same_name other lock) (Some held) (lookup (same_name other) old.locks.entries))
@@ -427,12 +427,12 @@ module _ (kinds : List Kind) (old : Roster) (lines : List Line) (stands : Stands
 -- ---- what the public call says by the law
 
 pub ok_follows : (old new : Roster) (limits : Limits) (line : Line) (r : Result Accepted WfRefused) → IfOk r (Accepts old new limits line)
-    → OnOk r ((kinds : List Kind) (lines : List Line) → StandsFor kinds old lines → MayFollow kinds limits lines line)
+    → OnOk r ((kinds : List Kind) (lines : List Line) → RosterStandsFor kinds old lines → MayFollow kinds limits lines line)
 ok_follows old new limits line (Ok accepted) takes = λ kinds lines stands. follows_from_none kinds limits lines line (takes kinds lines stands).0
 ok_follows old new limits line (Err e) takes = tt
 
 pub err_broken : (old new : Roster) (limits : Limits) (line : Line) (r : Result Accepted WfRefused) → IfErr r (Refuses old new limits line)
-    → IfErr r (λ e. (kinds : List Kind) (lines : List Line) → StandsFor kinds old lines → (cause : WfCause) → e ≡ Cause cause →
+    → IfErr r (λ e. (kinds : List Kind) (lines : List Line) → RosterStandsFor kinds old lines → (cause : WfCause) → e ≡ Cause cause →
     (first_broken kinds limits lines line ≡ Some cause) × IsBrokenFirst kinds limits lines line cause)
 err_broken old new limits line (Ok accepted) refuses = tt
 err_broken old new limits line (Err e) refuses = λ kinds lines stands cause same.
@@ -440,20 +440,20 @@ err_broken old new limits line (Err e) refuses = λ kinds lines stands cause sam
     (refused.0 kinds lines stands, broken_from_some kinds limits lines line cause (refused.0 kinds lines stands))
 
 pub err_memory : (old new : Roster) (limits : Limits) (line : Line) (r : Result Accepted WfRefused) → IfErr r (Refuses old new limits line)
-    → IfErr r (λ e. e ≡ NoMemory → (kinds : List Kind) (lines : List Line) → StandsFor kinds old lines → (first_broken kinds limits lines line ≡ None) × IsTrue (takes_memory line))
+    → IfErr r (λ e. e ≡ NoMemory → (kinds : List Kind) (lines : List Line) → RosterStandsFor kinds old lines → (first_broken kinds limits lines line ≡ None) × IsTrue (takes_memory line))
 err_memory old new limits line (Ok accepted) refuses = tt
 err_memory old new limits line (Err e) refuses = λ same kinds lines stands.
     let refused : Refuses old new limits line NoMemory = subst (Refuses old new limits line) same refuses in
     let told = refused kinds lines stands in (told.0, told.1)
 
 pub err_stands : (old new : Roster) (limits : Limits) (line : Line) (r : Result Accepted WfRefused) → IfErr r (Refuses old new limits line)
-    → OnErr r ((kinds : List Kind) (lines : List Line) → StandsFor kinds old lines → StandsFor kinds new lines)
+    → OnErr r ((kinds : List Kind) (lines : List Line) → RosterStandsFor kinds old lines → RosterStandsFor kinds new lines)
 err_stands old new limits line (Ok accepted) refuses = tt
-err_stands old new limits line (Err (Cause cause)) refuses = λ kinds lines stands. subst (λ roster. StandsFor kinds roster lines) (sym refuses.1) stands
+err_stands old new limits line (Err (Cause cause)) refuses = λ kinds lines stands. subst (λ roster. RosterStandsFor kinds roster lines) (sym refuses.1) stands
 err_stands old new limits line (Err NoMemory) refuses = λ kinds lines stands. (refuses kinds lines stands).2
 
 pub ok_few : (old new : Roster) (limits : Limits) (line : Line) (r : Result Accepted WfRefused) → IfOk r (Accepts old new limits line) → thread_count new < 4294967296
-    → OnOk r ((kinds : List Kind) (lines : List Line) → StandsFor kinds old lines → length (threads_of (lines ++ line ∷ [])) ≤ 4294967295)
+    → OnOk r ((kinds : List Kind) (lines : List Line) → RosterStandsFor kinds old lines → length (threads_of (lines ++ line ∷ [])) ≤ 4294967295)
 ok_few old new limits line (Ok accepted) accepts few = λ kinds lines stands.
-    let now : StandsFor kinds new (lines ++ line ∷ []) = (accepts kinds lines stands).2 in omega (arith, now.thread_total)
+    let now : RosterStandsFor kinds new (lines ++ line ∷ []) = (accepts kinds lines stands).2 in omega (arith, now.thread_total)
 ok_few old new limits line (Err e) accepts few = tt

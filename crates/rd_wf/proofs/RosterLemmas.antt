@@ -19,7 +19,7 @@ use Rattle.rd_event.specs.declared.items.Line.TheVariants.{Skip, Header, Thread,
 use Rattle.rd_event.specs.declared.items.LineEvent.TheVariants.{Fork, Join, Acquire, Release, Call}
 use Rattle.rd_wf.specs.declared.causes.WfCause.TheVariants.{HeaderFirst, LateRoot, NameTaken, UnknownThread, ThreadEnded, OwnThread, UnknownKind, UnknownObject, UnknownMethod, WrongCount, LockHeld, NotHeld, Limit}
 use Rattle.rd_wf.specs.declared.roster.Roster.{Roster}
-use Rattle.rd_wf.specs.declared.methods.Method.{Method as FoundMethod}
+use Rattle.rd_wf.specs.declared.methods.FoundMethod.{FoundMethod}
 use Rattle.rd_wf.specs.declared.methods.Methods.{Methods}
 use Rattle.rd_wf.specs.declared.roster.judge.FoundObject.{FoundObject}
 use Rattle.rd_wf.specs.declared.roster.judge.FoundThread.{FoundThread}
@@ -31,8 +31,8 @@ use Rattle.rd_wf.specs.declared.roster.judge.FoundLock.{FoundLock}
 use Rattle.rd_wf.proofs.CauseLemmas.{same_found, none_holds}
 use Rattle.rd_wf.proofs.LockLemmas.{same_place, place_at, place_unknown, free_test, not_held_test, deep_test, holder_test, holder_below}
 use Rattle.rd_wf.specs.MayFollow.{threads_of, joined_of, locks_of, objects_of, acquires, releases, headers, events, same_name, is_among, passes, place, methods_of, object_kinds, holders, causes, is_broken, first_broken}
-use Rattle.rd_ecl.specs.Kinds.{Kind, Method, kind_names, method_names, methods_at, slots_at}
-use Rattle.rd_wf.specs.Roster.{StandsFor, kind_entry, method_entry, methods_in, thread_entry, object_entry, thread_count, lock_count, object_count, lock_in, depth_of, other_holder, flag, found_method, found_thread, found_object, unbroken}
+use Rattle.rd_ecl.specs.Kinds.{Kind, KindMethod, kind_names, method_names, methods_at, kind_slots_at}
+use Rattle.rd_wf.specs.Roster.{RosterStandsFor, kind_entry, method_entry, methods_in, thread_entry, object_entry, thread_count, lock_count, object_count, lock_in, depth_of, other_holder, flag, found_method, found_thread, found_object, nothing_broken}
 
 -- ---- look-ups
 
@@ -141,15 +141,15 @@ names-methods (e ∷ es) = ap (λ names. e.0 ∷ names) (names-methods es)
 module _ (roster : Roster) (limits : Limits) where
   abbrev pub root_flags : Bool → ℕ → Broken
   root_flags taken count =
-      record unbroken { header_first = not roster.header; late_root = nat_lt 0 roster.events; name_taken = taken; threads = nat_le limits.threads count }
+      record nothing_broken { header_first = not roster.header; late_root = nat_lt 0 roster.events; name_taken = taken; threads = nat_le limits.threads count }
 
   abbrev pub object_flags : Bool → Bool → ℕ → Broken
-  object_flags taken unknown count = record unbroken { header_first = not roster.header; name_taken = taken; unknown_kind = unknown; objects = nat_le limits.objects count }
+  object_flags taken unknown count = record nothing_broken { header_first = not roster.header; name_taken = taken; unknown_kind = unknown; objects = nat_le limits.objects count }
 
   -- those that each event sets
   abbrev pub event_flags : FoundThread → Broken
   event_flags actor =
-      record unbroken { header_first = not roster.header; unknown_thread = actor.unknown; thread_ended = actor.joined; events = nat_le limits.events roster.events }
+      record nothing_broken { header_first = not roster.header; unknown_thread = actor.unknown; thread_ended = actor.joined; events = nat_le limits.events roster.events }
 
   abbrev pub fork_flags : FoundThread → Bool → ℕ → Broken
   fork_flags actor taken count = record (event_flags actor) { name_taken = taken; threads = nat_le limits.threads count }
@@ -169,10 +169,10 @@ module _ (roster : Roster) (limits : Limits) where
 
 -- ---- methods
 
-method_slots : (entries : List (List ℕ × ℕ)) (i : ℕ) → slots_at (map method_entry entries) i ≡ unwrap_or (option_map (λ e. e.1) (slice_get entries i)) 0
-method_slots entries i = ap (λ o. unwrap_or (option_map (λ (m : Method). m.slots) o) 0) (slice_get-map method_entry entries i) ∙ by (slice_get entries i)
+method_slots : (entries : List (List ℕ × ℕ)) (i : ℕ) → kind_slots_at (map method_entry entries) i ≡ unwrap_or (option_map (λ e. e.1) (slice_get entries i)) 0
+method_slots entries i = ap (λ o. unwrap_or (option_map (λ (m : KindMethod). m.slots) o) 0) (slice_get-map method_entry entries i) ∙ by (slice_get entries i)
   where
-    by : (o : Option (List ℕ × ℕ)) → unwrap_or (option_map (λ (m : Method). m.slots) (option_map method_entry o)) 0 ≡ unwrap_or (option_map (λ e. e.1) o) 0
+    by : (o : Option (List ℕ × ℕ)) → unwrap_or (option_map (λ (m : KindMethod). m.slots) (option_map method_entry o)) 0 ≡ unwrap_or (option_map (λ e. e.1) o) 0
     by None = refl
     by (Some e) = refl
 
@@ -194,11 +194,11 @@ none_is None e = refl
 none_is (Some x) e = absurd (true≢false e)
 
 -- where a name is taken by none before, it is not joined
-pub not_joined : (kinds : List Kind) (roster : Roster) (lines : List Line) → StandsFor kinds roster lines → (name : List ℕ) → is_among (threads_of lines) name ≡ false → is_among (joined_of lines) name ≡ false
+pub not_joined : (kinds : List Kind) (roster : Roster) (lines : List Line) → RosterStandsFor kinds roster lines → (name : List ℕ) → is_among (threads_of lines) name ≡ false → is_among (joined_of lines) name ≡ false
 not_joined kinds roster lines stands name fresh = false_from_ne_true _ (λ joined.
     true≢false (sym ((among_decides (threads_of lines) name).1 (stands.joined_begun name ((among_decides (joined_of lines) name).0 joined))) ∙ fresh))
 
-module _ (kinds : List Kind) (roster : Roster) (lines : List Line) (stands : StandsFor kinds roster lines) where
+module _ (kinds : List Kind) (roster : Roster) (lines : List Line) (stands : RosterStandsFor kinds roster lines) where
   pub thread_keys : keys_of roster.threads.entries ≡ threads_of lines
   thread_keys = ap keys_of stands.thread_entries ∙ keys-entries (thread_entry lines) (λ name. refl) (threads_of lines)
 
@@ -319,7 +319,7 @@ module _ (kinds : List Kind) (roster : Roster) (lines : List Line) (stands : Sta
   unfolding first_broken
   header_judged limits version =
       λ i. cond (sym stands.has_header i) (Some HeaderFirst)
-      ((behind limits (Header version) unbroken refl (λ holder below. refl) ∙ none_holds unbroken (late limits) refl 0 (length (threads_of lines))) i)
+      ((behind limits (Header version) nothing_broken refl (λ holder below. refl) ∙ none_holds nothing_broken (late limits) refl 0 (length (threads_of lines))) i)
 
   pub root_judged : (limits : Limits) (name : List ℕ) (taken : Bool) (count : ℕ) → taken ≡ is_some (get_by (same_name name) roster.threads)
       → count ≡ thread_count roster → first_broken kinds limits lines (Thread name) ≡ find (flag (root_flags roster limits taken count)) (causes limits lines)

@@ -8,7 +8,7 @@ use Rattle.std.proofs.lemmas.List.{length-map, map-append, take-map, take_more}
 use Rattle.std.proofs.lemmas.Option.{slice_get-map, slice_get-get_or, get_or_from_slice_get}
 use Rattle.indexmap.specs.IndexMap.{IndexMap, insert_entry}
 use Rattle.indexmap.proofs.CallerLemmas.{insert_entry-new}
-use Rattle.rd_ecl.specs.declared.kinds.Method.{Method as SpecifiedMethod}
+use Rattle.rd_ecl.specs.declared.kinds.Method.{Method}
 use Rattle.rd_ecl.specs.Specified.{SpecifiedKind, AreMethods}
 use Rattle.rd_ecl.specs.Kinds.{kind_names, method_of, kind_of, kinds_of}
 use Rattle.rd_wf.specs.declared.methods.Methods.{Methods}
@@ -44,12 +44,12 @@ module _ {Y M R : Type 0} (entry : List ℕ × Y → M) (of : R → M) (name : M
 differ : (names : List (List ℕ)) → AllPairs (λ x y. x ≢ y) names → IsDistinct same_name names
 differ names apart = IsDistinct-from_AllPairs bytes_decides names apart
 
-names_specified : (methods : List SpecifiedMethod) → map (λ m. m.name) methods ≡ map (λ m. m.name) (map method_of methods)
+names_specified : (methods : List Method) → map (λ m. m.name) methods ≡ map (λ m. m.name) (map method_of methods)
 names_specified [] = refl
 names_specified (m ∷ ms) = ap (λ names. m.name ∷ names) (names_specified ms)
 
 -- a table of the first methods, after the next one
-pub method_added : {S : Type 0} (methods : List SpecifiedMethod) → AreMethods methods → (table : IndexMap (List ℕ) ℕ S) (i : ℕ) (method : SpecifiedMethod)
+pub method_added : {S : Type 0} (methods : List Method) → AreMethods methods → (table : IndexMap (List ℕ) ℕ S) (i : ℕ) (method : Method)
     → i < length methods → get_or methods i method ≡ method → map method_entry table.entries ≡ map method_of (take i methods)
     → map method_entry (insert_entry same_name table.entries method.name (length method.variables)) ≡ map method_of (take (i + 1) methods)
 method_added methods are table i method below at so_far =

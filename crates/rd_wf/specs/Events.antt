@@ -6,7 +6,7 @@ use Rattle.rd_base.specs.declared.limits.Limits.{Limits}
 use Rattle.rd_event.specs.declared.items.Line.{Line}
 use Rattle.rd_event.specs.declared.items.Line.TheVariants.{Event}
 use Rattle.rd_event.specs.declared.events.Event.{Event as Numbered}
-use Rattle.rd_order.specs.EventLists.{IsCallOf, Known, WellFormed, calls, givings, joins, takings}
+use Rattle.rd_order.specs.EventLists.{IsCallOf, IsKnownThread, WellFormed, calls, givings, joins, takings}
 use Rattle.rd_order.specs.Order.{call_in, exclusive}
 use Rattle.rd_ecl.specs.Kinds.{Kind}
 use Rattle.rd_wf.specs.MayFollow.{MayFollow, acquires, events, is_root, joined_of, locks_of, numbered_event, object_kinds, place, releases, threads_of}
@@ -60,7 +60,7 @@ AreAccepted kinds lines = AreAcceptedFrom kinds [] lines
 pub record IsTold (roots : ℕ → Bool) (es : List Numbered) (count : ℕ) (threads joined : List (List ℕ)) (objects : List ℕ) : Type 0 where
   pub formed : WellFormed roots es
   pub counted : length es ≡ count
-  pub known : (t : ℕ) → Known roots es t ↔ (t < length threads)
+  pub known : (t : ℕ) → IsKnownThread roots es t ↔ (t < length threads)
   pub ended : (t : ℕ) → (0 < joins es t) ↔ ((name : List ℕ) × (slice_get threads t ≡ Some name) × Contains joined name)
   -- each joined thread has a name, each name has one place, and the places fit 32 bits, with one to spare
   pub begun : (name : List ℕ) → Contains joined name → Contains threads name

@@ -12,7 +12,7 @@ use Rattle.rd_event.specs.declared.items.LineEvent.{LineEvent}
 use Rattle.rd_event.specs.declared.items.LineEvent.TheVariants.{Fork, Join, Acquire, Release, Call}
 use Rattle.rd_event.specs.declared.events.Event as event
 use Rattle.rd_event.specs.declared.events.Event.TheVariants as numbered
-use Rattle.rd_ecl.specs.Kinds.{Kind, Method, kind_names, method_names, methods_at, slots_at}
+use Rattle.rd_ecl.specs.Kinds.{Kind, KindMethod, kind_names, method_names, methods_at, kind_slots_at}
 use Rattle.rd_wf.specs.declared.causes.WfCause.{WfCause}
 use Rattle.rd_wf.specs.declared.causes.WfCause.TheVariants.{HeaderFirst, LateRoot, NameTaken, UnknownThread, ThreadEnded, OwnThread, UnknownKind, UnknownObject, UnknownMethod, WrongCount, LockHeld, NotHeld, Limit}
 use Rattle.rd_wf.specs.declared.causes.Accepted.{Accepted}
@@ -203,7 +203,7 @@ abbrev pub kind_number : List Kind → List Line → List ℕ → ℕ
 kind_number kinds before object = unwrap_or (slice_get (object_kinds kinds before) (place (objects_of before) object)) (length kinds)
 
 -- the methods of its kind
-abbrev pub methods_of : List Kind → List Line → List ℕ → List Method
+abbrev pub methods_of : List Kind → List Line → List ℕ → List KindMethod
 methods_of kinds before object = methods_at kinds (kind_number kinds before object)
 
 -- the number of a method of an object
@@ -211,8 +211,8 @@ abbrev pub method_number : List Kind → List Line → List ℕ → List ℕ →
 method_number kinds before object method = place (method_names (methods_of kinds before object)) method
 
 -- how many slots the method of a call has
-abbrev pub slots_of : List Kind → List Line → SpelledCall → ℕ
-slots_of kinds before call = slots_at (methods_of kinds before call.object) (method_number kinds before call.object call.method)
+abbrev pub slot_count_of : List Kind → List Line → SpelledCall → ℕ
+slot_count_of kinds before call = kind_slots_at (methods_of kinds before call.object) (method_number kinds before call.object call.method)
 
 -- how many headers there are
 abbrev pub headers : List Line → ℕ
@@ -249,7 +249,7 @@ Rule kinds before line UnknownKind = IfSome (kind_name line) (Contains (kind_nam
 -- the called object was declared, its kind has the method, and the call has as many slots as the method
 Rule kinds before line UnknownObject = IfSome (line_call line) (λ call. Contains (objects_of before) call.object)
 Rule kinds before line UnknownMethod = IfSome (line_call line) (λ call. Contains (method_names (methods_of kinds before call.object)) call.method)
-Rule kinds before line WrongCount = IfSome (line_call line) (λ call. length call.slots ≡ slots_of kinds before call)
+Rule kinds before line WrongCount = IfSome (line_call line) (λ call. length call.slots ≡ slot_count_of kinds before call)
 -- the thread with this number isn't another one that has the acquired lock: it released the lock as often as it acquired it
 Rule kinds before line (LockHeld holder) = IfSome (acquired_name line) (λ lock. IfSome (slice_get (threads_of before) holder) (λ thread.
     acting_name line ≢ Some thread → acquires before thread lock ≡ releases before thread lock))
@@ -303,7 +303,7 @@ is_broken kinds before line OwnThread = passes (joined_name line) (λ name. pass
 is_broken kinds before line UnknownKind = passes (kind_name line) (λ kind. not (is_among (kind_names kinds) kind))
 is_broken kinds before line UnknownObject = passes (line_call line) (λ call. not (is_among (objects_of before) call.object))
 is_broken kinds before line UnknownMethod = passes (line_call line) (λ call. not (is_among (method_names (methods_of kinds before call.object)) call.method))
-is_broken kinds before line WrongCount = passes (line_call line) (λ call. not (length call.slots == slots_of kinds before call))
+is_broken kinds before line WrongCount = passes (line_call line) (λ call. not (length call.slots == slot_count_of kinds before call))
 is_broken kinds before line (LockHeld holder) = passes (acquired_name line) (λ lock. passes (slice_get (threads_of before) holder) (λ thread.
     not (passes (acting_name line) (same_name thread)) && not (acquires before thread lock == releases before thread lock)))
 is_broken kinds before line NotHeld = passes (released_name line) (λ lock. passes (acting_name line) (λ thread.

@@ -16,10 +16,10 @@ use Rattle.rd_wf.specs.declared.roster.judge.Broken.{Broken}
 use Rattle.rd_wf.specs.declared.roster.Lock.{Lock}
 use Rattle.rd_wf.specs.declared.roster.judge.FoundObject.{FoundObject}
 use Rattle.rd_wf.specs.declared.roster.judge.FoundThread.{FoundThread}
-use Rattle.rd_wf.specs.declared.methods.Method.{Method as Found}
+use Rattle.rd_wf.specs.declared.methods.FoundMethod.{FoundMethod}
 use Rattle.rd_wf.specs.declared.methods.Methods.{Methods}
 use Rattle.rd_wf.specs.MayFollow.{threads_of, joined_of, locks_of, objects_of, acquires, releases, headers, events, is_among, passes, same_name, kind_number, place, first_broken, accepted_of, takes_memory}
-use Rattle.rd_ecl.specs.Kinds.{Kind, Method, kind_names, method_names, slots_at}
+use Rattle.rd_ecl.specs.Kinds.{Kind, KindMethod, kind_names, method_names, kind_slots_at}
 
 -- how many threads, locks and objects the roster numbers
 abbrev pub thread_count : Roster → ℕ
@@ -65,10 +65,10 @@ abbrev pub other_holder : Lock → ℕ → Option ℕ
 other_holder lock thread = if nat_lt 0 lock.depth && not (thread == lock.holder) then Some lock.holder else None
 
 -- the methods that a roster's table says, and the kind that an entry of its kinds says
-abbrev pub method_entry : List ℕ × ℕ → Method
+abbrev pub method_entry : List ℕ × ℕ → KindMethod
 method_entry entry = record { name = entry.0; slots = entry.1 }
 
-abbrev pub methods_in : Methods → List Method
+abbrev pub methods_in : Methods → List KindMethod
 methods_in methods = map method_entry methods.slots.entries
 
 abbrev pub kind_entry : List ℕ × Methods → Kind
@@ -77,11 +77,11 @@ kind_entry entry = record { name = entry.0; methods = methods_in entry.1 }
 -- ---- what look-ups find
 
 -- the method of that name: its number, and how many slots it has; the next number and none where there is no such method
-abbrev pub found_method : List Method → List ℕ → Found
+abbrev pub found_method : List KindMethod → List ℕ → FoundMethod
 found_method methods name = record {
   number = place (method_names methods) name;
   unknown = not (is_among (method_names methods) name);
-  slots = slots_at methods (place (method_names methods) name);
+  slots = kind_slots_at methods (place (method_names methods) name);
 }
 
 -- the thread of that name: its number, which is the next one where it was not begun, and whether the lines join it
@@ -103,8 +103,8 @@ found_object kinds lines name = record {
 -- ---- the rules that a line breaks
 
 -- none
-abbrev pub unbroken : Broken
-unbroken = record {
+abbrev pub nothing_broken : Broken
+nothing_broken = record {
   header_first = false;
   late_root = false;
   name_taken = false;
@@ -152,7 +152,7 @@ abbrev pub kinds_in : Roster → List Kind
 kinds_in roster = map kind_entry roster.kinds.entries
 
 -- the roster holds these kinds, and what these accepted lines say
-pub record StandsFor (kinds : List Kind) (roster : Roster) (lines : List Line) : Type 0 where
+pub record RosterStandsFor (kinds : List Kind) (roster : Roster) (lines : List Line) : Type 0 where
   -- its kinds, each with its methods
   pub kind_entries : kinds_in roster ≡ kinds
   -- whether there is a header, and how many events there are
@@ -175,22 +175,23 @@ pub record StandsFor (kinds : List Kind) (roster : Roster) (lines : List Line) :
 
 -- after any lines that the roster stands for, this line may follow, and is this in numbers
 abbrev pub Permits : Roster → Limits → Line → Accepted → Type 0
-Permits roster limits line accepted = (kinds : List Kind) (lines : List Line) → StandsFor kinds roster lines →
+Permits roster limits line accepted = (kinds : List Kind) (lines : List Line) → RosterStandsFor kinds roster lines →
     (first_broken kinds limits lines line ≡ None) × (accepted ≡ accepted_of kinds lines line)
 
 -- after any lines that it stands for, this line may not follow, for this cause
 abbrev pub Forbids : Roster → Limits → Line → WfCause → Type 0
-Forbids roster limits line cause = (kinds : List Kind) (lines : List Line) → StandsFor kinds roster lines →
+Forbids roster limits line cause = (kinds : List Kind) (lines : List Line) → RosterStandsFor kinds roster lines →
     first_broken kinds limits lines line ≡ Some cause
 
 -- the old roster permits the line, and the new one stands for one line more
 abbrev pub Accepts : Roster → Roster → Limits → Line → Accepted → Type 0
-Accepts old new limits line accepted = (kinds : List Kind) (lines : List Line) → StandsFor kinds old lines →
-    (first_broken kinds limits lines line ≡ None) × (accepted ≡ accepted_of kinds lines line) × StandsFor kinds new (lines ++ line ∷ [])
+Accepts old new limits line accepted = (kinds : List Kind) (lines : List Line) → RosterStandsFor kinds old lines →
+    (first_broken kinds limits lines line ≡ None) × (accepted ≡ accepted_of kinds lines line)
+    × RosterStandsFor kinds new (lines ++ line ∷ [])
 
 -- A refusal by a cause changes nothing. Want of memory comes only for a line that may follow and takes memory, and the roster then
 -- stands for the same lines.
 abbrev pub Refuses : Roster → Roster → Limits → Line → WfRefused → Type 0
 Refuses old new limits line (Cause cause) = Forbids old limits line cause × (new ≡ old)
-Refuses old new limits line NoMemory = (kinds : List Kind) (lines : List Line) → StandsFor kinds old lines →
-    (first_broken kinds limits lines line ≡ None) × IsTrue (takes_memory line) × StandsFor kinds new lines
+Refuses old new limits line NoMemory = (kinds : List Kind) (lines : List Line) → RosterStandsFor kinds old lines →
+    (first_broken kinds limits lines line ≡ None) × IsTrue (takes_memory line) × RosterStandsFor kinds new lines

@@ -5,7 +5,7 @@ ghost use Rattle.rd_event.specs.declared.items.Line.{Line as LineOf};
 ghost use Rattle.rd_event.specs.declared.items.Line.TheVariants as line;
 ghost use Rattle.rd_event.specs.declared.items.LineEvent.TheVariants as spelled;
 ghost use Rattle.rd_event.specs.declared.events.Event.TheVariants as event;
-ghost use Rattle.rd_order.specs.EventLists.{Known, WellFormedWith, calls, givings, joins, takings};
+ghost use Rattle.rd_order.specs.EventLists.{IsKnownThread, WellFormedWith, calls, givings, joins, takings};
 ghost use Rattle.rd_order.specs.Order.{exclusive};
 ghost use Rattle.rd_wf.specs.declared.causes.Accepted.TheVariants as accepted;
 ghost use Rattle.rd_wf.specs.Events.{AreAccepted, events_of, roots_of};
@@ -43,7 +43,7 @@ pub fn law_of_events()
 
     // threads and objects
     ensures known { (kinds : List Kind) (lines : List LineOf) → AreAccepted kinds lines → (t : ℕ) →
-        (Known (roots_of lines) (events_of kinds lines) t ↔ (t < length (threads_of lines))) }
+        (IsKnownThread (roots_of lines) (events_of kinds lines) t ↔ (t < length (threads_of lines))) }
     ensures ended { (kinds : List Kind) (lines : List LineOf) → AreAccepted kinds lines → (t : ℕ) →
         ((0 < joins (events_of kinds lines) t)
         ↔ ((name : List ℕ) × (slice_get (threads_of lines) t ≡ Some name)

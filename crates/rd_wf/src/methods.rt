@@ -18,7 +18,7 @@ pub struct Methods {
 /// What a look-up of a method's name finds: its number and how many slots its calls have. Where there
 /// is none, the number is the next one, and there are no slots.
 #[derive(Clone, Copy)]
-pub struct Method {
+pub struct FoundMethod {
     pub number: u8,
     pub unknown: bool,
     pub slots: u8,
@@ -41,16 +41,16 @@ impl Methods {
     }
 
     /// The method of that name.
-    pub fn find(&self, name: &Name) -> Method
+    pub fn find(&self, name: &Name) -> FoundMethod
         ensures { result ≡ found_method (methods_in self.now) name.now }
     {
         match self.slots.get_full(name) {
-            None => Method {
+            None => FoundMethod {
                 number: self.slots.len() as u8,
                 unknown: true,
                 slots: 0,
             },
-            Some((number, _, slots)) => Method {
+            Some((number, _, slots)) => FoundMethod {
                 number: number as u8,
                 unknown: false,
                 slots: *slots,

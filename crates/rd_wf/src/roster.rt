@@ -53,14 +53,14 @@ impl Roster {
     ghost use Rattle.rd_wf.specs.MayFollow.{IsBrokenFirst, MayFollow, first_broken, accepted_of, same_name, threads_of, locks_of, objects_of, headers, events, takes_memory};
     ghost use Rattle.std.specs.List.{AllPairs};
     ghost use Rattle.rd_ecl.specs.Kinds.{Kind, kind_names, kinds_of};
-    ghost use Rattle.rd_wf.specs.Roster.{StandsFor, Accepts, Refuses, names_in, object_names_in, thread_count, lock_count, object_count};
+    ghost use Rattle.rd_wf.specs.Roster.{RosterStandsFor, Accepts, Refuses, names_in, object_names_in, thread_count, lock_count, object_count};
 
     /// The roster of no lines. It keeps the names of the kinds, which differ, and of their methods, and how many slots each
     /// method has. A kind's number is its place in the specification.
     pub fn new(alloc: Global, spec: &Spec) -> Result<Roster, NoMemory>
         requires few { length spec.now < 2 ^ 32 }
         requires different { AllPairs (λ x y. x ≢ y) (kind_names (kinds_of spec.now)) }
-        ensures { IfOk result (λ roster. StandsFor (kinds_of spec.now) roster []) }
+        ensures { IfOk result (λ roster. RosterStandsFor (kinds_of spec.now) roster []) }
     {
         let mut kinds = IndexMap::new(alloc);
         for kind in spec.kinds() {
@@ -330,20 +330,20 @@ impl Roster {
         // the line is accepted, and may follow
         ensures ok { IfOk result
             (λ accepted. (kinds : List Kind) (lines : List LineOf) →
-            StandsFor kinds self.old lines →
+            RosterStandsFor kinds self.old lines →
             (first_broken kinds limits.now lines line.now ≡ None)
             × (accepted ≡ accepted_of kinds lines line.now)
-            × StandsFor kinds self.new (lines ++ line.now ∷ [])) }
+            × RosterStandsFor kinds self.new (lines ++ line.now ∷ [])) }
         ensures follows { OnOk result
-            ((kinds : List Kind) (lines : List LineOf) → StandsFor kinds self.old lines →
+            ((kinds : List Kind) (lines : List LineOf) → RosterStandsFor kinds self.old lines →
             MayFollow kinds limits.now lines line.now) }
         ensures few { OnOk result
-            ((kinds : List Kind) (lines : List LineOf) → StandsFor kinds self.old lines →
+            ((kinds : List Kind) (lines : List LineOf) → RosterStandsFor kinds self.old lines →
             length (threads_of (lines ++ line.now ∷ [])) ≤ 4294967295) }
 
         // or it is refused with its cause, and nothing changes
         ensures refused { IfErr result
-            (λ e. (kinds : List Kind) (lines : List LineOf) → StandsFor kinds self.old lines →
+            (λ e. (kinds : List Kind) (lines : List LineOf) → RosterStandsFor kinds self.old lines →
             (cause : WfCause) → e ≡ WfRefused.Cause cause →
             (first_broken kinds limits.now lines line.now ≡ Some cause)
             × IsBrokenFirst kinds limits.now lines line.now cause) }
@@ -353,12 +353,12 @@ impl Roster {
         // or memory runs out; the roster stands for the same lines
         ensures memory { IfErr result
             (λ e. e ≡ WfRefused.NoMemory → (kinds : List Kind) (lines : List LineOf) →
-            StandsFor kinds self.old lines →
+            RosterStandsFor kinds self.old lines →
             (first_broken kinds limits.now lines line.now ≡ None)
             × IsTrue (takes_memory line.now)) }
         ensures err { OnErr result
-            ((kinds : List Kind) (lines : List LineOf) → StandsFor kinds self.old lines →
-            StandsFor kinds self.new lines) }
+            ((kinds : List Kind) (lines : List LineOf) → RosterStandsFor kinds self.old lines →
+            RosterStandsFor kinds self.new lines) }
     {
         self.take(line, limits)
     }
@@ -366,11 +366,11 @@ impl Roster {
     /// Whether the lines may end here: a trace has a header. It takes no memory.
     pub fn finish(&self) -> Result<(), WfCause>
         ensures ok { OnOk result
-            ((kinds : List Kind) (lines : List LineOf) → StandsFor kinds self.now lines →
+            ((kinds : List Kind) (lines : List LineOf) → RosterStandsFor kinds self.now lines →
             0 < headers lines) }
         ensures err { IfErr result
             (λ e. (e ≡ WfCause.HeaderFirst)
-            × ((kinds : List Kind) (lines : List LineOf) → StandsFor kinds self.now lines →
+            × ((kinds : List Kind) (lines : List LineOf) → RosterStandsFor kinds self.now lines →
             headers lines ≡ 0)) }
     {
         if self.header {
@@ -385,7 +385,7 @@ impl Roster {
         requires { thread < thread_count self.now }
         ensures name { slice_get (names_in self.now) thread ≡ Some result.now }
         ensures history { (kinds : List Kind) (lines : List LineOf) →
-            StandsFor kinds self.now lines → slice_get (threads_of lines) thread ≡ Some result.now }
+            RosterStandsFor kinds self.now lines → slice_get (threads_of lines) thread ≡ Some result.now }
     {
         self.threads.get_index(thread as usize).unwrap().0
     }
@@ -395,7 +395,7 @@ impl Roster {
         requires { object < object_count self.now }
         ensures name { slice_get (object_names_in self.now) object ≡ Some result.now }
         ensures history { (kinds : List Kind) (lines : List LineOf) →
-            StandsFor kinds self.now lines → slice_get (objects_of lines) object ≡ Some result.now }
+            RosterStandsFor kinds self.now lines → slice_get (objects_of lines) object ≡ Some result.now }
     {
         self.objects.get_index(object as usize).unwrap().0
     }
@@ -403,7 +403,7 @@ impl Roster {
     /// The name of the lock with this number, which is below `locks()`. It takes no memory.
     pub fn lock_name(&self, lock: u32) -> &Name
         requires { lock < lock_count self.now }
-        ensures { (kinds : List Kind) (lines : List LineOf) → StandsFor kinds self.now lines →
+        ensures { (kinds : List Kind) (lines : List LineOf) → RosterStandsFor kinds self.now lines →
             slice_get (locks_of lines) lock ≡ Some result.now }
     {
         self.locks.get_index(lock as usize).unwrap().0
@@ -413,7 +413,7 @@ impl Roster {
     pub fn threads(&self) -> u32
         ensures count { result ≡ thread_count self.now }
         ensures history { (kinds : List Kind) (lines : List LineOf) →
-            StandsFor kinds self.now lines → result ≡ length (threads_of lines) }
+            RosterStandsFor kinds self.now lines → result ≡ length (threads_of lines) }
     {
         self.threads.len() as u32
     }
@@ -422,7 +422,7 @@ impl Roster {
     pub fn locks(&self) -> u32
         ensures count { result ≡ lock_count self.now }
         ensures history { (kinds : List Kind) (lines : List LineOf) →
-            StandsFor kinds self.now lines → result ≡ length (locks_of lines) }
+            RosterStandsFor kinds self.now lines → result ≡ length (locks_of lines) }
     {
         self.locks.len() as u32
     }
@@ -431,14 +431,14 @@ impl Roster {
     pub fn objects(&self) -> u32
         ensures count { result ≡ object_count self.now }
         ensures history { (kinds : List Kind) (lines : List LineOf) →
-            StandsFor kinds self.now lines → result ≡ length (objects_of lines) }
+            RosterStandsFor kinds self.now lines → result ≡ length (objects_of lines) }
     {
         self.objects.len() as u32
     }
 
     /// How many events were accepted. It takes no memory.
     pub fn events(&self) -> u32
-        ensures { (kinds : List Kind) (lines : List LineOf) → StandsFor kinds self.now lines →
+        ensures { (kinds : List Kind) (lines : List LineOf) → RosterStandsFor kinds self.now lines →
             result ≡ events lines }
     {
         self.events

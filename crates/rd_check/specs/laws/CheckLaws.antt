@@ -3,12 +3,12 @@ use Rattle.std.specs.Prelude.{◌≡◌, List, [], length}
 use Rattle.std.proofs.Common.{refl, sym, ap, subst, arith, true≢false}
 use Rattle.std.proofs.lemmas.Option.{none-some}
 use Rattle.rd_order.specs.EventLists.{forks, joins}
-use Rattle.rd_hb.specs.Tracker.{StandsFor, Tracking}
-use Rattle.rd_detect.specs.Detect.{StandsFor as Detects}
+use Rattle.rd_hb.specs.Tracker.{TrackerStandsFor, Tracking}
+use Rattle.rd_detect.specs.Detect.{DetectorStandsFor}
 use Rattle.rd_wf.specs.Events.{events_of, roots_of}
 use Rattle.rd_ecl.specs.Kinds.{Kind, kinds_of}
 use Rattle.rd_wf.specs.laws.NoLines.{told_none}
-use Rattle.rd_check.specs.Checking.{Begins, Leads}
+use Rattle.rd_check.specs.Checking.{CheckBegins, CheckLeads}
 use Rattle.rd_check.specs.Checked.{race_texts, races_before, races_of, texts_before}
 use Rattle.rd_check.specs.declared.checking.Check.{Check}
 
@@ -16,7 +16,7 @@ use Rattle.rd_check.specs.declared.checking.Check.{Check}
 abbrev none_tracked : Tracking
 none_tracked = record { threads = []; locks = [] }
 
-stands_none : (kinds : List Kind) → StandsFor none_tracked (roots_of []) (events_of kinds [])
+stands_none : (kinds : List Kind) → TrackerStandsFor none_tracked (roots_of []) (events_of kinds [])
 unfolding forks joins
 stands_none kinds = record {
   known = λ t. (λ below. absurd (omega arith), λ known. ((told_none kinds).told.known t).0 known);
@@ -26,7 +26,7 @@ stands_none kinds = record {
   releases = λ lock m gives. none-some gives.0 gives.1;
 }
 
-detects_none : Detects [] [] []
+detects_none : DetectorStandsFor [] [] []
 detects_none = record {
   lengths = refl;
   sound = λ k witness at. absurd (none-some witness at);
@@ -34,7 +34,7 @@ detects_none = record {
   rising = λ k l witness other before at_k at_l. absurd (none-some witness at_k);
 }
 
-pub leads_none : (kinds : List Kind) (start : Check) → Begins kinds start → Leads kinds start [] start
+pub leads_none : (kinds : List Kind) (start : Check) → CheckBegins kinds start → CheckLeads kinds start [] start
 unfolding races_of races_before
 leads_none kinds start begins = record {
   kinds_are = begins.kinds_are;
@@ -44,11 +44,11 @@ leads_none kinds start begins = record {
     formulas = begins.new.formulas;
     tracks = record {
       told = told_none (kinds_of start.spec.now);
-      stands = subst (λ tracker. StandsFor tracker (roots_of []) (events_of (kinds_of start.spec.now) [])) (sym begins.new.no_event) (stands_none (kinds_of start.spec.now));
+      stands = subst (λ tracker. TrackerStandsFor tracker (roots_of []) (events_of (kinds_of start.spec.now) [])) (sym begins.new.no_event) (stands_none (kinds_of start.spec.now));
       count = ap (λ tracker. length tracker.threads) begins.new.no_event;
     };
     asks = ap (λ d. d.kinds) begins.new.no_call;
-    detects = subst (λ calls. Detects calls [] []) (sym (ap (λ d. d.calls) begins.new.no_call)) detects_none;
+    detects = subst (λ calls. DetectorStandsFor calls [] []) (sym (ap (λ d. d.calls) begins.new.no_call)) detects_none;
     held = ap (λ d. length d.calls) begins.new.no_call;
     races = begins.new.no_race;
   };

@@ -3,10 +3,10 @@ ghost use Rattle.std.specs.Prelude.{◌≡◌, [], ◌∷◌, ◌++◌, ◌<◌,
 ghost use Rattle.rd_ecl.specs.Formulas.{FitsTerm, mixed};
 ghost use Rattle.rd_ecl.specs.declared.formulas.Side.TheVariants.{First, Second};
 ghost use Rattle.rd_tokens.specs.Words.{sign_word};
-ghost use Rattle.rd_print.specs.Canonical.{IsConstant, names_of, relation_words, sided_words, sign_of, slot_word, words_of};
+ghost use Rattle.rd_print.specs.Canonical.{IsConstant, side_variables, relation_words, sided_words, relation_sign, slot_word, canonical_words};
 
 use crate::canonical::terms::{slot_word, term_word};
-use crate::canonical::word_list::{Word, Words};
+use crate::canonical::word_list::{PrintedWord, Words};
 use rd_base::{Bytes, Name, NoMemory};
 use rd_ecl::{Rel, Side, Term};
 use rd_grammar::Sign;
@@ -23,7 +23,7 @@ pub(crate) struct Variables<'a> {
 impl<'a> Variables<'a> {
     // The variables of a side.
     fn of(&self, side: Side) -> &'a [Name]
-        ensures { result.now ≡ names_of self.now.first.now self.now.second.now side }
+        ensures { result.now ≡ side_variables self.now.first.now self.now.second.now side }
     {
         match side {
             Side::First => self.first,
@@ -45,8 +45,8 @@ fn sign_word(sign: Sign) -> &'static [u8]
 }
 
 // The sign of a relation.
-pub(crate) fn sign_of(rel: Rel) -> Sign
-    ensures { result ≡ sign_of rel }
+pub(crate) fn relation_sign(rel: Rel) -> Sign
+    ensures { result ≡ relation_sign rel }
 {
     match rel {
         Rel::Eq => Sign::Equal,
@@ -67,16 +67,16 @@ pub(crate) fn write_word(
 {
     let mut word = Bytes::new(alloc);
     word.append(bytes)?;
-    words.push(Word { sort, bytes: word })
+    words.push(PrintedWord { sort, bytes: word })
 }
 
 // Puts a relation last.
 fn write_relation(
     alloc: Global,
     words: &mut Words,
-    left: Word,
+    left: PrintedWord,
     sign: Sign,
-    right: Word,
+    right: PrintedWord,
 ) -> Result<(), NoMemory>
     ensures { OnOk result (words.new ≡ words.old ++ relation_words left sign right) }
 {
@@ -96,9 +96,9 @@ pub(crate) fn write_sided(
     right: &Term,
 ) -> Result<(), NoMemory>
     requires left { FitsTerm left.now
-        (length (names_of variables.now.first.now variables.now.second.now side)) }
+        (length (side_variables variables.now.first.now variables.now.second.now side)) }
     requires right { FitsTerm right.now
-        (length (names_of variables.now.first.now variables.now.second.now side)) }
+        (length (side_variables variables.now.first.now variables.now.second.now side)) }
     ensures words { OnOk result
         (words.new ≡ words.old ++ sided_words variables.now.first.now variables.now.second.now side sign left.now right.now) }
     ensures values { OnOk result (IsConstant left.now × IsConstant right.now) }
@@ -164,12 +164,12 @@ pub(crate) fn write_mixed(
     requires first { first < length variables.now.first.now }
     requires second { second < length variables.now.second.now }
     ensures { OnOk result
-        (words.new ≡ words.old ++ words_of variables.now.first.now variables.now.second.now
+        (words.new ≡ words.old ++ canonical_words variables.now.first.now variables.now.second.now
         (mixed rel flipped first second)) }
 {
     if flipped {
-        write_flipped(alloc, words, variables, first, sign_of(rel), second)
+        write_flipped(alloc, words, variables, first, relation_sign(rel), second)
     } else {
-        write_across(alloc, words, variables, first, sign_of(rel), second)
+        write_across(alloc, words, variables, first, relation_sign(rel), second)
     }
 }

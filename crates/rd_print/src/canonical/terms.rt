@@ -5,7 +5,7 @@ ghost use Rattle.rd_ecl.specs.Formulas.{FitsTerm};
 ghost use Rattle.rd_tokens.specs.Words.{side_mark};
 ghost use Rattle.rd_print.specs.Canonical.{IsConstant, slot_word, sort_of_value, term_word, value_word};
 
-use crate::canonical::word_list::Word;
+use crate::canonical::word_list::PrintedWord;
 use rd_base::{Bytes, Name, NoMemory, Value, append_value};
 use rd_ecl::{Side, Term};
 use rd_tokens::Sort;
@@ -27,14 +27,14 @@ pub(crate) fn slot_word(
     side: Side,
     names: &[Name],
     slot: u8,
-) -> Result<Word, NoMemory>
+) -> Result<PrintedWord, NoMemory>
     requires { slot < length names.now }
     ensures { IfOk result (λ word. word ≡ slot_word side names.now slot) }
 {
     let mut bytes = Bytes::new(alloc);
     bytes.append(names[usize::from(slot)].items())?;
     bytes.append(side_mark(side))?;
-    Ok(Word {
+    Ok(PrintedWord {
         sort: Sort::Word,
         bytes,
     })
@@ -51,13 +51,13 @@ fn sort_of_value(value: &Value) -> Sort
 }
 
 // A value.
-fn value_word(alloc: Global, value: &Value) -> Result<Word, NoMemory>
+fn value_word(alloc: Global, value: &Value) -> Result<PrintedWord, NoMemory>
     ensures word { IfOk result (λ word. word ≡ value_word value.now) }
     ensures range { IsValue value.now }
 {
     let mut bytes = Bytes::new(alloc);
     append_value(&mut bytes, value)?;
-    Ok(Word {
+    Ok(PrintedWord {
         sort: sort_of_value(value),
         bytes,
     })
@@ -69,7 +69,7 @@ pub(crate) fn term_word(
     side: Side,
     names: &[Name],
     term: &Term,
-) -> Result<Word, NoMemory>
+) -> Result<PrintedWord, NoMemory>
     requires { FitsTerm term.now (length names.now) }
     ensures word { IfOk result (λ word. word ≡ term_word side names.now term.now) }
     ensures range { IsConstant term.now }

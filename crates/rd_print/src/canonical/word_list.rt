@@ -8,7 +8,7 @@ use std::marker::Model;
 
 /// A word of a formula, with the sort of the token that it is.
 #[derive(Debug, Drop)]
-pub struct Word {
+pub struct PrintedWord {
     pub sort: Sort,
     pub bytes: Bytes,
 }
@@ -16,14 +16,14 @@ pub struct Word {
 /// The words of a formula, from the left. Contracts see it as the list of the words.
 #[derive(Debug, Drop)]
 pub struct Words {
-    held: Vec<Word>,
+    held: Vec<PrintedWord>,
 }
 
 impl Model for Words {
     ghost use Rattle.std.specs.Prelude.{List};
-    ghost use Rattle.rd_print.specs.declared.canonical.word_list.Word.{Word};
+    ghost use Rattle.rd_print.specs.declared.canonical.word_list.PrintedWord.{PrintedWord};
 
-    ghost Value = { List Word };
+    ghost Value = { List PrintedWord };
 
     ghost view = { λ w. w.held.items };
 }
@@ -39,7 +39,7 @@ impl Words {
     }
 
     // Puts a word last. After want of memory the list is as before.
-    pub(crate) fn push(&mut self, word: Word) -> Result<(), NoMemory>
+    pub(crate) fn push(&mut self, word: PrintedWord) -> Result<(), NoMemory>
         ensures ok { OnOk result (self.new ≡ self.old ++ word ∷ []) }
         ensures err { OnErr result (self.new ≡ self.old) }
     {
@@ -48,7 +48,7 @@ impl Words {
     }
 
     /// The words. It takes no memory.
-    pub fn items(&self) -> &[Word]
+    pub fn items(&self) -> &[PrintedWord]
         ensures { result.now ≡ self.now }
     {
         self.held.as_slice()

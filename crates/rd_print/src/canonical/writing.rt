@@ -2,11 +2,11 @@
 ghost use Rattle.std.specs.Prelude.{◌≡◌, ◌++◌, [], ◌∷◌, IfOk, IfSome, IfNone, OnOk, false, length};
 ghost use Rattle.rd_ecl.specs.Formulas.{Fits, atom, tree_of};
 ghost use Rattle.rd_ecl.specs.declared.formulas.Rel.TheVariants.{Eq};
-ghost use Rattle.rd_print.specs.Canonical.{AreValues, is_of_two, is_or, words_of};
+ghost use Rattle.rd_print.specs.Canonical.{AreValues, is_of_two, is_or, canonical_words};
 ghost use Rattle.rd_print.specs.WordWriting.{IsPlainNot, before_part, behind_part, has_part};
 
 use crate::canonical::relations::{
-    Variables, sign_of, write_across, write_mixed, write_sided, write_word,
+    Variables, relation_sign, write_across, write_mixed, write_sided, write_word,
 };
 use crate::canonical::word_list::Words;
 use rd_base::{Name, NoMemory};
@@ -85,7 +85,7 @@ fn write_leaf(
         (length variables.now.second.now) }
     requires leaf { has_part (tree_of formula.now) ≡ false }
     ensures words { OnOk result
-        (words.new ≡ words.old ++ words_of variables.now.first.now variables.now.second.now
+        (words.new ≡ words.old ++ canonical_words variables.now.first.now variables.now.second.now
         (tree_of formula.now)) }
     ensures values { OnOk result (AreValues (tree_of formula.now)) }
 {
@@ -97,7 +97,15 @@ fn write_leaf(
             rel,
             left,
             right,
-        } => write_sided(alloc, words, variables, *side, sign_of(*rel), left, right),
+        } => write_sided(
+            alloc,
+            words,
+            variables,
+            *side,
+            relation_sign(*rel),
+            left,
+            right,
+        ),
         Formula::Cross { first, second } => {
             write_across(alloc, words, variables, *first, Sign::Different, *second)
         }
@@ -121,7 +129,7 @@ fn write(
     requires { Fits (tree_of formula.now) (length variables.now.first.now)
         (length variables.now.second.now) }
     ensures words { OnOk result
-        (words.new ≡ words.old ++ words_of variables.now.first.now variables.now.second.now
+        (words.new ≡ words.old ++ canonical_words variables.now.first.now variables.now.second.now
         (tree_of formula.now)) }
     ensures values { OnOk result (AreValues (tree_of formula.now)) }
 {
@@ -166,7 +174,7 @@ pub fn words(
 ) -> Result<Words, NoMemory>
     requires { Fits (tree_of formula.now) (length first.now) (length second.now) }
     ensures words { IfOk result
-        (λ words. words ≡ words_of first.now second.now (tree_of formula.now)) }
+        (λ words. words ≡ canonical_words first.now second.now (tree_of formula.now)) }
     ensures values { IfOk result (λ _. AreValues (tree_of formula.now)) }
 {
     let mut words = Words::new(alloc);

@@ -1,8 +1,8 @@
 //! Writing words as a text.
 ghost use Rattle.std.specs.Prelude.{◌≡◌, [], ◌++◌, codes, if◌then◌else◌, OnErr, OnOk};
-ghost use Rattle.rd_print.specs.Text.{IsFrontOf, gap, text_of};
+ghost use Rattle.rd_print.specs.Text.{IsFront, gap, words_text};
 
-use crate::Word;
+use crate::PrintedWord;
 use rd_base::{Bytes, NoMemory};
 use rd_tokens::Sort;
 
@@ -26,9 +26,9 @@ fn append_gap(text: &mut Bytes, first: Sort, second: Sort) -> Result<(), NoMemor
 }
 
 /// Puts the text of words last. After want of memory a front of what would stand there does.
-pub fn append_text(text: &mut Bytes, words: &[Word]) -> Result<(), NoMemory>
-    ensures ok { OnOk result (text.new ≡ text.old ++ text_of words.now) }
-    ensures err { OnErr result (IsFrontOf text.new (text.old ++ text_of words.now)) }
+pub fn append_text(text: &mut Bytes, words: &[PrintedWord]) -> Result<(), NoMemory>
+    ensures ok { OnOk result (text.new ≡ text.old ++ words_text words.now) }
+    ensures err { OnErr result (IsFront text.new (text.old ++ words_text words.now)) }
 {
     // no space stands before the first word, as behind `(`
     let mut before = Sort::Open;

@@ -2,16 +2,16 @@
 ghost use Rattle.std.specs.Prelude.{◌≡◌, ◌<◌, ◌-◌, ◌^◌, ◌++◌, [], All, IfErr, OnOk, length};
 ghost use Rattle.rd_reading.specs.Adding.{FormAdds, with_kind};
 ghost use Rattle.rd_reading.specs.Causes.{FormHas, HasNone};
-ghost use Rattle.rd_reading.specs.Known.{kind_in, methods_of, opened, stage_of};
+ghost use Rattle.rd_reading.specs.Known.{kind_in, open_method_names, open_kinds, stage_of};
 ghost use Rattle.rd_ecl.specs.Specified.{IsWhole};
-ghost use Rattle.rd_grammar.specs.Grammar.{tree_of};
-ghost use Rattle.rd_reading.specs.Judging.{Refuses};
-ghost use Rattle.rd_lines.specs.Lines.{IsCommuteLine, IsMethodLine, IsShort, RightLine, commute as commute_said, kind as kind_said, method as method_said, said_of, words_of};
+ghost use Rattle.rd_grammar.specs.Grammar.{parsed_tree};
+ghost use Rattle.rd_reading.specs.Judging.{IsSpecLineRefused};
+ghost use Rattle.rd_lines.specs.Lines.{IsCommuteLine, IsMethodLine, HasFewWords, RightLine, commute as commute_said, kind as kind_said, method as method_said, said_of, words_of};
 ghost use Rattle.rd_tokens.specs.Tokens.{IsTokenOf, LiesIn};
 
 use crate::judging::kinds::judge_kind;
 use crate::judging::methods::judge_method;
-use crate::judging::refused::LineRefused;
+use crate::judging::refused::SpecLineRefused;
 use crate::{Block, Known, PairRefused, judge_pair};
 use rd_base::{Name, NoMemory};
 use rd_ecl::{KindDraft, Names, Spec};
@@ -23,7 +23,7 @@ use std::alloc::Global;
 // Closes the kind that is open, which has each of its pairs. A refused call may leave anything.
 pub(crate) fn close(closed: &mut Spec, block: Option<Block>) -> Result<(), NoMemory>
     requires { IsWhole (kind_in block) }
-    ensures { OnOk result (closed.new ≡ closed.old ++ opened block) }
+    ensures { OnOk result (closed.new ≡ closed.old ++ open_kinds block) }
 {
     let Some(block) = block else {
         return Ok(());
@@ -55,16 +55,16 @@ fn add_kind(
     line: &[u8],
     tokens: &[Token],
     name: Name,
-) -> Result<(), LineRefused>
+) -> Result<(), SpecLineRefused>
     requires { length line.now < 2 ^ 32 - 1 }
     ensures clean { OnOk result
         (HasNone (FormHas taken.now known.old line.now tokens.now (kind_said name))) }
     ensures adds { OnOk result (FormAdds known.old line.now tokens.now (kind_said name) known.new) }
     ensures refused { IfErr result
-        (Refuses (FormHas taken.now known.old line.now tokens.now (kind_said name))) }
+        (IsSpecLineRefused (FormHas taken.now known.old line.now tokens.now (kind_said name))) }
 {
     if let Some(fault) = judge_kind(taken, known, line, tokens, &name) {
-        return Err(LineRefused::Fault(fault));
+        return Err(SpecLineRefused::Fault(fault));
     }
     open(alloc, known, name)?;
     Ok(())
@@ -79,7 +79,7 @@ fn add_method(
     name: Name,
     arguments: Names,
     value: Name,
-) -> Result<(), LineRefused>
+) -> Result<(), SpecLineRefused>
     requires short { length line.now < 2 ^ 32 - 1 }
     requires count { length tokens.now < 2 ^ 32 - 1 }
     requires right { IsMethodLine (stage_of known.old)
@@ -89,7 +89,7 @@ fn add_method(
     ensures adds { OnOk result
         (FormAdds known.old line.now tokens.now (method_said name arguments value) known.new) }
     ensures refused { IfErr result
-        (Refuses (FormHas [] known.old line.now tokens.now (method_said name arguments value))) }
+        (IsSpecLineRefused (FormHas [] known.old line.now tokens.now (method_said name arguments value))) }
 {
     let Some(mut block) = known.block.take() else {
         unreachable!();
@@ -103,7 +103,7 @@ fn add_method(
         arguments.items(),
         &value,
     )? {
-        return Err(LineRefused::Fault(fault));
+        return Err(SpecLineRefused::Fault(fault));
     }
     let mut variables = arguments;
     variables.push(value)?;
@@ -121,24 +121,24 @@ fn add_pair(
     first: &Name,
     second: &Name,
     parsed: &Parsed,
-) -> Result<(), LineRefused>
+) -> Result<(), SpecLineRefused>
     requires within { All (LiesIn line.now) tokens.now }
     requires sorts { All (IsTokenOf line.now) tokens.now }
     requires short { length line.now < 2 ^ 32 - 1 }
-    requires few { IsShort (words_of line.now tokens.now) }
-    requires right { IsCommuteLine (stage_of known.old) (methods_of known.old)
-        (words_of line.now tokens.now) first.now second.now (tree_of parsed.now) }
+    requires few { HasFewWords (words_of line.now tokens.now) }
+    requires right { IsCommuteLine (stage_of known.old) (open_method_names known.old)
+        (words_of line.now tokens.now) first.now second.now (parsed_tree parsed.now) }
 
     // the line is clean and adds what it says, or it is refused
     ensures clean { OnOk result
         (HasNone (FormHas [] known.old line.now tokens.now
-        (commute_said first.now second.now (tree_of parsed.now)))) }
+        (commute_said first.now second.now (parsed_tree parsed.now)))) }
     ensures adds { OnOk result
         (FormAdds known.old line.now tokens.now
-        (commute_said first.now second.now (tree_of parsed.now)) known.new) }
+        (commute_said first.now second.now (parsed_tree parsed.now)) known.new) }
     ensures refused { IfErr result
-        (Refuses (FormHas [] known.old line.now tokens.now
-        (commute_said first.now second.now (tree_of parsed.now)))) }
+        (IsSpecLineRefused (FormHas [] known.old line.now tokens.now
+        (commute_said first.now second.now (parsed_tree parsed.now)))) }
 {
     let Some(mut block) = known.block.take() else {
         unreachable!();
@@ -150,8 +150,8 @@ fn add_pair(
             known.block = Some(block);
             Ok(())
         }
-        Err(PairRefused::Fault(fault)) => Err(LineRefused::Fault(fault)),
-        Err(PairRefused::NoMemory) => Err(LineRefused::NoMemory),
+        Err(PairRefused::Fault(fault)) => Err(SpecLineRefused::Fault(fault)),
+        Err(PairRefused::NoMemory) => Err(SpecLineRefused::NoMemory),
     }
 }
 
@@ -163,13 +163,13 @@ pub(crate) fn add_form(
     line: &[u8],
     tokens: &[Token],
     form: Form,
-) -> Result<(), LineRefused>
+) -> Result<(), SpecLineRefused>
     requires within { All (LiesIn line.now) tokens.now }
     requires sorts { All (IsTokenOf line.now) tokens.now }
     requires short { length line.now < 2 ^ 32 - 1 }
     requires count { length tokens.now < 2 ^ 32 - 1 }
-    requires few { IsShort (words_of line.now tokens.now) }
-    requires right { RightLine (stage_of known.old) (methods_of known.old)
+    requires few { HasFewWords (words_of line.now tokens.now) }
+    requires right { RightLine (stage_of known.old) (open_method_names known.old)
         (words_of line.now tokens.now) (said_of form) }
 
     // the line is clean and adds what it says, or it is refused
@@ -177,7 +177,7 @@ pub(crate) fn add_form(
         (HasNone (FormHas taken.now known.old line.now tokens.now (said_of form))) }
     ensures adds { OnOk result (FormAdds known.old line.now tokens.now (said_of form) known.new) }
     ensures refused { IfErr result
-        (Refuses (FormHas taken.now known.old line.now tokens.now (said_of form))) }
+        (IsSpecLineRefused (FormHas taken.now known.old line.now tokens.now (said_of form))) }
 {
     match form {
         Form::Kind(name) => add_kind(alloc, taken, known, line, tokens, name),

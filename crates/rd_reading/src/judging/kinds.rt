@@ -1,7 +1,7 @@
 //! Judging the line of a kind.
 ghost use Rattle.std.specs.Prelude.{◌≡◌, ◌<◌, ◌-◌, ◌^◌, IfNone, length};
 ghost use Rattle.rd_reading.specs.Causes.{Judged, KindHas};
-ghost use Rattle.rd_reading.specs.Known.{kind_in, kind_names, kinds_so_far, opened};
+ghost use Rattle.rd_reading.specs.Known.{kind_in, specified_kind_names, kinds_so_far, open_kinds};
 ghost use Rattle.rd_ecl.specs.Specified.{IsWhole};
 ghost use Rattle.rd_ecl.specs.Variables.{is_among};
 
@@ -14,7 +14,7 @@ use rd_tokens::Token;
 
 // Is one of the kinds of this name?
 fn names_kind(kinds: &[KindSpec], name: &Name) -> bool
-    ensures { result ≡ is_among name.now (kind_names kinds.now) }
+    ensures { result ≡ is_among name.now (specified_kind_names kinds.now) }
 {
     for kind in kinds {
         if name.items() == kind.name().items() {
@@ -38,7 +38,7 @@ fn is_taken(taken: &[Name], name: &Name) -> bool
 
 // Is the kind that is open of this name?
 fn names_open(known: &Known, name: &Name) -> bool
-    ensures { result ≡ is_among name.now (kind_names (opened known.now.block)) }
+    ensures { result ≡ is_among name.now (specified_kind_names (open_kinds known.now.block)) }
 {
     match &known.block {
         Some(block) => name.items() == block.draft.name().items(),
@@ -48,7 +48,7 @@ fn names_open(known: &Known, name: &Name) -> bool
 
 // Is one of the kinds so far of this name?
 fn is_known(known: &Known, name: &Name) -> bool
-    ensures { result ≡ is_among name.now (kind_names (kinds_so_far known.now)) }
+    ensures { result ≡ is_among name.now (specified_kind_names (kinds_so_far known.now)) }
 {
     names_open(known, name) || names_kind(known.closed.kinds(), name)
 }

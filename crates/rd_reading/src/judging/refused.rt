@@ -1,6 +1,6 @@
 //! Why a line is refused.
 ghost use Rattle.std.specs.Prelude.{◌≡◌};
-ghost use Rattle.rd_reading.specs.declared.judging.refused.LineRefused.TheVariants.{NoMemory as MemoryRefused};
+ghost use Rattle.rd_reading.specs.declared.judging.refused.SpecLineRefused.TheVariants.{NoMemory as MemoryRefused};
 
 use crate::Fault;
 use rd_base::NoMemory;
@@ -8,7 +8,7 @@ use thiserror::Error;
 
 /// Why a line, or the end of a text, is refused.
 #[derive(Debug, Drop, PartialEq, Eq, Error)]
-pub enum LineRefused {
+pub enum SpecLineRefused {
     /// the first thing that is wrong with it
     #[error("wrong at byte {}", .0.place)]
     Fault(Fault),
@@ -17,10 +17,10 @@ pub enum LineRefused {
     NoMemory,
 }
 
-impl From<NoMemory> for LineRefused {
+impl From<NoMemory> for SpecLineRefused {
     ghost from_gives = { λ _ e. e ≡ MemoryRefused };
 
-    fn from(_error: NoMemory) -> LineRefused {
-        LineRefused::NoMemory
+    fn from(_error: NoMemory) -> SpecLineRefused {
+        SpecLineRefused::NoMemory
     }
 }

@@ -2,17 +2,17 @@
 ghost use Rattle.std.specs.Prelude.{◌<◌, ◌-◌, ◌^◌, length, All, IfOk, IfErr};
 ghost use Rattle.rd_tokens.specs.Tokens.{IsTokenOf, LiesIn};
 ghost use Rattle.rd_reading.specs.Causes.{HasNone, PairHas, SaysPair};
-ghost use Rattle.rd_ecl.specs.Formulas.{tree_of as formula_of};
+ghost use Rattle.rd_ecl.specs.Formulas.{tree_of};
 ghost use Rattle.rd_ecl.specs.Specified.{MayPair, names_of};
-ghost use Rattle.rd_grammar.specs.Grammar.{tree_of};
+ghost use Rattle.rd_grammar.specs.Grammar.{parsed_tree};
 ghost use Rattle.rd_lines.specs.declared.forms.Stage.{Stage};
-ghost use Rattle.rd_lines.specs.Lines.{IsCommuteLine, IsShort, words_of};
-ghost use Rattle.rd_reading.specs.Pairs.{IsRefused};
+ghost use Rattle.rd_lines.specs.Lines.{IsCommuteLine, HasFewWords, words_of};
+ghost use Rattle.rd_reading.specs.Pairs.{IsPairRefused};
 
 use crate::pairs::answers::{Pair, PairRefused};
-use crate::pairs::formulas::{formula_of, refusal_of};
 use crate::pairs::limits::judge_right;
 use crate::pairs::methods::numbers_of;
+use crate::pairs::pair_formulas::{formula_of, refusal_of};
 use rd_base::Name;
 use rd_ecl::KindDraft;
 use rd_grammar::Parsed;
@@ -33,23 +33,23 @@ pub fn judge_pair(
     requires within { All (LiesIn line.now) tokens.now }
     requires sorts { All (IsTokenOf line.now) tokens.now }
     requires short { length line.now < 2 ^ 32 - 1 }
-    requires few { IsShort (words_of line.now tokens.now) }
+    requires few { HasFewWords (words_of line.now tokens.now) }
     requires right { (stage : Stage)
         × IsCommuteLine stage (names_of kind.now.methods)
-        (words_of line.now tokens.now) first.now second.now (tree_of parsed.now) }
+        (words_of line.now tokens.now) first.now second.now (parsed_tree parsed.now) }
 
     // the pair is clean, is what the line says and may stand, or it is refused
     ensures clean { IfOk result
         (λ pair. HasNone
-        (PairHas kind.now line.now tokens.now first.now second.now (tree_of parsed.now))) }
+        (PairHas kind.now line.now tokens.now first.now second.now (parsed_tree parsed.now))) }
     ensures says { IfOk result
         (λ pair. SaysPair kind.now line.now tokens.now first.now second.now
-        (tree_of parsed.now) pair.first pair.second (formula_of pair.formula)) }
+        (parsed_tree parsed.now) pair.first pair.second (tree_of pair.formula)) }
     ensures may { IfOk result
-        (λ pair. MayPair kind.now pair.first pair.second (formula_of pair.formula)) }
+        (λ pair. MayPair kind.now pair.first pair.second (tree_of pair.formula)) }
     ensures refused { IfErr result
-        (IsRefused (PairHas kind.now line.now tokens.now first.now second.now
-        (tree_of parsed.now))) }
+        (IsPairRefused (PairHas kind.now line.now tokens.now first.now second.now
+        (parsed_tree parsed.now))) }
 {
     let methods = kind.methods();
     let (one, other) = match numbers_of(methods, line, tokens, first, second) {

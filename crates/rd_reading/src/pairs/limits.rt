@@ -1,6 +1,6 @@
 //! What may be wrong with a pair whose formula is right.
 ghost use Rattle.std.specs.Prelude.{◌≡◌, ◌<◌, ◌≤◌, ◌-◌, ◌^◌, ◌↔◌, length, IsTrue, IfSome, IfNone, None, is_some};
-ghost use Rattle.rd_reading.specs.declared.causes.SpecCause.{SpecCause};
+ghost use Rattle.rd_reading.specs.declared.spec_causes.SpecCause.{SpecCause};
 ghost use Rattle.rd_reading.specs.Causes.{HasManyPredicates, Judged};
 ghost use Rattle.rd_ecl.specs.Formulas.{nodes, tree_of};
 ghost use Rattle.rd_ecl.specs.Specified.{formula_at};

@@ -4,7 +4,7 @@ ghost use Rattle.rd_tokens.specs.ReadingWords.{other_word, word_of};
 ghost use Rattle.rd_tokens.specs.Words.{IsSymbol};
 
 use crate::Sort;
-use crate::words::terms::{is, is_term};
+use crate::words::terms::{bytes_are, is_term};
 use rd_grammar::{Sign, Symbol};
 
 // The symbol of a word that is neither a keyword nor a sign.
@@ -24,31 +24,31 @@ fn other_word(bytes: &[u8]) -> Symbol
 fn word(bytes: &[u8]) -> Symbol
     ensures { result ≡ word_of bytes.now }
 {
-    if is(bytes, "not") {
+    if bytes_are(bytes, "not") {
         return Symbol::Not;
     }
-    if is(bytes, "and") {
+    if bytes_are(bytes, "and") {
         return Symbol::And;
     }
-    if is(bytes, "or") {
+    if bytes_are(bytes, "or") {
         return Symbol::Or;
     }
-    if is(bytes, "true") {
+    if bytes_are(bytes, "true") {
         return Symbol::Truth(true);
     }
-    if is(bytes, "false") {
+    if bytes_are(bytes, "false") {
         return Symbol::Truth(false);
     }
-    if is(bytes, "=") {
+    if bytes_are(bytes, "=") {
         return Symbol::Sign(Sign::Equal);
     }
-    if is(bytes, "!=") {
+    if bytes_are(bytes, "!=") {
         return Symbol::Sign(Sign::Different);
     }
-    if is(bytes, "<") {
+    if bytes_are(bytes, "<") {
         return Symbol::Sign(Sign::Less);
     }
-    if is(bytes, "<=") {
+    if bytes_are(bytes, "<=") {
         return Symbol::Sign(Sign::AtMost);
     }
     other_word(bytes)

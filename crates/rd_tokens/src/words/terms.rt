@@ -23,7 +23,7 @@ pub enum Said {
 }
 
 // Are the bytes those of the word?
-pub(crate) fn is(bytes: &[u8], word: &str) -> bool
+pub(crate) fn bytes_are(bytes: &[u8], word: &str) -> bool
     ensures { result ≡ bytes_eq bytes.now word.now }
 {
     bytes == word.as_bytes()
@@ -52,13 +52,13 @@ fn are_variable_bytes(bytes: &[u8]) -> bool
 fn is_kept(bytes: &[u8]) -> bool
     ensures { result ≡ is_among bytes.now kept_words }
 {
-    is(bytes, "true")
-        || is(bytes, "false")
-        || is(bytes, "nil")
-        || is(bytes, "not")
-        || is(bytes, "and")
-        || is(bytes, "or")
-        || is(bytes, "when")
+    bytes_are(bytes, "true")
+        || bytes_are(bytes, "false")
+        || bytes_are(bytes, "nil")
+        || bytes_are(bytes, "not")
+        || bytes_are(bytes, "and")
+        || bytes_are(bytes, "or")
+        || bytes_are(bytes, "when")
 }
 
 /// Are the bytes those of a variable: 1 to 64 letters, digits and `_`, a letter first, and none of the words of formulas? It
@@ -77,10 +77,10 @@ pub fn is_variable(bytes: &[u8]) -> bool
 fn side(mark: &[u8]) -> Option<Side>
     ensures { result ≡ side_of mark.now }
 {
-    if is(mark, "@1") {
+    if bytes_are(mark, "@1") {
         return Some(Side::First);
     }
-    if is(mark, "@2") {
+    if bytes_are(mark, "@2") {
         return Some(Side::Second);
     }
     None

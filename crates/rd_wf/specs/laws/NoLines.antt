@@ -5,14 +5,14 @@ use Rattle.std.proofs.lemmas.Bool.Decides.{Decides-ltb}
 use Rattle.std.proofs.lemmas.List.Elements.{All-nil}
 use Rattle.std.proofs.lemmas.Option.{none-some}
 use Rattle.rd_order.specs.Counts.{Counts}
-use Rattle.rd_order.specs.EventLists.{calls, forks, givings, IsCallOf, joins, Known, takings}
+use Rattle.rd_order.specs.EventLists.{calls, forks, givings, IsCallOf, joins, IsKnownThread, takings}
 use Rattle.rd_order.specs.Order.{call_in}
 use Rattle.rd_wf.specs.Events.{AreTold, Tally, events_of, roots_of}
 use Rattle.rd_wf.specs.MayFollow.{acquires, releases}
 use Rattle.rd_ecl.specs.Kinds.{Kind}
 
 -- no thread is known
-none_known : (kinds : List Kind) (n c : ℕ) → Counts (Known (roots_of []) (events_of kinds [])) n c → c ≡ 0
+none_known : (kinds : List Kind) (n c : ℕ) → Counts (IsKnownThread (roots_of []) (events_of kinds [])) n c → c ≡ 0
 unfolding forks
 none_known kinds zero c counted = counted
 none_known kinds (suc n) c (inl some) = elim some.0 [ inl root ↦ absurd (omega (arith, (Decides-ltb n 0).0 root)) | inr forked ↦ absurd (omega (arith, forked)) ]

@@ -3,7 +3,7 @@ ghost use Rattle.std.specs.Prelude.{◌≡◌, ◌<◌, false, IfNone};
 
 use super::{Lock, NEAR_LENGTH, Roster};
 use crate::causes::{Accepted, WfCause};
-use crate::methods::Method;
+use crate::methods::FoundMethod;
 use indexmap::IndexMap;
 use rd_base::{LimitName, Limits, Name, NoMemory, Slots};
 use rd_event::{Call, Event, Line, LineEvent};
@@ -160,12 +160,12 @@ impl Broken {
     ghost use Rattle.std.specs.Prelude.{◌≡◌, ◌<◌, List, None, true, IfSome, find, length};
     ghost use Rattle.rd_event.specs.declared.items.Line.{Line as LineOf};
     ghost use Rattle.rd_wf.specs.MayFollow.{causes, threads_of};
-    ghost use Rattle.rd_wf.specs.Roster.{flag, unbroken};
+    ghost use Rattle.rd_wf.specs.Roster.{flag, nothing_broken};
 
     /// Whether no rule is broken.
     #[inline(always)]
     fn is_unbroken(&self) -> bool
-        ensures { result ≡ true → self.now ≡ unbroken }
+        ensures { result ≡ true → self.now ≡ nothing_broken }
     {
         !(self.header_first
             | self.late_root
@@ -272,12 +272,12 @@ impl Roster {
     ghost use Rattle.std.specs.Prelude.{◌≡◌, ◌<◌, ◌^◌, ◌+◌, List, IfOk, IfErr, OnOk, false, true, not};
     ghost use Rattle.rd_event.specs.declared.items.Line.{Line as LineOf};
     ghost use Rattle.rd_ecl.specs.Kinds.{Kind, methods_at};
-    ghost use Rattle.rd_wf.specs.Roster.{StandsFor, Permits, Forbids, depth_of, found_method, found_object, found_thread, lock_in, thread_count, lock_count, object_count};
+    ghost use Rattle.rd_wf.specs.Roster.{RosterStandsFor, Permits, Forbids, depth_of, found_method, found_object, found_thread, lock_in, thread_count, lock_count, object_count};
     ghost use Rattle.rd_wf.specs.MayFollow.{is_among, locks_of, place};
 
     #[inline(always)]
     fn find_thread(&self, name: &Name, near: usize) -> FoundThread
-        ensures value { (kinds : List Kind) (lines : List LineOf) → StandsFor kinds self.now lines →
+        ensures value { (kinds : List Kind) (lines : List LineOf) → RosterStandsFor kinds self.now lines →
             result ≡ found_thread lines name.now }
         ensures within { result.unknown ≡ false → result.number < thread_count self.now }
     {
@@ -302,7 +302,7 @@ impl Roster {
 
     #[inline(never)]
     fn look_up_thread(&self, name: &Name) -> FoundThread
-        ensures value { (kinds : List Kind) (lines : List LineOf) → StandsFor kinds self.now lines →
+        ensures value { (kinds : List Kind) (lines : List LineOf) → RosterStandsFor kinds self.now lines →
             result ≡ found_thread lines name.now }
         ensures within { result.unknown ≡ false → result.number < thread_count self.now }
     {
@@ -323,7 +323,7 @@ impl Roster {
     #[inline(always)]
     fn find_lock(&self, name: &Name, near: usize) -> FoundLock
         ensures number { (kinds : List Kind) (lines : List LineOf) →
-            StandsFor kinds self.now lines →
+            RosterStandsFor kinds self.now lines →
             (result.number ≡ place (locks_of lines) name.now)
             × (result.unknown ≡ not (is_among (locks_of lines) name.now)) }
         ensures lock { result.lock ≡ lock_in self.now name.now }
@@ -347,7 +347,7 @@ impl Roster {
     #[inline(never)]
     fn look_up_lock(&self, name: &Name) -> FoundLock
         ensures number { (kinds : List Kind) (lines : List LineOf) →
-            StandsFor kinds self.now lines →
+            RosterStandsFor kinds self.now lines →
             (result.number ≡ place (locks_of lines) name.now)
             × (result.unknown ≡ not (is_among (locks_of lines) name.now)) }
         ensures lock { result.lock ≡ lock_in self.now name.now }
@@ -370,7 +370,7 @@ impl Roster {
     }
 
     fn find_object(&self, name: &Name) -> FoundObject
-        ensures { (kinds : List Kind) (lines : List LineOf) → StandsFor kinds self.now lines →
+        ensures { (kinds : List Kind) (lines : List LineOf) → RosterStandsFor kinds self.now lines →
             result ≡ found_object kinds lines name.now }
     {
         match self.objects.get_full(name) {
@@ -387,12 +387,12 @@ impl Roster {
         }
     }
 
-    fn find_method(&self, kind: u32, name: &Name) -> Method
-        ensures { (kinds : List Kind) (lines : List LineOf) → StandsFor kinds self.now lines →
+    fn find_method(&self, kind: u32, name: &Name) -> FoundMethod
+        ensures { (kinds : List Kind) (lines : List LineOf) → RosterStandsFor kinds self.now lines →
             result ≡ found_method (methods_at kinds kind) name.now }
     {
         match self.kinds.get_index(kind as usize) {
-            None => Method {
+            None => FoundMethod {
                 number: 0,
                 unknown: true,
                 slots: 0,
@@ -540,7 +540,7 @@ impl Roster {
 
         // whether the lock is new
         ensures unknown { IfOk result
-            (λ used. (kinds : List Kind) (lines : List LineOf) → StandsFor kinds self.now lines →
+            (λ used. (kinds : List Kind) (lines : List LineOf) → RosterStandsFor kinds self.now lines →
             used.unknown ≡ not (is_among (locks_of lines) lock.now)) }
         ensures known { IfOk result
             (λ used. used.unknown ≡ false → used.lock < lock_count self.now) }

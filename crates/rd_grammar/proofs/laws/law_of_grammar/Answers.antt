@@ -1,4 +1,4 @@
-use Rattle.rd_grammar.specs.Grammar.{Says, disj}
+use Rattle.rd_grammar.specs.Grammar.{MarksSay, disj}
 use Rattle.rd_grammar.proofs.CanonicalLemmas.{canonical_are_read, has_canonical}
 use Rattle.rd_grammar.proofs.FirstWrong.{one_place, right_nowhere}
 use Rattle.rd_grammar.proofs.ReadLemmas.{each_judged, one_tree}
@@ -8,8 +8,8 @@ pub returns : goal.returns
 returns c = record {
   one = one_tree;
   judged = each_judged;
-  right = right_nowhere (Says disj);
-  place = λ front rest others more. one_place (Says disj) front rest others more;
+  right = right_nowhere (MarksSay disj);
+  place = λ front rest others more. one_place (MarksSay disj) front rest others more;
   canonical = canonical_are_read;
   shown = has_canonical;
 }

@@ -8,61 +8,61 @@ pub returns-in_default-clause-refused : goal.returns-in_default-clause-refused
 returns-in_default-clause-refused c = λ stage in_kind.
     commute_alone stage in_kind (names_of c.args.methods.now) _ (no_words c.args.line.now c.args.tokens.now c.in_default.ensures.cases)
 
-pub returns-in_default-name_of-clause-refused : goal.returns-in_default-name_of-clause-refused
-returns-in_default-name_of-clause-refused c = λ stage in_kind.
+pub returns-in_default-token_name-clause-refused : goal.returns-in_default-token_name-clause-refused
+returns-in_default-token_name-clause-refused c = λ stage in_kind.
     first_unnamed stage in_kind (names_of c.args.methods.now) _ _ _
-    (first_word c.args.line.now c.args.tokens.now c.in-Some.behind.now c.in-Some.second.now c.in-Some.ensures.cases.0) c.in_default-name_of.ensures.none
+    (first_word c.args.line.now c.args.tokens.now c.in-Some.behind.now c.in-Some.second.now c.in-Some.ensures.cases.0) c.in_default-token_name.ensures.none
 
 pub returns-in_default-split_first-clause-refused :
     goal.returns-in_default-split_first-clause-refused
 returns-in_default-split_first-clause-refused c = λ stage in_kind.
-    first_alone stage in_kind (names_of c.args.methods.now) _ _ _ c.in-Some-name_of.one
+    first_alone stage in_kind (names_of c.args.methods.now) _ _ _ c.in-Some-token_name.one
     (first_word c.args.line.now c.args.tokens.now c.in-Some.behind.now c.in-Some.second.now c.in-Some.ensures.cases.0)
-    c.in-Some-name_of.ensures.some c.in-Some-name_of.ensures.named (no_words c.args.line.now c.in-Some.behind.now c.in_default-split_first.ensures.cases)
+    c.in-Some-token_name.ensures.some c.in-Some-token_name.ensures.named (no_words c.args.line.now c.in-Some.behind.now c.in_default-split_first.ensures.cases)
 
-pub name_of-requires-2 : goal.name_of-requires-2
-name_of-requires-2 c = second_too (LiesIn c.args.line.now) _ _ _ _ _ c.requires c.in-Some.ensures.cases.0 c.in-Some-split_first.ensures.cases.0
+pub token_name-requires-2 : goal.token_name-requires-2
+token_name-requires-2 c = second_too (LiesIn c.args.line.now) _ _ _ _ _ c.requires c.in-Some.ensures.cases.0 c.in-Some-split_first.ensures.cases.0
 
-pub returns-in_default-name_of-2-clause-refused : goal.returns-in_default-name_of-2-clause-refused
-returns-in_default-name_of-2-clause-refused c = λ stage in_kind.
-    second_unnamed stage in_kind (names_of c.args.methods.now) _ _ _ _ _ c.in-Some-name_of.one
+pub returns-in_default-token_name-2-clause-refused : goal.returns-in_default-token_name-2-clause-refused
+returns-in_default-token_name-2-clause-refused c = λ stage in_kind.
+    second_unnamed stage in_kind (names_of c.args.methods.now) _ _ _ _ _ c.in-Some-token_name.one
     (first_word c.args.line.now c.args.tokens.now c.in-Some.behind.now c.in-Some.second.now c.in-Some.ensures.cases.0)
-    c.in-Some-name_of.ensures.some c.in-Some-name_of.ensures.named
+    c.in-Some-token_name.ensures.some c.in-Some-token_name.ensures.named
     (first_word c.args.line.now c.in-Some.behind.now c.in-Some-split_first.rest.now c.in-Some-split_first.third.now c.in-Some-split_first.ensures.cases.0)
-    c.in_default-name_of-2.ensures.none
+    c.in_default-token_name-2.ensures.none
 
 pub returns-then-is_out_of_order-clause-refused : goal.returns-then-is_out_of_order-clause-refused
 returns-then-is_out_of_order-clause-refused c = λ stage in_kind.
-    second_out_of_order stage in_kind (names_of c.args.methods.now) _ _ _ _ _ c.in-Some-name_of.one c.in-Some-name_of-2.other
+    second_out_of_order stage in_kind (names_of c.args.methods.now) _ _ _ _ _ c.in-Some-token_name.one c.in-Some-token_name-2.other
     (first_word c.args.line.now c.args.tokens.now c.in-Some.behind.now c.in-Some.second.now c.in-Some.ensures.cases.0)
-    c.in-Some-name_of.ensures.some c.in-Some-name_of.ensures.named
+    c.in-Some-token_name.ensures.some c.in-Some-token_name.ensures.named
     (first_word c.args.line.now c.in-Some.behind.now c.in-Some-split_first.rest.now c.in-Some-split_first.third.now c.in-Some-split_first.ensures.cases.0)
-    c.in-Some-name_of-2.ensures.some (c.is_out_of_order.ensures.0 c.if-is_out_of_order.true)
+    c.in-Some-token_name-2.ensures.some (c.is_out_of_order.ensures.0 c.if-is_out_of_order.true)
 
 pub returns-in_default-split_first-2-clause-refused :
     goal.returns-in_default-split_first-2-clause-refused
 returns-in_default-split_first-2-clause-refused c = λ stage in_kind.
-    second_last stage in_kind (names_of c.args.methods.now) _ _ _ _ _ c.in-Some-name_of.one c.in-Some-name_of-2.other
+    second_last stage in_kind (names_of c.args.methods.now) _ _ _ _ _ c.in-Some-token_name.one c.in-Some-token_name-2.other
     (first_word c.args.line.now c.args.tokens.now c.in-Some.behind.now c.in-Some.second.now c.in-Some.ensures.cases.0)
-    c.in-Some-name_of.ensures.some c.in-Some-name_of.ensures.named
+    c.in-Some-token_name.ensures.some c.in-Some-token_name.ensures.named
     (first_word c.args.line.now c.in-Some.behind.now c.in-Some-split_first.rest.now c.in-Some-split_first.third.now c.in-Some-split_first.ensures.cases.0)
-    c.in-Some-name_of-2.ensures.some c.in-Some-name_of-2.ensures.named (λ out. let yes = c.is_out_of_order.ensures.1 out in cc)
+    c.in-Some-token_name-2.ensures.some c.in-Some-token_name-2.ensures.named (λ out. let yes = c.is_out_of_order.ensures.1 out in cc)
     (no_words c.args.line.now c.in-Some-split_first.rest.now c.in_default-split_first-2.ensures.cases)
 
-pub is-requires : goal.is-requires
-is-requires c =
+pub token_is-requires : goal.token_is-requires
+token_is-requires c =
     second_too (LiesIn c.args.line.now) _ _ _ _ _ (rest_too (LiesIn c.args.line.now) _ _ _ c.requires c.in-Some.ensures.cases.0)
     c.in-Some-split_first.ensures.cases.0 c.in-Some-split_first-2.ensures.cases.0
 
-pub returns-then-not-is-clause-refused : goal.returns-then-not-is-clause-refused
-returns-then-not-is-clause-refused c = λ stage in_kind.
-    no_when stage in_kind (names_of c.args.methods.now) _ _ _ _ _ _ _ c.in-Some-name_of.one c.in-Some-name_of-2.other
+pub returns-then-not-token_is-clause-refused : goal.returns-then-not-token_is-clause-refused
+returns-then-not-token_is-clause-refused c = λ stage in_kind.
+    no_when stage in_kind (names_of c.args.methods.now) _ _ _ _ _ _ _ c.in-Some-token_name.one c.in-Some-token_name-2.other
     (first_word c.args.line.now c.args.tokens.now c.in-Some.behind.now c.in-Some.second.now c.in-Some.ensures.cases.0)
-    c.in-Some-name_of.ensures.some c.in-Some-name_of.ensures.named
+    c.in-Some-token_name.ensures.some c.in-Some-token_name.ensures.named
     (first_word c.args.line.now c.in-Some.behind.now c.in-Some-split_first.rest.now c.in-Some-split_first.third.now c.in-Some-split_first.ensures.cases.0)
-    c.in-Some-name_of-2.ensures.some c.in-Some-name_of-2.ensures.named (λ out. let yes = c.is_out_of_order.ensures.1 out in cc)
+    c.in-Some-token_name-2.ensures.some c.in-Some-token_name-2.ensures.named (λ out. let yes = c.is_out_of_order.ensures.1 out in cc)
     (first_word c.args.line.now c.in-Some-split_first.rest.now c.in-Some-split_first-2.formula.now c.in-Some-split_first-2.fourth.now c.in-Some-split_first-2.ensures.cases.0)
-    (λ same. let yes = c.is.ensures.1 same in cc)
+    (λ same. let yes = c.token_is.ensures.1 same in cc)
 
 pub returns-clause-within : goal.returns-clause-within
 returns-clause-within c =

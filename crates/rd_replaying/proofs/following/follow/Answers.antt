@@ -5,7 +5,7 @@ use Rattle.rd_ecl.specs.Kinds.{Kind}
 use Rattle.rd_wf.specs.declared.causes.Accepted.TheVariants as accepted
 use Rattle.rd_wf.specs.declared.roster.Roster.{Roster}
 use Rattle.rd_replay.specs.Replays.{Recorded}
-use Rattle.rd_replay.specs.Replayer.{StandsFor}
+use Rattle.rd_replay.specs.Replayer.{ReplayerStandsFor}
 use Rattle.rd_walk.specs.Analysis.{IsNextEntry}
 use Rattle.rd_replaying.specs.Replaying.{Replayed}
 use Rattle.rd_walk.specs.Walk.{Entry}
@@ -14,8 +14,8 @@ use Rattle.rd_replaying.proofs.following.follow.Goals as goal
 
 pub returns-in-Object : goal.returns-in-Object
 returns-in-Object c = on_ok_weaker c.follow_object.result
-    (λ (all : (those : List ℕ) (calls : List Recorded) → StandsFor c.args.replayer.now those calls → c.in-Object.object ≡ length those
-    → StandsFor c.follow_object.new.replayer (those ++ c.in-Object.kind ∷ []) calls) kinds before item roster replayed next.
+    (λ (all : (those : List ℕ) (calls : List Recorded) → ReplayerStandsFor c.args.replayer.now those calls → c.in-Object.object ≡ length those
+    → ReplayerStandsFor c.follow_object.new.replayer (those ++ c.in-Object.kind ∷ []) calls) kinds before item roster replayed next.
     let entry : Entry = record { number = c.args.number; item = item } in
     replayed_object kinds before entry c.args.replayer.now c.follow_object.new.replayer replayed roster c.args.accepted.now next c.in-Object.object c.in-Object.kind
     c.in-Object.is all)

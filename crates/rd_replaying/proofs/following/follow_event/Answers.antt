@@ -3,7 +3,7 @@ use Rattle.std.proofs.lemmas.Result.{on_ok_weaker}
 use Rattle.rd_wf.specs.MayFollow.{object_kinds}
 use Rattle.rd_wf.specs.declared.causes.Accepted.TheVariants as accepted
 use Rattle.rd_replay.specs.Replays.{Recorded}
-use Rattle.rd_replay.specs.Replayer.{IsRecordable, StandsFor}
+use Rattle.rd_replay.specs.Replayer.{IsRecordable, ReplayerStandsFor}
 use Rattle.rd_replaying.specs.Replaying.{recorded_of}
 use Rattle.rd_walk.specs.Walk.{Entry, items}
 use Rattle.rd_replaying.proofs.ReplayingLemmas.{call_recordable, event_no_call, event_no_object, replayed_call, replayed_quiet}
@@ -28,8 +28,8 @@ returns-in_default c = λ kinds before item roster replayed next.
 
 pub returns : goal.returns
 returns c = on_ok_weaker c.follow_call.result
-    (λ (all : (those : List ℕ) (calls : List Recorded) → StandsFor c.args.replayer.now those calls → IsRecordable those c.in-Call.call
-    → StandsFor c.follow_call.new.replayer those (calls ++ (c.args.number, c.in-Call.call) ∷ [])) kinds before item roster replayed next.
+    (λ (all : (those : List ℕ) (calls : List Recorded) → ReplayerStandsFor c.args.replayer.now those calls → IsRecordable those c.in-Call.call
+    → ReplayerStandsFor c.follow_call.new.replayer those (calls ++ (c.args.number, c.in-Call.call) ∷ [])) kinds before item roster replayed next.
     let entry : Entry = record { number = c.args.number; item = item } in
     replayed_call kinds before entry c.args.replayer.now c.follow_call.new.replayer replayed roster (accepted.Event c.args.event.now) next c.in-Call.call
     (ap accepted.Event c.in-Call.is) all)

@@ -6,7 +6,7 @@ use Rattle.rd_io.specs.Sinks.{Appends}
 use Rattle.rd_object.specs.declared.shapes.ReplayEnd.TheVariants.{Exact}
 use Rattle.rd_report.specs.declared.endings.Ending.TheVariants.{End}
 use Rattle.rd_replay.specs.Replays.{Recorded}
-use Rattle.rd_replay.specs.Replayer.{StandsFor}
+use Rattle.rd_replay.specs.Replayer.{ReplayerStandsFor}
 use Rattle.rd_walk.specs.Analysis.{WritesFront}
 use Rattle.rd_replaying.specs.States.{replayed_text, states_before}
 use Rattle.rd_wf.specs.Roster.{names_in, object_names_in}
@@ -30,7 +30,7 @@ returns-then-is_exact-clause-front g c =
     let middle = g.S.Sink.written c.write_end.new.out in
     let ended : c.args.ending.now ≡ End Exact = c.is_exact.ensures.0 c.if-is_exact.true in
     on_err_weaker c.write_states.result
-    (λ (all : (kinds : List ℕ) (calls : List Recorded) → StandsFor c.args.replayer.now kinds calls → length kinds ≡ length objects
+    (λ (all : (kinds : List ℕ) (calls : List Recorded) → ReplayerStandsFor c.args.replayer.now kinds calls → length kinds ≡ length objects
     → WritesFront middle now [] (states_before objects kinds calls (length objects))) kinds calls stands same.
     let states = states_before objects kinds calls (length objects) in
     let line = replayed_text names [] (End Exact) in

@@ -2,7 +2,7 @@ use Rattle.std.proofs.Common.{◌≡◌, ◌+◌, ◌-◌, ◌<◌, ◌++◌, le
 use Rattle.std.proofs.lemmas.List.{append_assoc, length-map}
 use Rattle.rd_io.proofs.SinkLemmas.{appends_none, appends_on}
 use Rattle.rd_io.specs.Sinks.{Appends}
-use Rattle.rd_replay.specs.Replays.{held}
+use Rattle.rd_replay.specs.Replays.{held_shape}
 use Rattle.rd_report.specs.Texts.{name_of}
 use Rattle.rd_replaying.specs.States.{held_text, states_before}
 use Rattle.rd_wf.specs.Roster.{object_count, object_names_in}
@@ -28,7 +28,7 @@ loop-object-preserved g c =
       within = omega (arith, below);
       written = λ kinds calls stands same.
           let inside : object < length kinds = omega (arith, below, same, counted) in
-          let text = held_text (name_of names object) (held kinds calls object) in
+          let text = held_text (name_of names object) (held_shape kinds calls object) in
           subst (Appends was now) (sym (states_more names kinds calls object) ∙ ap (states_before names kinds calls) (omega arith))
           (appends_on _ _ _ (states_before names kinds calls object) text (c.loop-object.invariant.written kinds calls stands same) (c.in_ok-write_state.ensures.ok kinds calls stands inside));
       calm = c.in_ok-write_state.ensures.fault ∙ c.loop-object.invariant.calm;

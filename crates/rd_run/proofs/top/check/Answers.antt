@@ -5,11 +5,11 @@ use Rattle.rd_ecl.specs.Kinds.{kinds_of}
 use Rattle.rd_wf.specs.laws.NoLines.{told_none}
 use Rattle.rd_wf.specs.Roster.{kinds_in}
 use Rattle.either.specs.Either.{MatchEither}
-use Rattle.rd_check.specs.Checking.{Begins}
+use Rattle.rd_check.specs.Checking.{CheckBegins}
 use Rattle.rd_walk.specs.Output.{report_status}
 use Rattle.rd_run.proofs.RunLemmas.{no_fault_told, part_outcome}
 use Rattle.rd_check.specs.Checked.{check_outcome}
-use Rattle.rd_replaying.specs.Replaying.{AreNumbered, recorded_of}
+use Rattle.rd_replaying.specs.Replaying.{BeginWithBuiltIn, recorded_of}
 use Rattle.rd_walk.specs.Traces.{ReportsTrace}
 use Rattle.rd_walk.proofs.TraceLemmas.{reports_without}
 use Rattle.rd_run.proofs.top.check.Goals as goal
@@ -46,12 +46,12 @@ returns-in_err-analysis-clause-faults g c =
 pub report_trace-requires-clause-begins : goal.report_trace-requires-clause-begins
 unfolding recorded_of
 report_trace-requires-clause-begins g c = (
-  subst (λ part. MatchEither part (Begins (kinds_in c.in_ok-roster.roster)) (λ _. ⊤)) (sym c.new-3.ensures.inner) (record {
+  subst (λ part. MatchEither part (CheckBegins (kinds_in c.in_ok-roster.roster)) (λ _. ⊤)) (sym c.new-3.ensures.inner) (record {
     kinds_are = c.in_ok-roster.ensures.kind_entries ∙ ap kinds_of (sym c.in_ok-analysis.ensures.spec);
     new = c.in_ok-analysis.ensures.new;
   }),
   record {
-    numbered = subst AreNumbered (sym c.in_ok-roster.ensures.kind_entries) c.requires.numbered;
+    numbered = subst BeginWithBuiltIn (sym c.in_ok-roster.ensures.kind_entries) c.requires.numbered;
     told = told_none (kinds_in c.in_ok-roster.roster);
     stands = c.new-3.ensures.none;
   },

@@ -5,7 +5,7 @@ use Rattle.rd_walk.proofs.StatusLemmas.{report_calm, report_no_spec, report_no_u
 use Rattle.rd_spec_commands.specs.Meanings.{kind_outcome}
 use Rattle.rd_spec_commands.specs.Specifications.{spec_command_status}
 use Rattle.rd_spec_commands.proofs.StatusLemmas.{spec_calm, spec_failed, spec_no_usage, spec_wrote, written_no_input, written_no_spec}
-use Rattle.rd_run.specs.Commands.{asked, meaning_of}
+use Rattle.rd_run.specs.Commands.{asked_command, meaning_of}
 use Rattle.rd_walk.specs.Meanings.{Runs, WritesAll}
 use Rattle.rd_run.specs.Commands.Command.{check, kind, replay, spec}
 use Rattle.rd_run.specs.declared.top.Command.{Command as Asked}
@@ -45,7 +45,7 @@ pub returns-in-Some-Check-clause-runs : goal.returns-in-Some-Check-clause-runs
 returns-in-Some-Check-clause-runs g c = λ old told few few_opens.
     let (new, part, now, writes, runs) = c.check_shipped.ensures.runs old told few few_opens in
     let rose = nat_lt (g.I.Inputs.faults c.args.inputs.now) (g.I.Inputs.faults c.check_shipped.new.inputs) in
-    let words = ap (λ (command : Asked). asked (Some command)) (sym c.in-Some-Check.field-0-is) ∙ c.in-Some-Check.ensures.asked in (
+    let words = ap (λ (command : Asked). asked_command (Some command)) (sym c.in-Some-Check.field-0-is) ∙ c.in-Some-Check.ensures.asked in (
       new,
       part,
       now,
@@ -57,7 +57,7 @@ returns-in-Some-Check-clause-runs g c = λ old told few few_opens.
 pub returns-in-Some-Check-clause-whole : goal.returns-in-Some-Check-clause-whole
 returns-in-Some-Check-clause-whole g c = λ old told few few_opens few_faults calm silent.
     let (new, part, now, writes, runs) = c.check_shipped.ensures.runs old told few few_opens in
-    let words = ap (λ (command : Asked). asked (Some command)) (sym c.in-Some-Check.field-0-is) ∙ c.in-Some-Check.ensures.asked in
+    let words = ap (λ (command : Asked). asked_command (Some command)) (sym c.in-Some-Check.field-0-is) ∙ c.in-Some-Check.ensures.asked in
     let wrote = report_wrote _ _ _ _ c.check_shipped.result c.check_shipped.ensures.faults.output in (
       part,
       writes,
@@ -72,7 +72,7 @@ returns-in-Some-Check-clause-usage g c = λ e. absurd (report_no_usage c.check_s
 
 pub returns-in-Some-Check-clause-untouched : goal.returns-in-Some-Check-clause-untouched
 returns-in-Some-Check-clause-untouched g c = λ none.
-    let words = ap (λ (command : Asked). asked (Some command)) (sym c.in-Some-Check.field-0-is) ∙ c.in-Some-Check.ensures.asked in
+    let words = ap (λ (command : Asked). asked_command (Some command)) (sym c.in-Some-Check.field-0-is) ∙ c.in-Some-Check.ensures.asked in
     absurd (some_file c.in-Some-Check.trace.now [] (ap (λ command. (meaning_of command).files) words ∙ none))
 
 pub returns-in-Some-Check-clause-spec_refused : goal.returns-in-Some-Check-clause-spec_refused
@@ -93,7 +93,7 @@ pub returns-in-Some-CheckWith-clause-runs : goal.returns-in-Some-CheckWith-claus
 returns-in-Some-CheckWith-clause-runs g c = λ old told few few_opens.
     let (new, part, now, writes, runs) = c.check_with.ensures.runs old told few few_opens in
     let rose = nat_lt (g.I.Inputs.faults c.args.inputs.now) (g.I.Inputs.faults c.check_with.new.inputs) in
-    let words = ap (λ (command : Asked). asked (Some command)) (sym c.in-Some-CheckWith.field-0-is) ∙ c.in-Some-CheckWith.ensures.asked in (
+    let words = ap (λ (command : Asked). asked_command (Some command)) (sym c.in-Some-CheckWith.field-0-is) ∙ c.in-Some-CheckWith.ensures.asked in (
       new,
       part,
       now,
@@ -104,7 +104,7 @@ returns-in-Some-CheckWith-clause-runs g c = λ old told few few_opens.
 pub returns-in-Some-CheckWith-clause-whole : goal.returns-in-Some-CheckWith-clause-whole
 returns-in-Some-CheckWith-clause-whole g c = λ old told few few_opens few_faults calm silent.
     let (new, part, now, writes, runs) = c.check_with.ensures.runs old told few few_opens in
-    let words = ap (λ (command : Asked). asked (Some command)) (sym c.in-Some-CheckWith.field-0-is) ∙ c.in-Some-CheckWith.ensures.asked in (
+    let words = ap (λ (command : Asked). asked_command (Some command)) (sym c.in-Some-CheckWith.field-0-is) ∙ c.in-Some-CheckWith.ensures.asked in (
       part,
       writes,
       subst (λ command. WritesAll (meaning_of command) c.args.limits.now old part c.check_with.result) words
@@ -114,19 +114,19 @@ returns-in-Some-CheckWith-clause-whole g c = λ old told few few_opens few_fault
 
 pub returns-in-Some-CheckWith-clause-untouched : goal.returns-in-Some-CheckWith-clause-untouched
 returns-in-Some-CheckWith-clause-untouched g c = λ none.
-    let words = ap (λ (command : Asked). asked (Some command)) (sym c.in-Some-CheckWith.field-0-is) ∙ c.in-Some-CheckWith.ensures.asked in
+    let words = ap (λ (command : Asked). asked_command (Some command)) (sym c.in-Some-CheckWith.field-0-is) ∙ c.in-Some-CheckWith.ensures.asked in
     absurd (some_file c.in-Some-CheckWith.file.now (c.in-Some-CheckWith.trace.now ∷ []) (ap (λ command. (meaning_of command).files) words ∙ none))
 
 pub returns-in-Some-CheckWith-clause-spec_refused : goal.returns-in-Some-CheckWith-clause-spec_refused
 returns-in-Some-CheckWith-clause-spec_refused g c = λ refused.
-    let words = ap (λ (command : Asked). asked (Some command)) (sym c.in-Some-CheckWith.field-0-is) ∙ c.in-Some-CheckWith.ensures.asked in
+    let words = ap (λ (command : Asked). asked_command (Some command)) (sym c.in-Some-CheckWith.field-0-is) ∙ c.in-Some-CheckWith.ensures.asked in
     (c.in-Some-CheckWith.file.now, ap (λ command. (meaning_of command).specification) (sym words))
 
 pub returns-in-Some-Replay-clause-runs : goal.returns-in-Some-Replay-clause-runs
 returns-in-Some-Replay-clause-runs g c = λ old told few few_opens.
     let (new, part, now, writes, runs) = c.replay.ensures.runs old told few few_opens in
     let rose = nat_lt (g.I.Inputs.faults c.args.inputs.now) (g.I.Inputs.faults c.replay.new.inputs) in
-    let words = ap (λ (command : Asked). asked (Some command)) (sym c.in-Some-Replay.field-0-is) ∙ c.in-Some-Replay.ensures.asked in (
+    let words = ap (λ (command : Asked). asked_command (Some command)) (sym c.in-Some-Replay.field-0-is) ∙ c.in-Some-Replay.ensures.asked in (
       new,
       part,
       now,
@@ -138,7 +138,7 @@ returns-in-Some-Replay-clause-runs g c = λ old told few few_opens.
 pub returns-in-Some-Replay-clause-whole : goal.returns-in-Some-Replay-clause-whole
 returns-in-Some-Replay-clause-whole g c = λ old told few few_opens few_faults calm silent.
     let (new, part, now, writes, runs) = c.replay.ensures.runs old told few few_opens in
-    let words = ap (λ (command : Asked). asked (Some command)) (sym c.in-Some-Replay.field-0-is) ∙ c.in-Some-Replay.ensures.asked in
+    let words = ap (λ (command : Asked). asked_command (Some command)) (sym c.in-Some-Replay.field-0-is) ∙ c.in-Some-Replay.ensures.asked in
     let wrote = report_wrote _ _ _ _ c.replay.result c.replay.ensures.faults.output in (
       part,
       writes,
@@ -153,7 +153,7 @@ returns-in-Some-Replay-clause-usage g c = λ e. absurd (report_no_usage c.replay
 
 pub returns-in-Some-Replay-clause-untouched : goal.returns-in-Some-Replay-clause-untouched
 returns-in-Some-Replay-clause-untouched g c = λ none.
-    let words = ap (λ (command : Asked). asked (Some command)) (sym c.in-Some-Replay.field-0-is) ∙ c.in-Some-Replay.ensures.asked in
+    let words = ap (λ (command : Asked). asked_command (Some command)) (sym c.in-Some-Replay.field-0-is) ∙ c.in-Some-Replay.ensures.asked in
     absurd (some_file c.in-Some-Replay.trace.now [] (ap (λ command. (meaning_of command).files) words ∙ none))
 
 pub returns-in-Some-Replay-clause-spec_refused : goal.returns-in-Some-Replay-clause-spec_refused
@@ -174,7 +174,7 @@ pub returns-in-Some-Spec-clause-runs : goal.returns-in-Some-Spec-clause-runs
 returns-in-Some-Spec-clause-runs g c = λ old told few few_opens.
     let (new, part, now, writes, runs) = c.spec.ensures.runs c.args.limits.now c.args.steps.now old told few few_opens in
     let rose = nat_lt (g.I.Inputs.faults c.args.inputs.now) (g.I.Inputs.faults c.spec.new.inputs) in
-    let words = ap (λ (command : Asked). asked (Some command)) (sym c.in-Some-Spec.field-0-is) ∙ c.in-Some-Spec.ensures.asked in (
+    let words = ap (λ (command : Asked). asked_command (Some command)) (sym c.in-Some-Spec.field-0-is) ∙ c.in-Some-Spec.ensures.asked in (
       new,
       part,
       now,
@@ -186,7 +186,7 @@ returns-in-Some-Spec-clause-runs g c = λ old told few few_opens.
 pub returns-in-Some-Spec-clause-whole : goal.returns-in-Some-Spec-clause-whole
 returns-in-Some-Spec-clause-whole g c = λ old told few few_opens few_faults calm silent.
     let (new, part, now, writes, runs) = c.spec.ensures.runs c.args.limits.now c.args.steps.now old told few few_opens in
-    let words = ap (λ (command : Asked). asked (Some command)) (sym c.in-Some-Spec.field-0-is) ∙ c.in-Some-Spec.ensures.asked in
+    let words = ap (λ (command : Asked). asked_command (Some command)) (sym c.in-Some-Spec.field-0-is) ∙ c.in-Some-Spec.ensures.asked in
     let wrote = spec_wrote _ _ _ _ c.spec.result c.spec.ensures.faults.output in (
       part,
       writes,
@@ -201,12 +201,12 @@ returns-in-Some-Spec-clause-usage g c = λ e. absurd (spec_no_usage c.spec.resul
 
 pub returns-in-Some-Spec-clause-untouched : goal.returns-in-Some-Spec-clause-untouched
 returns-in-Some-Spec-clause-untouched g c = λ none.
-    let words = ap (λ (command : Asked). asked (Some command)) (sym c.in-Some-Spec.field-0-is) ∙ c.in-Some-Spec.ensures.asked in
+    let words = ap (λ (command : Asked). asked_command (Some command)) (sym c.in-Some-Spec.field-0-is) ∙ c.in-Some-Spec.ensures.asked in
     absurd (some_file c.in-Some-Spec.file.now [] (ap (λ command. (meaning_of command).files) words ∙ none))
 
 pub returns-in-Some-Spec-clause-spec_refused : goal.returns-in-Some-Spec-clause-spec_refused
 returns-in-Some-Spec-clause-spec_refused g c = λ refused.
-    let words = ap (λ (command : Asked). asked (Some command)) (sym c.in-Some-Spec.field-0-is) ∙ c.in-Some-Spec.ensures.asked in
+    let words = ap (λ (command : Asked). asked_command (Some command)) (sym c.in-Some-Spec.field-0-is) ∙ c.in-Some-Spec.ensures.asked in
     (c.in-Some-Spec.file.now, ap (λ command. (meaning_of command).specification) (sym words))
 
 pub returns-in-Some-Spec-clause-input_fault : goal.returns-in-Some-Spec-clause-input_fault
@@ -226,7 +226,7 @@ returns-in-Some-Kind-clause-runs g c = λ old told few few_opens.
     let (built_in, at) = shipped_at number (c.in-Some-Kind.ensures.known number c.in-Some-Kind.field-0-is) in
     let (part, writes, output) = c.kind.ensures.output built_in at in
     let faults = g.I.Inputs.faults c.args.inputs.now in
-    let words = ap (option_map kind) (sym at) ∙ (ap (λ (command : Asked). asked (Some command)) (sym c.in-Some-Kind.field-0-is) ∙ c.in-Some-Kind.ensures.asked) in (
+    let words = ap (option_map kind) (sym at) ∙ (ap (λ (command : Asked). asked_command (Some command)) (sym c.in-Some-Kind.field-0-is) ∙ c.in-Some-Kind.ensures.asked) in (
       old,
       part,
       told,
@@ -243,7 +243,7 @@ returns-in-Some-Kind-clause-whole g c = λ old told few few_opens few_faults cal
     let (part, writes, output) = c.kind.ensures.output built_in at in
     let faults = g.I.Inputs.faults c.args.inputs.now in
     let status = spec_command_status c.kind.result in
-    let words = ap (option_map kind) (sym at) ∙ (ap (λ (command : Asked). asked (Some command)) (sym c.in-Some-Kind.field-0-is) ∙ c.in-Some-Kind.ensures.asked) in (
+    let words = ap (option_map kind) (sym at) ∙ (ap (λ (command : Asked). asked_command (Some command)) (sym c.in-Some-Kind.field-0-is) ∙ c.in-Some-Kind.ensures.asked) in (
       part,
       writes,
       subst (λ command. WritesAll (meaning_of command) c.args.limits.now old part c.spec_command_status-in-Some-Kind.result) words

@@ -1,4 +1,4 @@
-use Rattle.std.proofs.Common.{[], ◌++◌, refl, subst, arith}
+use Rattle.std.proofs.Common.{[], refl, subst, arith}
 use Rattle.rd_io.proofs.SinkLemmas.{appends_none}
 use Rattle.rd_wf.specs.Roster.{kinds_in}
 use Rattle.rd_walk.specs.Output.{fault_outcome, report_status}

@@ -3,11 +3,11 @@ use Rattle.std.proofs.lemmas.List.{append_assoc, append-nil, length-append}
 use Rattle.rd_io.specs.Sinks.{Appends}
 use Rattle.rd_io.specs.Inputs.{Source}
 use Rattle.rd_io.specs.LineReader.{Reader, IsAtEnd}
-use Rattle.rd_io.specs.Lines.Ending.{at_end}
+use Rattle.rd_io.specs.Lines.LinesEnding.{at_end}
 use Rattle.rd_io.proofs.SinkLemmas.{appends_none, appends_on}
 use Rattle.rd_io.proofs.AdvanceLemmas.{takes_none, takes_on, takes_then}
-use Rattle.rd_wf.specs.Roster.{StandsFor, kinds_in}
-use Rattle.rd_walk.specs.Walk.{Entry, bound_from, ended, items}
+use Rattle.rd_wf.specs.Roster.{RosterStandsFor, kinds_in}
+use Rattle.rd_walk.specs.Walk.{Entry, bound_from, trace_end_of, items}
 use Rattle.rd_walk.specs.Progress.{WalksTo, ending_for}
 use Rattle.rd_walk.specs.declared.walk.WalkEnd.TheVariants.{Refused}
 use Rattle.rd_walk.proofs.WalkLemmas.{bound_more, items_more}
@@ -46,7 +46,7 @@ returns-in-Ok-End-clause-walked g c =
     let limits = c.args.walker.now.limits in
     let kinds = kinds_in c.args.walker.now.roster in
     let ending = c.at_end.ensures.ending kinds (items entries) stands limits
-    ∙ ap (λ n. ended limits (items entries) (n + 1) at_end) c.number.ensures.value in (
+    ∙ ap (λ n. trace_end_of limits (items entries) (n + 1) at_end) c.number.ensures.value in (
       entries,
       taken ++ bytes,
       leads,
@@ -99,7 +99,7 @@ lines-preserved g c =
       lines ++ c.next.new.self.line ∷ [],
       moves.ended,
       continues_line kinds limits taken bytes c.lines.reader c.next.new.self entries so_far answered.tells moves.number item says,
-      subst (StandsFor kinds c.take_line.new.walker.roster) (sym (items_more entries entry)) stands_now,
+      subst (RosterStandsFor kinds c.take_line.new.walker.roster) (sym (items_more entries entry)) stands_now,
       leads_now,
       subst (Appends (g.S.Sink.written c.args.out.now) (g.S.Sink.written c.take_line.new.out)) (sym writes.1)
           (appends_on _ _ _ (g.A.Analysis.text kinds start entries) writes.0 text writes.2),

@@ -1,7 +1,7 @@
 use Rattle.std.proofs.Common.{◌≡◌, ℕ, ◌+◌, ◌≤◌, List, None, length}
 use Rattle.rd_io.specs.Inputs.{Goes, Takes}
 use Rattle.rd_io.specs.Sinks.{Appends}
-use Rattle.rd_wf.specs.Roster.{StandsFor, kinds_in}
+use Rattle.rd_wf.specs.Roster.{RosterStandsFor, kinds_in}
 use Rattle.rd_walk.specs.Walk.{Entry, items, step_bound}
 use Rattle.rd_walk.specs.Progress.{Continues, IsCut}
 use Rattle.rd_walk.proofs.walk.walk_lines.Given as goal
@@ -11,7 +11,7 @@ invariant-lines g l =
     (entries : List Entry) × (taken : List ℕ) × (lines : List (List ℕ))
     × (l.reader.ended ≡ None)
     × Continues (kinds_in l.initial.walker.roster) l.initial.walker.limits taken l.reader entries
-    × StandsFor (kinds_in l.initial.walker.roster) l.walker.roster (items entries)
+    × RosterStandsFor (kinds_in l.initial.walker.roster) l.walker.roster (items entries)
     × g.A.Analysis.leads (kinds_in l.initial.walker.roster) l.initial.walker.analysis entries l.walker.analysis
     × Appends (g.S.Sink.written l.initial.out) (g.S.Sink.written l.out) (g.A.Analysis.text (kinds_in l.initial.walker.roster) l.initial.walker.analysis entries)
     × (l.steps ≤ l.initial.steps + step_bound entries)

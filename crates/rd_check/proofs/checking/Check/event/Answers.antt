@@ -3,7 +3,7 @@ use Rattle.std.proofs.lemmas.List.{append-nil}
 use Rattle.std.proofs.lemmas.Result.{on_ok_weaker, on_err_weaker}
 use Rattle.rd_io.proofs.SinkLemmas.{appends_none}
 use Rattle.rd_io.specs.Sinks.{Appends}
-use Rattle.rd_detect.specs.Detect.{StandsFor as Detects}
+use Rattle.rd_detect.specs.Detect.{DetectorStandsFor}
 use Rattle.rd_ecl.specs.Kinds.{kinds_of}
 use Rattle.rd_event.specs.declared.events.Event.TheVariants as event
 use Rattle.rd_report.specs.Races.{race_text, told_by}
@@ -145,7 +145,7 @@ returns-clause-checks g c = always_ok _ c.report.result (λ start before item re
     checks_call start c.args.self.now before entry c.args.event.now c.in-Call.call c.in-Call.is names c.args.place ready c.report.new.self (same.0 ∙ said.same.0) (same.4 ∙ said.same.3)
     (ap (λ d. d.kinds) same.2 ∙ said.same.2)
     (subst (λ tracker. Tracks (kinds_of start.spec.now) tracker (items before ++ item ∷ [])) (sym (same.1 ∙ said.same.1)) tracked)
-    (subst (λ d. Detects d.calls (numbers ++ c.args.number ∷ []) (es ++ event.Call c.in-Call.call ∷ [])) (sym same.2) (said.stands numbers es next))
+    (subst (λ d. DetectorStandsFor d.calls (numbers ++ c.args.number ∷ []) (es ++ event.Call c.in-Call.call ∷ [])) (sym same.2) (said.stands numbers es next))
     (ap (λ d. length d.calls) same.2 ∙ said.held)
     (races_call start c.args.self.now before entry c.args.event.now c.in-Call.call c.in-Call.is names c.args.place ready c.in_ok-detect.field-0
     (said.answer numbers es next) c.report.new.self.races (same.3 ∙ said.races)))

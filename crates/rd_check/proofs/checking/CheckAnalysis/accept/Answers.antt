@@ -14,7 +14,7 @@ use Rattle.rd_wf.specs.declared.causes.Accepted.{Accepted}
 use Rattle.rd_wf.specs.declared.causes.Accepted.TheVariants as accepted
 use Rattle.rd_wf.proofs.RosterLemmas.{object_keys, thread_keys}
 use Rattle.rd_walk.specs.Analysis.{IsNextEntry, WritesBetween, WritesFront}
-use Rattle.rd_check.specs.Checking.{Checks, IsNextEventLine, IsNextLine, Leads}
+use Rattle.rd_check.specs.Checking.{Checks, IsNextEventLine, IsNextLine, CheckLeads}
 use Rattle.rd_check.specs.Checked.{entry_events, race_texts}
 use Rattle.rd_walk.specs.Walk.{Entry, items}
 use Rattle.rd_check.specs.declared.checking.Check.{Check}
@@ -25,7 +25,7 @@ use Rattle.rd_check.proofs.checking.CheckAnalysis.accept.Goals as goal
 
 -- the event is the next one, at its place
 module _ (kinds : List Kind) (start now : Check) (before : List Entry) (item : Line) (roster : Roster) (numbers : Accepted) (e : Numbered) (is : numbers ≡ accepted.Event e)
-    (leads : Leads kinds start before now) (next : IsNextEntry kinds roster before item numbers) where
+    (leads : CheckLeads kinds start before now) (next : IsNextEntry kinds roster before item numbers) where
   event_line : IsNextLine (kinds_of start.spec.now) now.tracker (items before) item (accepted.Event e)
   event_line = subst (IsNextLine (kinds_of start.spec.now) now.tracker (items before) item) is (next_line kinds start now before roster item numbers leads next)
 
@@ -139,14 +139,14 @@ returns-in-Event-clause-cost g c = λ kinds start before leads next.
 -- a line that is neither a root nor an event leaves all as it is
 module _ (kinds : List Kind) (start now : Check) (before : List Entry) (entry : Entry) (roster : Roster) (numbers : Accepted)
     (quiet : (numbers ≡ accepted.Nothing) ⊎ ((object : ℕ) × (kind : ℕ) × (numbers ≡ accepted.Object object kind)))
-    (leads : Leads kinds start before now) (next : IsNextEntry kinds roster before entry.item numbers) where
+    (leads : CheckLeads kinds start before now) (next : IsNextEntry kinds roster before entry.item numbers) where
   line : IsNextLine (kinds_of start.spec.now) now.tracker (items before) entry.item numbers
   line = next_line kinds start now before roster entry.item numbers leads next
 
   no_call : (call : CallOf) → numbers ≢ accepted.Event (numbered.Call call)
   no_call call e = elim quiet [ inl nothing ↦ cc | inr object ↦ (let is = object.2 in cc) ]
 
-  quiet_leads : Leads kinds start (before ++ entry ∷ []) now
+  quiet_leads : CheckLeads kinds start (before ++ entry ∷ []) now
   quiet_leads = record {
     kinds_are = leads.kinds_are;
     checks = checks_quiet start now now.tracker before entry leads.checks

@@ -5,7 +5,7 @@ use Rattle.std.proofs.lemmas.List.{map-append}
 use Rattle.rd_event.specs.declared.events.Event.TheVariants as event
 use Rattle.rd_store.specs.declared.Witness.{Witness}
 use Rattle.rd_detect.specs.Commuting.{Commute}
-use Rattle.rd_detect.specs.Detect.{Answers, AreAsked, Detecting, IsAnswer, IsNewest, StandsFor}
+use Rattle.rd_detect.specs.Detect.{Answers, AreAsked, Detecting, IsAnswer, IsNewest, DetectorStandsFor}
 use Rattle.rd_detect.proofs.DetectLemmas.{is_answer, read_asked, stands_longer}
 use Rattle.rd_detect.proofs.detector.Detector.call.Goals as goal
 
@@ -37,7 +37,7 @@ returns-clause-answer g c = λ lines es next.
 
 pub returns-clause-stands : goal.returns-clause-stands
 returns-clause-stands g c = λ lines es next.
-    subst (λ calls. StandsFor calls (lines ++ c.args.line ∷ []) (es ++ event.Call c.args.call.now ∷ [])) longer
+    subst (λ calls. DetectorStandsFor calls (lines ++ c.args.line ∷ []) (es ++ event.Call c.args.call.now ∷ [])) longer
     (stands_longer c.args.self.now.kinds c.args.self.now.calls lines es c.args.call.now c.args.stamp.now c.args.line c.args.place next)
   where
     kept : c.args.self.now.calls ≡ values c.reserve.new.self.items

@@ -1,7 +1,7 @@
 use Rattle.std.proofs.Common.{◌≡◌, ◌≤◌, ◌<◌, length, Some, None, refl, ap, subst, sym, ◌∙◌, arith}
 use Rattle.std.specs.Prelude.{slice_index_or}
 use Rattle.rd_clock.specs.Clock.{component}
-use Rattle.rd_hb.specs.Tracker.{clock_of, known_to, released}
+use Rattle.rd_hb.specs.Tracker.{clock_of, known_to, last_release}
 use Rattle.rd_hb.proofs.KeptLemmas.{kept_learn, read_at}
 use Rattle.rd_hb.proofs.tracker.Tracker.hear_lock.Goals as goal
 
@@ -11,11 +11,11 @@ invariant_of-self-2 g c =
     let thread = c.args.thread in
     let inside : thread < length threads = subst (λ v. thread < length v.threads) (sym c.self.view_is) c.requires.known in
     let is = read_at threads thread c.index_mut.result.now inside c.index_mut.ensures.value in
-    let at : released c.self.inside.locks.items c.args.lock ≡ Some c.in-Some-Some.last =
+    let at : last_release c.self.inside.locks.items c.args.lock ≡ Some c.in-Some-Some.last =
     ap (λ l. slice_index_or l c.args.lock None) (sym c.deref.ensures.value) ∙ sym (c.in-Some-Some.ensures.lookup.4 (omega arith) None) ∙ c.in-Some-Some.field-0-is in
     let less : component c.in-Some-Some.last.clock thread ≤ known_to threads thread thread =
     subst (λ v. component c.in-Some-Some.last.clock thread ≤ known_to v.threads thread thread) (sym c.self.view_is)
-    (subst (λ o. component (clock_of o) thread ≤ known_to c.args.self.now.threads thread thread) (ap (λ v. released v.locks c.args.lock) (sym c.self.view_is) ∙ at) c.requires.own) in
+    (subst (λ o. component (clock_of o) thread ≤ known_to c.args.self.now.threads thread thread) (ap (λ v. last_release v.locks c.args.lock) (sym c.self.view_is) ∙ at) c.requires.own) in
     kept_learn threads c.self.inside.shared.items c.forget.new.list.items c.self.inside.locks.items thread c.index_mut.result.now _ c.self.invariant inside is
     (omega (arith, c.join_into.ensures.room, c.in_ok-reserve.ensures.room, ap (λ x. length x.clock) is, (c.self.invariant.tracked.each thread inside).room))
     (c.join_into.ensures.joined thread ∙ omega (arith, c.reserve.ensures.kept thread, ap (λ x. component x.clock thread) is, less))

@@ -1,7 +1,7 @@
 use Rattle.std.proofs.Common.{◌≡◌, ◌<◌, List, length, ap, subst, sym, ◌∙◌, arith, slice_set}
 use Rattle.std.proofs.lemmas.List.{length-set, set-set}
 use Rattle.rd_clock.specs.Clock.{component}
-use Rattle.rd_hb.specs.Tracker.{known_to, tracked}
+use Rattle.rd_hb.specs.Tracker.{known_to, tracked_thread}
 use Rattle.rd_hb.specs.TrackerParts.{AreKept}
 use Rattle.rd_hb.specs.declared.tracker.Tracked.{Tracked}
 use Rattle.rd_hb.proofs.KeptLemmas.{kept_learn, read_again, read_at, read_besides, set_other}
@@ -17,11 +17,11 @@ invariant_of-self-2 g c =
     let empty : Tracked = record { clock = c.replace-own.new.dest; events = c.index_mut-2.result.now.events; joined = c.index_mut-2.result.now.joined } in
     let learnt : Tracked = record { clock = c.join_reserved.new.self; events = c.index_mut-3.result.now.events; joined = c.index_mut-3.result.now.joined } in
     let total : length (slice_set threads thread roomy) ≡ length threads = length-set threads thread roomy in
-    let is : c.index_mut.result.now ≡ tracked threads thread = read_at threads thread c.index_mut.result.now inside c.index_mut.ensures.value in
+    let is : c.index_mut.result.now ≡ tracked_thread threads thread = read_at threads thread c.index_mut.result.now inside c.index_mut.ensures.value in
     let second : c.index_mut-2.result.now ≡ roomy = read_again threads thread roomy c.index_mut-2.result.now inside c.index_mut-2.ensures.value in
     let third : c.index_mut-3.result.now ≡ empty =
     read_again (slice_set threads thread roomy) thread empty c.index_mut-3.result.now (omega (arith, inside, total)) c.index_mut-3.ensures.value in
-    let other : c.index.result.now ≡ tracked threads c.args.child =
+    let other : c.index.result.now ≡ tracked_thread threads c.args.child =
     read_besides (slice_set threads thread roomy) thread c.args.child empty c.index.result.now (omega (arith, awaited, total)) c.requires.apart c.index.ensures ∙ set_other threads thread c.args.child roomy c.requires.apart in
     subst (λ ts. AreKept ts c.forget.new.list.items c.self.inside.locks.items)
     (sym {A = List Tracked} (set-set (slice_set threads thread roomy) thread empty learnt ∙ set-set threads thread roomy learnt))

@@ -3,7 +3,7 @@ use Rattle.rd_event.specs.declared.events.Event.{Event as EventOf}
 use Rattle.rd_event.specs.declared.events.Event.TheVariants as event
 use Rattle.rd_order.specs.Order.{thread_of, forked_thread, joined_thread}
 use Rattle.rd_order.specs.EventLists.{threads_after}
-use Rattle.rd_hb.specs.Tracker.{IsNextEvent, IsStamp, StandsFor, event_bound, last_stamp}
+use Rattle.rd_hb.specs.Tracker.{IsNextEvent, IsStamp, TrackerStandsFor, event_bound, last_stamp}
 use Rattle.rd_hb.proofs.TrackerLemmas.{call_taken, child_most, child_no_news, lock_most, lock_news, lock_no_news, next_apart, next_below, next_child, next_inside, next_joined, next_two, ok_acquire, ok_fork, ok_join, ok_release, ok_stamp, ok_stands, stamp_taken, stands_taken}
 use Rattle.rd_hb.proofs.tracker.Tracker.pass.Goals as goal
 
@@ -90,7 +90,7 @@ returns-in-Fork-clause-stamp g c =
 
 pub returns-in-Fork-clause-stands : goal.returns-in-Fork-clause-stands
 returns-in-Fork-clause-stands g c =
-    subst (λ e. OnOk c.fork.result ((roots : ℕ → Bool) (es : List EventOf) → IsNextEvent c.args.self.now roots es e → StandsFor c.fork.new.self roots (es ++ e ∷ [])))
+    subst (λ e. OnOk c.fork.result ((roots : ℕ → Bool) (es : List EventOf) → IsNextEvent c.args.self.now roots es e → TrackerStandsFor c.fork.new.self roots (es ++ e ∷ [])))
     (sym c.in-Fork.is)
     (ok_stands c.args.self.now c.fork.new.self (event.Fork c.in-Fork.thread c.in-Fork.child) c.fork.result
     (ok_fork c.args.self.now c.fork.new.self c.in-Fork.thread c.in-Fork.child c.fork.result c.fork.ensures.ok c.fork.ensures.locks))
@@ -104,7 +104,7 @@ returns-in-Join-clause-stamp g c =
 
 pub returns-in-Join-clause-stands : goal.returns-in-Join-clause-stands
 returns-in-Join-clause-stands g c =
-    subst (λ e. OnOk c.join.result ((roots : ℕ → Bool) (es : List EventOf) → IsNextEvent c.args.self.now roots es e → StandsFor c.join.new.self roots (es ++ e ∷ [])))
+    subst (λ e. OnOk c.join.result ((roots : ℕ → Bool) (es : List EventOf) → IsNextEvent c.args.self.now roots es e → TrackerStandsFor c.join.new.self roots (es ++ e ∷ [])))
     (sym c.in-Join.is)
     (ok_stands c.args.self.now c.join.new.self (event.Join c.in-Join.thread c.in-Join.child) c.join.result
     (ok_join c.args.self.now c.join.new.self c.in-Join.thread c.in-Join.child c.join.result c.join.ensures.ok c.join.ensures.locks))
@@ -118,7 +118,7 @@ returns-in-Acquire-clause-stamp g c =
 
 pub returns-in-Acquire-clause-stands : goal.returns-in-Acquire-clause-stands
 returns-in-Acquire-clause-stands g c =
-    subst (λ e. OnOk c.acquire.result ((roots : ℕ → Bool) (es : List EventOf) → IsNextEvent c.args.self.now roots es e → StandsFor c.acquire.new.self roots (es ++ e ∷ [])))
+    subst (λ e. OnOk c.acquire.result ((roots : ℕ → Bool) (es : List EventOf) → IsNextEvent c.args.self.now roots es e → TrackerStandsFor c.acquire.new.self roots (es ++ e ∷ [])))
     (sym c.in-Acquire.is)
     (ok_stands c.args.self.now c.acquire.new.self (event.Acquire c.in-Acquire.thread c.in-Acquire.lock) c.acquire.result
     (ok_acquire c.args.self.now c.acquire.new.self c.in-Acquire.thread c.in-Acquire.lock c.acquire.result c.acquire.ensures.ok c.acquire.ensures.locks))
@@ -132,7 +132,7 @@ returns-in-Release-clause-stamp g c =
 
 pub returns-in-Release-clause-stands : goal.returns-in-Release-clause-stands
 returns-in-Release-clause-stands g c =
-    subst (λ e. OnOk c.release.result ((roots : ℕ → Bool) (es : List EventOf) → IsNextEvent c.args.self.now roots es e → StandsFor c.release.new.self roots (es ++ e ∷ [])))
+    subst (λ e. OnOk c.release.result ((roots : ℕ → Bool) (es : List EventOf) → IsNextEvent c.args.self.now roots es e → TrackerStandsFor c.release.new.self roots (es ++ e ∷ [])))
     (sym c.in-Release.is)
     (ok_stands c.args.self.now c.release.new.self (event.Release c.in-Release.thread c.in-Release.lock) c.release.result
     (ok_release c.args.self.now c.release.new.self c.in-Release.thread c.in-Release.lock c.release.result c.release.ensures.ok c.release.ensures.given))
@@ -146,7 +146,7 @@ returns-in-Call-clause-stamp g c =
 
 pub returns-in-Call-clause-stands : goal.returns-in-Call-clause-stands
 returns-in-Call-clause-stands g c =
-    subst (λ e. (roots : ℕ → Bool) (es : List EventOf) → IsNextEvent c.args.self.now roots es e → StandsFor c.tick.new.self roots (es ++ e ∷ []))
+    subst (λ e. (roots : ℕ → Bool) (es : List EventOf) → IsNextEvent c.args.self.now roots es e → TrackerStandsFor c.tick.new.self roots (es ++ e ∷ []))
     (sym c.in-Call.is)
     (stands_taken c.args.self.now c.tick.new.self (event.Call c.in-Call.call)
     (call_taken c.args.self.now c.tick.new.self c.in-Call.call c.tick.ensures.counted c.tick.ensures.locks))

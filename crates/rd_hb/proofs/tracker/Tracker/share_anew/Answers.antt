@@ -1,5 +1,5 @@
 use Rattle.std.proofs.Common.{◌<◌, length, ap, subst, sym, ◌∙◌, arith}
-use Rattle.rd_hb.specs.Tracker.{tracked}
+use Rattle.rd_hb.specs.Tracker.{tracked_thread}
 use Rattle.rd_hb.proofs.KeptLemmas.{kept_share, shared_copy}
 use Rattle.rd_hb.proofs.tracker.Tracker.share_anew.Goals as goal
 
@@ -10,4 +10,4 @@ invariant_of-self-2 c =
     kept_share threads c.self.inside.shared.items c.grow.new.list.items c.self.inside.locks.items c.args.thread c.in_ok-shared.shared c.self.invariant
     (omega (arith, c.in_ok-grow.ensures.room)) c.grow.ensures.kept
     (shared_copy threads c.args.thread c.in_ok-shared.shared (c.self.invariant.tracked.each c.args.thread inside)
-    (c.in_ok-shared.ensures ∙ c.in_ok-clock.ensures ∙ ap (λ v. (tracked v.threads c.args.thread).clock) (sym c.self.view_is)))
+    (c.in_ok-shared.ensures ∙ c.in_ok-clock.ensures ∙ ap (λ v. (tracked_thread v.threads c.args.thread).clock) (sym c.self.view_is)))

@@ -1,12 +1,12 @@
 use Rattle.std.proofs.Common.{List, subst}
 use Rattle.rd_reading.specs.Causes.{scope_of}
 use Rattle.rd_ecl.specs.declared.kinds.Method.{Method}
-use Rattle.rd_ecl.specs.Formulas.{tree_of as formula_of}
+use Rattle.rd_ecl.specs.Formulas.{tree_of}
 use Rattle.rd_ecl.specs.Specified.{names_of}
 use Rattle.rd_formulas.specs.Meaning.{Gives}
 use Rattle.rd_formulas.specs.Reading.{IsFormula, IsTroubled}
 use Rattle.rd_formulas.specs.Scope.{MeansAt}
-use Rattle.rd_grammar.specs.Grammar.{tree_of}
+use Rattle.rd_grammar.specs.Grammar.{parsed_tree}
 use Rattle.rd_reading.specs.PairJudging.{IsUnknownFault, kind_with}
 use Rattle.rd_reading.proofs.JudgeLemmas.{fault_first, fault_none, may_pair, numbers_are, refused_first, unknown_method}
 use Rattle.rd_reading.proofs.PairLineLemmas.{has_formula}
@@ -15,7 +15,7 @@ use Rattle.rd_reading.proofs.pairs.judge.judge_pair.Goals as goal
 
 pub returns-in-Err-clause-refused : goal.returns-in-Err-clause-refused
 returns-in-Err-clause-refused c =
-    unknown_method c.args.kind.now c.args.line.now c.args.tokens.now c.args.first.now c.args.second.now (tree_of c.args.parsed.now) c.in-Err.fault
+    unknown_method c.args.kind.now c.args.line.now c.args.tokens.now c.args.first.now c.args.second.now (parsed_tree c.args.parsed.now) c.in-Err.fault
     (subst (λ (methods : List Method). IsUnknownFault methods c.args.first.now c.args.second.now c.args.line.now c.args.tokens.now c.in-Err.fault)
     c.methods-methods.ensures.value c.in-Err.ensures.unknown)
 
@@ -28,7 +28,7 @@ formula_of-requires-clause-known c = (
 pub formula_of-requires-clause-right : goal.formula_of-requires-clause-right
 formula_of-requires-clause-right c =
     has_formula c.requires.right.0 (names_of c.args.kind.now.methods) c.args.line.now c.args.tokens.now c.args.first.now c.args.second.now
-    (tree_of c.args.parsed.now) c.requires.within c.requires.sorts c.requires.short c.requires.few c.requires.right.1
+    (parsed_tree c.args.parsed.now) c.requires.within c.requires.sorts c.requires.short c.requires.few c.requires.right.1
 
 pub returns-in-Err-formula_of-clause-refused : goal.returns-in-Err-formula_of-clause-refused
 returns-in-Err-formula_of-clause-refused c =
@@ -37,9 +37,9 @@ returns-in-Err-formula_of-clause-refused c =
     let n = c.in-Ok.numbers.1 in
     let are = numbers_are kind c.methods-methods.result.now c.args.first.now c.args.second.now m n c.methods-methods.ensures.value c.in-Ok.ensures.first c.in-Ok.ensures.second in
     rw c.refusal_of.ensures (
-    refused_first kind c.args.line.now c.args.tokens.now c.args.first.now c.args.second.now (tree_of c.args.parsed.now) c.methods-methods.ensures.valid m n are
+    refused_first kind c.args.line.now c.args.tokens.now c.args.first.now c.args.second.now (parsed_tree c.args.parsed.now) c.methods-methods.ensures.valid m n are
     c.in-Err-formula_of.refused
-    (subst (λ (methods : List Method). IsTroubled (scope_of (kind_with methods) c.args.line.now c.args.tokens.now m n) (tree_of c.args.parsed.now) c.in-Err-formula_of.refused)
+    (subst (λ (methods : List Method). IsTroubled (scope_of (kind_with methods) c.args.line.now c.args.tokens.now m n) (parsed_tree c.args.parsed.now) c.in-Err-formula_of.refused)
     c.methods-methods.ensures.value c.in-Err-formula_of.ensures.refused)
     )
 
@@ -59,13 +59,13 @@ returns-in-Some-clause-refused c =
     let kind = c.args.kind.now in
     let m = c.in-Ok.numbers.0 in
     let n = c.in-Ok.numbers.1 in
-    let f = formula_of c.in-Ok-formula_of.formula in
+    let f = tree_of c.in-Ok-formula_of.formula in
     let are = numbers_are kind c.methods-methods.result.now c.args.first.now c.args.second.now m n c.methods-methods.ensures.value c.in-Ok.ensures.first c.in-Ok.ensures.second in
-    let gives = subst (λ (methods : List Method). Gives (MeansAt (scope_of (kind_with methods) c.args.line.now c.args.tokens.now m n)) (tree_of c.args.parsed.now) f)
+    let gives = subst (λ (methods : List Method). Gives (MeansAt (scope_of (kind_with methods) c.args.line.now c.args.tokens.now m n)) (parsed_tree c.args.parsed.now) f)
     c.methods-methods.ensures.value c.in-Ok-formula_of.ensures.gives in
     let is = subst (λ (methods : List Method). IsFormula (scope_of (kind_with methods) c.args.line.now c.args.tokens.now m n) f) c.methods-methods.ensures.value
     c.in-Ok-formula_of.ensures.formula in
-    fault_first kind c.args.line.now c.args.tokens.now c.args.first.now c.args.second.now (tree_of c.args.parsed.now) c.methods-methods.ensures.valid m n are f gives is
+    fault_first kind c.args.line.now c.args.tokens.now c.args.first.now c.args.second.now (parsed_tree c.args.parsed.now) c.methods-methods.ensures.valid m n are f gives is
     c.in-Some.fault c.in-Some.ensures
 
 pub returns-in-None-clause-clean : goal.returns-in-None-clause-clean
@@ -73,13 +73,13 @@ returns-in-None-clause-clean c =
     let kind = c.args.kind.now in
     let m = c.in-Ok.numbers.0 in
     let n = c.in-Ok.numbers.1 in
-    let f = formula_of c.in-Ok-formula_of.formula in
+    let f = tree_of c.in-Ok-formula_of.formula in
     let are = numbers_are kind c.methods-methods.result.now c.args.first.now c.args.second.now m n c.methods-methods.ensures.value c.in-Ok.ensures.first c.in-Ok.ensures.second in
-    let gives = subst (λ (methods : List Method). Gives (MeansAt (scope_of (kind_with methods) c.args.line.now c.args.tokens.now m n)) (tree_of c.args.parsed.now) f)
+    let gives = subst (λ (methods : List Method). Gives (MeansAt (scope_of (kind_with methods) c.args.line.now c.args.tokens.now m n)) (parsed_tree c.args.parsed.now) f)
     c.methods-methods.ensures.value c.in-Ok-formula_of.ensures.gives in
     let is = subst (λ (methods : List Method). IsFormula (scope_of (kind_with methods) c.args.line.now c.args.tokens.now m n) f) c.methods-methods.ensures.value
     c.in-Ok-formula_of.ensures.formula in
-    fault_none kind c.args.line.now c.args.tokens.now c.args.first.now c.args.second.now (tree_of c.args.parsed.now) c.methods-methods.ensures.valid m n are f gives is
+    fault_none kind c.args.line.now c.args.tokens.now c.args.first.now c.args.second.now (parsed_tree c.args.parsed.now) c.methods-methods.ensures.valid m n are f gives is
     c.in-None.ensures
 
 pub returns-in-None-clause-may : goal.returns-in-None-clause-may
@@ -87,7 +87,7 @@ returns-in-None-clause-may c =
     let kind = c.args.kind.now in
     let m = c.in-Ok.numbers.0 in
     let n = c.in-Ok.numbers.1 in
-    let f = formula_of c.in-Ok-formula_of.formula in
+    let f = tree_of c.in-Ok-formula_of.formula in
     let are = numbers_are kind c.methods-methods.result.now c.args.first.now c.args.second.now m n c.methods-methods.ensures.value c.in-Ok.ensures.first c.in-Ok.ensures.second in
     let ordered = in_order (names_of kind.methods) c.args.first.now c.args.second.now m n c.methods-methods.ensures.valid.methods.different c.requires.right.1.order
     are.first_name are.second_name in
