@@ -1,5 +1,5 @@
 -- What the lines of a specification's text say so far: this project's profile.
-use Rattle.std.specs.Prelude.{◌≡◌, ℕ, false, List, [], ◌∷◌, ◌++◌, map, slice_get, unwrap_or, option_map, Option, Some, None, if◌then◌else◌}
+use Rattle.std.specs.Prelude.{ℕ, false, List, [], ◌∷◌, ◌++◌, map, slice_get, unwrap_or, option_map, Option, Some, None, if◌then◌else◌}
 use Rattle.rd_ecl.specs.Specified.{SpecifiedKind, names_of}
 use Rattle.rd_reading.specs.declared.known.Block.{Block}
 use Rattle.rd_reading.specs.declared.known.Known.{Known}
