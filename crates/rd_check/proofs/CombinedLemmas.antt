@@ -34,7 +34,7 @@ runs_shipped trace limits rose old new part status before after checks = record 
         | inr checked ↦ inr (record { all_opened = checked.0; kinds = shipped_kinds; are = refl; is = checked.1 })
       ]) status part checks.output;
   opened = checks.opened;
-  taken = (λ more. (shipped_kinds, refl, checks.taken more), λ same. (checks.unopened same).0);
+  taken = (λ more. (shipped_kinds, refl, checks.taken more), checks.unopened);
   read = λ well. (shipped_kinds, refl, checks.read well);
 }
 
@@ -58,7 +58,7 @@ module _ (trace file : List ℕ) (limits : Limits) (before now : ℕ) (old new :
     taken = (
       λ more. absurd (omega (arith, more, leaves.opened.opens)),
       λ more. (leaves.taken more, refl),
-      λ same. refl,
+      λ same. (leaves.unopened same, refl),
     );
     read = λ well. absurd (other well);
   }
@@ -131,7 +131,7 @@ module _ (trace file : List ℕ) (limits : Limits) (rose : Bool) (old mid new : 
         took (subst (λ files. TakesTrace (kinds_of kinds) trace limits rose (record mid { files = files }) new before after) leaves.opened.files (checks.taken (omega (arith, more, reads.opens)))),
       ),
       λ more.
-          let (cost, taken, held) = checks.unopened (omega (arith, more, reads.opens)) in
+          let ((taken, held), cost) = checks.unopened (omega (arith, more, reads.opens)) in
           let was = leaves.taken reads.opens in (
             record {
               whole = was.whole ∙ (λ i. Some (sym taken i ++ sym held i));

@@ -1,5 +1,5 @@
 -- What `check` means. This project's profile.
-use Rattle.rd_walk.specs.Traces.{IsFaulted, IsReadWhole, IsWholeOutput, TakesTrace, walk_of}
+use Rattle.rd_walk.specs.Traces.{IsFaulted, IsReadWhole, IsUntaken, IsWholeOutput, TakesTrace, walk_of}
 use Rattle.rd_spec_commands.specs.Meanings.{IsSpecFileRefused, IsSpecText, TakesSpec}
 use Rattle.rd_walk.specs.Meanings.{Meaning}
 use Rattle.rd_base.specs.declared.limits.Limits.{Limits}
@@ -41,15 +41,15 @@ abbrev pub TakesKnown : Option (List ℕ) → List ℕ → Limits → Bool → S
 TakesKnown file trace limits rose old new before after =
     (kinds : List SpecifiedKind) × AreKinds old file kinds × TakesTrace (kinds_of kinds) trace limits rose old new before after
 
--- what was taken of the last file that was opened, and the steps that were counted
+-- what was taken of the last file that was opened, and nothing where none was, and the steps that were counted
 abbrev pub TakesChecked : List ℕ → Option (List ℕ) → Limits → Bool → Source → Source → ℕ → ℕ → Type 0
 TakesChecked trace None limits rose old new before after =
     (new.opens ≡ old.opens + 1 → TakesKnown None trace limits rose old new before after)
-    × (new.opens ≡ old.opens → after ≡ before)
+    × (new.opens ≡ old.opens → IsUntaken old new × (after ≡ before))
 TakesChecked trace (Some file) limits rose old new before after =
     (new.opens ≡ old.opens + 2 → TakesKnown (Some file) trace limits rose old new before after)
     × (new.opens ≡ old.opens + 1 → TakesSpec file old new × (after ≡ before))
-    × (new.opens ≡ old.opens → after ≡ before)
+    × (new.opens ≡ old.opens → IsUntaken old new × (after ≡ before))
 
 -- the trace was read to its end
 abbrev pub ReadsChecked : List ℕ → Option (List ℕ) → Limits → Source → Source → Type 0

@@ -30,7 +30,7 @@ pub runs_replay : (trace : List ℕ) (limits : Limits) (rose : Bool) (old new : 
 runs_replay trace limits rose old new part status before after reports = record {
   output = reports.output;
   opened = reports.opened;
-  taken = (reports.taken, λ same. (reports.unopened same).0);
+  taken = (reports.taken, reports.unopened);
   read = reports.read;
 }
 

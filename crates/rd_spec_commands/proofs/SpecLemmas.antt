@@ -21,16 +21,11 @@ use Rattle.rd_walk.proofs.FileLemmas.{opens_none, opens_once, opens_only, rest_i
 
 -- ---- what reading leaves
 
-pub leaves_nothing : (file : List ℕ) (old : Source) → LeavesSpec file old old
-leaves_nothing file old = record {
-  opened = record { files = refl; later = omega arith; opens = omega arith; misses = omega arith };
-  taken = λ more. absurd (omega (arith, more));
-}
-
 pub leaves_unopened : (file : List ℕ) (old new : Source) → IsNotOpened old new file → LeavesSpec file old new
 leaves_unopened file old new opened = record {
   opened = opens_none file old new opened;
   taken = λ more. absurd (omega (arith, opened.opens, more));
+  unopened = λ same. (opened.taken, opened.held);
 }
 
 pub leaves_taken : (file : List ℕ) (old mid new : Source) (taken : List ℕ) → old.opens < 2 ^ 63 → IsOpened old mid file → Takes mid new taken
@@ -42,6 +37,7 @@ leaves_taken file old mid new taken few opened takes short =
         whole = rest_is file old mid new taken few_opens opened takes;
         few = subst (λ xs. length xs ≤ most_bytes) (sym (taken_is file old mid new taken few_opens opened takes)) short;
       };
+      unopened = λ same. absurd (omega (arith, same, opens_once file old mid new taken few_opens opened takes));
     }
 
 pub reads_text : (file : List ℕ) (old mid new : Source) (bytes : List ℕ) → old.opens < 2 ^ 63 → IsOpened old mid file → TakesFront most_bytes mid new bytes
@@ -64,7 +60,7 @@ module _ (file : List ℕ) (limits : Limits) (before now : ℕ) (old new : Sourc
         output = has_outcome ((spec_meaning file).outcome limits (ltb before now) old new) status part (accepted_outcome said)
             (inr (record { calm = quiet; one_opened = reads.opens; bytes = bytes; text = reads.text; is = inl (said, says, refl) })) output;
         opened = leaves.opened;
-        taken = (leaves.taken, refl);
+        taken = (leaves.taken, leaves.unopened, refl);
         read = λ well. tt;
       }
 
@@ -76,7 +72,7 @@ module _ (file : List ℕ) (limits : Limits) (before now : ℕ) (old new : Sourc
         output = has_outcome ((spec_meaning file).outcome limits (ltb before now) old new) status part (refused_outcome refused)
             (inr (record { calm = quiet; one_opened = reads.opens; bytes = bytes; text = reads.text; is = inr (refused, refuses, refl) })) output;
         opened = leaves.opened;
-        taken = (leaves.taken, refl);
+        taken = (leaves.taken, leaves.unopened, refl);
         read = λ well. tt;
       }
 
@@ -86,7 +82,7 @@ module _ (file : List ℕ) (limits : Limits) (before now : ℕ) (old new : Sourc
       record {
         output = has_outcome ((spec_meaning file).outcome limits (ltb before now) old new) status part fault_outcome (inl (record { risen = rose; is = refl })) output;
         opened = leaves.opened;
-        taken = (leaves.taken, refl);
+        taken = (leaves.taken, leaves.unopened, refl);
         read = λ well. tt;
       }
 
@@ -96,7 +92,7 @@ module _ (file : List ℕ) (limits : Limits) (before now : ℕ) (old new : Sourc
       (record {
         output = inl none;
         opened = leaves.opened;
-        taken = (leaves.taken, refl);
+        taken = (leaves.taken, leaves.unopened, refl);
         read = λ well. tt;
       })
 

@@ -1,5 +1,5 @@
 -- What `spec` and `kind` mean. This project's profile.
-use Rattle.rd_walk.specs.Traces.{OpensOnly}
+use Rattle.rd_walk.specs.Traces.{IsUntaken, OpensOnly}
 use Rattle.rd_walk.specs.Meanings.{Meaning}
 use Rattle.rd_base.specs.declared.limits.Limits.{Limits}
 use Rattle.rd_ecl.specs.Specified.{SpecifiedKind}
@@ -57,6 +57,7 @@ pub record TakesSpec (file : List ℕ) (old new : Source) : Type 0 where
 pub record LeavesSpec (file : List ℕ) (old new : Source) : Type 0 where
   pub opened : OpensOnly (file ∷ []) old new
   pub taken : new.opens ≡ old.opens + 1 → TakesSpec file old new
+  pub unopened : new.opens ≡ old.opens → IsUntaken old new
 
 -- and where these are the bytes that are judged
 pub record ReadsSpec (file : List ℕ) (old new : Source) (bytes : List ℕ) : Type 0 where
@@ -68,9 +69,10 @@ pub record ReadsSpec (file : List ℕ) (old new : Source) (bytes : List ℕ) : T
 abbrev pub IsSaidOutcome : List ℕ → Limits → Bool → Source → Source → Outcome → Type 0
 IsSaidOutcome file limits rose old new outcome = IsUnread rose outcome ⊎ IsJudged file rose old new outcome
 
--- what was taken of the specification, where it was opened; no step is counted
+-- what was taken of the specification, where it was opened, and else nothing; no step is counted
 abbrev pub TakesSaid : List ℕ → Limits → Bool → Source → Source → ℕ → ℕ → Type 0
-TakesSaid file limits rose old new before after = (new.opens ≡ old.opens + 1 → TakesSpec file old new) × (after ≡ before)
+TakesSaid file limits rose old new before after =
+    (new.opens ≡ old.opens + 1 → TakesSpec file old new) × (new.opens ≡ old.opens → IsUntaken old new) × (after ≡ before)
 
 -- nothing is left out
 abbrev pub WritesSaid : List ℕ → Limits → Source → List ℕ → Status → Type 0

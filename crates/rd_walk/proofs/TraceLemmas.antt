@@ -34,7 +34,7 @@ module _ (report : Walked → Outcome) (kinds : List Kind) (name : List ℕ) (li
         output = inl refl;
         opened = record { files = refl; later = omega arith; opens = omega arith; misses = omega arith };
         taken = λ more. absurd (omega (arith, more));
-        unopened = λ same. (refl, refl, refl);
+        unopened = λ same. ((refl, refl), refl);
         read = λ well. absurd (halted_no_well halt.NoMemory well);
       }
 
@@ -54,7 +54,7 @@ module _ (report : Walked → Outcome) (kinds : List Kind) (name : List ℕ) (li
             (inl (record { risen = rose; some_unopened = omega (arith, opened.opens); is = refl })) output;
         opened = opens_none name old new opened;
         taken = λ more. absurd (omega (arith, opened.opens, more));
-        unopened = λ same. (refl, opened.taken, opened.held);
+        unopened = λ same. ((opened.taken, opened.held), refl);
         read = λ well. absurd (fault_no_well (well_written status part fault_outcome well output));
       }
 

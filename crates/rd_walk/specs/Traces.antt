@@ -48,12 +48,16 @@ IsTraceOutcome report kinds trace limits rose old new outcome =
     IsFaulted 1 rose old new outcome
     ⊎ ((new.opens ≡ old.opens + 1) × (outcome ≡ report (walk_of kinds trace limits rose old new)))
 
--- of these files only these were opened, each at most once, and only a missing one of them was missed
+-- The files are as before. No more opens were counted than files are named, and no more opens of a missing file than named ones are missing.
 pub record OpensOnly (names : List (List ℕ)) (old new : Source) : Type 0 where
   pub files : new.files ≡ old.files
   pub later : old.opens ≤ new.opens
   pub opens : new.opens ≤ old.opens + length names
   pub misses : new.misses ≤ old.misses + count_by (λ name. is_none (file_of old.files name)) names
+
+-- nothing was taken: the current input is as before
+abbrev pub IsUntaken : Source → Source → Type 0
+IsUntaken old new = (new.taken ≡ old.taken) × (new.held ≡ old.held)
 
 -- What was taken of a trace that was opened, and the steps that were counted: what was taken and what is left are the file's bytes, and no
 -- more was taken than may be by how many of its lines are accepted; and the steps are those of these lines.
@@ -79,5 +83,5 @@ pub record ReportsTrace (report : Walked → Outcome) (kinds : List Kind) (trace
   pub output : HasOutcome (IsTraceOutcome report kinds trace limits rose old new) status part
   pub opened : OpensOnly (trace ∷ []) old new
   pub taken : new.opens ≡ old.opens + 1 → TakesTrace kinds trace limits rose old new before after
-  pub unopened : new.opens ≡ old.opens → (after ≡ before) × (new.taken ≡ old.taken) × (new.held ≡ old.held)
+  pub unopened : new.opens ≡ old.opens → IsUntaken old new × (after ≡ before)
   pub read : IsWell status → IsReadWhole kinds trace limits old new
