@@ -1,5 +1,6 @@
 -- What a run leaves without a command, and the number of a built-in kind.
-use Rattle.rd_run.specs.Commands.{usage_meaning, named_number, shipped_named, usage_outcome}
+use Rattle.rd_run.specs.Commands.Command.{kind}
+use Rattle.rd_run.specs.Commands.{Command, usage_meaning, named_number, shipped_named, usage_outcome}
 use Rattle.rd_base.specs.declared.limits.Limits.{Limits}
 use Rattle.rd_ecl.specs.Specified.{SpecifiedKind}
 use Rattle.rd_io.specs.Inputs.{Source}
@@ -53,6 +54,10 @@ shipped_at (suc zero) few = (counter_kind, refl)
 shipped_at (suc (suc zero)) few = (set_kind, refl)
 shipped_at (suc (suc (suc zero))) few = (dictionary_kind, refl)
 shipped_at (suc (suc (suc (suc number)))) few = absurd (omega (arith, few))
+
+-- a kind is asked for by one word alone
+pub same_kind : (a b : SpecifiedKind) → ◌≡◌ {A = Option Command} (Some (kind a)) (Some (kind b)) → a ≡ b
+same_kind a b e = cc
 
 -- the kind with a name, and its number
 register_name : register_kind.name ≡ codes "register"

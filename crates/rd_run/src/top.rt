@@ -4,6 +4,7 @@ ghost use Rattle.rd_replaying.specs.Meanings.{replay_meaning};
 ghost use Rattle.std.specs.Prelude.{◌≡◌, ◌≢◌, ◌⊎◌, ℕ, ◌<◌, ◌≤◌, ◌^◌, nat_lt, List, [], ◌++◌, Option, Some, None, length, AllPairs, IfOk, IfSome};
 ghost use Rattle.rd_base.specs.Limits.{AreUsable};
 ghost use Rattle.rd_ecl.specs.Kinds.{kind_names, kinds_of};
+ghost use Rattle.rd_ecl.specs.Specified.{SpecifiedKind};
 ghost use Rattle.rd_io.specs.Inputs.{Source, Rose};
 ghost use Rattle.rd_io.specs.Sinks.{Appends};
 ghost use Rattle.rd_kinds.specs.Shipped.{shipped_kinds};
@@ -14,7 +15,8 @@ ghost use Rattle.rd_check.specs.Checked.{check_outcome};
 ghost use Rattle.rd_replaying.specs.Replaying.{BeginWithBuiltIn};
 ghost use Rattle.rd_walk.specs.Traces.{ReportsTrace};
 ghost use Rattle.rd_walk.specs.Meanings.{Runs, WritesAll};
-ghost use Rattle.rd_run.specs.Commands.Command.{check, replay};
+ghost use Rattle.rd_run.specs.Commands.Command.{check, kind, replay};
+ghost use Rattle.rd_spec_commands.specs.Meanings.{kind_outcome};
 
 use either::Either;
 use rd_base::{Limits, NoMemory, Steps, Word};
@@ -293,6 +295,15 @@ pub fn run<I: Inputs, S: Sink, L: Ledger>(
         I.faults inputs.new ≡ I.faults inputs.old → S.faults out.new ≡ S.faults out.old →
         (part : List ℕ) × Appends (S.written out.old) (S.written out.new) part
         × WritesAll (meaning_of (command_of words.now)) limits.now old part result }
+
+    // without a file the text is written whatever the inputs tell
+    ensures usage_text { command_of words.now ≡ None → (part : List ℕ)
+        × Appends (S.written out.old) (S.written out.new) part
+        × IsOutput result part usage_outcome }
+    ensures kind_text { (built_in : SpecifiedKind) →
+        command_of words.now ≡ Some (kind built_in) → (part : List ℕ)
+        × Appends (S.written out.old) (S.written out.new) part
+        × IsOutput result part (kind_outcome built_in) }
 
     // each of these statuses has its cause
     ensures usage { result ≡ Status.Usage → command_of words.now ≡ None }

@@ -10,7 +10,7 @@ use Rattle.rd_walk.specs.Meanings.{Runs, WritesAll}
 use Rattle.rd_run.specs.Commands.Command.{check, kind, replay, spec}
 use Rattle.rd_run.specs.declared.top.Command.{Command as Asked}
 use Rattle.rd_spec_commands.proofs.WholeLemmas.{runs_kind}
-use Rattle.rd_run.proofs.RunLemmas.{runs_usage, shipped_at}
+use Rattle.rd_run.proofs.RunLemmas.{runs_usage, same_kind, shipped_at}
 use Rattle.rd_walk.proofs.WholeLemmas.{none_failed, not_risen}
 use Rattle.rd_run.proofs.WholeLemmas.{some_file, some≢none, usage_or_fault, whole_run}
 use Rattle.rd_run.proofs.top.run.Goals as goal
@@ -251,6 +251,18 @@ returns-in-Some-Kind-clause-whole g c = λ old told few few_opens few_faults cal
           (whole_run (Some (kind built_in)) c.args.limits.now (nat_lt faults faults) old old part status c.args.steps.now c.args.steps.now
           (runs_kind built_in c.args.limits.now (nat_lt faults faults) old part status c.args.steps.now output) (not_risen faults faults refl)
           (none_failed _ _ _ _ status (spec_wrote _ _ _ _ c.kind.result c.kind.ensures.fault) few_faults silent) (λ none. absurd (some≢none none)))),
+    )
+
+pub returns-in-Some-Kind-clause-kind_text : goal.returns-in-Some-Kind-clause-kind_text
+returns-in-Some-Kind-clause-kind_text g c = λ other is.
+    let number = c.in-Some-Kind.number in
+    let (built_in, at) = shipped_at number (c.in-Some-Kind.ensures.known number c.in-Some-Kind.field-0-is) in
+    let (part, writes, output) = c.kind.ensures.output built_in at in
+    let words = ap (option_map kind) (sym at) ∙ (ap (λ (command : Asked). asked_command (Some command)) (sym c.in-Some-Kind.field-0-is) ∙ c.in-Some-Kind.ensures.asked) in (
+      part,
+      writes,
+      subst (λ status. IsOutput status part (kind_outcome other)) (sym c.spec_command_status-in-Some-Kind.ensures)
+          (subst (λ k. IsOutput (spec_command_status c.kind.result) part (kind_outcome k)) (same_kind built_in other (words ∙ is)) output),
     )
 
 pub returns-in-Some-Kind-clause-usage : goal.returns-in-Some-Kind-clause-usage
