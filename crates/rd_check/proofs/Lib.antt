@@ -1,6 +1,5 @@
 pub mod CheckLemmas
 pub mod CombinedLemmas
-pub mod DeclaredLemmas
 pub mod FaultLemmas
 pub mod HeadlineLemmas
 pub mod NamingLemmas

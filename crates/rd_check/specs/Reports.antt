@@ -1,64 +1,26 @@
 -- What a report says of the bytes of a trace, in the words of accepted lines and of races: this project's profile.
-use Rattle.std.specs.Prelude.{◌≡◌, ◌⊎◌, ℕ, zero, suc, ◌+◌, ◌<◌, List, [], ◌∷◌, ◌++◌, All, length}
+use Rattle.std.specs.Prelude.{◌≡◌, ◌⊎◌, ℕ, zero, suc, ◌+◌, ◌<◌, List, [], ◌++◌, All, length}
 use Rattle.rd_base.specs.declared.limits.Limits.{Limits}
 use Rattle.rd_detect.specs.Commuting.{Commute}
 use Rattle.rd_detect.specs.Races.{Reported, IsLatest}
-use Rattle.rd_event.specs.Items.{LineInRange, Says}
 use Rattle.rd_event.specs.declared.events.Call.{Call}
 use Rattle.rd_event.specs.declared.events.Event.{Event}
-use Rattle.rd_event.specs.declared.items.Line.{Line}
 use Rattle.rd_order.specs.Counts.{Counts}
 use Rattle.rd_order.specs.EventLists.{WellFormedWith}
-use Rattle.rd_io.specs.Lines.{Stop, Reading, reading}
-use Rattle.rd_io.specs.Lines.Reading.{stops, line}
+use Rattle.rd_io.specs.Lines.{Stop, reading}
 use Rattle.rd_wf.specs.Events.{roots_of}
-use Rattle.rd_ecl.specs.Kinds.{Kind, kinds_of}
+use Rattle.rd_ecl.specs.Kinds.{kinds_of}
 use Rattle.rd_ecl.specs.Specified.{SpecifiedKind}
 use Rattle.rd_report.specs.Texts.{ending_text}
 use Rattle.rd_replay.specs.Replays.{Recorded}
-use Rattle.rd_wf.specs.MayFollow.{IsBrokenFirst, MayFollow, object_kinds}
+use Rattle.rd_wf.specs.MayFollow.{object_kinds}
 use Rattle.rd_replaying.specs.Replaying.{recorded_of}
-use Rattle.rd_wf.specs.declared.causes.WfCause.{WfCause}
 use Rattle.rd_walk.specs.Output.{Outcome}
 use Rattle.rd_replaying.specs.Endings.{check_status, thread_names}
 use Rattle.rd_check.specs.Checked.{entries_ending, entries_race, entry_events}
-use Rattle.rd_walk.specs.Walk.{Entry, trace_end_of, items}
+use Rattle.rd_walk.specs.AcceptedLines.{IsWalk}
+use Rattle.rd_walk.specs.Walk.{Entry, items}
 use Rattle.rd_walk.specs.declared.walk.WalkEnd.{WalkEnd}
-use Rattle.rd_walk.specs.declared.walk.WalkEnd.TheVariants.{Refused}
-use Rattle.rd_wf.specs.declared.causes.TraceCause.{TraceCause}
-use Rattle.rd_wf.specs.declared.causes.TraceCause.TheVariants.{BadLine, Wf}
-
--- ---- the accepted lines
-
--- the bytes of a line say no item
-abbrev pub SaysNone : List ℕ → Type 0
-SaysNone bytes = (item : Line) → LineInRange item → ¬ (Says bytes item)
-
--- they say this item
-pub record SaysItem (bytes : List ℕ) (item : Line) : Type 0 where
-  pub range : LineInRange item
-  pub says : Says bytes item
-
--- the line with these bytes is accepted behind the accepted ones, as this item
-pub record IsAcceptedLine (kinds : List Kind) (limits : Limits) (before : List Line) (bytes : List ℕ) (item : Line) : Type 0 where
-  pub said : SaysItem bytes item
-  pub follows : MayFollow kinds limits before item
-
--- It is refused behind them for this cause: it says no item, or the item that it says breaks the rule of this cause and of none
--- before it.
-abbrev pub IsRefusedLine : List Kind → Limits → List Line → List ℕ → TraceCause → Type 0
-IsRefusedLine kinds limits before bytes BadLine = SaysNone bytes
-IsRefusedLine kinds limits before bytes refused =
-    (item : Line) × (cause : WfCause) × SaysItem bytes item × IsBrokenFirst kinds limits before item cause × (refused ≡ Wf cause)
-
--- Of the lines that come behind the accepted ones, the first of them with this number, these are accepted, up to the first that is
--- refused or to the end of the lines, and so they end.
-abbrev pub IsWalk : List Kind → Limits → List Line → ℕ → Reading → List Entry → WalkEnd → Type 0
-IsWalk kinds limits before number (stops end) entries ending = (entries ≡ []) × (ending ≡ trace_end_of limits before number end)
-IsWalk kinds limits before number (line bytes more) entries ending =
-    ((cause : TraceCause) × IsRefusedLine kinds limits before bytes cause × (entries ≡ []) × (ending ≡ Refused number cause))
-    ⊎ ((item : Line) × (later : List Entry) × IsAcceptedLine kinds limits before bytes item
-    × (entries ≡ record { number = number; item = item } ∷ later) × IsWalk kinds limits (before ++ item ∷ []) (number + 1) more later ending)
 
 -- ---- the races
 

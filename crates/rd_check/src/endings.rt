@@ -10,7 +10,7 @@ ghost use Rattle.rd_wf.specs.Roster.{names_in};
 use crate::checking::Check;
 use rd_io::Sink;
 use rd_replay::Replayer;
-use rd_replaying::{ReplayedReport, check_status, reported};
+use rd_replaying::{ReplayedReport, check_status, ending_of_report};
 use rd_report::{Ending, ending_text};
 use rd_walk::{Halt, TraceStatus, WalkEnd, write_lines};
 use rd_wf::Roster;
@@ -50,7 +50,7 @@ impl<'a> ReplayedReport for Check<'a> {
         ending: WalkEnd,
         out: &mut S,
     ) -> Result<TraceStatus, Halt> {
-        let ending = reported(replayer, ending)?;
+        let ending = ending_of_report(replayer, ending)?;
         write_ending(alloc, names, self.races, &ending, out)
     }
 

@@ -1,4 +1,5 @@
 pub mod Endings
 pub mod Meanings
 pub mod Replaying
+pub mod Reports
 pub mod States

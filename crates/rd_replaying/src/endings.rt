@@ -33,7 +33,7 @@ fn replay_status(replay: &ReplayEnd) -> TraceStatus
 }
 
 /// How a report ends, by how the walk does and what the replayer was told.
-pub fn reported(replayer: &Replayer, ending: WalkEnd) -> Result<Ending, NoMemory>
+pub fn ending_of_report(replayer: &Replayer, ending: WalkEnd) -> Result<Ending, NoMemory>
     ensures reported { IfOk result
         (λ report. (kinds : List ℕ) (calls : List Recorded) → ReplayerStandsFor replayer.now kinds calls →
         report ≡ ending_of_report (replay_end kinds calls) ending) }

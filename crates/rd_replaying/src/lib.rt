@@ -3,11 +3,13 @@
 
 mod endings;
 mod following;
+mod laws;
 mod replaying;
 mod reports;
 mod states;
 
-pub use endings::{check_status, reported};
+pub use endings::{check_status, ending_of_report};
+pub use laws::law_of_replay_reports;
 pub use replaying::Replaying;
 pub use reports::ReplayedReport;
 pub use states::ReplayAlone;

@@ -11,7 +11,7 @@ ghost use Rattle.rd_replaying.specs.Endings.{check_status};
 ghost use Rattle.rd_replaying.specs.States.{held_text, replayed_text, states_before};
 ghost use Rattle.rd_wf.specs.Roster.{names_in, object_names_in};
 
-use crate::endings::{check_status, reported};
+use crate::endings::{check_status, ending_of_report};
 use crate::reports::ReplayedReport;
 use rd_base::{Bytes, NoMemory, Steps};
 use rd_event::Line;
@@ -262,7 +262,7 @@ impl ReplayedReport for ReplayAlone {
         ending: WalkEnd,
         out: &mut S,
     ) -> Result<TraceStatus, Halt> {
-        let ending = reported(replayer, ending)?;
+        let ending = ending_of_report(replayer, ending)?;
         write_replay(alloc, names, replayer, &ending, out)
     }
 

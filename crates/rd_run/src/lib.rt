@@ -4,5 +4,6 @@
 mod top;
 
 pub use rd_check::{law_of_checks, law_of_faults, law_of_reports};
+pub use rd_replaying::law_of_replay_reports;
 pub use rd_walk::{Analysis, Halt, Status, WalkEnd, law_of_walks};
 pub use top::run;

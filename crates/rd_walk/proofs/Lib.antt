@@ -1,4 +1,5 @@
 pub mod AcceptedLemmas
+pub mod AcceptedLineLemmas
 pub mod AlternativeLemmas
 pub mod ContinueLemmas
 pub mod FileLemmas

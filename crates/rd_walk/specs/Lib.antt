@@ -1,3 +1,4 @@
+pub mod AcceptedLines
 pub mod Analysis
 pub mod Meanings
 pub mod Output
