@@ -4,9 +4,9 @@ ghost use Rattle.std.specs.Process.{exit_status};
 ghost use Rattle.rd_walk.specs.Output.{code_of};
 ghost use Rattle.rd_walk.specs.declared.status.Status.{Status as StatusOf};
 
+use crate::arguments::{WordsRefused, words};
 use crate::files::FileInputs;
 use crate::output::OutputSink;
-use crate::words::{WordsRefused, words};
 use rd_base::{Limits, Steps, Word};
 use rd_run::{Status, run};
 use std::alloc::Global;
