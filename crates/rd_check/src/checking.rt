@@ -31,7 +31,7 @@ pub struct Check<'a> {
 }
 
 impl<'a> Check<'a> {
-    ghost use Rattle.std.specs.Prelude.{◌≡◌, ◌+◌, ◌<◌, ◌≤◌, ◌^◌, ℕ, List, ◌∷◌, [], ◌++◌, Option, is_some, if◌then◌else◌, length, IfOk, OnOk, OnErr};
+    ghost use Rattle.std.specs.Prelude.{◌≡◌, ◌+◌, ◌<◌, ◌≤◌, ◌^◌, ℕ, List, ◌∷◌, [], ◌++◌, Option, is_some, if◌then◌else◌, length, IfOk, IfErr, OnOk, OnErr};
     ghost use Rattle.rd_io.specs.Sinks.{Appends};
     ghost use Rattle.rd_event.specs.declared.events.Event.{Event as EventOf};
     ghost use Rattle.rd_event.specs.declared.events.Event.TheVariants as event;
@@ -70,7 +70,7 @@ impl<'a> Check<'a> {
         call: &Call,
         stamp: &Stamp,
         steps: &mut Steps<L>,
-    ) -> Result<Option<Race>, NoMemory>
+    ) -> Result<Option<Race>, Halt>
         requires next { (numbers : List ℕ) × (es : List EventOf)
             × IsNextCall self.old.detector.kinds self.old.detector.calls numbers es place call.now stamp.now }
         requires few { self.old.races + 1 < 2 ^ 64 }
@@ -91,14 +91,18 @@ impl<'a> Check<'a> {
         ensures held { OnOk result
             (length self.new.detector.calls ≡ length self.old.detector.calls + 1) }
 
-        // races are counted, and the steps are bounded
+        // races are counted, only memory can stop it, and the steps are bounded
         ensures races { IfOk result
             (λ answer. self.new.races ≡ self.old.races + (if is_some answer then 1 else 0)) }
+        ensures memory { IfErr result (λ halt. halt ≡ Halt.NoMemory) }
         ensures cost { steps.new ≤ steps.old + length self.old.detector.calls }
     {
-        let answer = self
+        let Ok(answer) = self
             .detector
-            .call(line, place, call, stamp, &self.tracker, steps)?;
+            .call(line, place, call, stamp, &self.tracker, steps)
+        else {
+            return Err(Halt::NoMemory);
+        };
         self.races += u64::from(answer.is_some());
         Ok(answer)
     }
@@ -145,17 +149,21 @@ impl<'a> Check<'a> {
     }
 
     /// Hands the next root to the tracker.
-    fn root(&mut self, thread: u32) -> Result<(), NoMemory>
+    fn root(&mut self, thread: u32) -> Result<(), Halt>
         requires { (start : Check) × (before : List Entry) × (item : LineOf)
             × Checks start before self.old
             × IsNextLine (kinds_of start.spec.now) self.old.tracker (items before) item
             (Accepted.Root thread) }
-        ensures { OnOk result
+        ensures checks { OnOk result
             ((start : Check) (before : List Entry) (entry : Entry) → Checks start before self.old →
             IsNextLine (kinds_of start.spec.now) self.old.tracker (items before) entry.item
             (Accepted.Root thread) → Checks start (before ++ entry ∷ []) self.new) }
+        ensures memory { IfErr result (λ halt. halt ≡ Halt.NoMemory) }
     {
-        self.tracker.root(thread)
+        match self.tracker.root(thread) {
+            Ok(()) => Ok(()),
+            Err(_) => Err(Halt::NoMemory),
+        }
     }
 
     /// Hands the event at this place, which is the next one, to the tracker, and a call to the detector, and writes the race that it tells
@@ -189,13 +197,18 @@ impl<'a> Check<'a> {
             (S.written out.new) result }
     {
         let Event::Call(call) = event else {
-            self.tracker.pass(event, steps)?;
-            return Ok(());
+            return match self.tracker.pass(event, steps) {
+                Ok(()) => Ok(()),
+                Err(_) => Err(Halt::NoMemory),
+            };
         };
-        let stamp = self.tracker.event(event, steps)?;
-        match self.detect(number, place, call, &stamp, steps)? {
-            None => Ok(()),
-            Some(race) => self.report(&race, names, out),
+        let Ok(stamp) = self.tracker.event(event, steps) else {
+            return Err(Halt::NoMemory);
+        };
+        match self.detect(number, place, call, &stamp, steps) {
+            Ok(None) => Ok(()),
+            Ok(Some(race)) => self.report(&race, names, out),
+            Err(halt) => Err(halt),
         }
     }
 }
@@ -226,10 +239,7 @@ impl<'a> Analysis for Check<'a> {
     ) -> Result<(), Halt> {
         match accepted {
             Accepted::Nothing | Accepted::Object { .. } => Ok(()),
-            Accepted::Root(thread) => {
-                self.root(*thread)?;
-                Ok(())
-            }
+            Accepted::Root(thread) => self.root(*thread),
             Accepted::Event(event) => {
                 self.event(number, roster.events() - 1, event, roster, out, steps)
             }

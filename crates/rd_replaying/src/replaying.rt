@@ -60,9 +60,12 @@ impl<A: Analysis> Analysis for Replaying<A> {
         out: &mut S,
         steps: &mut Steps<L>,
     ) -> Result<(), Halt> {
-        self.inner
-            .accept(number, line, accepted, roster, out, steps)?;
-        follow(&mut self.replayer, number, accepted)?;
-        Ok(())
+        match self
+            .inner
+            .accept(number, line, accepted, roster, out, steps)
+        {
+            Ok(()) => follow(&mut self.replayer, number, accepted),
+            Err(halt) => Err(halt),
+        }
     }
 }

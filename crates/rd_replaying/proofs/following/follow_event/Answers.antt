@@ -20,17 +20,17 @@ follow_call-requires c =
           (ap accepted.Event c.in-Call.is),
     )
 
-pub returns-in_default : goal.returns-in_default
-returns-in_default c = λ kinds before item roster replayed next.
+pub returns-in_default-clause-follows : goal.returns-in_default-clause-follows
+returns-in_default-clause-follows c = λ kinds before item roster replayed next.
     let entry : Entry = record { number = c.args.number; item = item } in
     replayed_quiet kinds before entry c.args.replayer.now c.args.replayer.now replayed roster (accepted.Event c.args.event.now) next
     (event_no_object c.args.event.now) (event_no_call c.args.event.now c.in_default.not-Call)
 
-pub returns : goal.returns
-returns c = on_ok_weaker c.follow_call.result
+pub returns-clause-follows : goal.returns-clause-follows
+returns-clause-follows c = on_ok_weaker c.follow_call.result
     (λ (all : (those : List ℕ) (calls : List Recorded) → ReplayerStandsFor c.args.replayer.now those calls → IsRecordable those c.in-Call.call
     → ReplayerStandsFor c.follow_call.new.replayer those (calls ++ (c.args.number, c.in-Call.call) ∷ [])) kinds before item roster replayed next.
     let entry : Entry = record { number = c.args.number; item = item } in
     replayed_call kinds before entry c.args.replayer.now c.follow_call.new.replayer replayed roster (accepted.Event c.args.event.now) next c.in-Call.call
     (ap accepted.Event c.in-Call.is) all)
-    c.follow_call.ensures
+    c.follow_call.ensures.follows

@@ -13,7 +13,7 @@ use Rattle.rd_walk.specs.Analysis.{WritesFront}
 use Rattle.rd_check.specs.Checking.{Tracks}
 use Rattle.rd_check.specs.Checked.{entry_events, event_numbers, race_texts}
 use Rattle.rd_walk.specs.Walk.{Entry, items}
-use Rattle.rd_walk.proofs.OutputLemmas.{always_err, always_ok}
+use Rattle.rd_walk.proofs.OutputLemmas.{always_ok}
 use Rattle.rd_check.proofs.CheckLemmas.{call_cost, call_next, call_races, checks_call, checks_quiet, event_cost, event_next, event_tracks, known_race, races_call, text_call, texts_quiet}
 use Rattle.rd_check.proofs.ReportLemmas.{answer_text, texts_grow}
 use Rattle.rd_check.proofs.checking.Check.event.Goals as goal
@@ -30,41 +30,41 @@ pass-requires g c =
     let now = event_next (kinds_of start.spec.now) c.args.self.now.tracker (items before) item c.args.event.now ready.next in
     record { next = (_, _, now) }
 
-pub returns-in_default-clause-checks : goal.returns-in_default-clause-checks
-returns-in_default-clause-checks g c = λ start before item ready.
+pub returns-in-Ok-clause-checks : goal.returns-in-Ok-clause-checks
+returns-in-Ok-clause-checks g c = λ start before item ready.
     let entry : Entry = record { number = c.args.number; item = item } in
     checks_quiet start c.args.self.now c.pass.new.self before entry ready.checks
-    (event_tracks (kinds_of start.spec.now) c.args.self.now.tracker (items before) item c.args.event.now ready.next c.pass.new.self c.in_ok-pass.ensures.stands c.in_ok-pass.ensures.count)
+    (event_tracks (kinds_of start.spec.now) c.args.self.now.tracker (items before) item c.args.event.now ready.next c.pass.new.self c.in-Ok.ensures.stands c.in-Ok.ensures.count)
     (accepted.Event c.args.event.now) ready.next (λ call e. c.in_default.not-Call call cc)
 
-pub returns-in_default-clause-written : goal.returns-in_default-clause-written
-returns-in_default-clause-written g c = λ start before item ready.
+pub returns-in-Ok-clause-written : goal.returns-in-Ok-clause-written
+returns-in-Ok-clause-written g c = λ start before item ready.
     let entry : Entry = record { number = c.args.number; item = item } in
     let same = texts_quiet start.spec.now c.args.self.now.tracker before entry (accepted.Event c.args.event.now) ready.next (λ call e. c.in_default.not-Call call cc) in
     ([], same ∙ sym (append-nil (race_texts start.spec.now before)), appends_none (g.S.Sink.written c.args.out.now) (g.S.Sink.written c.args.out.now) refl)
 
-pub returns-in_default-clause-cost : goal.returns-in_default-clause-cost
-returns-in_default-clause-cost g c = λ start before item ready.
+pub returns-in-Ok-clause-cost : goal.returns-in-Ok-clause-cost
+returns-in-Ok-clause-cost g c = λ start before item ready.
     omega (arith, c.pass.ensures.cost, event_cost (kinds_of start.spec.now) c.args.self.now.tracker (items before) item c.args.event.now ready.next)
 
-pub returns-in_err-pass-clause-halted : goal.returns-in_err-pass-clause-halted
-returns-in_err-pass-clause-halted g c = always_err _ c.from_residual.result (λ start before item ready.
+pub returns-in-Err-clause-halted : goal.returns-in-Err-clause-halted
+returns-in-Err-clause-halted g c = λ start before item ready.
     let entry : Entry = record { number = c.args.number; item = item } in
     let (rest, is) = texts_grow start.spec.now before entry ready.next.tracks.told in
-    ([], rest, is, appends_none (g.S.Sink.written c.args.out.now) (g.S.Sink.written c.args.out.now) refl))
+    ([], rest, is, appends_none (g.S.Sink.written c.args.out.now) (g.S.Sink.written c.args.out.now) refl)
 
-pub returns-in_err-pass-clause-cost : goal.returns-in_err-pass-clause-cost
-returns-in_err-pass-clause-cost g c = λ start before item ready.
+pub returns-in-Err-clause-cost : goal.returns-in-Err-clause-cost
+returns-in-Err-clause-cost g c = λ start before item ready.
     omega (arith, c.pass.ensures.cost, event_cost (kinds_of start.spec.now) c.args.self.now.tracker (items before) item c.args.event.now ready.next)
 
-pub returns-in_err-stamp-clause-halted : goal.returns-in_err-stamp-clause-halted
-returns-in_err-stamp-clause-halted g c = always_err _ c.from_residual-in_err-stamp.result (λ start before item ready.
+pub returns-in_default-event-clause-halted : goal.returns-in_default-event-clause-halted
+returns-in_default-event-clause-halted g c = λ start before item ready.
     let entry : Entry = record { number = c.args.number; item = item } in
     let (rest, is) = texts_grow start.spec.now before entry ready.next.tracks.told in
-    ([], rest, is, appends_none (g.S.Sink.written c.args.out.now) (g.S.Sink.written c.args.out.now) refl))
+    ([], rest, is, appends_none (g.S.Sink.written c.args.out.now) (g.S.Sink.written c.args.out.now) refl)
 
-pub returns-in_err-stamp-clause-cost : goal.returns-in_err-stamp-clause-cost
-returns-in_err-stamp-clause-cost g c = λ start before item ready.
+pub returns-in_default-event-clause-cost : goal.returns-in_default-event-clause-cost
+returns-in_default-event-clause-cost g c = λ start before item ready.
     omega (arith, c.event.ensures.cost, event_cost (kinds_of start.spec.now) c.args.self.now.tracker (items before) item c.args.event.now ready.next)
 
 pub detect-requires-clause-next : goal.detect-requires-clause-next
@@ -74,7 +74,7 @@ detect-requires-clause-next g c =
       event_numbers before,
       entry_events start.spec.now before,
       call_next start c.args.self.now before entry c.args.event.now c.in-Call.call c.in-Call.is (naming_in c.args.names.now) c.args.place ready
-          c.in_ok-stamp.stamp c.in_ok-stamp.ensures.stamp,
+          c.in-Ok-event.stamp c.in-Ok-event.ensures.stamp,
     )
 
 pub detect-requires-clause-few : goal.detect-requires-clause-few
@@ -85,40 +85,40 @@ detect-requires-clause-few g c =
 
 -- ---- a call that was detected
 
-pub returns-in-None-clause-checks : goal.returns-in-None-clause-checks
-returns-in-None-clause-checks g c = λ start before item ready.
+pub returns-in-Ok-None-clause-checks : goal.returns-in-Ok-None-clause-checks
+returns-in-Ok-None-clause-checks g c = λ start before item ready.
     let entry : Entry = record { number = c.args.number; item = item } in
     let names = naming_in c.args.names.now in
     let numbers = event_numbers before in
     let es = entry_events start.spec.now before in
-    let next = call_next start c.args.self.now before entry c.args.event.now c.in-Call.call c.in-Call.is names c.args.place ready c.in_ok-stamp.stamp c.in_ok-stamp.ensures.stamp in
-    let said = c.in_ok-detect.ensures in
-    let tracked = event_tracks (kinds_of start.spec.now) c.args.self.now.tracker (items before) item c.args.event.now ready.next c.event.new.self c.in_ok-stamp.ensures.stands c.in_ok-stamp.ensures.count in
+    let next = call_next start c.args.self.now before entry c.args.event.now c.in-Call.call c.in-Call.is names c.args.place ready c.in-Ok-event.stamp c.in-Ok-event.ensures.stamp in
+    let said = c.in-Ok-None.ensures in
+    let tracked = event_tracks (kinds_of start.spec.now) c.args.self.now.tracker (items before) item c.args.event.now ready.next c.event.new.self c.in-Ok-event.ensures.stands c.in-Ok-event.ensures.count in
     checks_call start c.args.self.now before entry c.args.event.now c.in-Call.call c.in-Call.is names c.args.place ready c.detect.new.self said.same.0 said.same.3 said.same.2
     (subst (λ tracker. Tracks (kinds_of start.spec.now) tracker (items before ++ item ∷ [])) (sym said.same.1) tracked)
     (said.stands numbers es next) said.held
-    (races_call start c.args.self.now before entry c.args.event.now c.in-Call.call c.in-Call.is names c.args.place ready c.in_ok-detect.field-0
+    (races_call start c.args.self.now before entry c.args.event.now c.in-Call.call c.in-Call.is names c.args.place ready c.in-Ok-None.field-0
     (said.answer numbers es next) c.detect.new.self.races said.races)
 
-pub returns-in-None-clause-written : goal.returns-in-None-clause-written
-returns-in-None-clause-written g c = λ start before item ready.
+pub returns-in-Ok-None-clause-written : goal.returns-in-Ok-None-clause-written
+returns-in-Ok-None-clause-written g c = λ start before item ready.
     let entry : Entry = record { number = c.args.number; item = item } in
     let names = naming_in c.args.names.now in
     let numbers = event_numbers before in
     let es = entry_events start.spec.now before in
-    let next = call_next start c.args.self.now before entry c.args.event.now c.in-Call.call c.in-Call.is names c.args.place ready c.in_ok-stamp.stamp c.in_ok-stamp.ensures.stamp in
-    let text = text_call start c.args.self.now before entry c.args.event.now c.in-Call.call c.in-Call.is names c.args.place ready c.in_ok-detect.field-0
-    (c.in_ok-detect.ensures.answer numbers es next) in (
+    let next = call_next start c.args.self.now before entry c.args.event.now c.in-Call.call c.in-Call.is names c.args.place ready c.in-Ok-event.stamp c.in-Ok-event.ensures.stamp in
+    let text = text_call start c.args.self.now before entry c.args.event.now c.in-Call.call c.in-Call.is names c.args.place ready c.in-Ok-None.field-0
+    (c.in-Ok-None.ensures.answer numbers es next) in (
       [],
-      text ∙ ap (λ answer. race_texts start.spec.now before ++ answer_text start.spec.now names answer) c.in-None.is,
+      text ∙ ap (λ answer. race_texts start.spec.now before ++ answer_text start.spec.now names answer) c.in-Ok-None.field-0-is,
       appends_none (g.S.Sink.written c.args.out.now) (g.S.Sink.written c.args.out.now) refl,
     )
 
-pub returns-in-None-clause-cost : goal.returns-in-None-clause-cost
-returns-in-None-clause-cost g c = λ start before item ready.
+pub returns-in-Ok-None-clause-cost : goal.returns-in-Ok-None-clause-cost
+returns-in-Ok-None-clause-cost g c = λ start before item ready.
     let entry : Entry = record { number = c.args.number; item = item } in
     call_cost start c.args.self.now before entry c.args.event.now c.in-Call.call c.in-Call.is (naming_in c.args.names.now) c.args.place ready c.args.steps.now
-    c.event.new.steps c.detect.new.steps c.event.ensures.cost c.in_ok-detect.ensures.cost
+    c.event.new.steps c.detect.new.steps c.event.ensures.cost c.in-Ok-None.ensures.cost
 
 pub report-requires-clause-known : goal.report-requires-clause-known
 report-requires-clause-known g c =
@@ -127,90 +127,90 @@ report-requires-clause-known g c =
     let names = naming_in c.args.names.now in
     let numbers = event_numbers before in
     let es = entry_events start.spec.now before in
-    let next = call_next start c.args.self.now before entry c.args.event.now c.in-Call.call c.in-Call.is names c.args.place ready c.in_ok-stamp.stamp c.in_ok-stamp.ensures.stamp in
-    let said = c.in_ok-detect.ensures in
-    known_race start c.args.self.now before entry c.args.event.now c.in-Call.call c.in-Call.is names c.args.place ready c.in_ok-detect.field-0 c.in-Some.race
-    (said.answer numbers es next) c.in-Some.is c.detect.new.self.spec.now said.same.0
+    let next = call_next start c.args.self.now before entry c.args.event.now c.in-Call.call c.in-Call.is names c.args.place ready c.in-Ok-event.stamp c.in-Ok-event.ensures.stamp in
+    let said = c.in-Ok-Some.ensures in
+    known_race start c.args.self.now before entry c.args.event.now c.in-Call.call c.in-Call.is names c.args.place ready c.in-Ok-Some.field-0 c.in-Ok-Some.race
+    (said.answer numbers es next) c.in-Ok-Some.field-0-is c.detect.new.self.spec.now said.same.0
 
-pub returns-clause-checks : goal.returns-clause-checks
-returns-clause-checks g c = always_ok _ c.report.result (λ start before item ready.
+pub returns-in-Ok-Some-clause-checks : goal.returns-in-Ok-Some-clause-checks
+returns-in-Ok-Some-clause-checks g c = always_ok _ c.report.result (λ start before item ready.
     let entry : Entry = record { number = c.args.number; item = item } in
     let names = naming_in c.args.names.now in
     let numbers = event_numbers before in
     let es = entry_events start.spec.now before in
-    let next = call_next start c.args.self.now before entry c.args.event.now c.in-Call.call c.in-Call.is names c.args.place ready c.in_ok-stamp.stamp c.in_ok-stamp.ensures.stamp in
-    let said = c.in_ok-detect.ensures in
+    let next = call_next start c.args.self.now before entry c.args.event.now c.in-Call.call c.in-Call.is names c.args.place ready c.in-Ok-event.stamp c.in-Ok-event.ensures.stamp in
+    let said = c.in-Ok-Some.ensures in
     let same = c.report.ensures.same in
-    let tracked = event_tracks (kinds_of start.spec.now) c.args.self.now.tracker (items before) item c.args.event.now ready.next c.event.new.self c.in_ok-stamp.ensures.stands c.in_ok-stamp.ensures.count in
+    let tracked = event_tracks (kinds_of start.spec.now) c.args.self.now.tracker (items before) item c.args.event.now ready.next c.event.new.self c.in-Ok-event.ensures.stands c.in-Ok-event.ensures.count in
     checks_call start c.args.self.now before entry c.args.event.now c.in-Call.call c.in-Call.is names c.args.place ready c.report.new.self (same.0 ∙ said.same.0) (same.4 ∙ said.same.3)
     (ap (λ d. d.kinds) same.2 ∙ said.same.2)
     (subst (λ tracker. Tracks (kinds_of start.spec.now) tracker (items before ++ item ∷ [])) (sym (same.1 ∙ said.same.1)) tracked)
     (subst (λ d. DetectorStandsFor d.calls (numbers ++ c.args.number ∷ []) (es ++ event.Call c.in-Call.call ∷ [])) (sym same.2) (said.stands numbers es next))
     (ap (λ d. length d.calls) same.2 ∙ said.held)
-    (races_call start c.args.self.now before entry c.args.event.now c.in-Call.call c.in-Call.is names c.args.place ready c.in_ok-detect.field-0
+    (races_call start c.args.self.now before entry c.args.event.now c.in-Call.call c.in-Call.is names c.args.place ready c.in-Ok-Some.field-0
     (said.answer numbers es next) c.report.new.self.races (same.3 ∙ said.races)))
 
-pub returns-clause-written : goal.returns-clause-written
-returns-clause-written g c = on_ok_weaker c.report.result
+pub returns-in-Ok-Some-clause-written : goal.returns-in-Ok-Some-clause-written
+returns-in-Ok-Some-clause-written g c = on_ok_weaker c.report.result
     (λ (wrote : Appends (g.S.Sink.written c.args.out.now) (g.S.Sink.written c.report.new.out)
-    (race_text c.detect.new.self.spec.now (naming_in c.args.names.now) (told_by c.in-Some.race.later.value) (told_by c.in-Some.race.earlier.value))) start before item ready.
+    (race_text c.detect.new.self.spec.now (naming_in c.args.names.now) (told_by c.in-Ok-Some.race.later.value) (told_by c.in-Ok-Some.race.earlier.value))) start before item ready.
     let entry : Entry = record { number = c.args.number; item = item } in
     let names = naming_in c.args.names.now in
     let numbers = event_numbers before in
     let es = entry_events start.spec.now before in
-    let next = call_next start c.args.self.now before entry c.args.event.now c.in-Call.call c.in-Call.is names c.args.place ready c.in_ok-stamp.stamp c.in_ok-stamp.ensures.stamp in
-    let text = text_call start c.args.self.now before entry c.args.event.now c.in-Call.call c.in-Call.is names c.args.place ready c.in_ok-detect.field-0
-    (c.in_ok-detect.ensures.answer numbers es next) in (
-      answer_text start.spec.now names (Some c.in-Some.race),
-      text ∙ ap (λ answer. race_texts start.spec.now before ++ answer_text start.spec.now names answer) c.in-Some.is,
+    let next = call_next start c.args.self.now before entry c.args.event.now c.in-Call.call c.in-Call.is names c.args.place ready c.in-Ok-event.stamp c.in-Ok-event.ensures.stamp in
+    let text = text_call start c.args.self.now before entry c.args.event.now c.in-Call.call c.in-Call.is names c.args.place ready c.in-Ok-Some.field-0
+    (c.in-Ok-Some.ensures.answer numbers es next) in (
+      answer_text start.spec.now names (Some c.in-Ok-Some.race),
+      text ∙ ap (λ answer. race_texts start.spec.now before ++ answer_text start.spec.now names answer) c.in-Ok-Some.field-0-is,
       subst (λ kinds. Appends (g.S.Sink.written c.args.out.now) (g.S.Sink.written c.report.new.out)
-          (race_text kinds names (told_by c.in-Some.race.later.value) (told_by c.in-Some.race.earlier.value)))
-          (c.in_ok-detect.ensures.same.0 ∙ ready.checks.spec) wrote,
+          (race_text kinds names (told_by c.in-Ok-Some.race.later.value) (told_by c.in-Ok-Some.race.earlier.value)))
+          (c.in-Ok-Some.ensures.same.0 ∙ ready.checks.spec) wrote,
     ))
     c.report.ensures.ok
 
-pub returns-clause-halted : goal.returns-clause-halted
-returns-clause-halted g c = on_err_weaker c.report.result
+pub returns-in-Ok-Some-clause-halted : goal.returns-in-Ok-Some-clause-halted
+returns-in-Ok-Some-clause-halted g c = on_err_weaker c.report.result
     (λ (wrote : WritesFront (g.S.Sink.written c.args.out.now) (g.S.Sink.written c.report.new.out) []
-    (race_text c.detect.new.self.spec.now (naming_in c.args.names.now) (told_by c.in-Some.race.later.value) (told_by c.in-Some.race.earlier.value))) start before item ready.
+    (race_text c.detect.new.self.spec.now (naming_in c.args.names.now) (told_by c.in-Ok-Some.race.later.value) (told_by c.in-Ok-Some.race.earlier.value))) start before item ready.
     let entry : Entry = record { number = c.args.number; item = item } in
     let names = naming_in c.args.names.now in
     let numbers = event_numbers before in
     let es = entry_events start.spec.now before in
-    let next = call_next start c.args.self.now before entry c.args.event.now c.in-Call.call c.in-Call.is names c.args.place ready c.in_ok-stamp.stamp c.in_ok-stamp.ensures.stamp in
-    let text = text_call start c.args.self.now before entry c.args.event.now c.in-Call.call c.in-Call.is names c.args.place ready c.in_ok-detect.field-0
-    (c.in_ok-detect.ensures.answer numbers es next) in
+    let next = call_next start c.args.self.now before entry c.args.event.now c.in-Call.call c.in-Call.is names c.args.place ready c.in-Ok-event.stamp c.in-Ok-event.ensures.stamp in
+    let text = text_call start c.args.self.now before entry c.args.event.now c.in-Call.call c.in-Call.is names c.args.place ready c.in-Ok-Some.field-0
+    (c.in-Ok-Some.ensures.answer numbers es next) in
     let (part, rest, is, writes) = subst (λ kinds. WritesFront (g.S.Sink.written c.args.out.now) (g.S.Sink.written c.report.new.out) []
-    (race_text kinds names (told_by c.in-Some.race.later.value) (told_by c.in-Some.race.earlier.value)))
-    (c.in_ok-detect.ensures.same.0 ∙ ready.checks.spec) wrote in (
+    (race_text kinds names (told_by c.in-Ok-Some.race.later.value) (told_by c.in-Ok-Some.race.earlier.value)))
+    (c.in-Ok-Some.ensures.same.0 ∙ ready.checks.spec) wrote in (
       part,
       rest,
-      text ∙ ap (λ answer. race_texts start.spec.now before ++ answer_text start.spec.now names answer) c.in-Some.is
+      text ∙ ap (λ answer. race_texts start.spec.now before ++ answer_text start.spec.now names answer) c.in-Ok-Some.field-0-is
           ∙ ap (λ t. race_texts start.spec.now before ++ t) is,
       writes,
     ))
     c.report.ensures.front
 
+pub returns-in-Ok-Some-clause-cost : goal.returns-in-Ok-Some-clause-cost
+returns-in-Ok-Some-clause-cost g c = λ start before item ready.
+    let entry : Entry = record { number = c.args.number; item = item } in
+    call_cost start c.args.self.now before entry c.args.event.now c.in-Call.call c.in-Call.is (naming_in c.args.names.now) c.args.place ready c.args.steps.now
+    c.event.new.steps c.detect.new.steps c.event.ensures.cost c.in-Ok-Some.ensures.cost
+
+pub returns-clause-halted : goal.returns-clause-halted
+returns-clause-halted g c = λ start before item ready.
+    let entry : Entry = record { number = c.args.number; item = item } in
+    let (rest, is) = texts_grow start.spec.now before entry ready.next.tracks.told in
+    ([], rest, is, appends_none (g.S.Sink.written c.args.out.now) (g.S.Sink.written c.args.out.now) refl)
+
 pub returns-clause-cost : goal.returns-clause-cost
 returns-clause-cost g c = λ start before item ready.
     let entry : Entry = record { number = c.args.number; item = item } in
     call_cost start c.args.self.now before entry c.args.event.now c.in-Call.call c.in-Call.is (naming_in c.args.names.now) c.args.place ready c.args.steps.now
-    c.event.new.steps c.detect.new.steps c.event.ensures.cost c.in_ok-detect.ensures.cost
-
-pub returns-in_err-detect-clause-halted : goal.returns-in_err-detect-clause-halted
-returns-in_err-detect-clause-halted g c = always_err _ c.from_residual-in_err-detect.result (λ start before item ready.
-    let entry : Entry = record { number = c.args.number; item = item } in
-    let (rest, is) = texts_grow start.spec.now before entry ready.next.tracks.told in
-    ([], rest, is, appends_none (g.S.Sink.written c.args.out.now) (g.S.Sink.written c.args.out.now) refl))
-
-pub returns-in_err-detect-clause-cost : goal.returns-in_err-detect-clause-cost
-returns-in_err-detect-clause-cost g c = λ start before item ready.
-    let entry : Entry = record { number = c.args.number; item = item } in
-    call_cost start c.args.self.now before entry c.args.event.now c.in-Call.call c.in-Call.is (naming_in c.args.names.now) c.args.place ready c.args.steps.now
-    c.event.new.steps c.detect.new.steps c.event.ensures.cost c.in_err-detect.ensures.cost
+    c.event.new.steps c.detect.new.steps c.event.ensures.cost c.in-Err-detect.ensures.cost
 
 pub report-requires-clause-formulas : goal.report-requires-clause-formulas
 report-requires-clause-formulas g c =
     let (start, before, item, ready) = c.requires in
-    let same = c.in_ok-detect.ensures.same in
+    let same = c.in-Ok-Some.ensures.same in
     same.3 ∙ ready.checks.formulas ∙ sym (same.0 ∙ ready.checks.spec)

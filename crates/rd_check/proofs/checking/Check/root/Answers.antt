@@ -1,4 +1,3 @@
-use Rattle.std.proofs.Common.{Result, Ok, Err, OnOk}
 use Rattle.rd_wf.specs.declared.causes.Accepted.TheVariants.{Root}
 use Rattle.rd_ecl.specs.Kinds.{kinds_of}
 use Rattle.rd_walk.specs.Walk.{items}
@@ -15,12 +14,8 @@ root-requires-clause-below c =
     let (start, before, item, checks, next) = c.requires in
     root_below (kinds_of start.spec.now) c.args.self.now.tracker (items before) item c.args.thread next
 
-both : {T E : Type 0} (r : Result T E) (P Q S : Type 0) → (P → Q → S) → OnOk r P → OnOk r Q → OnOk r S
-both (Ok x) P Q S f p q = f p q
-both (Err e) P Q S f p q = tt
-
-pub returns : goal.returns
-returns c = both c.root.result _ _ _ (λ stands count start before entry checks next.
+pub returns-in-Ok-clause-checks : goal.returns-in-Ok-clause-checks
+returns-in-Ok-clause-checks c = λ start before entry checks next.
     checks_quiet start c.args.self.now c.root.new.self before entry checks
-    (root_tracks (kinds_of start.spec.now) c.args.self.now.tracker (items before) entry.item c.args.thread next c.root.new.self stands count)
-    (Root c.args.thread) next (λ call e. cc)) c.root.ensures.ok c.root.ensures.count
+    (root_tracks (kinds_of start.spec.now) c.args.self.now.tracker (items before) entry.item c.args.thread next c.root.new.self c.in-Ok.ensures.ok c.in-Ok.ensures.count)
+    (Root c.args.thread) next (λ call e. cc)

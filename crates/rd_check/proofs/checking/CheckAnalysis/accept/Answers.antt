@@ -73,24 +73,32 @@ root-requires g c =
           (next_line kinds start c.args.self.now before c.args.roster.now c.args._line.now c.args.accepted.now leads next),
     )
 
-pub returns-in_ok-root-in-Root-clause-leads : goal.returns-in_ok-root-in-Root-clause-leads
-returns-in_ok-root-in-Root-clause-leads g c = λ kinds start before leads next. record {
-  kinds_are = leads.kinds_are;
-  checks = c.in_ok-root-in-Root.ensures start before (record { number = c.args.number; item = c.args._line.now }) leads.checks
-      (subst (IsNextLine (kinds_of start.spec.now) c.args.self.now.tracker (items before) c.args._line.now) c.in-Root.is
-      (next_line kinds start c.args.self.now before c.args.roster.now c.args._line.now c.args.accepted.now leads next));
-}
+pub returns-in-Root-clause-leads : goal.returns-in-Root-clause-leads
+returns-in-Root-clause-leads g c = on_ok_weaker c.root.result
+    (λ (all : (start : Check) (before : List Entry) (entry : Entry) → Checks start before c.args.self.now
+    → IsNextLine (kinds_of start.spec.now) c.args.self.now.tracker (items before) entry.item (accepted.Root c.in-Root.thread) → Checks start (before ++ entry ∷ []) c.root.new.self)
+    kinds start before leads next. record {
+      kinds_are = leads.kinds_are;
+      checks = all start before (record { number = c.args.number; item = c.args._line.now }) leads.checks
+          (subst (IsNextLine (kinds_of start.spec.now) c.args.self.now.tracker (items before) c.args._line.now) c.in-Root.is
+          (next_line kinds start c.args.self.now before c.args.roster.now c.args._line.now c.args.accepted.now leads next));
+    })
+    c.root.ensures.checks
 
-pub returns-in_ok-root-in-Root-clause-written : goal.returns-in_ok-root-in-Root-clause-written
-returns-in_ok-root-in-Root-clause-written g c = λ kinds start before leads next.
+pub returns-in-Root-clause-written : goal.returns-in-Root-clause-written
+returns-in-Root-clause-written g c = on_ok_weaker c.root.result
+    (λ (all : (start : Check) (before : List Entry) (entry : Entry) → Checks start before c.args.self.now
+    → IsNextLine (kinds_of start.spec.now) c.args.self.now.tracker (items before) entry.item (accepted.Root c.in-Root.thread) → Checks start (before ++ entry ∷ []) c.root.new.self)
+    kinds start before leads next.
     let entry : Entry = record { number = c.args.number; item = c.args._line.now } in
     let wrote = g.S.Sink.written c.args.out.now in
     let same = texts_quiet start.spec.now c.args.self.now.tracker before entry c.args.accepted.now
     (next_line kinds start c.args.self.now before c.args.roster.now c.args._line.now c.args.accepted.now leads next) (λ call e. let is = c.in-Root.is in cc) in
-    ([], same ∙ sym (append-nil (race_texts start.spec.now before)), appends_none wrote wrote refl)
+    ([], same ∙ sym (append-nil (race_texts start.spec.now before)), appends_none wrote wrote refl))
+    c.root.ensures.checks
 
-pub returns-in_err-root-in-Root-clause-halted : goal.returns-in_err-root-in-Root-clause-halted
-returns-in_err-root-in-Root-clause-halted g c = always_err _ c.from_residual.result (λ kinds start before leads next.
+pub returns-in-Root-clause-halted : goal.returns-in-Root-clause-halted
+returns-in-Root-clause-halted g c = always_err _ c.root.result (λ kinds start before leads next.
     let entry : Entry = record { number = c.args.number; item = c.args._line.now } in
     let wrote = g.S.Sink.written c.args.out.now in
     let (rest, is) = texts_grow start.spec.now before entry leads.checks.tracks.told in
