@@ -155,6 +155,21 @@ fragment_is f =
     let found = first_offence 0 (post_order f) in
     (λ h. inside f (not_from_false (is_some found) h), λ h. not-true (is_some found) (none_offends f h))
 
+none_found : (o : Option Outside) → IsNone o → o ≡ None
+none_found None h = refl
+none_found (Some outside) h = absurd (cc)
+
+found_none : (o : Option Outside) → o ≡ None → IsNone o
+found_none None e = refl
+found_none (Some outside) e = absurd (cc)
+
+-- the same, by what is found
+pub none_is : (f : Tree) → (first_offence 0 (post_order f) ≡ None) ↔ InFragment f
+none_is f =
+    let found = first_offence 0 (post_order f) in
+    let is = fragment_is f in
+    (λ e. is.0 (found_none found e), λ h. none_found found (is.1 h))
+
 -- a formula has at least as many nodes as levels
 few_levels : (f : Tree) → levels f ≤ nodes f
 few_levels (truth value) = omega arith

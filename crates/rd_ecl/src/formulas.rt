@@ -5,7 +5,7 @@ ghost use Rattle.rd_ecl.specs.declared.formulas.Predicate.{Predicate};
 ghost use Rattle.rd_ecl.specs.declared.formulas.Rel.{Rel};
 ghost use Rattle.rd_ecl.specs.declared.formulas.Rel.TheVariants.{Lt, Le};
 ghost use Rattle.rd_ecl.specs.declared.formulas.Reason.TheVariants.{NotOverCross, OrOfCross};
-ghost use Rattle.rd_ecl.specs.Formulas.{tree_of, holds, Fits, post_order, first_offence, nodes, levels, InFragment, FitsTerm, term_value, relates, relate, slots_of, crosses_sides, same_predicate, same_value, offence, or_later, earlier_of};
+ghost use Rattle.rd_ecl.specs.Formulas.{Tree, tree_of, holds, Fits, post_order, first_offence, nodes, levels, InFragment, FitsTerm, term_value, relates, relate, slots_of, crosses_sides, same_predicate, same_value, offence, or_later, earlier_of};
 
 use rd_base::Value;
 
@@ -346,6 +346,12 @@ impl Formula {
         }
     }
 }
+
+/// The law of the fragment: no node of a formula offends exactly where the grammar of the fragment derives the formula.
+#[tactic(auto, using(crate::proofs::FragmentLemmas::none_is))]
+pub fn law_of_fragment()
+    ensures { (f : Tree) → (first_offence 0 (post_order f) ≡ None ↔ InFragment f) }
+{}
 
 /// The law of equal terms: the tests of equal values and of equal relations find exactly the equal ones.
 #[tactic(auto, using(crate::proofs::EqualLemmas::value_decides, crate::proofs::EqualLemmas::predicate_decides))]

@@ -6,6 +6,7 @@ use crate::kinds::KindSpec;
 use rd_base::NoMemory;
 use std::alloc::Global;
 use std::marker::Model;
+use thiserror::Error;
 
 /// A specification: kinds, which are numbered in their order. Contracts see it as the list of the kinds.
 #[derive(Debug, Drop)]
@@ -29,7 +30,8 @@ impl Model for Spec {
 }
 
 /// Why two specifications weren't put together: memory ran out. It hands both back.
-#[derive(Debug, Drop)]
+#[derive(Debug, Drop, Error)]
+#[error("out of memory")]
 pub struct AppendRefused {
     pub left: Spec,
     pub right: Spec,
