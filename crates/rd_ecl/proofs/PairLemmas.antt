@@ -1,8 +1,9 @@
 -- The pairs of a kind's methods, and what one more method or one more pair leaves of them.
-use Rattle.std.proofs.Common.{◌≡◌, ◌≢◌, ℕ, ◌+◌, ◌*◌, ◌<◌, ◌≤◌, zero, suc, Bool, true, false, ◌==◌, if◌then◌else◌, List, [], ◌∷◌, ◌++◌, length, Option, Some, None, refl, ap, sym, subst, ◌⊎◌, inl, inr, ⊎_elim, ◌∙◌, arith, length-append, replicate, set, get_or, is_some}
+use Rattle.std.proofs.Common.{◌≡◌, ◌≢◌, ℕ, ◌+◌, ◌*◌, ◌/◌, ◌%◌, ◌<◌, ◌≤◌, zero, suc, Bool, true, false, ◌==◌, if◌then◌else◌, List, [], ◌∷◌, ◌++◌, length, Option, Some, None, refl, ap, sym, subst, ◌⊎◌, inl, inr, ⊎_elim, ◌∙◌, arith, length-append, replicate, set, get_or, is_some}
 use Rattle.std.specs.Prelude.{flat_map, nat_le, map, option_map}
-use Rattle.std.proofs.lemmas.Bool.{leb-true, ne_eqb, le-leb, cases_eq}
-use Rattle.std.proofs.lemmas.List.{length-set, length-replicate, length-map, get_or-set_same, get_or-set_other}
+use Rattle.std.proofs.lemmas.Bool.{leb-true, ne_eqb, le-leb, cases_eq, cases_lt}
+use Rattle.std.proofs.lemmas.List.{length-set, length-replicate, length-map, get_or-set_same, get_or-set_other, ext_get_or}
+use Rattle.rd_base.specs.Names.{IsName}
 use Rattle.rd_ecl.specs.declared.formulas.Predicate.{Predicate}
 use Rattle.rd_ecl.specs.declared.formulas.Formula.{Formula}
 use Rattle.rd_ecl.specs.declared.formulas.Side.{Side}
@@ -140,13 +141,15 @@ bare true p = refl
 bare false p = refl
 
 -- a draft without a method
-pub no_draft : (name : List ℕ) → IsDraft (record { name = name; methods = []; pairs = [] })
-no_draft name =
+pub no_draft : (name : List ℕ) → IsName name → IsDraft (record { name = name; methods = []; pairs = [] })
+no_draft name is =
     let kind : SpecifiedKind = record { name = name; methods = []; pairs = [] } in
     record {
+      name = is;
       methods = no_methods;
       pairs = record {
         rows = refl;
+        rest = λ i j above few. refl;
         each = λ i j f e. absurd (omega (arith, some_within [] (MOST_METHODS * j + i) f (known_by (nat_le i j) [] (MOST_METHODS * j + i) f e).1));
         few = λ m. let e = no_parts (predicates_at kind m) all_pairs (λ p. none_of kind m p.0 p.1 (bare (nat_le p.0 p.1) (MOST_METHODS * p.1 + p.0))) in
             rw e (omega arith);
@@ -154,13 +157,15 @@ no_draft name =
     }
 
 -- a draft with one method more
-pub draft_more : (kind : SpecifiedKind) (method : Method) → IsDraft kind → MayAdd kind method.name method.variables → IsDraft (with_method kind method)
-draft_more kind method is may =
+pub draft_more : (kind : SpecifiedKind) (method : Method) → IsDraft kind → IsName method.name → MayAdd kind method.name method.variables → IsDraft (with_method kind method)
+draft_more kind method is name may =
     let pairs = is.pairs in
     let rows = pairs.rows in
     record {
-      methods = one_method_more kind method is.methods may;
+      name = is.name;
+      methods = one_method_more kind method is.methods name may;
       pairs = record {
+        rest = λ i j above low. none_behind kind.pairs MOST_METHODS (MOST_METHODS * j + i) ∙ pairs.rest i j above low;
         rows = omega (arith, rows, length-append kind.pairs (replicate MOST_METHODS None), length-append kind.methods (method ∷ []), length-replicate {A = Option Tree} MOST_METHODS None);
         each = λ i j f e.
             let was : formula_at kind i j ≡ Some f = sym (at_more kind method i j) ∙ e in
@@ -192,6 +197,10 @@ each_more kind first second f is may within few i j g e (inl same) =
 each_more kind first second f is may within few i j g e (inr other) =
     is.pairs.each i j g (sym (at_other kind first second i j f other) ∙ e)
 
+-- no pair has the place of two methods the other way round
+turned_place : (first second i j : ℕ) → first ≤ second → j < i → i < MOST_METHODS → MOST_METHODS * j + i ≢ MOST_METHODS * second + first
+turned_place first second i j ordered above low e = omega (arith, e, ordered, above, low)
+
 -- a draft with the formula of one pair more
 pub draft_set : (kind : SpecifiedKind) (first second : ℕ) (f : Tree) → IsDraft kind → MayPair kind first second f → IsDraft (with_pair kind first second f)
 draft_set kind first second f is may =
@@ -204,13 +213,54 @@ draft_set kind first second f is may =
     let few : second < MOST_METHODS = omega (arith, count, at) in
     let within : MOST_METHODS * second + first < length kind.pairs = omega (arith, rows, ordered, at, few) in
     record {
+      name = is.name;
       methods = is.methods;
       pairs = record {
+        rest = λ i j above low.
+            get_or-set_other kind.pairs (MOST_METHODS * second + first) (MOST_METHODS * j + i) (Some f) None (turned_place first second i j ordered above low)
+            ∙ pairs.rest i j above low;
         rows = length-set kind.pairs (MOST_METHODS * second + first) (Some f) ∙ rows;
         each = λ i j g e. each_more kind first second f is may within few i j g e (cases_eq (MOST_METHODS * j + i) (MOST_METHODS * second + first));
         few = λ m. few_more kind first second f is may within few m (cases_eq first m) (cases_eq second m);
       };
     }
+
+-- two kinds of one name, with the same methods and formulas, are equal
+equal_parts : (name name' : List ℕ) (methods methods' : List Method) (pairs pairs' : List (Option Tree)) → name ≡ name' → methods ≡ methods' → pairs ≡ pairs'
+    → ◌≡◌ {A = SpecifiedKind} (record { name = name; methods = methods; pairs = pairs }) (record { name = name'; methods = methods'; pairs = pairs' })
+equal_parts name name' methods methods' pairs pairs' e f g = rw (e, f, g) refl
+
+-- no formula stands where the first method is behind the second
+abbrev pub NoneTurned : List (Option Tree) → Type 0
+NoneTurned pairs = (first second : ℕ) → second < first → first < MOST_METHODS → get_or pairs (MOST_METHODS * second + first) None ≡ None
+
+place_equal : (kind other : SpecifiedKind) → length kind.pairs ≡ MOST_METHODS * length kind.methods → NoneTurned kind.pairs → NoneTurned other.pairs
+    → ((first second : ℕ) → first ≤ second → second < length kind.methods → formula_at kind first second ≡ formula_at other first second)
+    → (p : ℕ) → p < length kind.pairs → get_or kind.pairs p None ≡ get_or other.pairs p None
+place_equal kind other rows rest others formulas p within =
+    let j = p / MOST_METHODS in
+    let i = p % MOST_METHODS in
+    let low : i < MOST_METHODS = omega arith in
+    let place : MOST_METHODS * j + i ≡ p = omega arith in
+    subst (λ (q : ℕ). get_or kind.pairs q None ≡ get_or other.pairs q None) place
+    (⊎_elim (λ above. rest i j above low ∙ sym (others i j above low))
+    (λ ordered. sym (unguarded (nat_le i j) kind.pairs (MOST_METHODS * j + i) (le-leb i j ordered))
+    ∙ (formulas i j ordered (omega (arith, rows, within, place)) ∙ unguarded (nat_le i j) other.pairs (MOST_METHODS * j + i) (le-leb i j ordered)))
+    (cases_lt j i))
+
+pub equal_kinds : (kind other : SpecifiedKind) → length kind.pairs ≡ MOST_METHODS * length kind.methods → length other.pairs ≡ MOST_METHODS * length kind.methods
+    → NoneTurned kind.pairs → NoneTurned other.pairs → kind.name ≡ other.name → kind.methods ≡ other.methods
+    → ((first second : ℕ) → first ≤ second → second < length kind.methods → formula_at kind first second ≡ formula_at other first second)
+    → kind ≡ other
+equal_kinds kind other rows other_rows rest others name methods formulas =
+    equal_parts kind.name other.name kind.methods other.methods kind.pairs other.pairs name methods
+    (ext_get_or None kind.pairs other.pairs (rows ∙ sym other_rows) (place_equal kind other rows rest others formulas))
+
+pub equal_drafts : (kind other : SpecifiedKind) → IsDraft kind → IsDraft other → kind.name ≡ other.name → kind.methods ≡ other.methods
+    → ((first second : ℕ) → first ≤ second → second < length kind.methods → formula_at kind first second ≡ formula_at other first second)
+    → kind ≡ other
+equal_drafts kind other is also name methods formulas =
+    equal_kinds kind other is.pairs.rows (also.pairs.rows ∙ ap (λ (ms : List Method). MOST_METHODS * length ms) (sym methods)) is.pairs.rest also.pairs.rest name methods formulas
 
 -- what is kept of a pair
 abbrev shown : Option Formula → Option Tree

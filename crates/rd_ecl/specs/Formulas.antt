@@ -1,11 +1,12 @@
 -- Formulas: what they mean, and which are in the fragment. The fragment is this project's profile of the logic of Dimitrov,
 -- Raychev, Vechev and Koskinen 2014.
-use Rattle.std.specs.Prelude.{ℕ, ◌+◌, ◌<◌, max, nat_eq, nat_lt, ◌==◌, Bool, true, false, not, ◌&&◌, ◌||◌, if◌then◌else◌, List, [], ◌∷◌, ◌++◌, length, slice_get, Option, Some, None, ⊤}
+use Rattle.std.specs.Prelude.{ℕ, ◌+◌, ◌<◌, ◌^◌, pos, negsuc, max, nat_eq, nat_lt, nat_le, ◌==◌, Bool, true, false, not, ◌&&◌, ◌||◌, if◌then◌else◌, List, [], ◌∷◌, ◌++◌, length, slice_get, Option, Some, None, ⊤}
 use Rattle.std.specs.Bool.{beq}
 use Rattle.std.specs.Cmp.Lexicographic.{pointwise}
-use Rattle.std.specs.List.{list_any}
+use Rattle.std.specs.List.{list_all, list_any}
 use Rattle.std.specs.Ordering.{int_eq}
 use Rattle.std.specs.Prelude.{int_lt, int_le}
+use Rattle.rd_base.specs.Spelling.{IsValue}
 use Rattle.rd_base.specs.declared.values.Value.{Value}
 use Rattle.rd_base.specs.declared.values.Value.TheVariants.{Nil, Bool as Boolean, Int, Text}
 use Rattle.rd_ecl.specs.declared.formulas.Side.{Side}
@@ -132,6 +133,39 @@ has_slots (negation f) = has_slots f
 has_slots (both f g) = has_slots f && has_slots g
 has_slots (either f g) = has_slots f && has_slots g
 has_slots _ = true
+
+-- Its constants
+
+-- the constant is a value
+abbrev pub IsConstant : Term → Type 0
+IsConstant (Slot number) = Unit {0}
+IsConstant (Const value) = IsValue value
+
+-- each constant is a value
+abbrev pub AreValues : Tree → Type 0
+AreValues (atom side rel left right) = IsConstant left × IsConstant right
+AreValues (negation f) = AreValues f
+AreValues (both f g) = AreValues f × AreValues g
+AreValues (either f g) = AreValues f × AreValues g
+AreValues _ = Unit {0}
+
+-- the same, as a test
+abbrev pub is_value : Value → Bool
+is_value (Int (pos n)) = nat_lt n (2 ^ 63)
+is_value (Int (negsuc n)) = nat_lt n (2 ^ 63)
+is_value (Text text) = nat_le (length text) 255 && list_all (λ b. nat_lt b 256) text
+is_value _ = true
+
+abbrev pub is_constant : Term → Bool
+is_constant (Slot number) = true
+is_constant (Const value) = is_value value
+
+abbrev pub are_values : Tree → Bool
+are_values (atom side rel left right) = is_constant left && is_constant right
+are_values (negation f) = are_values f
+are_values (both f g) = are_values f && are_values g
+are_values (either f g) = are_values f && are_values g
+are_values _ = true
 
 -- The fragment: X ::= S | B | X and X | X or B | B or X
 

@@ -1,10 +1,11 @@
 -- What a specification says of kinds: this project's profile.
 use Rattle.std.specs.Prelude.{ℕ, ◌+◌, ◌*◌, ◌-◌, ◌<◌, ◌≤◌, ◌≢◌, ◌≡◌, nat_le, nat_lt, is_none, Bool, false, not, ◌&&◌, ◌||◌, if◌then◌else◌, List, [], ◌∷◌, ◌++◌, length, map, flat_map, replicate, set, slice_get, slice_index_or, All, AllPairs, IsTrue, Option, Some, None, option_map, unwrap_or, IsSome}
 use Rattle.std.specs.List.{list_all, range_with_len}
+use Rattle.rd_base.specs.Names.{IsName}
 use Rattle.rd_base.specs.declared.values.Value.{Value}
 use Rattle.rd_ecl.specs.declared.formulas.Predicate.{Predicate}
 use Rattle.rd_ecl.specs.declared.kinds.Method.{Method}
-use Rattle.rd_ecl.specs.Formulas.{Tree, Fits, formula_fits, has_slots, post_order, first_offence, InFragment, nodes, levels, predicates_of, distinct, holds}
+use Rattle.rd_ecl.specs.Formulas.{Tree, AreValues, Fits, are_values, formula_fits, has_slots, post_order, first_offence, InFragment, nodes, levels, predicates_of, distinct, holds}
 use Rattle.rd_ecl.specs.Variables.{AreVariables, are_different, is_among, is_variable}
 use Rattle.rd_base.specs.declared.limits.TheConstants.{MOST_ARGUMENTS, MOST_LEVELS, MOST_METHODS, MOST_NODES, MOST_PREDICATES}
 
@@ -29,9 +30,10 @@ IsMethod method = AreVariables method.variables
 abbrev pub names_of : List Method → List (List ℕ)
 names_of methods = map (λ method. method.name) methods
 
--- the methods of a kind: at most 16, no two of one name
+-- the methods of a kind: at most 16, each with a name, no two of one name
 pub record AreMethods (methods : List Method) : Type 0 where
   pub few : length methods ≤ MOST_METHODS
+  pub named : All (λ method. IsName method.name) methods
   pub different : AllPairs (λ x y. x ≢ y) (names_of methods)
   pub each : All IsMethod methods
 
@@ -47,6 +49,7 @@ formula_at kind first second = if nat_le first second then slice_index_or kind.p
 pub record IsPair (formula : Tree) (m n : ℕ) : Type 0 where
   pub fits : Fits formula m n
   pub slots : IsTrue (has_slots formula)
+  pub values : AreValues formula
   pub inside : InFragment formula
   pub few : nodes formula ≤ MOST_NODES
   pub shallow : levels formula ≤ MOST_LEVELS
@@ -63,14 +66,16 @@ predicates_at kind method pair = unwrap_or (option_map (predicates_of method pai
 abbrev pub method_predicates : SpecifiedKind → ℕ → List Predicate
 method_predicates kind method = distinct (flat_map (predicates_at kind method) all_pairs)
 
--- the formulas of a kind's pairs
+-- the formulas of a kind's pairs; no other place has one
 pub record ArePairs (kind : SpecifiedKind) : Type 0 where
   pub rows : length kind.pairs ≡ MOST_METHODS * length kind.methods
+  pub rest : (first second : ℕ) → second < first → first < MOST_METHODS → slice_index_or kind.pairs (MOST_METHODS * second + first) None ≡ None
   pub each : (first second : ℕ) (formula : Tree) → formula_at kind first second ≡ Some formula → IsPair formula (slots_at kind.methods first) (slots_at kind.methods second)
   pub few : (method : ℕ) → length (method_predicates kind method) ≤ MOST_PREDICATES
 
 -- a kind that is being made
 pub record IsDraft (kind : SpecifiedKind) : Type 0 where
+  pub name : IsName kind.name
   pub methods : AreMethods kind.methods
   pub pairs : ArePairs kind
 
@@ -112,8 +117,8 @@ pub record MayPair (kind : SpecifiedKind) (first second : ℕ) (formula : Tree) 
 -- the test of what a pair's formula may be, for kinds that are written out
 abbrev pub is_pair : Tree → ℕ → ℕ → Bool
 is_pair formula m n =
-    formula_fits formula m n && (has_slots formula && (is_none (first_offence 0 (post_order formula))
-    && (nat_le (nodes formula) MOST_NODES && nat_le (levels formula) MOST_LEVELS)))
+    formula_fits formula m n && (has_slots formula && (are_values formula && (is_none (first_offence 0 (post_order formula))
+    && (nat_le (nodes formula) MOST_NODES && nat_le (levels formula) MOST_LEVELS))))
 
 abbrev pub may_pair : SpecifiedKind → ℕ → ℕ → Tree → Bool
 may_pair kind first second formula =

@@ -144,6 +144,8 @@ impl KindDraft {
     pub fn new(alloc: Global, name: Name) -> Result<KindDraft, NoMemory>
         ensures { IfOk result (λ draft. draft ≡ record { name = name; methods = []; pairs = [] }) }
     {
+        // its clause says what is known of a name
+        let _bytes = name.items();
         Ok(KindDraft {
             name,
             methods: Vec::new(alloc),
@@ -160,6 +162,8 @@ impl KindDraft {
             (self.new ≡ with_method self.old (record { name = name; variables = variables })) }
         ensures err { OnErr result (self.new ≡ self.old) }
     {
+        // its clause says what is known of a name
+        let _bytes = name.items();
         self.methods.reserve(1)?;
         add_pairs(&mut self.pairs)?;
         self.methods.push_reserved(Method { name, variables });
@@ -257,8 +261,9 @@ impl KindDraft {
     }
 
     /// Sets the formula of two methods, or of one with itself, by their numbers: `first` is at most `second`, and the pair isn't
-    /// set yet. Its slots are those of the methods, each of its relations has one, it is in the fragment, and it has at most 64
-    /// nodes and 32 levels. With it neither method has more than 5 distinct relations on its side alone. It takes no memory.
+    /// set yet. Its slots are those of the methods, each of its relations on one side has one, its constants are values, it is in the
+    /// fragment, and it has at most 64 nodes and 32 levels. With it neither method has more than 5 distinct relations on its side
+    /// alone. It takes no memory.
     pub fn pair(&mut self, first: u8, second: u8, formula: Formula) -> Result<(), NoMemory>
         requires { MayPair self.old first second (tree_of formula) }
         ensures ok { IsOk result }
@@ -302,6 +307,15 @@ pub fn law_of_commuting()
         commutes kind m a n b ≡ pair_holds kind n m b a }
     ensures alike { (kind : SpecifiedKind) (m : ℕ) (a b : List Value) →
         commutes kind m a m b ≡ (pair_holds kind m m a b && pair_holds kind m m b a) }
+{}
+
+/// The law of equal kinds: two of one name, with the same methods and the same formula for each pair of them, are equal.
+#[tactic(auto, using(crate::proofs::PairLemmas::equal_drafts))]
+pub fn law_of_equal_kinds()
+    ensures { (kind other : SpecifiedKind) → IsDraft kind → IsDraft other → kind.name ≡ other.name
+        → kind.methods ≡ other.methods
+        → ((first second : ℕ) → first ≤ second → second < length kind.methods →
+        formula_at kind first second ≡ formula_at other first second) → kind ≡ other }
 {}
 
 /// The law of pairs: the test of a pair's formula, which computes on a kind that is written out, finds only those that may be set.

@@ -1,10 +1,10 @@
 -- The text of a pair, part by part.
-use Rattle.std.proofs.Common.{◌≡◌, ℕ, Bool, true, false, List, [], ◌∷◌, ◌++◌, codes, refl, sym, ◌∙◌, ap, append_assoc, Option, Some, subst}
+use Rattle.std.proofs.Common.{◌≡◌, ℕ, Bool, true, false, List, [], ◌∷◌, ◌++◌, codes, refl, sym, ◌∙◌, ap, append_assoc, Option, Some}
 use Rattle.std.specs.Prelude.{option_map, slice_get, unwrap_or}
 use Rattle.rd_base.specs.declared.values.Value.{Value}
 use Rattle.rd_base.specs.declared.values.Value.TheVariants.{Nil, Bool as Truth, Int, Text}
 use Rattle.rd_print.specs.declared.canonical.word_list.PrintedWord.{PrintedWord}
-use Rattle.rd_print.specs.Canonical.{AreValues, is_or, not_words, part_words, plain_word, sided_words, relation_sign, sort_of_value, term_word, canonical_words}
+use Rattle.rd_print.specs.Canonical.{is_or, not_words, part_words, plain_word, sided_words, relation_sign, sort_of_value, term_word, canonical_words}
 use Rattle.rd_ecl.specs.declared.formulas.Rel.TheVariants.{Eq, Lt, Le}
 use Rattle.rd_ecl.specs.declared.formulas.Side.{Side}
 use Rattle.rd_ecl.specs.declared.formulas.Side.TheVariants.{First, Second}
@@ -17,7 +17,7 @@ use Rattle.rd_grammar.specs.declared.marks.Sign.{Sign}
 use Rattle.rd_grammar.specs.declared.marks.Sign.TheVariants.{Different}
 use Rattle.rd_tokens.specs.declared.sorts.Sort.TheVariants.{Word as Plain}
 use Rattle.rd_print.specs.Text.{gap, words_text}
-use Rattle.rd_print.specs.Printed.{PairHasValues, name_at, pair_text, variables_at}
+use Rattle.rd_print.specs.Printed.{name_at, pair_text, variables_at}
 
 -- a space stands before the words, behind a word
 abbrev IsBegun : List PrintedWord → Type 0
@@ -104,9 +104,3 @@ pair_by kind first second left right f text here there is =
     parts_text (unwrap_or (option_map (λ m. m.name) o) []) (unwrap_or (option_map (λ m. m.name) p) []) (behind o p) in
     let known = formula_behind kind first second f is ∙ ap (λ (o : Option Method). named o (slice_get kind.methods second)) here ∙ ap (λ (p : Option Method). named (Some left) p) there in
     regroup text left.name right.name (words_text (canonical_words left.variables right.variables f)) ∙ ap (λ (xs : List ℕ). text ++ xs) (sym known)
-
-same_some : {X : Type 0} (o : Option X) (x y : X) → o ≡ Some x → o ≡ Some y → x ≡ y
-same_some o x y here there = cc
-
-pub values_of : (kind : SpecifiedKind) (first second : ℕ) (f : Tree) → formula_at kind first second ≡ Some f → AreValues f → PairHasValues kind first second
-values_of kind first second f is values g other = subst AreValues (same_some (formula_at kind first second) f g is other) values

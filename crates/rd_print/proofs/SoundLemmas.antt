@@ -9,15 +9,15 @@ use Rattle.std.proofs.lemmas.Option.{slice_get-get_or}
 use Rattle.rd_base.specs.Names.{IsName, is_name_byte}
 use Rattle.rd_base.proofs.FoundLemmas.{each_by_recursion, each_from_recursion}
 use Rattle.rd_print.specs.declared.canonical.word_list.PrintedWord.{PrintedWord}
-use Rattle.rd_print.specs.Canonical.{AreValues, plain_word, canonical_words}
+use Rattle.rd_print.specs.Canonical.{plain_word, canonical_words}
 use Rattle.rd_ecl.specs.declared.kinds.Method.{Method}
-use Rattle.rd_ecl.specs.Formulas.{Tree, Fits}
+use Rattle.rd_ecl.specs.Formulas.{Tree, AreValues, Fits}
 use Rattle.rd_ecl.specs.Specified.{IsKind, IsMethod, SpecifiedKind, formula_at, slots_at}
 use Rattle.rd_ecl.specs.Variables.{IsVariable, is_variable_byte}
 use Rattle.rd_tokens.specs.Tokens.{is_word_byte}
 use Rattle.rd_print.specs.Text.{IsRightWord}
 use Rattle.rd_print.proofs.TextSoundLemmas.{AreSound, formula_sound}
-use Rattle.rd_print.specs.Printed.{AreNames, HasNames, HasValues, HaveValues, block_lines, commute_words, formula_words, header_words, kind_words, method_words, name_at, pairs_of, slot_words, spec_lines, variables_at}
+use Rattle.rd_print.specs.Printed.{block_lines, commute_words, formula_words, header_words, kind_words, method_words, name_at, pairs_of, slot_words, spec_lines, variables_at}
 
 -- names and variables
 name_byte : (b : ℕ) → is_name_byte b ≡ true → is_word_byte b ≡ true
@@ -101,47 +101,48 @@ some_sound first second (Some f) firsts seconds fits values =
 some_sound first second None firsts seconds fits values = tt
 
 formula_words_sound : (kind : SpecifiedKind) (first second : ℕ) → first < length kind.methods → second < length kind.methods → IsKind kind
-    → ((f : Tree) → formula_at kind first second ≡ Some f → AreValues f) → AreSound (formula_words kind first second)
-formula_words_sound kind first second here there is values =
+    → AreSound (formula_words kind first second)
+formula_words_sound kind first second here there is =
     let each = is.draft.methods.each in
     some_sound (variables_at kind.methods first) (variables_at kind.methods second) (formula_at kind first second)
     (variables_at_are kind.methods first here each) (variables_at_are kind.methods second there each)
     (λ f set. subst (λ (n : ℕ). Fits f n (length (variables_at kind.methods second))) (sym (count_at (slice_get kind.methods first)))
     (subst (λ (n : ℕ). Fits f (slots_at kind.methods first) n) (sym (count_at (slice_get kind.methods second))) ((is.draft.pairs.each first second f set).fits)))
-    values
+    (λ f set. (is.draft.pairs.each first second f set).values)
 
-pub commute_sound : (kind : SpecifiedKind) → IsKind kind → HasValues kind → HasNames kind → (first second : ℕ) → first ≤ second → second < length kind.methods
+pub commute_sound : (kind : SpecifiedKind) → IsKind kind → (first second : ℕ) → first ≤ second → second < length kind.methods
     → All IsRightWord (commute_words kind (first, second))
-commute_sound kind is values names first second ordered within =
+commute_sound kind is first second ordered within =
+    let names = is.draft.methods.named in
     let here : first < length kind.methods = omega arith in
     line_sound (commute_words kind (first, second)) (
       written_sound (codes "commute") (omega arith) refl,
       (
-        name_sound (name_at kind.methods first) (name_at_is kind.methods first here names.1),
+        name_sound (name_at kind.methods first) (name_at_is kind.methods first here names),
         (
-          name_sound (name_at kind.methods second) (name_at_is kind.methods second within names.1),
-          (written_sound (codes "when") (omega arith) refl, formula_words_sound kind first second here within is (values first second ordered within)),
+          name_sound (name_at kind.methods second) (name_at_is kind.methods second within names),
+          (written_sound (codes "when") (omega arith) refl, formula_words_sound kind first second here within is),
         ),
       ),
     )
 
 -- a kind
-pub kind_sound : (kind : SpecifiedKind) → IsKind kind → HasValues kind → HasNames kind → AllByRecursion (All IsRightWord) (block_lines kind)
-kind_sound kind is values names = (
-  line_sound (kind_words kind) (written_sound (codes "kind") (omega arith) refl, (name_sound kind.name names.0, tt)),
+pub kind_sound : (kind : SpecifiedKind) → IsKind kind → AllByRecursion (All IsRightWord) (block_lines kind)
+kind_sound kind is = (
+  line_sound (kind_words kind) (written_sound (codes "kind") (omega arith) refl, (name_sound kind.name is.draft.name, tt)),
   each_two (All IsRightWord) (map method_words kind.methods) (map (commute_words kind) (pairs_of (length kind.methods)))
       (each_map (All IsRightWord) method_words kind.methods
       (each_by_recursion (λ method. All IsRightWord (method_words method)) kind.methods
-      (λ k d inside. method_sound (get_or kind.methods k d) (names.1 k d inside) (is.draft.methods.each k d inside))))
+      (λ k d inside. method_sound (get_or kind.methods k d) (is.draft.methods.named k d inside) (is.draft.methods.each k d inside))))
       (each_map (All IsRightWord) (commute_words kind) (pairs_of (length kind.methods))
-      (each_pair (λ pair. All IsRightWord (commute_words kind pair)) (length kind.methods) (commute_sound kind is values names))),
+      (each_pair (λ pair. All IsRightWord (commute_words kind pair)) (length kind.methods) (commute_sound kind is))),
 )
 
-pub lines_sound : (kinds : List SpecifiedKind) → All IsKind kinds → HaveValues kinds → AreNames kinds → All (All IsRightWord) (spec_lines kinds)
-lines_sound kinds are values names =
+pub lines_sound : (kinds : List SpecifiedKind) → All IsKind kinds → All (All IsRightWord) (spec_lines kinds)
+lines_sound kinds are =
     each_from_recursion (All IsRightWord) (spec_lines kinds) (
       line_sound header_words (written_sound (codes "rdspec") (omega arith) refl, (written_sound (codes "1") (omega arith) refl, tt)),
       each_flat (All IsRightWord) block_lines kinds
           (each_by_recursion (λ kind. AllByRecursion (All IsRightWord) (block_lines kind)) kinds
-          (λ k d inside. kind_sound (get_or kinds k d) (are k d inside) (values k d inside) (names k d inside))),
+          (λ k d inside. kind_sound (get_or kinds k d) (are k d inside))),
     )

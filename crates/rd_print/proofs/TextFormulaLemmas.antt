@@ -3,9 +3,9 @@ use Rattle.std.proofs.Common.{◌≡◌, ℕ, true, List, ◌++◌, drop, length
 use Rattle.std.specs.Prelude.{All}
 use Rattle.rd_base.proofs.FoundLemmas.{each_by_recursion, each_from_recursion}
 use Rattle.rd_print.specs.declared.canonical.word_list.PrintedWord.{PrintedWord}
-use Rattle.rd_print.specs.Canonical.{AreValues, AreWords, canonical_words}
+use Rattle.rd_print.specs.Canonical.{AreWords, canonical_words}
 use Rattle.rd_print.proofs.WordAgainLemmas.{says_again}
-use Rattle.rd_ecl.specs.Formulas.{Tree, Fits, has_slots}
+use Rattle.rd_ecl.specs.Formulas.{Tree, Fits, has_slots, AreValues}
 use Rattle.rd_ecl.specs.Variables.{IsVariable}
 use Rattle.rd_formulas.specs.declared.scope.Scope.{Scope}
 use Rattle.rd_formulas.specs.Reading.{SaysFormula}

@@ -15,13 +15,13 @@ use Rattle.rd_base.specs.declared.values.Value.TheVariants.{Nil, Bool as Truth, 
 use Rattle.rd_base.specs.Spelling.{IsValue}
 use Rattle.rd_base.proofs.FoundLemmas.{each_by_recursion, each_from_recursion}
 use Rattle.rd_print.specs.declared.canonical.word_list.PrintedWord.{PrintedWord}
-use Rattle.rd_print.specs.Canonical.{AreValues, IsConstant, closing, is_of_two, is_or, not_words, part_words, plain_word, relation_words, sided_words, relation_sign, slot_word, term_word, value_word, canonical_words}
+use Rattle.rd_print.specs.Canonical.{closing, is_of_two, is_or, not_words, part_words, plain_word, relation_words, sided_words, relation_sign, slot_word, term_word, value_word, canonical_words}
 use Rattle.rd_ecl.specs.declared.formulas.Rel.TheVariants.{Eq, Lt, Le}
 use Rattle.rd_ecl.specs.declared.formulas.Side.{Side}
 use Rattle.rd_ecl.specs.declared.formulas.Side.TheVariants.{First, Second}
 use Rattle.rd_ecl.specs.declared.formulas.Term.{Term}
 use Rattle.rd_ecl.specs.declared.formulas.Term.TheVariants.{Slot, Const}
-use Rattle.rd_ecl.specs.Formulas.{Tree, truth, atom, cross, mixed, negation, both, either, Fits, FitsTerm, of_side}
+use Rattle.rd_ecl.specs.Formulas.{Tree, truth, atom, cross, mixed, negation, both, either, Fits, FitsTerm, of_side, AreValues, IsConstant}
 use Rattle.rd_ecl.specs.Variables.{IsVariable, is_variable_byte}
 use Rattle.rd_grammar.specs.declared.marks.Sign.{Sign}
 use Rattle.rd_grammar.specs.declared.marks.Sign.TheVariants.{Equal, Different, Less, AtMost}

@@ -13,7 +13,7 @@ use Rattle.rd_ecl.specs.declared.formulas.Side.{Side}
 use Rattle.rd_ecl.specs.declared.formulas.Side.TheVariants.{First, Second}
 use Rattle.rd_ecl.specs.declared.formulas.Term.{Term}
 use Rattle.rd_ecl.specs.declared.formulas.Term.TheVariants.{Slot, Const}
-use Rattle.rd_ecl.specs.Formulas.{Tree, truth, atom, cross, mixed, negation, both, either, Fits, FitsTerm, has_slots, is_slot}
+use Rattle.rd_ecl.specs.Formulas.{Tree, truth, atom, cross, mixed, negation, both, either, Fits, FitsTerm, has_slots, is_slot, AreValues, IsConstant}
 use Rattle.rd_ecl.specs.Variables.{IsVariable}
 use Rattle.rd_formulas.specs.declared.scope.Scope.{Scope}
 use Rattle.rd_formulas.specs.declared.terms.Meant.{Meant}
@@ -34,7 +34,7 @@ use Rattle.rd_tokens.specs.declared.words.terms.Said.TheVariants.{Variable, Valu
 use Rattle.rd_tokens.specs.Words.{IsSymbol, IsTerm, side_mark}
 use Rattle.rd_tokens.proofs.WordLemmas.{some_symbol, term_word as word_of_term}
 use Rattle.rd_print.specs.declared.canonical.word_list.PrintedWord.{PrintedWord}
-use Rattle.rd_print.specs.Canonical.{AreValues, AreWords, IsConstant, is_of_two, is_or, not_words, part_words, plain_word, relation_words, relation_sign, slot_word, term_word, value_word, canonical_words}
+use Rattle.rd_print.specs.Canonical.{AreWords, is_of_two, is_or, not_words, part_words, plain_word, relation_words, relation_sign, slot_word, term_word, value_word, canonical_words}
 use Rattle.rd_print.proofs.WordStandLemmas.{AreFrom, Stand, are_marks, from_append, stand_all, stand_back, stand_front}
 
 -- Terms

@@ -1,6 +1,6 @@
 -- The canonical words of a formula, which have no parentheses but those that it needs: this project's profile.
 use Rattle.std.specs.Prelude.{◌≡◌, ℕ, Bool, true, false, List, [], ◌∷◌, ◌++◌, codes, map, slice_get, unwrap_or}
-use Rattle.rd_base.specs.Spelling.{value_spelling, IsValue}
+use Rattle.rd_base.specs.Spelling.{value_spelling}
 use Rattle.rd_base.specs.declared.values.Value.{Value}
 use Rattle.rd_base.specs.declared.values.Value.TheVariants.{Text}
 use Rattle.rd_ecl.specs.declared.formulas.Rel.{Rel}
@@ -107,18 +107,3 @@ canonical_words first second (either f g) =
 -- the tokens of the line are these words
 abbrev pub AreWords : List ℕ → List Token → List PrintedWord → Type 0
 AreWords line tokens words = map (λ t. record { sort = t.sort; bytes = bytes_of line t }) tokens ≡ words
-
--- the constant is a value
-abbrev pub IsConstant : Term → Type 0
-IsConstant (Slot slot) = Unit {0}
-IsConstant (Const value) = IsValue value
-
--- each constant of the formula is a value
-abbrev pub AreValues : Tree → Type 0
-AreValues (truth value) = Unit {0}
-AreValues (atom side rel left right) = IsConstant left × IsConstant right
-AreValues (cross i j) = Unit {0}
-AreValues (mixed rel flipped i j) = Unit {0}
-AreValues (negation f) = AreValues f
-AreValues (both f g) = AreValues f × AreValues g
-AreValues (either f g) = AreValues f × AreValues g

@@ -1,12 +1,10 @@
 -- The canonical text of a specification: this project's profile.
-use Rattle.std.specs.Prelude.{◌≡◌, ℕ, ◌-◌, ◌<◌, ◌≤◌, List, [], ◌∷◌, ◌++◌, length, map, flat_map, codes, slice_get, Some, option_map, unwrap_or, All}
+use Rattle.std.specs.Prelude.{ℕ, ◌-◌, List, [], ◌∷◌, ◌++◌, length, map, flat_map, codes, slice_get, option_map, unwrap_or}
 use Rattle.std.specs.List.{range_with_len}
-use Rattle.rd_base.specs.Names.{IsName}
 use Rattle.rd_ecl.specs.declared.kinds.Method.{Method}
-use Rattle.rd_ecl.specs.Formulas.{Tree}
 use Rattle.rd_ecl.specs.Specified.{SpecifiedKind, formula_at}
 use Rattle.rd_print.specs.declared.canonical.word_list.PrintedWord.{PrintedWord}
-use Rattle.rd_print.specs.Canonical.{AreValues, plain_word, canonical_words}
+use Rattle.rd_print.specs.Canonical.{plain_word, canonical_words}
 use Rattle.rd_print.specs.Text.{words_text}
 
 -- the name and the variables of the method with this number; none where no method has it
@@ -74,21 +72,3 @@ spec_text kinds = flat_map line_text (spec_lines kinds)
 -- the text of a pair, as it stands in its line behind `commute`
 abbrev pub pair_text : SpecifiedKind → ℕ → ℕ → List ℕ
 pair_text kind first second = words_text (pair_words kind first second)
-
--- each constant of a pair's formula is a value
-abbrev pub PairHasValues : SpecifiedKind → ℕ → ℕ → Type 0
-PairHasValues kind first second = (f : Tree) → formula_at kind first second ≡ Some f → AreValues f
-
--- each constant of the formulas of a kind's pairs is a value, and so for each of the kinds
-abbrev pub HasValues : SpecifiedKind → Type 0
-HasValues kind = (first second : ℕ) → first ≤ second → second < length kind.methods → PairHasValues kind first second
-
-abbrev pub HaveValues : List SpecifiedKind → Type 0
-HaveValues kinds = All HasValues kinds
-
--- what a kind and its methods are called are names, and so for each of the kinds
-abbrev pub HasNames : SpecifiedKind → Type 0
-HasNames kind = IsName kind.name × All (λ method. IsName method.name) kind.methods
-
-abbrev pub AreNames : List SpecifiedKind → Type 0
-AreNames kinds = All HasNames kinds

@@ -1,10 +1,10 @@
 -- What the printer puts last, part by part: this project's profile.
-use Rattle.std.specs.Prelude.{ℕ, ◌-◌, ◌<◌, ◌≤◌, List, ◌++◌, length, flat_map, codes}
+use Rattle.std.specs.Prelude.{ℕ, ◌-◌, List, ◌++◌, length, flat_map, codes}
 use Rattle.std.specs.List.{range_with_len}
 use Rattle.rd_ecl.specs.declared.kinds.Method.{Method}
 use Rattle.rd_ecl.specs.Specified.{SpecifiedKind}
 use Rattle.rd_print.specs.declared.canonical.word_list.PrintedWord.{PrintedWord}
-use Rattle.rd_print.specs.Printed.{PairHasValues, commute_words, line_text, method_words}
+use Rattle.rd_print.specs.Printed.{commute_words, line_text, method_words}
 
 -- words, each behind a space
 abbrev pub spaced_text : List PrintedWord → List ℕ
@@ -17,10 +17,6 @@ methods_text methods = flat_map (λ method. line_text (method_words method)) met
 -- the lines of the pairs whose first method has this number
 abbrev pub row_text : SpecifiedKind → ℕ → List ℕ
 row_text kind first = flat_map (λ second. line_text (commute_words kind (first, second))) (range_with_len first (length kind.methods - first))
-
--- each constant of their formulas is a value
-abbrev pub RowHasValues : SpecifiedKind → ℕ → Type 0
-RowHasValues kind first = (second : ℕ) → first ≤ second → second < length kind.methods → PairHasValues kind first second
 
 -- the lines of the pairs
 abbrev pub pairs_text : SpecifiedKind → List ℕ

@@ -1,6 +1,5 @@
 //! The lines of a kind and of its methods.
-ghost use Rattle.std.specs.Prelude.{◌≡◌, ◌++◌, All, OnOk};
-ghost use Rattle.rd_base.specs.Names.{IsName};
+ghost use Rattle.std.specs.Prelude.{◌≡◌, ◌++◌, OnOk};
 ghost use Rattle.rd_print.specs.Printed.{kind_words, line_text, method_words, slot_words};
 ghost use Rattle.rd_print.specs.Writing.{methods_text, spaced_text};
 
@@ -9,8 +8,7 @@ use rd_ecl::{KindSpec, Method};
 
 // Puts the line of a kind last.
 pub(crate) fn append_head(text: &mut Bytes, kind: &KindSpec) -> Result<(), NoMemory>
-    ensures text { OnOk result (text.new ≡ text.old ++ line_text (kind_words kind.now)) }
-    ensures name { OnOk result (IsName kind.now.name) }
+    ensures { OnOk result (text.new ≡ text.old ++ line_text (kind_words kind.now)) }
 {
     text.append(b"kind ")?;
     text.append(kind.name().items())?;
@@ -34,8 +32,7 @@ fn append_slots(text: &mut Bytes, variables: &[Name]) -> Result<(), NoMemory>
 
 // Puts the line of a method last.
 fn append_method(text: &mut Bytes, method: &Method) -> Result<(), NoMemory>
-    ensures text { OnOk result (text.new ≡ text.old ++ line_text (method_words method.now)) }
-    ensures name { OnOk result (IsName method.now.name) }
+    ensures { OnOk result (text.new ≡ text.old ++ line_text (method_words method.now)) }
 {
     text.append(b"method ")?;
     text.append(method.name.items())?;
@@ -45,8 +42,7 @@ fn append_method(text: &mut Bytes, method: &Method) -> Result<(), NoMemory>
 
 // Puts the lines of methods last.
 pub(crate) fn append_methods(text: &mut Bytes, methods: &[Method]) -> Result<(), NoMemory>
-    ensures text { OnOk result (text.new ≡ text.old ++ methods_text methods.now) }
-    ensures names { OnOk result (All (λ method. IsName method.name) methods.now) }
+    ensures { OnOk result (text.new ≡ text.old ++ methods_text methods.now) }
 {
     for method in methods {
         append_method(text, method)?;

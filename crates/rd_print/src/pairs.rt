@@ -1,7 +1,7 @@
 //! The lines of a kind's pairs, and the part of such a line behind `commute`.
 ghost use Rattle.std.specs.Prelude.{◌≡◌, ◌≤◌, ◌<◌, ◌++◌, IfOk, OnOk, Some, length, slice_get};
-ghost use Rattle.rd_print.specs.Printed.{HasValues, PairHasValues, commute_words, line_text, pair_text};
-ghost use Rattle.rd_print.specs.Writing.{RowHasValues, pairs_text, row_text};
+ghost use Rattle.rd_print.specs.Printed.{commute_words, line_text, pair_text};
+ghost use Rattle.rd_print.specs.Writing.{pairs_text, row_text};
 
 use crate::{append_text, words};
 use rd_base::{Bytes, MOST_METHODS, NoMemory};
@@ -33,8 +33,7 @@ fn append_pair(
     second: u8,
 ) -> Result<(), NoMemory>
     requires { (first ≤ second) × (second < length kind.now.methods) }
-    ensures text { OnOk result (text.new ≡ text.old ++ pair_text kind.now first second) }
-    ensures values { OnOk result (PairHasValues kind.now first second) }
+    ensures { OnOk result (text.new ≡ text.old ++ pair_text kind.now first second) }
 {
     let left = method_at(kind, first);
     let right = method_at(kind, second);
@@ -61,9 +60,8 @@ fn append_commute(
     second: u8,
 ) -> Result<(), NoMemory>
     requires { (first ≤ second) × (second < length kind.now.methods) }
-    ensures text { OnOk result
+    ensures { OnOk result
         (text.new ≡ text.old ++ line_text (commute_words kind.now (first, second))) }
-    ensures values { OnOk result (PairHasValues kind.now first second) }
 {
     text.append(b"commute ")?;
     append_pair(alloc, text, kind, first, second)?;
@@ -73,8 +71,7 @@ fn append_commute(
 // Puts the lines of the pairs last whose first method has this number.
 fn append_row(alloc: Global, text: &mut Bytes, kind: &KindSpec, first: u8) -> Result<(), NoMemory>
     requires { first < length kind.now.methods }
-    ensures text { OnOk result (text.new ≡ text.old ++ row_text kind.now first) }
-    ensures values { OnOk result (RowHasValues kind.now first) }
+    ensures { OnOk result (text.new ≡ text.old ++ row_text kind.now first) }
 {
     for second in first..count(kind) {
         append_commute(alloc, text, kind, first, second)?;
@@ -84,8 +81,7 @@ fn append_row(alloc: Global, text: &mut Bytes, kind: &KindSpec, first: u8) -> Re
 
 // Puts the lines of a kind's pairs last.
 pub(crate) fn append_pairs(alloc: Global, text: &mut Bytes, kind: &KindSpec) -> Result<(), NoMemory>
-    ensures text { OnOk result (text.new ≡ text.old ++ pairs_text kind.now) }
-    ensures values { OnOk result (HasValues kind.now) }
+    ensures { OnOk result (text.new ≡ text.old ++ pairs_text kind.now) }
 {
     for first in 0..count(kind) {
         append_row(alloc, text, kind, first)?;
@@ -94,7 +90,7 @@ pub(crate) fn append_pairs(alloc: Global, text: &mut Bytes, kind: &KindSpec) -> 
 }
 
 /// `FIRST SECOND when FORMULA`: the part of the canonical text that stands behind `commute`, for two methods or for one with
-/// itself, by their numbers: `first` is at most `second`. Each constant of that formula is a value.
+/// itself, by their numbers: `first` is at most `second`.
 pub fn formula_text(
     alloc: Global,
     kind: &KindSpec,
@@ -102,8 +98,7 @@ pub fn formula_text(
     second: u8,
 ) -> Result<Bytes, NoMemory>
     requires { (first ≤ second) × (second < length kind.now.methods) }
-    ensures text { IfOk result (λ text. text ≡ pair_text kind.now first second) }
-    ensures values { IfOk result (λ _. PairHasValues kind.now first second) }
+    ensures { IfOk result (λ text. text ≡ pair_text kind.now first second) }
 {
     let mut text = Bytes::new(alloc);
     append_pair(alloc, &mut text, kind, first, second)?;

@@ -1,6 +1,6 @@
 //! The text of a specification.
 ghost use Rattle.std.specs.Prelude.{◌≡◌, ◌++◌, [], ◌∷◌, IfOk, OnOk};
-ghost use Rattle.rd_print.specs.Printed.{AreNames, HasNames, HasValues, HaveValues, block_text, spec_text};
+ghost use Rattle.rd_print.specs.Printed.{block_text, spec_text};
 
 use crate::method_lines::{append_head, append_methods};
 use crate::pairs::append_pairs;
@@ -13,9 +13,7 @@ const HEADER: &[u8] = b"rdspec 1\n";
 
 // Puts the lines of a kind last.
 fn append_kind(alloc: Global, text: &mut Bytes, kind: &KindSpec) -> Result<(), NoMemory>
-    ensures text { OnOk result (text.new ≡ text.old ++ block_text kind.now) }
-    ensures values { OnOk result (HasValues kind.now) }
-    ensures names { OnOk result (HasNames kind.now) }
+    ensures { OnOk result (text.new ≡ text.old ++ block_text kind.now) }
 {
     append_head(text, kind)?;
     append_methods(text, kind.methods())?;
@@ -23,11 +21,9 @@ fn append_kind(alloc: Global, text: &mut Bytes, kind: &KindSpec) -> Result<(), N
 }
 
 /// The canonical text of a specification: the header, then for each kind its line, those of its methods and those of their
-/// pairs. Each constant of the formulas is a value, and what the kinds and the methods are called are names.
+/// pairs.
 pub fn print(alloc: Global, spec: &Spec) -> Result<Bytes, NoMemory>
-    ensures text { IfOk result (λ text. text ≡ spec_text spec.now) }
-    ensures values { IfOk result (λ _. HaveValues spec.now) }
-    ensures names { IfOk result (λ _. AreNames spec.now) }
+    ensures { IfOk result (λ text. text ≡ spec_text spec.now) }
 {
     let mut text = Bytes::new(alloc);
     text.append(HEADER)?;
@@ -38,12 +34,9 @@ pub fn print(alloc: Global, spec: &Spec) -> Result<Bytes, NoMemory>
     Ok(text)
 }
 
-/// The canonical text of one kind alone: the header, then the line of the kind, those of its methods and those of their pairs. Each
-/// constant of its formulas is a value, and what it and its methods are called are names.
+/// The canonical text of one kind alone: the header, then the line of the kind, those of its methods and those of their pairs.
 pub fn print_kind(alloc: Global, kind: &KindSpec) -> Result<Bytes, NoMemory>
-    ensures text { IfOk result (λ text. text ≡ spec_text (kind.now ∷ [])) }
-    ensures values { IfOk result (λ _. HasValues kind.now) }
-    ensures names { IfOk result (λ _. HasNames kind.now) }
+    ensures { IfOk result (λ text. text ≡ spec_text (kind.now ∷ [])) }
 {
     let mut printed = Bytes::new(alloc);
     printed.append(HEADER)?;

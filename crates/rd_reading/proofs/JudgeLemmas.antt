@@ -22,7 +22,7 @@ use Rattle.rd_grammar.specs.Grammar.{ParsedTree}
 use Rattle.rd_tokens.specs.declared.sorts.Token.{Token}
 use Rattle.rd_reading.specs.PairJudging.{IsUnknownFault, LateHas, refusal_of}
 use Rattle.rd_reading.specs.Pairs.{IsPairRefused}
-use Rattle.rd_reading.proofs.MeaningLemmas.{known_relations, known_terms, no_first, no_first_sign, one_formula}
+use Rattle.rd_reading.proofs.MeaningLemmas.{given_values, known_relations, known_terms, no_first, no_first_sign, one_formula}
 use Rattle.rd_reading.proofs.NumberLemmas.{AreDifferent, contained, number_within, one_pair}
 use Rattle.rd_reading.proofs.ScopeLemmas.{slots_are, variables_are}
 use Rattle.rd_base.specs.declared.limits.TheConstants.{MOST_LEVELS, MOST_NODES, MOST_PREDICATES}
@@ -180,15 +180,16 @@ unset (Some f) h = absurd (h refl)
 at_most : (x y : ℕ) → ¬ (x < y) → y ≤ x
 at_most x y h = elim (cases_lt x y) [ inl above ↦ absurd (h above) | inr rest ↦ omega arith ]
 
-pub may_pair : (kind : SpecifiedKind) (line : List ℕ) (tokens : List Token) (m n : ℕ) (f : Tree) → m ≤ n → n < length kind.methods
-    → IsFormula (scope_of kind line tokens m n) f → HasNone (LateHas kind line tokens m n f) → MayPair kind m n f
-may_pair kind line tokens m n f ordered known is none = record {
+pub may_pair : (kind : SpecifiedKind) (line : List ℕ) (tokens : List Token) (m n : ℕ) (read : ParsedTree) (f : Tree) → m ≤ n → n < length kind.methods
+    → Gives (MeansAt (scope_of kind line tokens m n)) read f → IsFormula (scope_of kind line tokens m n) f → HasNone (LateHas kind line tokens m n f) → MayPair kind m n f
+may_pair kind line tokens m n read f ordered known given is none = record {
   ordered = ordered;
   known = known;
   unset = unset (formula_at kind m n) (λ some. none Duplicate (place_at line tokens 1) (some, refl));
   pair = record {
     fits = rw (← slots_are kind m, ← slots_are kind n) is.fits;
     slots = is.slots;
+    values = given_values (scope_of kind line tokens m n) read f given;
     inside = is.inside;
     few = at_most MOST_NODES (nodes f) (λ large. none (Limit Nodes MOST_NODES) (place_at line tokens 3) ((large, refl), refl));
     shallow = at_most MOST_LEVELS (levels f) (λ large. none (Limit FormulaDepth MOST_LEVELS) (place_at line tokens 3) ((large, refl), refl));

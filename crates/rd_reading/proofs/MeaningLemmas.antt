@@ -1,23 +1,39 @@
 -- What was read means one formula at most, and has a known variable in each relation.
-use Rattle.std.proofs.Common.{◌≡◌, ℕ, List, ◌∷◌, Some, None, sym, ◌∙◌, ap, subst}
+use Rattle.std.proofs.Common.{◌≡◌, ℕ, Bool, true, false, List, ◌∷◌, Some, None, sym, ◌∙◌, ap, subst}
 use Rattle.std.specs.Prelude.{Contains, slice_get}
 use Rattle.std.proofs.lemmas.Option.{same_Some, none-some}
 use Rattle.rd_ecl.specs.declared.formulas.Side.{Side}
 use Rattle.rd_ecl.specs.declared.formulas.Side.TheVariants.{First, Second}
-use Rattle.rd_ecl.specs.Formulas.{Tree}
+use Rattle.rd_ecl.specs.declared.formulas.Term.{Term}
+use Rattle.rd_ecl.specs.declared.formulas.Term.TheVariants.{Slot as SlotTerm, Const}
+use Rattle.rd_ecl.specs.Formulas.{Tree, AreValues, IsConstant}
 use Rattle.rd_formulas.specs.declared.scope.Scope.{Scope}
 use Rattle.rd_formulas.specs.declared.terms.Meant.{Meant}
 use Rattle.rd_formulas.specs.declared.terms.Meant.TheVariants.{Slot, Value as ValueOf}
-use Rattle.rd_formulas.specs.Meaning.{Gives, IsFirst, IsFirstSign, NoneOf, Related, relation_of_terms, relations_in, terms_in}
+use Rattle.rd_formulas.specs.Meaning.{Gives, IsFirst, IsFirstSign, NoneOf, Related, cross_relation, relation_of_terms, sided_relation, relations_in, terms_in}
 use Rattle.rd_formulas.specs.Scope.{IsBare, IsUnknown, IsVariableAt, MeansAt, variables_of, token_bytes_at}
 use Rattle.rd_formulas.proofs.FindingLemmas.{none_both, none_right}
 use Rattle.rd_grammar.specs.declared.marks.Sign.{Sign}
+use Rattle.rd_grammar.specs.declared.marks.Sign.TheVariants.{Equal, Different, Less, AtMost}
 use Rattle.rd_grammar.specs.Grammar.{ParsedTree, truth, relation, negation, both, either}
 use Rattle.rd_tokens.specs.declared.words.terms.Said.{Said}
 use Rattle.rd_tokens.specs.declared.words.terms.Said.TheVariants.{Variable, Value as ValueSaid}
 use Rattle.rd_tokens.specs.Words.{SaysTerm}
 use Rattle.rd_tokens.proofs.TermLemmas.{one_term}
 use Rattle.rd_reading.proofs.NumberLemmas.{AreDifferent, contained, one_place}
+
+-- the constants of a relation are those of its terms
+sided_values : (sign : Sign) (side : Side) (left right : Term) → IsConstant left → IsConstant right → AreValues (sided_relation sign side left right)
+sided_values Equal side left right h k = (h, k)
+sided_values Different side left right h k = (h, k)
+sided_values Less side left right h k = (h, k)
+sided_values AtMost side left right h k = (h, k)
+
+cross_values : (sign : Sign) (flipped : Bool) (i j : ℕ) → AreValues (cross_relation sign flipped i j)
+cross_values Equal flipped i j = tt
+cross_values Different flipped i j = tt
+cross_values Less flipped i j = tt
+cross_values AtMost flipped i j = tt
 
 module _ (scope : Scope) where
   one_said : (number : ℕ) (s t : Said) → SaysTerm (token_bytes_at scope number) s → SaysTerm (token_bytes_at scope number) t → s ≡ t
@@ -61,6 +77,23 @@ module _ (scope : Scope) where
       none_both (IsBare scope) (relations_in read) (relations_in more) (known_relations read g left) (known_relations more h right)
   known_relations (either read token more) f (g, h, e, left, right) =
       none_both (IsBare scope) (relations_in read) (relations_in more) (known_relations read g left) (known_relations more h right)
+
+  -- its constants are values, since they were read
+  relation_values : (sign : Sign) (left right : ℕ) (x y : Meant) (f : Tree) → MeansAt scope left x → MeansAt scope right y → relation_of_terms sign x y ≡ Some f → AreValues f
+  relation_values sign left right (Slot First i) (Slot First j) f h k e = subst AreValues (same_Some _ f e) (sided_values sign First (SlotTerm i) (SlotTerm j) tt tt)
+  relation_values sign left right (Slot Second i) (Slot Second j) f h k e = subst AreValues (same_Some _ f e) (sided_values sign Second (SlotTerm i) (SlotTerm j) tt tt)
+  relation_values sign left right (Slot First i) (Slot Second j) f h k e = subst AreValues (same_Some _ f e) (cross_values sign false i j)
+  relation_values sign left right (Slot Second i) (Slot First j) f h k e = subst AreValues (same_Some _ f e) (cross_values sign true j i)
+  relation_values sign left right (Slot side i) (ValueOf value) f h k e = subst AreValues (same_Some _ f e) (sided_values sign side (SlotTerm i) (Const value) tt k.0)
+  relation_values sign left right (ValueOf value) (Slot side j) f h k e = subst AreValues (same_Some _ f e) (sided_values sign side (Const value) (SlotTerm j) h.0 tt)
+  relation_values sign left right (ValueOf value) (ValueOf other) f h k e = absurd (none-some f e)
+
+  pub given_values : (read : ParsedTree) (f : Tree) → Gives (MeansAt scope) read f → AreValues f
+  given_values (truth value token) f given = subst AreValues (sym given) tt
+  given_values (relation left sign token right) f (x, y, h, k, e) = relation_values sign left right x y f h k e
+  given_values (negation token read) f (g, e, given) = subst AreValues (sym e) (given_values read g given)
+  given_values (both read token more) f (g, h, e, left, right) = subst AreValues (sym e) (given_values read g left, given_values more h right)
+  given_values (either read token more) f (g, h, e, left, right) = subst AreValues (sym e) (given_values read g left, given_values more h right)
 
 -- the first of what isn't there
 pub no_first : {T : Type 0} (P : T → Type 0) (xs : List T) (x : T) → NoneOf P xs → ¬ (IsFirst P xs (Some x))

@@ -2,7 +2,7 @@
 use Rattle.std.proofs.Common.{◌≡◌, ◌≢◌, ℕ, zero, suc, ◌+◌, ◌*◌, ◌<◌, ◌≤◌, Bool, true, false, List, [], ◌∷◌, ◌++◌, length, map, codes, Option, Some, None, refl, sym, ap, subst, arith, inl, inr, ◌∙◌, length-append}
 use Rattle.std.specs.Prelude.{All, AllPairs, Contains, flat_map, nat_le, is_some, IsSome}
 use Rattle.std.specs.List.{AllByRecursion}
-use Rattle.std.proofs.lemmas.List.{append_assoc, append-nil, map-append, get_or_past, length-map}
+use Rattle.std.proofs.lemmas.List.{append_assoc, append-nil, map-append, get_or_past}
 use Rattle.rd_base.specs.Names.{IsName}
 use Rattle.rd_base.proofs.FoundLemmas.{each_by_recursion}
 use Rattle.std.proofs.lemmas.List.Elements.{Contains-append_right}
@@ -16,11 +16,12 @@ use Rattle.rd_ecl.specs.declared.kinds.Method.{Method}
 use Rattle.rd_ecl.specs.Formulas.{Tree}
 use Rattle.rd_ecl.specs.Specified.{IsKind, IsWhole, SpecifiedKind, formula_at}
 use Rattle.rd_ecl.specs.Variables.{AreVariables, IsVariable}
+use Rattle.rd_ecl.proofs.PairLemmas.{equal_kinds}
 use Rattle.rd_reading.proofs.NumberLemmas.{AreDifferent}
-use Rattle.rd_print.specs.Printed.{HasNames, HasValues, block_lines, commute_words, header_words, kind_words, method_words, pairs_of, spec_lines, spec_text}
+use Rattle.rd_print.specs.Printed.{block_lines, commute_words, header_words, kind_words, method_words, pairs_of, spec_lines, spec_text}
 use Rattle.rd_print.proofs.SoundLemmas.{commute_sound, kind_sound, lines_sound, method_sound, name_at_is}
 use Rattle.rd_print.specs.Text.{IsRightWord, words_text}
-use Rattle.rd_spec.specs.Again.{AreSame, IsSame, MayBeRead}
+use Rattle.rd_spec.specs.Again.{MayBeRead}
 use Rattle.rd_reading.specs.Texts.{ReadsLines, SpecSays, no_more}
 use Rattle.rd_spec.proofs.AcceptLemmas.{header_accepted, lacks_none}
 use Rattle.rd_reading.proofs.ParsingLemmas.{reads_on}
@@ -39,9 +40,10 @@ some_there None there = absurd (cc)
 none_apart : AreDifferent []
 none_apart i j d less within = absurd (omega (arith, within))
 
-module _ (kind : SpecifiedKind) (is : IsKind kind) (values : HasValues kind) (names : HasNames kind) where
+module _ (kind : SpecifiedKind) (is : IsKind kind) where
   printed_pair : (m n : ℕ) → m ≤ n → n < length kind.methods → (f : Tree) × IsPrinted kind m n f
   printed_pair m n ordered known =
+      let names = is.draft.methods.named in
       let (f, there) = some_there (formula_at kind m n) (is.whole m n ordered known) in (
         f,
         record {
@@ -49,11 +51,11 @@ module _ (kind : SpecifiedKind) (is : IsKind kind) (values : HasValues kind) (na
           known = known;
           there = there;
           pair = is.draft.pairs.each m n f there;
-          values = values m n ordered known f there;
+          values = (is.draft.pairs.each m n f there).values;
           methods = is.draft.methods;
-          first_name = name_at_is kind.methods m (omega (arith, ordered, known)) names.1;
-          second_name = name_at_is kind.methods n known names.1;
-          sound = commute_sound kind is values names m n ordered known;
+          first_name = name_at_is kind.methods m (omega (arith, ordered, known)) names;
+          second_name = name_at_is kind.methods n known names;
+          sound = commute_sound kind is m n ordered known;
         },
       )
 
@@ -75,7 +77,7 @@ module _ (kind : SpecifiedKind) (is : IsKind kind) (values : HasValues kind) (na
 
   written : AllByRecursion IsWritten kind.methods
   written = by kind.methods (each_by_recursion (λ (method : Method). AreVariables method.variables) kind.methods is.draft.methods.each)
-      (each_by_recursion (λ (method : Method). IsName method.name) kind.methods names.1) where
+      (each_by_recursion (λ (method : Method). IsName method.name) kind.methods is.draft.methods.named) where
         by : (methods : List Method) → AllByRecursion (λ (method : Method). AreVariables method.variables) methods → AllByRecursion (λ (method : Method). IsName method.name) methods
             → AllByRecursion IsWritten methods
         by [] variables named = tt
@@ -95,6 +97,7 @@ module _ (kind : SpecifiedKind) (is : IsKind kind) (values : HasValues kind) (na
         name = name_kept (kind_without kind.name) kind.methods;
         methods = methods;
         rows = unset.rows ∙ ap (λ (ms : List Method). MOST_METHODS * length ms) methods;
+        rest = λ m n above low. unset.none (MOST_METHODS * n + m);
         done = λ m n up low before. elim before [
           | inl less ↦ absurd (omega (arith, less))
           | inr same ↦ absurd (let less = same.1 in omega (arith, less))
@@ -122,13 +125,12 @@ module _ (kind : SpecifiedKind) (is : IsKind kind) (values : HasValues kind) (na
       }
 
   -- what was read is the kind
-  pub same_kind : (next : SpecifiedKind) → IsPart kind next (length kind.methods) (length kind.methods) → IsSame kind next
+  pub same_kind : (next : SpecifiedKind) → IsPart kind next (length kind.methods) (length kind.methods) → next ≡ kind
   unfolding IsBefore
-  same_kind next part = record {
-    name = sym part.name;
-    methods = sym part.methods;
-    formulas = λ m n up low. sym (part.done m n up low (inl (omega (arith, up, low))));
-  }
+  same_kind next part =
+      let pairs = is.draft.pairs in
+      sym (equal_kinds kind next pairs.rows part.rows pairs.rest part.rest (sym part.name) (sym part.methods)
+      (λ m n up low. sym (part.done m n up low (inl (omega (arith, up, low))))))
 
   pub whole_kind : (next : SpecifiedKind) → IsPart kind next (length kind.methods) (length kind.methods) → IsWhole next
   unfolding IsBefore
@@ -138,29 +140,10 @@ module _ (kind : SpecifiedKind) (is : IsKind kind) (values : HasValues kind) (na
 
 -- ---- kinds, one after another
 
-same_names : (kinds others : List SpecifiedKind) → AreSame kinds others → specified_kind_names kinds ≡ specified_kind_names others
-same_names [] [] same = refl
-same_names [] (other ∷ others) same = absurd same
-same_names (kind ∷ kinds) [] same = absurd same
-same_names (kind ∷ kinds) (other ∷ others) (here, rest) =
-    ap (λ (name : List ℕ). name ∷ specified_kind_names kinds) here.name ∙ ap (λ (names : List (List ℕ)). other.name ∷ names) (same_names kinds others rest)
-
-same_more : (kinds others : List SpecifiedKind) (kind other : SpecifiedKind) → AreSame kinds others → IsSame kind other → AreSame (kinds ++ kind ∷ []) (others ++ other ∷ [])
-same_more [] [] kind other same one = (one, tt)
-same_more [] (o ∷ others) kind other same one = absurd same
-same_more (k ∷ kinds) [] kind other same one = absurd same
-same_more (k ∷ kinds) (o ∷ others) kind other (here, rest) one = (here, same_more kinds others kind other rest one)
-
--- a kind that may be written
-pub record IsPrintable (kind : SpecifiedKind) : Type 0 where
-  pub is : IsKind kind
-  pub values : HasValues kind
-  pub names : HasNames kind
-
 pub record BlocksRead (taken : List (List ℕ)) (known : Known) (lines : List (List ℕ)) (kinds : List SpecifiedKind) : Type 0 where
   pub last : Known
   pub begun : last.begun ≡ true
-  pub same : AreSame kinds (kinds_so_far last)
+  pub same : kinds_so_far last ≡ kinds
   pub whole : IsWhole (kind_in last.block)
   pub reads : ReadsLines taken known lines last
 
@@ -171,48 +154,45 @@ kinds_more : (xs : List SpecifiedKind) (one : SpecifiedKind) (ys : List Specifie
 kinds_more [] one ys = refl
 kinds_more (x ∷ xs) one ys = ap (λ (l : List (List ℕ)). x.name ∷ l) (kinds_more xs one ys)
 
-count_names : (kinds : List SpecifiedKind) → length (specified_kind_names kinds) ≡ length kinds
-count_names kinds = length-map kinds (λ (kind : SpecifiedKind). kind.name)
-
 -- the lines of a kind
 block_read : (taken : List (List ℕ)) (done : List SpecifiedKind) (kind : SpecifiedKind) (kinds : List SpecifiedKind) (known : Known) → known.begun ≡ true
-    → AreSame done (kinds_so_far known) → IsWhole (kind_in known.block) → IsPrintable kind → length (done ++ kind ∷ kinds) ≤ 32
+    → kinds_so_far known ≡ done → IsWhole (kind_in known.block) → IsKind kind → length (done ++ kind ∷ kinds) ≤ 32
     → AllPairs (λ x y. x ≢ y) (specified_kind_names (done ++ kind ∷ kinds)) → ((name : List ℕ) → Contains taken name → ¬ (Contains (specified_kind_names (done ++ kind ∷ kinds)) name))
     → BlocksRead taken known (map words_text (block_lines kind)) (done ++ kind ∷ [])
-block_read taken done kind kinds known begun same whole may few different free =
+block_read taken done kind kinds known begun same whole is few different free =
     let named : specified_kind_names (done ++ kind ∷ kinds) ≡ specified_kind_names done ++ kind.name ∷ specified_kind_names kinds = kinds_more done kind kinds in
-    let names : specified_kind_names done ≡ specified_kind_names (kinds_so_far known) = same_names done (kinds_so_far known) same in
+    let names : specified_kind_names done ≡ specified_kind_names (kinds_so_far known) = ap specified_kind_names (sym same) in
     let fresh : ¬ (Contains (specified_kind_names done) kind.name) =
     fresh_behind (specified_kind_names done) kind.name (specified_kind_names kinds) (subst (λ (l : List (List ℕ)). AllPairs (λ x y. x ≢ y) l) named different) in
     let here : Contains (specified_kind_names done ++ kind.name ∷ specified_kind_names kinds) kind.name =
     Contains-append_right (specified_kind_names done) (kind.name ∷ specified_kind_names kinds) kind.name (0, omega arith, refl) in
-    let counts : length (kinds_so_far known) ≡ length done = sym (count_names (kinds_so_far known)) ∙ sym (ap length names) ∙ count_names done in
+    let counts : length (kinds_so_far known) ≡ length done = ap length same in
     let sum = length-append done (kind ∷ kinds) in
-    let sound = (kind_sound kind may.is may.values may.names).0 in
+    let sound = (kind_sound kind is).0 in
     let head = kind_read taken known kind begun (λ among. fresh (subst (λ (l : List (List ℕ)). Contains l kind.name) (sym names) among)) whole
-    (λ reserved. free kind.name reserved (subst (λ (l : List (List ℕ)). Contains l kind.name) (sym named) here)) (omega (arith, counts, sum, few)) may.names.0 sound in
-    let body = body_read kind may.is may.values may.names taken (kinds_so_far known) in
+    (λ reserved. free kind.name reserved (subst (λ (l : List (List ℕ)). Contains l kind.name) (sym named) here)) (omega (arith, counts, sum, few)) is.draft.name sound in
+    let body = body_read kind is taken (kinds_so_far known) in
     record {
       last = at (kinds_so_far known) body.next body.then_paired;
       begun = refl;
-      same = same_more done (kinds_so_far known) kind body.next same (same_kind kind may.is may.values may.names body.next body.is);
-      whole = whole_kind kind may.is may.values may.names body.next body.is;
+      same = ap (λ (l : List SpecifiedKind). l ++ body.next ∷ []) same ∙ ap (λ (k : SpecifiedKind). done ++ k ∷ []) (same_kind kind is body.next body.is);
+      whole = whole_kind kind is body.next body.is;
       reads = reads_on taken (subst (λ (k : Known). ReadsLines taken known (words_text (kind_words kind) ∷ []) k) (opened_at known kind.name begun) head) body.reads;
     }
 
-blocks_read : (taken : List (List ℕ)) (kinds done : List SpecifiedKind) (known : Known) → known.begun ≡ true → AreSame done (kinds_so_far known)
-    → IsWhole (kind_in known.block) → AllByRecursion IsPrintable kinds → length (done ++ kinds) ≤ 32 → AllPairs (λ x y. x ≢ y) (specified_kind_names (done ++ kinds))
+blocks_read : (taken : List (List ℕ)) (kinds done : List SpecifiedKind) (known : Known) → known.begun ≡ true → kinds_so_far known ≡ done
+    → IsWhole (kind_in known.block) → AllByRecursion IsKind kinds → length (done ++ kinds) ≤ 32 → AllPairs (λ x y. x ≢ y) (specified_kind_names (done ++ kinds))
     → ((name : List ℕ) → Contains taken name → ¬ (Contains (specified_kind_names (done ++ kinds)) name))
     → BlocksRead taken known (map words_text (flat_map block_lines kinds)) (done ++ kinds)
 blocks_read taken [] done known begun same whole each few different free = record {
   last = known;
   begun = begun;
-  same = subst (λ (l : List SpecifiedKind). AreSame l (kinds_so_far known)) (sym (append-nil done)) same;
+  same = same ∙ sym (append-nil done);
   whole = whole;
   reads = no_more;
 }
-blocks_read taken (kind ∷ kinds) done known begun same whole (may, rest) few different free =
-    let one = block_read taken done kind kinds known begun same whole may few different free in
+blocks_read taken (kind ∷ kinds) done known begun same whole (is, rest) few different free =
+    let one = block_read taken done kind kinds known begun same whole is few different free in
     let more : (done ++ kind ∷ []) ++ kinds ≡ done ++ kind ∷ kinds = append_assoc done (kind ∷ []) kinds in
     let others = blocks_read taken kinds (done ++ kind ∷ []) one.last one.begun one.same one.whole rest
     (subst (λ (l : List SpecifiedKind). length l ≤ 32) (sym more) few) (subst (λ (l : List SpecifiedKind). AllPairs (λ x y. x ≢ y) (specified_kind_names l)) (sym more) different)
@@ -220,7 +200,7 @@ blocks_read taken (kind ∷ kinds) done known begun same whole (may, rest) few d
     record {
       last = others.last;
       begun = others.begun;
-      same = subst (λ (l : List SpecifiedKind). AreSame l (kinds_so_far others.last)) more others.same;
+      same = others.same ∙ more;
       whole = others.whole;
       reads = subst (λ (l : List (List ℕ)). ReadsLines taken known l others.last) (sym (map-append words_text (block_lines kind) (flat_map block_lines kinds)))
           (reads_on taken one.reads others.reads);
@@ -240,27 +220,20 @@ end_clean known begun whole (MissingPair first second) place (lacks, at) = lacks
 end_clean known begun whole KindTaken place has = has
 end_clean known begun whole (Limit name number) place has = has
 
-printable : (kinds : List SpecifiedKind) → AllByRecursion IsKind kinds → AllByRecursion HasValues kinds → AllByRecursion HasNames kinds → AllByRecursion IsPrintable kinds
-printable [] are values names = tt
-printable (kind ∷ kinds) (is, are) (value, values) (name, names) = (record { is = is; values = value; names = name }, printable kinds are values names)
-
-pub read_again : (kinds : List SpecifiedKind) (taken : List (List ℕ)) → MayBeRead kinds taken → (read : List SpecifiedKind) × SpecSays (spec_text kinds) taken read × AreSame kinds read
+pub read_again : (kinds : List SpecifiedKind) (taken : List (List ℕ)) → MayBeRead kinds taken → SpecSays (spec_text kinds) taken kinds
 read_again kinds taken may =
-    let sound : AllByRecursion (All IsRightWord) (spec_lines kinds) = each_by_recursion (All IsRightWord) (spec_lines kinds) (lines_sound kinds may.each may.values may.names) in
+    let sound : AllByRecursion (All IsRightWord) (spec_lines kinds) = each_by_recursion (All IsRightWord) (spec_lines kinds) (lines_sound kinds may.each) in
     let head = line_read taken nothing (with_header nothing) header_words sound.0 (kept_line 114 (codes "dspec") (plain_word (codes "1") ∷ []) (λ e. omega (arith, e)) (λ e. omega (arith, e)))
     (λ tokens are words. header_accepted taken (words_text header_words) tokens words are) in
-    let blocks = blocks_read taken kinds [] (with_header nothing) refl tt (λ first second up low. absurd (omega (arith, low)))
-    (printable kinds (each_by_recursion IsKind kinds may.each) (each_by_recursion HasValues kinds may.values) (each_by_recursion HasNames kinds may.names))
-    may.few may.different may.free in (
-      kinds_so_far blocks.last,
-      record {
-        short = may.short;
-        lines = map words_text (spec_lines kinds);
-        cut = lines_cut (spec_lines kinds) sound;
-        known = blocks.last;
-        reads = reads_on taken head blocks.reads;
-        whole = end_clean blocks.last blocks.begun blocks.whole;
-        said = refl;
-      },
-      blocks.same,
-    )
+    let blocks = blocks_read taken kinds [] (with_header nothing) refl refl (λ first second up low. absurd (omega (arith, low)))
+    (each_by_recursion IsKind kinds may.each)
+    may.few may.different may.free in
+    record {
+      short = may.short;
+      lines = map words_text (spec_lines kinds);
+      cut = lines_cut (spec_lines kinds) sound;
+      known = blocks.last;
+      reads = reads_on taken head blocks.reads;
+      whole = end_clean blocks.last blocks.begun blocks.whole;
+      said = sym blocks.same;
+    }

@@ -9,14 +9,14 @@ use Rattle.rd_base.specs.declared.limits.LimitName.{LimitName}
 use Rattle.rd_base.specs.declared.limits.LimitName.TheVariants.{Bytes, Line, Events, Threads, Locks, Objects, Depth, SpecText, Tokens, Kinds, Methods as MethodLimit, Arguments, Nodes, FormulaDepth, Predicates}
 use Rattle.rd_base.proofs.FoundLemmas.{each_by_recursion, each_from_recursion}
 use Rattle.rd_print.specs.declared.canonical.word_list.PrintedWord.{PrintedWord}
-use Rattle.rd_print.specs.Canonical.{AreValues, plain_word, canonical_words}
+use Rattle.rd_print.specs.Canonical.{plain_word, canonical_words}
 use Rattle.rd_print.proofs.WordFewLemmas.{few_words}
 use Rattle.rd_reading.specs.Adding.{AcceptsSpecLine}
 use Rattle.rd_reading.specs.Causes.{AreNumbers, HasManyPredicates, HasManyTokens, HasNone, PairHas, SaysPair, scope_of}
 use Rattle.rd_reading.specs.Known.{stage_of, variables_at}
 use Rattle.rd_reading.specs.declared.spec_causes.SpecCause.TheVariants.{Header, Syntax, UnknownMethod, UnknownVariable, NoVariable, OutsideFragment, Duplicate, MissingPair, KindTaken, Limit}
 use Rattle.rd_ecl.specs.declared.kinds.Method.{Method}
-use Rattle.rd_ecl.specs.Formulas.{Tree, Fits, InFragment, first_offence, levels, nodes, post_order}
+use Rattle.rd_ecl.specs.Formulas.{Tree, Fits, InFragment, first_offence, levels, nodes, post_order, AreValues}
 use Rattle.rd_ecl.specs.Specified.{AreMethods, IsPair, SpecifiedKind, formula_at, names_of, slots_at, with_pair}
 use Rattle.rd_ecl.specs.Variables.{AreVariables}
 use Rattle.rd_ecl.proofs.FragmentLemmas.{fragment_is}

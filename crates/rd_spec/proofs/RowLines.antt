@@ -3,7 +3,7 @@ use Rattle.std.proofs.Common.{◌≡◌, ◌≢◌, ℕ, zero, suc, ◌+◌, ◌
 use Rattle.std.specs.Prelude.{flat_map, nat_le, slice_index_or, if◌then◌else◌, ◌⊎◌}
 use Rattle.std.specs.List.{range_with_len}
 use Rattle.std.proofs.lemmas.Bool.{cases_lt, lt-leb}
-use Rattle.std.proofs.lemmas.List.{length-set, map-append, get_or_past}
+use Rattle.std.proofs.lemmas.List.{length-set, map-append, get_or-set_other, get_or_past}
 use Rattle.rd_ecl.specs.declared.kinds.Method.{Method}
 use Rattle.rd_ecl.specs.Formulas.{Tree}
 use Rattle.rd_ecl.specs.Specified.{IsPair, SpecifiedKind, formula_at, method_predicates, names_of, slots_at, with_pair}
@@ -48,6 +48,7 @@ pub record IsPart (kind part : SpecifiedKind) (i j : ℕ) : Type 0 where
   pub name : part.name ≡ kind.name
   pub methods : part.methods ≡ kind.methods
   pub rows : length part.pairs ≡ MOST_METHODS * length kind.methods
+  pub rest : (m n : ℕ) → n < m → m < MOST_METHODS → slice_index_or part.pairs (MOST_METHODS * n + m) None ≡ None
   pub done : (m n : ℕ) → m ≤ n → n < length kind.methods → IsBefore m n i j → formula_at part m n ≡ formula_at kind m n
   pub left : (m n : ℕ) → m ≤ n → n < length kind.methods → ¬ (IsBefore m n i j) → formula_at part m n ≡ None
 
@@ -88,6 +89,9 @@ some_of kind part i j is m n = elim (cases_lt n m) [
 apart : (m n i j : ℕ) → m ≤ n → i ≤ j → n < MOST_METHODS → j < MOST_METHODS → ((m ≡ i) → (n ≡ j) → ⊥) → MOST_METHODS * n + m ≢ MOST_METHODS * j + i
 apart m n i j ordered also known few other same = other (omega (arith, same, known, few, ordered, also)) (omega (arith, same, known, few, ordered, also))
 
+turned : (m n i j : ℕ) → n < m → m < MOST_METHODS → i ≤ j → MOST_METHODS * n + m ≢ MOST_METHODS * j + i
+turned m n i j above low ordered same = omega (arith, same, above, low, ordered)
+
 next_part : (kind part : SpecifiedKind) (i j : ℕ) (f : Tree) → length kind.methods ≤ MOST_METHODS → i ≤ j → j < length kind.methods → formula_at kind i j ≡ Some f
     → IsPart kind part i j → IsPart kind (with_pair part i j f) i (j + 1)
 unfolding IsBefore
@@ -95,6 +99,8 @@ next_part kind part i j f few ordered known there is = record {
   name = is.name;
   methods = is.methods;
   rows = length-set part.pairs (MOST_METHODS * j + i) (Some f) ∙ is.rows;
+  rest = λ m n above low.
+      get_or-set_other part.pairs (MOST_METHODS * j + i) (MOST_METHODS * n + m) (Some f) None (turned m n i j above low ordered) ∙ is.rest m n above low;
   done = λ m n up low before. elim before [
     | inl less ↦ at_other part i j m n f (apart m n i j up ordered (omega (arith, low, few)) (omega (arith, known, few)) (λ e h. omega (arith, less, e))) ∙ is.done m n up low (inl less)
     | inr same ↦ elim (cases_lt n j) [
@@ -183,6 +189,7 @@ row_done kind part i is = record {
   name = is.name;
   methods = is.methods;
   rows = is.rows;
+  rest = is.rest;
   done = λ m n up low before. is.done m n up low (elim before [
     | inl less ↦ elim (cases_lt m i) [
       | inl lower ↦ inl lower

@@ -2,12 +2,12 @@
 ghost use Rattle.std.specs.Prelude.{◌≡◌, ℕ, List};
 ghost use Rattle.rd_ecl.specs.Specified.{SpecifiedKind};
 ghost use Rattle.rd_print.specs.Printed.{spec_text};
-ghost use Rattle.rd_spec.specs.Again.{AreSame, MayBeRead};
+ghost use Rattle.rd_spec.specs.Again.{MayBeRead};
 ghost use Rattle.rd_reading.specs.Texts.{HasNewNames, IsSpecRefused, SpecSays};
 ghost use Rattle.rd_reading.specs.declared.parsing.SpecRefused.{SpecRefused};
 
 /// The law of specifications: a text says one specification at most, and is refused nowhere if it says one. The canonical text of
-/// at most 32 kinds of different names, none of them taken, says the same kinds again, where it isn't too long. What a text says
+/// at most 32 kinds of different names, none of them taken, says these kinds again, where it isn't too long. What a text says
 /// is always at most 32 kinds, of different names, none of them taken.
 pub fn law_of_specifications()
     ensures one { (text : List ℕ) (taken : List (List ℕ)) (x y : List SpecifiedKind) →
@@ -16,7 +16,7 @@ pub fn law_of_specifications()
         (refused : SpecRefused)
         → SpecSays text taken x → ¬ (IsSpecRefused text taken refused) }
     ensures again { (kinds : List SpecifiedKind) (taken : List (List ℕ)) → MayBeRead kinds taken
-        → (read : List SpecifiedKind) × SpecSays (spec_text kinds) taken read × AreSame kinds read }
+        → SpecSays (spec_text kinds) taken kinds }
     ensures names { (text : List ℕ) (taken : List (List ℕ)) (kinds : List SpecifiedKind) →
         SpecSays text taken kinds → HasNewNames taken kinds }
 {}

@@ -1,10 +1,10 @@
 //! The law of the canonical words.
 ghost use Rattle.std.specs.Prelude.{◌≡◌, ◌≢◌, ◌≤◌, ◌*◌, List, ℕ, All, AllPairs, length, true};
-ghost use Rattle.rd_ecl.specs.Formulas.{Tree, Fits, has_slots, nodes};
+ghost use Rattle.rd_ecl.specs.Formulas.{Tree, Fits, has_slots, nodes, AreValues};
 ghost use Rattle.rd_ecl.specs.Variables.{IsVariable};
 ghost use Rattle.rd_formulas.specs.declared.scope.Scope.{Scope};
 ghost use Rattle.rd_formulas.specs.Reading.{SaysFormula};
-ghost use Rattle.rd_print.specs.Canonical.{AreValues, AreWords, canonical_words};
+ghost use Rattle.rd_print.specs.Canonical.{AreWords, canonical_words};
 
 /// The law of the canonical words: tokens that are the canonical words of a formula say that formula, and tokens say at most
 /// one. A formula has at most three canonical words for each of its nodes.

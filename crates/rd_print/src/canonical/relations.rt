@@ -1,9 +1,9 @@
 //! The words of relations.
 ghost use Rattle.std.specs.Prelude.{◌≡◌, [], ◌∷◌, ◌++◌, ◌<◌, OnOk, length};
-ghost use Rattle.rd_ecl.specs.Formulas.{FitsTerm, mixed};
+ghost use Rattle.rd_ecl.specs.Formulas.{FitsTerm, mixed, IsConstant};
 ghost use Rattle.rd_ecl.specs.declared.formulas.Side.TheVariants.{First, Second};
 ghost use Rattle.rd_tokens.specs.Words.{sign_word};
-ghost use Rattle.rd_print.specs.Canonical.{IsConstant, side_variables, relation_words, sided_words, relation_sign, slot_word, canonical_words};
+ghost use Rattle.rd_print.specs.Canonical.{side_variables, relation_words, sided_words, relation_sign, slot_word, canonical_words};
 
 use crate::canonical::terms::{slot_word, term_word};
 use crate::canonical::word_list::{PrintedWord, Words};

@@ -1,9 +1,9 @@
 //! The words of terms.
 ghost use Rattle.std.specs.Prelude.{◌≡◌, ◌<◌, IfOk, length};
 ghost use Rattle.rd_base.specs.Spelling.{IsValue};
-ghost use Rattle.rd_ecl.specs.Formulas.{FitsTerm};
+ghost use Rattle.rd_ecl.specs.Formulas.{FitsTerm, IsConstant};
 ghost use Rattle.rd_tokens.specs.Words.{side_mark};
-ghost use Rattle.rd_print.specs.Canonical.{IsConstant, slot_word, sort_of_value, term_word, value_word};
+ghost use Rattle.rd_print.specs.Canonical.{slot_word, sort_of_value, term_word, value_word};
 
 use crate::canonical::word_list::PrintedWord;
 use rd_base::{Bytes, Name, NoMemory, Value, append_value};

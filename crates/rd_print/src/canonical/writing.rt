@@ -1,8 +1,8 @@
 //! Writing the words of a formula.
 ghost use Rattle.std.specs.Prelude.{◌≡◌, ◌++◌, [], ◌∷◌, IfOk, IfSome, IfNone, OnOk, false, length};
-ghost use Rattle.rd_ecl.specs.Formulas.{Fits, atom, tree_of};
+ghost use Rattle.rd_ecl.specs.Formulas.{Fits, atom, tree_of, AreValues};
 ghost use Rattle.rd_ecl.specs.declared.formulas.Rel.TheVariants.{Eq};
-ghost use Rattle.rd_print.specs.Canonical.{AreValues, is_of_two, is_or, canonical_words};
+ghost use Rattle.rd_print.specs.Canonical.{is_of_two, is_or, canonical_words};
 ghost use Rattle.rd_print.specs.WordWriting.{IsPlainNot, before_part, behind_part, has_part};
 
 use crate::canonical::relations::{

@@ -2,14 +2,14 @@
 ghost use Rattle.std.specs.Prelude.{◌≡◌, ℕ, List, length, take, drop, ◌++◌, All, true};
 ghost use Rattle.std.specs.List.{AllPass};
 ghost use Rattle.rd_base.specs.Spelling.{is_plain};
-ghost use Rattle.rd_ecl.specs.Formulas.{Tree, Fits, has_slots};
+ghost use Rattle.rd_ecl.specs.Formulas.{Tree, Fits, has_slots, AreValues};
 ghost use Rattle.rd_ecl.specs.Variables.{IsVariable};
 ghost use Rattle.rd_formulas.specs.declared.scope.Scope.{Scope};
 ghost use Rattle.rd_formulas.specs.Reading.{SaysFormula};
 ghost use Rattle.rd_tokens.specs.Tokens.{AreTokens};
 ghost use Rattle.rd_tokens.specs.declared.sorts.Token.{Token};
 ghost use Rattle.rd_print.specs.declared.canonical.word_list.PrintedWord.{PrintedWord};
-ghost use Rattle.rd_print.specs.Canonical.{AreValues, AreWords, canonical_words};
+ghost use Rattle.rd_print.specs.Canonical.{AreWords, canonical_words};
 ghost use Rattle.rd_print.specs.Text.{IsRightWord, words_text};
 
 /// The law of texts: the tokens of the text of sound words are these words, and no other sound words have that text, whose

@@ -5,8 +5,8 @@ use Rattle.rd_print.proofs.JoinLemmas.{ok_then}
 use Rattle.rd_print.proofs.LineLemmas.{method_by}
 use Rattle.rd_print.proofs.method_lines.append_method.Goals as goal
 
-pub returns-clause-text : goal.returns-clause-text
-returns-clause-text c =
+pub returns : goal.returns
+returns c =
     ok_then c.push.result _ _
     (λ here.
     let is : c.push.new.self ≡ (((c.args.text.now ++ codes "method ") ++ c.args.method.now.name) ++ spaced_text (slot_words c.args.method.now.variables)) ++ codes "\n" =

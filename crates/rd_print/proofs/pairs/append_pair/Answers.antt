@@ -6,8 +6,8 @@ use Rattle.rd_print.proofs.JoinLemmas.{ok_then}
 use Rattle.rd_print.proofs.PairLemmas.{pair_by}
 use Rattle.rd_print.proofs.pairs.append_pair.Goals as goal
 
-pub returns-clause-text : goal.returns-clause-text
-returns-clause-text c =
+pub returns : goal.returns
+returns c =
     let left = c.method_at-left.result.now in
     let right = c.method_at-right.result.now in
     let formula = tree_of c.formula-formula.result.now in

@@ -5,11 +5,11 @@ use Rattle.rd_print.proofs.JoinLemmas.{ok_then}
 use Rattle.rd_print.proofs.LineLemmas.{kind_by}
 use Rattle.rd_print.proofs.printing.append_kind.Goals as goal
 
-pub returns-clause-text : goal.returns-clause-text
-returns-clause-text c =
+pub returns : goal.returns
+returns c =
     ok_then c.append_pairs.result _ _
     (λ here.
     let is : c.append_pairs.new.text ≡ ((c.args.text.now ++ line_text (kind_words c.args.kind.now)) ++ methods_text c.args.kind.now.methods) ++ pairs_text c.args.kind.now =
-    cc (here, c.in_ok-append_head.ensures.text, c.in_ok-append_methods.ensures.text, c.methods.ensures.value) in
+    cc (here, c.in_ok-append_head.ensures, c.in_ok-append_methods.ensures, c.methods.ensures.value) in
     kind_by c.args.text.now c.append_pairs.new.text c.args.kind.now is)
-    c.append_pairs.ensures.text
+    c.append_pairs.ensures

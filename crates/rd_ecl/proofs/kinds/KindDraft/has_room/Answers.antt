@@ -1,4 +1,4 @@
-use Rattle.std.proofs.Common.{◌+◌, ◌*◌, ◌≡◌, length, true, false, Some, refl, arith, ◌∙◌}
+use Rattle.std.proofs.Common.{◌+◌, ◌*◌, ◌≡◌, length, Some, refl, arith, ◌∙◌}
 use Rattle.std.proofs.lemmas.List.{length-set}
 use Rattle.rd_ecl.specs.Formulas.{tree_of}
 use Rattle.rd_ecl.specs.Specified.{with_pair}

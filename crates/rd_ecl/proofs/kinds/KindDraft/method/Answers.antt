@@ -10,4 +10,4 @@ pub invariant_of-self-2 : goal.invariant_of-self-2
 invariant_of-self-2 c =
     rw (c.push_reserved.ensures.items, c.reserve.ensures.items, c.in_ok-add_pairs.ensures.ok, map-append (option_map tree_of) c.self.inside.pairs.items (replicate MOST_METHODS None))
     (draft_more (record { name = c.self.inside.name; methods = c.self.inside.methods.items; pairs = map (option_map tree_of) c.self.inside.pairs.items })
-    (record { name = c.args.name; variables = c.args.variables }) c.self.invariant (rw c.self.view_is c.requires))
+    (record { name = c.args.name; variables = c.args.variables }) c.self.invariant c.items-bytes.ensures.name (rw c.self.view_is c.requires))

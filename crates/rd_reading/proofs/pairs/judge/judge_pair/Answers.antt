@@ -91,6 +91,8 @@ returns-in-None-clause-may c =
     let are = numbers_are kind c.methods-methods.result.now c.args.first.now c.args.second.now m n c.methods-methods.ensures.value c.in-Ok.ensures.first c.in-Ok.ensures.second in
     let ordered = in_order (names_of kind.methods) c.args.first.now c.args.second.now m n c.methods-methods.ensures.valid.methods.different c.requires.right.1.order
     are.first_name are.second_name in
+    let gives = subst (λ (methods : List Method). Gives (MeansAt (scope_of (kind_with methods) c.args.line.now c.args.tokens.now m n)) (parsed_tree c.args.parsed.now) f)
+    c.methods-methods.ensures.value c.in-Ok-formula_of.ensures.gives in
     let is = subst (λ (methods : List Method). IsFormula (scope_of (kind_with methods) c.args.line.now c.args.tokens.now m n) f) c.methods-methods.ensures.value
     c.in-Ok-formula_of.ensures.formula in
-    may_pair kind c.args.line.now c.args.tokens.now m n f ordered (number_within kind.methods c.args.second.now n are.second_name) is c.in-None.ensures
+    may_pair kind c.args.line.now c.args.tokens.now m n (parsed_tree c.args.parsed.now) f ordered (number_within kind.methods c.args.second.now n are.second_name) gives is c.in-None.ensures
