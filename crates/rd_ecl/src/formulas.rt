@@ -7,7 +7,7 @@ ghost use Rattle.rd_ecl.specs.declared.formulas.Rel.TheVariants.{Lt, Le};
 ghost use Rattle.rd_ecl.specs.declared.formulas.Reason.TheVariants.{NotOverCross, OrOfCross};
 ghost use Rattle.rd_ecl.specs.Formulas.{Tree, tree_of, holds, Fits, post_order, first_offence, nodes, levels, InFragment, FitsTerm, term_value, relates, relate, slots_of, crosses_sides, same_predicate, same_value, offence, or_later, earlier_of};
 
-use rd_base::Value;
+use rd_base::{MOST_TOKENS, Value};
 
 /// The two sides of a formula: the calls that it speaks of.
 #[derive(Clone, Copy, Debug, PartialEq, Eq)]
@@ -235,7 +235,7 @@ fn leaf(number: u64, crosses: bool, reason: Option<Reason>) -> FormulaWalk
 // The walk goes over the formula, whose first node has this number.
 #[tactic(auto, using(crate::proofs::FragmentLemmas::first_of_two, crate::proofs::FragmentLemmas::first_or))]
 fn walk(formula: &Formula, number: u64) -> FormulaWalk
-    requires { number + nodes (tree_of formula.now) ≤ 2 ^ 32 }
+    requires { number + nodes (tree_of formula.now) ≤ MOST_TOKENS }
     ensures next { result.next ≡ number + nodes (tree_of formula.now) }
     ensures crosses { result.crosses ≡ crosses_sides (tree_of formula.now) }
     ensures first { result.first ≡ first_offence number (post_order (tree_of formula.now)) }
@@ -276,9 +276,11 @@ fn walk(formula: &Formula, number: u64) -> FormulaWalk
 }
 
 impl Formula {
-    /// Does it hold of two calls, with the slots `a` of side 1 and `b` of side 2? Its slots are among these. It takes no memory.
+    /// Does it hold of two calls, with the slots `a` of side 1 and `b` of side 2? Its slots are among these, and it has at most 512
+    /// nodes. It takes no memory.
     pub fn holds(&self, a: &[Value], b: &[Value]) -> bool
-        requires { Fits (tree_of self.now) (length a.now) (length b.now) }
+        requires fits { Fits (tree_of self.now) (length a.now) (length b.now) }
+        requires few { nodes (tree_of self.now) ≤ MOST_TOKENS }
         ensures { result ≡ holds (tree_of self.now) a.now b.now }
     {
         match self {
@@ -313,29 +315,29 @@ impl Formula {
         }
     }
 
-    /// The first node in post-order that keeps it out of the fragment, and why; `None` exactly in the fragment. It has at most
-    /// 4,294,967,296 nodes. It takes no memory.
+    /// The first node in post-order that keeps it out of the fragment, and why; `None` exactly in the fragment. It has at most 512
+    /// nodes, so the walk over it is as deep at most. It takes no memory.
     #[tactic(auto, using(crate::proofs::FragmentLemmas::fragment_is))]
     pub fn place_outside(&self) -> Option<Outside>
-        requires { nodes (tree_of self.now) ≤ 2 ^ 32 }
+        requires { nodes (tree_of self.now) ≤ MOST_TOKENS }
         ensures first { result ≡ first_offence 0 (post_order (tree_of self.now)) }
         ensures fragment { IsNone result ↔ InFragment (tree_of self.now) }
     {
         walk(self, 0).first
     }
 
-    /// How many nodes it has: fewer than 4,294,967,296. It takes no memory.
+    /// How many nodes it has: at most 512. It takes no memory.
     pub fn nodes(&self) -> u32
-        requires { nodes (tree_of self.now) < 2 ^ 32 }
+        requires { nodes (tree_of self.now) ≤ MOST_TOKENS }
         ensures { result ≡ nodes (tree_of self.now) }
     {
         walk(self, 0).next as u32
     }
 
-    /// How many levels it has: one more than its parts. It has fewer than 4,294,967,296 nodes. It takes no memory.
+    /// How many levels it has: one more than its parts. It has at most 512 nodes. It takes no memory.
     #[tactic(auto, using(crate::proofs::FragmentLemmas::few_not, crate::proofs::FragmentLemmas::few_both, crate::proofs::FragmentLemmas::few_either))]
     pub fn levels(&self) -> u32
-        requires { nodes (tree_of self.now) < 2 ^ 32 }
+        requires { nodes (tree_of self.now) ≤ MOST_TOKENS }
         ensures { result ≡ levels (tree_of self.now) }
     {
         match self {

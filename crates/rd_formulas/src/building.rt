@@ -1,13 +1,14 @@
 //! The formula of what was read, and the tokens of its nodes.
-ghost use Rattle.std.specs.Prelude.{◌≡◌, ◌<◌, ◌^◌, ℕ, length, IfOk, IfSome, IfNone, Some, None, slice_get};
+ghost use Rattle.std.specs.Prelude.{◌≡◌, ◌<◌, ◌≤◌, ◌^◌, ℕ, length, IfOk, IfSome, IfNone, Some, None, slice_get};
 ghost use Rattle.rd_ecl.specs.Formulas.{Fits, has_slots, nodes, tree_of};
 ghost use Rattle.rd_formulas.specs.Meaning.{Gives, node_tokens};
 ghost use Rattle.rd_formulas.specs.Scope.{HasTerms, IsReady, IsScope, MeansAt};
 ghost use Rattle.rd_grammar.specs.Grammar.{relation, parsed_tree};
+ghost use Rattle.rd_grammar.specs.Numbers.{named_by};
 
 use crate::scope::Scope;
 use crate::terms::{meaning, related};
-use rd_base::NoMemory;
+use rd_base::{MOST_TOKENS, NoMemory};
 use rd_ecl::Formula;
 use rd_grammar::{Parsed, Sign};
 use std::alloc::Global;
@@ -33,10 +34,11 @@ fn relation(
     related(alloc, sign, left, right)
 }
 
-/// The formula of what was read. Only texts and nodes below others take memory.
+/// The formula of what was read, of at most 512 tokens. Only texts and nodes below others take memory.
 pub fn build(alloc: Global, scope: &Scope, parsed: &Parsed) -> Result<Formula, NoMemory>
-    requires { IsScope scope.now × HasTerms scope.now (parsed_tree parsed.now)
+    requires ready { IsScope scope.now × HasTerms scope.now (parsed_tree parsed.now)
         × IsReady scope.now (parsed_tree parsed.now) }
+    requires few { length (named_by (parsed_tree parsed.now)) ≤ MOST_TOKENS }
     ensures { IfOk result
         (λ formula. Gives (MeansAt scope.now) (parsed_tree parsed.now) (tree_of formula)) }
 {

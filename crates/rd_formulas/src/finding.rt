@@ -1,10 +1,12 @@
 //! The first term without a meaning, and the first relation without a variable.
-ghost use Rattle.std.specs.Prelude.{◌≡◌, ◌↔◌, ℕ, [], ◌∷◌, ◌++◌, IsTrue, Option, option_map, if◌then◌else◌, Some, None};
+ghost use Rattle.std.specs.Prelude.{◌≡◌, ◌↔◌, ◌≤◌, ℕ, [], ◌∷◌, ◌++◌, length, IsTrue, Option, option_map, if◌then◌else◌, Some, None};
 ghost use Rattle.rd_formulas.specs.Meaning.{IsFirst, IsFirstSign, Related, earlier, relations_in, terms_in};
 ghost use Rattle.rd_formulas.specs.Scope.{HasTerms, IsBare, IsScope, IsTermAt, IsUnknown};
 ghost use Rattle.rd_grammar.specs.Grammar.{parsed_tree};
+ghost use Rattle.rd_grammar.specs.Numbers.{named_by};
 
 use crate::scope::Scope;
+use rd_base::MOST_TOKENS;
 use rd_grammar::Parsed;
 
 // The number, where the test holds.
@@ -40,10 +42,11 @@ fn unknown_of(scope: &Scope, left: u32, right: u32) -> Option<u32>
     earlier(unknown_at(scope, left), unknown_at(scope, right))
 }
 
-/// The first term of a formula that is a variable which isn't one of its side's method, by its token's number. It takes no
-/// memory.
+/// The first term of a formula that is a variable which isn't one of its side's method, by its token's number. The formula
+/// has at most 512 tokens. It takes no memory.
 pub fn first_unknown(scope: &Scope, parsed: &Parsed) -> Option<u32>
-    requires { IsScope scope.now × HasTerms scope.now (parsed_tree parsed.now) }
+    requires known { IsScope scope.now × HasTerms scope.now (parsed_tree parsed.now) }
+    requires few { length (named_by (parsed_tree parsed.now)) ≤ MOST_TOKENS }
     ensures { IsFirst (IsUnknown scope.now) (terms_in (parsed_tree parsed.now)) result }
 {
     match parsed {
@@ -68,9 +71,10 @@ fn bare_at(scope: &Scope, sign: u32, left: u32, right: u32) -> Option<u32>
     number_if(scope.is_bare(left, right), sign)
 }
 
-/// The first relation of a formula without a variable, by its sign's number. It takes no memory.
+/// The first relation of a formula without a variable, by its sign's number. The formula has at most 512 tokens. It takes no memory.
 pub fn first_bare(scope: &Scope, parsed: &Parsed) -> Option<u32>
-    requires { IsScope scope.now × HasTerms scope.now (parsed_tree parsed.now) }
+    requires known { IsScope scope.now × HasTerms scope.now (parsed_tree parsed.now) }
+    requires few { length (named_by (parsed_tree parsed.now)) ≤ MOST_TOKENS }
     ensures { IsFirstSign (IsBare scope.now) (relations_in (parsed_tree parsed.now)) result }
 {
     match parsed {

@@ -1,9 +1,11 @@
 //! The tokens of a formula's nodes.
-ghost use Rattle.std.specs.Prelude.{◌≡◌, ◌+◌, ◌<◌, ℕ, [], ◌∷◌, length, IfOk, IfErr, Some, slice_get};
+ghost use Rattle.std.specs.Prelude.{◌≡◌, ◌+◌, ◌<◌, ◌≤◌, ℕ, [], ◌∷◌, length, IfOk, IfErr, Some, slice_get};
 ghost use Rattle.rd_ecl.specs.Formulas.{tree_of};
 ghost use Rattle.rd_formulas.specs.Meaning.{node_tokens};
 ghost use Rattle.rd_grammar.specs.Grammar.{parsed_tree};
+ghost use Rattle.rd_grammar.specs.Numbers.{named_by};
 
+use rd_base::MOST_TOKENS;
 use rd_ecl::Formula;
 use rd_grammar::Parsed;
 
@@ -25,6 +27,7 @@ fn own_two(token: u32, node: u32) -> Result<u32, u32>
 
 // The token of the node with this number in post-order; where there are fewer nodes, the number less theirs.
 fn seek(parsed: &Parsed, formula: &Formula, node: u32) -> Result<u32, u32>
+    requires { length (named_by (parsed_tree parsed.now)) ≤ MOST_TOKENS }
     ensures found { IfOk result
         (λ token. slice_get
         (node_tokens (parsed_tree parsed.now) (tree_of formula.now)) node ≡ Some token) }
@@ -67,9 +70,10 @@ fn seek(parsed: &Parsed, formula: &Formula, node: u32) -> Result<u32, u32>
     }
 }
 
-/// The number of the token of a formula's node, by the node's number in post-order: its sign, `not`, `and`, `or`, or word. It
-/// takes no memory.
+/// The number of the token of a formula's node, by the node's number in post-order: its sign, `not`, `and`, `or`, or word.
+/// What was read has at most 512 tokens. It takes no memory.
 pub fn token_of_node(parsed: &Parsed, formula: &Formula, node: u32) -> Option<u32>
+    requires { length (named_by (parsed_tree parsed.now)) ≤ MOST_TOKENS }
     ensures { result ≡ slice_get (node_tokens (parsed_tree parsed.now) (tree_of formula.now)) node }
 {
     seek(parsed, formula, node).ok()

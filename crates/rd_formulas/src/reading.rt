@@ -55,6 +55,7 @@ fn refused_outside(
     outside: Outside,
 ) -> FormulaRefused
     requires scope { length scope.now.line.now < 2 ^ 32 - 1 }
+    requires few { length (named_by (parsed_tree parsed.now)) ≤ MOST_TOKENS }
     requires outside { first_offence 0 (post_order (tree_of formula.now)) ≡ Some outside }
     requires gives { Gives (MeansAt scope.now) (parsed_tree parsed.now) (tree_of formula.now) }
     ensures { IsTroubled scope.now (parsed_tree parsed.now) result }

@@ -137,7 +137,7 @@ fn made(rt: &impl Abort, alloc: Global, sketch: Sketch) -> Formula
 
 // Does it hold of two calls, or of these turned round?
 fn holds(formula: &Formula, turned: bool) -> bool
-    requires { Fits (tree_of formula.now) 2 2 }
+    requires { Fits (tree_of formula.now) 2 2 × (nodes (tree_of formula.now) ≤ 8) }
 {
     let a = [Value::Int(5), Value::Int(1)];
     let b = [Value::Int(1), Value::Int(7)];
