@@ -1,12 +1,18 @@
 -- The first of names that is one of those before it.
-use Rattle.std.proofs.Common.{◌≡◌, ◌≢◌, ◌<◌, ◌+◌, ℕ, Bool, true, false, not, List, [], ◌∷◌, ◌++◌, length, get_or, take, refl, sym, ◌∙◌, ap, subst, cond, arith, length-append}
+use Rattle.std.proofs.Common.{◌≡◌, ◌≢◌, ◌<◌, ◌+◌, ℕ, Bool, true, false, not, ◌||◌, nat_eq, List, [], ◌∷◌, ◌++◌, length, get_or, take, refl, sym, ◌∙◌, ap, subst, cond, arith, length-append}
 use Rattle.std.specs.Prelude.{AllPairs, Contains}
-use Rattle.std.specs.Cmp.Lexicographic.{bytes_decides, nat_list_eq_equiv}
+use Rattle.std.specs.Cmp.Lexicographic.{bytes_decides, nat_list_eq_equiv, pointwise, slice_cmp}
+use Rattle.std.specs.List.{list_any}
+use Rattle.std.specs.Ordering.{is_eq, nat_cmp}
+use Rattle.std.specs.Str.{bytes_eq}
+use denote.Ref.{Bor}
 use Rattle.std.proofs.Math.ListN.{get_or-append}
 use Rattle.std.proofs.Math.Seq.{get_or-append_seam, take-append_seam, take-length}
 use Rattle.std.proofs.lemmas.List.{get_or-take, length-take-le, take-append-le, take_more}
+use Rattle.std.proofs.lemmas.List.Folds.{list_any-append}
 use Rattle.std.proofs.lemmas.Map.Keys.{IsDistinct-push}
 use Rattle.std.proofs.lemmas.Map.Made.{AllPairs-from_IsDistinct, IsDistinct-from_AllPairs}
+use Rattle.std.proofs.lemmas.Map.Text.{is_eq-slice_cmp}
 use Rattle.std.proofs.lemmas.Option.{get_or_from_slice_get, slice_get_read, slice_get_within}
 use Rattle.rd_reading.specs.Causes.{IsFirstRepeated}
 use Rattle.rd_ecl.specs.Variables.{is_among}
@@ -65,39 +71,62 @@ module _ (names : List (List ℕ)) (last : List ℕ) where
         others = subst Different (sym front) different;
       }
 
+-- is the name one of these?
+abbrev pub is_found : List ℕ → List (Bor (List ℕ)) → Bool
+is_found name keys = list_any (λ key. is_eq (slice_cmp nat_cmp name key.now)) keys
+
 -- the names before an index, which differ
-pub record AreSeen (names keys : List (List ℕ)) (number : ℕ) : Type 0 where
-  pub so_far : keys ≡ take number names
+pub record AreSeen (names : List (List ℕ)) (keys : List (Bor (List ℕ))) (number : ℕ) : Type 0 where
+  pub so_far : (name : List ℕ) → is_found name keys ≡ is_among name (take number names)
   pub different : Different (take number names)
 
-module _ (names keys : List (List ℕ)) (number : ℕ) (name : List ℕ) (within : number < length names) (is : name ≡ get_or names number name)
-    (seen : AreSeen names keys number) (is_new : Bool) (added : is_new ≡ not (is_among name keys)) where
+-- one of the names, or one more behind them
+among_more : (names : List (List ℕ)) (name other : List ℕ) → is_among other (names ++ name ∷ []) ≡ cond (bytes_eq name other) true (is_among other names)
+among_more names name other =
+    list_any-append (pointwise nat_eq other) names (name ∷ []) ∙ turned (is_among other names) (bytes_eq name other) (bytes_eq other name) (nat_list_eq_equiv.symm name other) where
+      turned : (among one way : Bool) → one ≡ way → (among || (way || false)) ≡ cond one true among
+      turned true true true e = refl
+      turned true false false e = refl
+      turned false true true e = refl
+      turned false false false e = refl
+      turned true true false e = absurd (cc)
+      turned true false true e = absurd (cc)
+      turned false true false e = absurd (cc)
+      turned false false true e = absurd (cc)
+
+module _ (names : List (List ℕ)) (keys : List (Bor (List ℕ))) (number : ℕ) (name : List ℕ) (within : number < length names)
+    (is : name ≡ get_or names number name) (seen : AreSeen names keys number) (is_new : Bool) (added : is_new ≡ not (is_found name keys)) where
   pub seen_twice : (last : List ℕ) → is_new ≡ false → IsFirstRepeated (names ++ last ∷ []) number
   seen_twice last old =
       repeated_at names last number name within is seen.different
-      (ap (is_among name) (sym seen.so_far) ∙ negated_back (is_among name keys) (sym added ∙ old))
+      (sym (seen.so_far name) ∙ negated_back (is_found name keys) (sym added ∙ old))
 
-  pub seen_once : (more : List (List ℕ)) → more ≡ cond (is_among name keys) keys (keys ++ name ∷ []) → is_new ≡ true
+  pub seen_once : (more : List (Bor (List ℕ)))
+      → ((key : Bor (List ℕ)) → is_found key.now more ≡ cond (is_eq (slice_cmp nat_cmp name key.now)) true (is_found key.now keys)) → is_new ≡ true
       → AreSeen names more (number + 1)
   seen_once more grown new =
-      let fresh : is_among name keys ≡ false = negated (is_among name keys) (sym added ∙ new) in
+      let fresh : is_among name (take number names) ≡ false = sym (seen.so_far name) ∙ negated (is_found name keys) (sym added ∙ new) in
       let next : take (number + 1) names ≡ take number names ++ name ∷ [] =
       take_more names number name within ∙ ap (λ (n : List ℕ). take number names ++ n ∷ []) (sym is) in
-      let there : more ≡ keys ++ name ∷ [] = grown ∙ ap (λ (b : Bool). cond b keys (keys ++ name ∷ [])) fresh in
       record {
-        so_far = there ∙ ap (λ (l : List (List ℕ)). l ++ name ∷ []) seen.so_far ∙ sym next;
-        different = subst Different (sym next) (one_different (take number names) name seen.different (ap (is_among name) (sym seen.so_far) ∙ fresh));
+        so_far = λ other.
+            grown (record { ref_ptr = (0, 0); now = other })
+            ∙ ap (λ (b : Bool). cond b true (is_found other keys)) (is_eq-slice_cmp name other)
+            ∙ ap (λ (b : Bool). cond (bytes_eq name other) true b) (seen.so_far other)
+            ∙ sym (among_more (take number names) name other)
+            ∙ ap (is_among other) (sym next);
+        different = subst Different (sym next) (one_different (take number names) name seen.different fresh);
       }
 
 -- all names are seen
-module _ (names keys : List (List ℕ)) (number : ℕ) (all : number ≡ length names) (seen : AreSeen names keys number) where
+module _ (names : List (List ℕ)) (keys : List (Bor (List ℕ))) (number : ℕ) (all : number ≡ length names) (seen : AreSeen names keys number) where
   whole : take number names ≡ names
   whole = ap (λ (n : ℕ). take n names) all ∙ take-length names
 
-  pub last_twice : (last : List ℕ) → is_among last keys ≡ true → IsFirstRepeated (names ++ last ∷ []) (length names)
+  pub last_twice : (last : List ℕ) → is_found last keys ≡ true → IsFirstRepeated (names ++ last ∷ []) (length names)
   last_twice last among =
-      repeated_last names last (subst Different whole seen.different) (ap (is_among last) (sym (seen.so_far ∙ whole)) ∙ among)
+      repeated_last names last (subst Different whole seen.different) (ap (is_among last) (sym whole) ∙ sym (seen.so_far last) ∙ among)
 
-  pub last_once : (last : List ℕ) → is_among last keys ≡ false → Different (names ++ last ∷ [])
+  pub last_once : (last : List ℕ) → is_found last keys ≡ false → Different (names ++ last ∷ [])
   last_once last fresh =
-      one_different names last (subst Different whole seen.different) (ap (is_among last) (sym (seen.so_far ∙ whole)) ∙ fresh)
+      one_different names last (subst Different whole seen.different) (ap (is_among last) (sym whole) ∙ sym (seen.so_far last) ∙ fresh)

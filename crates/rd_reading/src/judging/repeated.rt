@@ -2,11 +2,12 @@
 ghost use Rattle.std.specs.Prelude.{◌≡◌, ◌≢◌, ◌++◌, ◌∷◌, [], IfOk, IfSome, IfNone, AllPairs};
 ghost use Rattle.rd_reading.specs.Causes.{IsFirstRepeated};
 
-use indexmap::IndexSet;
 use rd_base::{Name, NoMemory};
 use std::alloc::Global;
+use std::collections::BTreeSet;
 
-// The number of the first name that is one of those before it, of these and one more behind them. Its time grows with their number.
+// The number of the first name that is one of those before it, of these and one more behind them. Each is sought in their order, so
+// the time is that of their number and its logarithm, whatever the names are.
 pub(crate) fn first_repeated(
     alloc: Global,
     names: &[Name],
@@ -17,16 +18,14 @@ pub(crate) fn first_repeated(
     ensures none { IfOk result
         (λ found. IfNone found (AllPairs (λ x y. x ≢ y) (names.now ++ last.now ∷ []))) }
 {
-    let mut seen = IndexSet::new(alloc);
+    let mut seen = BTreeSet::new(alloc);
     for (number, name) in names.iter().enumerate() {
-        let Ok((_, is_new)) = seen.insert_full(name.copy()) else {
-            return Err(NoMemory);
-        };
+        let is_new = seen.insert(name)?;
         if !is_new {
             return Ok(Some(number));
         }
     }
-    if seen.contains(last) {
+    if seen.contains(&last) {
         return Ok(Some(names.len()));
     }
     Ok(None)
