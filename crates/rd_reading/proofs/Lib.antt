@@ -1,5 +1,6 @@
 pub mod AddLemmas
 pub mod CuttingLemmas
+pub mod DraftLemmas
 pub mod JudgeLemmas
 pub mod KindLemmas
 pub mod LimitLemmas
@@ -15,4 +16,5 @@ pub mod PairLineLemmas
 pub mod ParsingLemmas
 pub mod RepeatLemmas
 pub mod ScopeLemmas
+pub mod SearchLemmas
 pub mod WordLemmas

@@ -49,7 +49,7 @@ no_bytes : (line more : List ℕ) → line ++ 10 ∷ more ≡ [] → ⊥
 no_bytes [] more e = absurd (cc)
 no_bytes (b ∷ line) more e = absurd (cc)
 
-lines_one : (text other : List ℕ) (lines others : List (List ℕ)) → text ≡ other → AreLines text lines → AreLines other others → lines ≡ others
+pub lines_one : (text other : List ℕ) (lines others : List (List ℕ)) → text ≡ other → AreLines text lines → AreLines other others → lines ≡ others
 lines_one text other lines others e no_line no_line = refl
 lines_one text other lines others e no_line (last_line some clean) = absurd (some (sym e))
 lines_one text other lines others e no_line (line_first {line} {more} clean rest) = absurd (no_bytes line more (sym e))
@@ -68,14 +68,14 @@ lines_one text other lines others e (line_first {line} {more} {lines = ls} clean
 -- ---- what is known
 
 -- no two methods are of one name, and no two variables of a method
-record AreApart (kind : SpecifiedKind) : Type 0 where
-  names : AreDifferent (names_of kind.methods)
-  variables : (n : ℕ) → AreDifferent (variables_at kind n)
+pub record AreApart (kind : SpecifiedKind) : Type 0 where
+  pub names : AreDifferent (names_of kind.methods)
+  pub variables : (n : ℕ) → AreDifferent (variables_at kind n)
 
-none_apart : AreDifferent []
+pub none_apart : AreDifferent []
 none_apart i j d less within = absurd (omega (arith, within))
 
-apart_without : (name : List ℕ) → AreApart (kind_without name)
+pub apart_without : (name : List ℕ) → AreApart (kind_without name)
 apart_without name = record { names = none_apart; variables = λ n. none_apart }
 
 -- a name more
@@ -87,16 +87,16 @@ name_more names name different fresh =
       not_among true is = absurd (fresh ((among_decides name names).0 is))
       not_among false is = is
 
-take_front : (before : List (List ℕ)) (rest : List (List ℕ)) → take (length before) (before ++ rest) ≡ before
+pub take_front : (before : List (List ℕ)) (rest : List (List ℕ)) → take (length before) (before ++ rest) ≡ before
 take_front [] rest = refl
 take_front (b ∷ before) rest = ap (λ (l : List (List ℕ)). b ∷ l) (take_front before rest)
 
-stands_there : (before : List (List ℕ)) (name : List ℕ) (rest : List (List ℕ)) → slice_get (before ++ name ∷ rest) (length before) ≡ Some name
+pub stands_there : (before : List (List ℕ)) (name : List ℕ) (rest : List (List ℕ)) → slice_get (before ++ name ∷ rest) (length before) ≡ Some name
 stands_there [] name rest = refl
 stands_there (b ∷ before) name rest = stands_there before name rest
 
 -- where none of the names repeats one before it, they differ
-never_repeated : (names before rest : List (List ℕ)) → names ≡ before ++ rest → ((n : ℕ) → ¬ (IsFirstRepeated names n)) → AreDifferent before → AreDifferent names
+pub never_repeated : (names before rest : List (List ℕ)) → names ≡ before ++ rest → ((n : ℕ) → ¬ (IsFirstRepeated names n)) → AreDifferent before → AreDifferent names
 never_repeated names before [] same never different = subst AreDifferent (sym (same ∙ append-nil before)) different
 never_repeated names before (name ∷ rest) same never different =
     never_repeated names (before ++ name ∷ []) rest (same ∙ sym (append_assoc before (name ∷ []) rest)) never
@@ -132,7 +132,7 @@ apart_more kind one apart fresh different = record {
   variables = λ n. variables_more kind.methods one n AreDifferent apart.variables different none_apart;
 }
 
-abbrev IsApart : Known → Type 0
+abbrev pub IsApart : Known → Type 0
 IsApart known = AreApart (kind_in known.block)
 
 -- an accepted line keeps them apart
@@ -148,7 +148,7 @@ form_apart taken known next line tokens (method_said name arguments result) apar
 form_apart taken known next line tokens (commute_said first second read) apart clean (m, n, f, says, same) =
     subst IsApart (sym same) (record { names = apart.names; variables = apart.variables })
 
-accepted_apart : (taken : List (List ℕ)) (known next : Known) (line : List ℕ) → IsApart known → AcceptsSpecLine taken known line next → IsApart next
+pub accepted_apart : (taken : List (List ℕ)) (known next : Known) (line : List ℕ) → IsApart known → AcceptsSpecLine taken known line next → IsApart next
 accepted_apart taken known next line apart accepts = by accepts.adds where
   by : Adds known line accepts.tokens next → IsApart next
   by (adds_header fresh header same) = subst IsApart (sym same) apart
@@ -185,12 +185,12 @@ one_next known a b line tokens apart (adds_form begun form right adds) (adds_for
     let forms : other ≡ form = one_form (stage_of known) (open_method_names known) (words_of line tokens) other form fit right in
     one_added known a b line tokens form apart adds (subst (λ (f : SaidForm). FormAdds known line tokens f b) forms more)
 
-one_accepted : (taken : List (List ℕ)) (known a b : Known) (line : List ℕ) → IsApart known → AcceptsSpecLine taken known line a → AcceptsSpecLine taken known line b → a ≡ b
+pub one_accepted : (taken : List (List ℕ)) (known a b : Known) (line : List ℕ) → IsApart known → AcceptsSpecLine taken known line a → AcceptsSpecLine taken known line b → a ≡ b
 one_accepted taken known a b line apart one other =
     let tokens : other.tokens ≡ one.tokens = one_list line other.tokens one.tokens other.cut one.cut in
     one_next known a b line one.tokens apart one.adds (subst (λ (ts : List Token). Adds known line ts b) tokens other.adds)
 
-one_read : (taken : List (List ℕ)) (known a b : Known) (lines : List (List ℕ)) → IsApart known → ReadsLines taken known lines a → ReadsLines taken known lines b → a ≡ b
+pub one_read : (taken : List (List ℕ)) (known a b : Known) (lines : List (List ℕ)) → IsApart known → ReadsLines taken known lines a → ReadsLines taken known lines b → a ≡ b
 one_read taken known a b lines apart no_more no_more = refl
 one_read taken known a b lines apart (skips {lines = rest} skipped more) (skips also others) = one_read taken known a b rest apart more others
 one_read taken known a b lines apart (skips skipped more) (takes kept accepts others) = absurd (kept skipped)
@@ -222,7 +222,7 @@ front_read taken known last mid (l ∷ before) line behind apart (takes {mid = n
     front_read taken next last mid before line behind (accepted_apart taken known next l apart accepts) more
     (subst (λ (k : Known). ReadsLines taken k before mid) same rest) kept
 
-line_fine : (taken : List (List ℕ)) (lines : List (List ℕ)) (last : Known) (refused : SpecRefused) → ReadsLines taken nothing lines last → ¬ (IsRefusedAtLine taken lines refused)
+pub line_fine : (taken : List (List ℕ)) (lines : List (List ℕ)) (last : Known) (refused : SpecRefused) → ReadsLines taken nothing lines last → ¬ (IsRefusedAtLine taken lines refused)
 line_fine taken lines last refused reads wrong =
     let (next, accepts) = front_read taken nothing last wrong.known wrong.before wrong.line wrong.behind (apart_without [])
     (subst (λ (l : List (List ℕ)). ReadsLines taken nothing l last) wrong.parts reads) wrong.reads wrong.kept in

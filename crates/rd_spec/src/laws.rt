@@ -1,14 +1,15 @@
 //! The law of specifications.
-ghost use Rattle.std.specs.Prelude.{◌≡◌, ℕ, List};
-ghost use Rattle.rd_ecl.specs.Specified.{SpecifiedKind};
+ghost use Rattle.std.specs.Prelude.{◌≡◌, ℕ, List, All};
+ghost use Rattle.rd_ecl.specs.Specified.{IsKind, SpecifiedKind};
 ghost use Rattle.rd_print.specs.Printed.{spec_text};
 ghost use Rattle.rd_spec.specs.Again.{MayBeRead};
 ghost use Rattle.rd_reading.specs.Texts.{HasNewNames, IsSpecRefused, SpecSays};
 ghost use Rattle.rd_reading.specs.declared.parsing.SpecRefused.{SpecRefused};
 
 /// The law of specifications: a text says one specification at most, and is refused nowhere if it says one. The canonical text of
-/// at most 32 kinds of different names, none of them taken, says these kinds again, where it isn't too long. What a text says
-/// is always at most 32 kinds, of different names, none of them taken.
+/// at most 32 kinds of different names, none of them taken, says the same kinds again, where it isn't too long. What a text says
+/// is always at most 32 kinds, of different names, none of them taken, each with a formula in the fragment for each pair of its
+/// methods.
 pub fn law_of_specifications()
     ensures one { (text : List ℕ) (taken : List (List ℕ)) (x y : List SpecifiedKind) →
         SpecSays text taken x → SpecSays text taken y → x ≡ y }
@@ -19,4 +20,6 @@ pub fn law_of_specifications()
         → SpecSays (spec_text kinds) taken kinds }
     ensures names { (text : List ℕ) (taken : List (List ℕ)) (kinds : List SpecifiedKind) →
         SpecSays text taken kinds → HasNewNames taken kinds }
+    ensures kinds { (text : List ℕ) (taken : List (List ℕ)) (kinds : List SpecifiedKind) →
+        SpecSays text taken kinds → All IsKind kinds }
 {}

@@ -1,4 +1,5 @@
 use Rattle.rd_spec.proofs.AgainLemmas.{read_again}
+use Rattle.rd_reading.proofs.DraftLemmas.{said_kinds}
 use Rattle.rd_reading.proofs.NameLemmas.{read_names}
 use Rattle.rd_reading.proofs.OneLemmas.{one_said, never_refused}
 use Rattle.rd_spec.proofs.laws.law_of_specifications.Goals as goal
@@ -14,3 +15,6 @@ returns-clause-again c = read_again
 
 pub returns-clause-names : goal.returns-clause-names
 returns-clause-names c = read_names
+
+pub returns-clause-kinds : goal.returns-clause-kinds
+returns-clause-kinds c = said_kinds
