@@ -1,6 +1,8 @@
 pub mod AddLemmas
+pub mod CauseLemmas
 pub mod CuttingLemmas
 pub mod DraftLemmas
+pub mod FormLemmas
 pub mod JudgeLemmas
 pub mod KindLemmas
 pub mod LimitLemmas
@@ -14,7 +16,10 @@ pub mod NumberLemmas
 pub mod OneLemmas
 pub mod PairLineLemmas
 pub mod ParsingLemmas
+pub mod RefusalLemmas
 pub mod RepeatLemmas
 pub mod ScopeLemmas
 pub mod SearchLemmas
+pub mod TroubleLemmas
+pub mod VerdictLemmas
 pub mod WordLemmas

@@ -32,14 +32,14 @@ short_words words few = record {
       at_most (length behind) MOST_TOKENS (λ many. few (record { first = first; second = second; behind = behind; written = written; many = many }));
 }
 
-short_few : (words : List LineWord) → HasFewWords words → ¬ (HasManyTokens words)
+pub short_few : (words : List LineWord) → HasFewWords words → ¬ (HasManyTokens words)
 short_few words short has =
     let few = short.few has.first has.second has.behind has.written in
     let many = has.many in
     omega (arith, few, many)
 
 -- what a right line has comes behind what any line may have
-least_form : (taken : List (List ℕ)) (known : Known) (line : List ℕ) (tokens : List Token) (form : SaidForm) (cause : SpecCause) (place : ℕ)
+pub least_form : (taken : List (List ℕ)) (known : Known) (line : List ℕ) (tokens : List Token) (form : SaidForm) (cause : SpecCause) (place : ℕ)
     → FormHas taken known line tokens form cause place → 3 ≤ rank cause
 least_form taken known line tokens (kind name) Duplicate place has = omega arith
 least_form taken known line tokens (kind name) (MissingPair first second) place has = omega arith
