@@ -1,4 +1,5 @@
 pub mod AddLemmas
+pub mod BlockLemmas
 pub mod CauseLemmas
 pub mod CuttingLemmas
 pub mod DraftLemmas

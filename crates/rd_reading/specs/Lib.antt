@@ -1,4 +1,5 @@
 pub mod Adding
+pub mod Blocks
 pub mod Causes
 pub mod Judging
 pub mod Known

@@ -1,5 +1,6 @@
 pub mod AcceptLemmas
 pub mod AgainLemmas
+pub mod BlockLines
 pub mod FewLemmas
 pub mod MethodLines
 pub mod PairLines
