@@ -1,7 +1,7 @@
 //! Lists of bytes of any length: the words of a command line, and texts that are written.
-ghost use Rattle.std.specs.Prelude.{◌≡◌, [], ◌∷◌, ◌++◌, IfOk, OnOk, OnErr};
+ghost use Rattle.std.specs.Prelude.{◌≡◌, ◌≢◌, [], ◌∷◌, ◌++◌, IfOk, OnOk, OnErr};
 
-use crate::memory::NoMemory;
+use crate::memory::{NoMemory, list_of_bytes};
 use std::alloc::Global;
 use std::marker::Model;
 
@@ -29,12 +29,13 @@ impl Word {
         }
     }
 
-    /// The word with these bytes.
+    /// The word with these bytes. The empty one takes no memory.
     pub fn from_bytes(alloc: Global, bytes: &[u8]) -> Result<Word, NoMemory>
-        ensures { IfOk result (λ word. word ≡ bytes.now) }
+        ensures value { IfOk result (λ word. word ≡ bytes.now) }
+        ensures memory { OnErr result (bytes.now ≢ []) }
     {
         Ok(Word {
-            held: Vec::from_slice(alloc, bytes)?,
+            held: list_of_bytes(alloc, bytes)?,
         })
     }
 
@@ -95,10 +96,11 @@ impl Bytes {
         Ok(())
     }
 
-    /// Puts these bytes last. After want of memory the text is as before.
+    /// Puts these bytes last. None take no memory. After want of memory the text is as before.
     pub fn append(&mut self, bytes: &[u8]) -> Result<(), NoMemory>
         ensures ok { OnOk result (self.new ≡ self.old ++ bytes.now) }
         ensures err { OnErr result (self.new ≡ self.old) }
+        ensures memory { OnErr result (bytes.now ≢ []) }
     {
         self.held.extend_from_slice(bytes)?;
         Ok(())

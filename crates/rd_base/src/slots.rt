@@ -46,7 +46,7 @@ fn with_last(alloc: Global, values: &[Value], last: Value) -> Result<Rc<Vec<Valu
 }
 
 impl Slots {
-    ghost use Rattle.std.specs.Prelude.{◌≡◌, [], ◌∷◌, ◌++◌, IfOk, OnOk, OnErr};
+    ghost use Rattle.std.specs.Prelude.{◌≡◌, ◌≢◌, [], ◌∷◌, ◌++◌, IfOk, OnOk, OnErr};
 
     /// No values. It takes no memory.
     pub fn new(alloc: Global) -> Slots
@@ -96,16 +96,18 @@ impl Slots {
         }
     }
 
-    /// An equal list, which shares this one's memory. `NoMemory` comes only where too many share it.
+    /// An equal list, which shares this one's memory. `NoMemory` comes only where too many share it, and
+    /// for no values it never comes.
     pub fn copy(&self, alloc: Global) -> Result<Slots, NoMemory>
-        ensures { IfOk result (λ slots. slots ≡ self.now) }
+        ensures value { IfOk result (λ slots. slots ≡ self.now) }
+        ensures memory { OnErr result (self.now ≢ []) }
     {
         match &self.held {
-            Some(held) => Ok(Slots {
+            Some(held) if !held.is_empty() => Ok(Slots {
                 alloc,
                 held: Some(held.clone()?),
             }),
-            None => Ok(Slots { alloc, held: None }),
+            _ => Ok(Slots::new(alloc)),
         }
     }
 }

@@ -1,11 +1,11 @@
 //! Values: the arguments and results of calls.
-ghost use Rattle.std.specs.Prelude.{◌≡◌, ◌<◌, ◌≤◌, ◌↔◌, ℕ, List, All, IfOk, IsErrOf, IsTrue, length};
+ghost use Rattle.std.specs.Prelude.{◌≡◌, ◌≢◌, ◌<◌, ◌≤◌, ◌↔◌, ℕ, List, [], All, IfOk, IfErr, OnErr, IsErrOf, IsTrue, length};
 ghost use Rattle.std.specs.declared.cmp.Ordering.TheVariants.{Equal};
 ghost use Rattle.rd_base.specs.declared.values.Value.{Value};
 ghost use Rattle.rd_base.specs.Order.{bytes_cmp, value_cmp};
 ghost use Rattle.rd_base.specs.Spelling.{IsText};
 
-use crate::memory::NoMemory;
+use crate::memory::{NoMemory, list_of_bytes};
 use crate::names::Name;
 use std::alloc::{AllocError, Global};
 use std::cmp::Ordering;
@@ -60,16 +60,17 @@ fn ranged(bytes: &[u8]) -> &[u8]
 }
 
 impl Text {
-    /// The text of these bytes. `TooLong` comes exactly above 255 bytes.
+    /// The text of these bytes. `TooLong` comes exactly above 255 bytes. The empty text takes no memory.
     pub fn from_bytes(alloc: Global, bytes: &[u8]) -> Result<Text, TextRefused>
         ensures value { IfOk result (λ text. text ≡ bytes.now) }
         ensures too_long { IsErrOf result TextRefused.TooLong ↔ (255 < length bytes.now) }
+        ensures memory { IfErr result (λ e. e ≡ TextRefused.NoMemory → bytes.now ≢ []) }
     {
         if bytes.len() > 255 {
             return Err(TextRefused::TooLong);
         }
         Ok(Text {
-            bytes: Vec::from_slice(alloc, bytes)?,
+            bytes: list_of_bytes(alloc, bytes)?,
         })
     }
 
@@ -82,12 +83,13 @@ impl Text {
         ranged(self.bytes.as_slice())
     }
 
-    /// An equal text.
+    /// An equal text. The empty one takes no memory.
     pub fn copy(&self, alloc: Global) -> Result<Text, NoMemory>
-        ensures { IfOk result (λ text. text ≡ self.now) }
+        ensures value { IfOk result (λ text. text ≡ self.now) }
+        ensures memory { OnErr result (self.now ≢ []) }
     {
         Ok(Text {
-            bytes: Vec::from_slice(alloc, self.bytes.as_slice())?,
+            bytes: list_of_bytes(alloc, self.bytes.as_slice())?,
         })
     }
 }
@@ -168,9 +170,11 @@ pub enum Value {
 }
 
 impl Value {
-    /// An equal value.
+    /// An equal value. Only a text that isn't empty takes memory.
     pub fn copy(&self, alloc: Global) -> Result<Value, NoMemory>
-        ensures { IfOk result (λ value. value ≡ self.now) }
+        ensures value { IfOk result (λ value. value ≡ self.now) }
+        ensures memory { OnErr result
+            ((text : List ℕ) × (self.now ≡ Value.Text text) × (text ≢ [])) }
     {
         Ok(match self {
             Value::Nil => Value::Nil,
