@@ -9,6 +9,7 @@ use memchr::memchr;
 use rd_base::{Limits, NoMemory};
 use std::alloc::Global;
 use std::marker::Model;
+use thiserror::Error;
 
 /// What the reader found.
 #[derive(Clone, Copy, Debug, PartialEq, Eq)]
@@ -20,15 +21,19 @@ pub enum Next {
 }
 
 /// Why there is no further line.
-#[derive(Clone, Copy, Debug, PartialEq, Eq)]
+#[derive(Clone, Copy, Debug, PartialEq, Eq, Error)]
 pub enum ReadEnd {
     /// a read failed; the next call goes on
+    #[error("a read failed")]
     ReadFault,
     /// the line has as many bytes as the limit on a line, or more
+    #[error("the line is too long")]
     LineTooLong,
     /// there are bytes past the limit on bytes
+    #[error("there are too many bytes")]
     BytesLimit,
     /// the input ended inside a line
+    #[error("the input ended inside a line")]
     NoFinalNewline,
 }
 
