@@ -5,6 +5,7 @@ pub mod FillLemmas
 pub mod LookLemmas
 pub mod NextLemmas
 pub mod ReadingLemmas
+pub mod SaidLemmas
 pub mod SinkLemmas
 pub mod StoredFileLemmas
 pub mod WindowLemmas

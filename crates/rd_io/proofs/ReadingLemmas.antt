@@ -75,7 +75,7 @@ take_over (x ∷ xs) b back n =
     let e : suc (length xs) + 1 + n ≡ suc (length xs + 1 + n) = omega arith in
     ap (λ k. take k (x ∷ (xs ++ b ∷ back))) e ∙ ap (λ ys. x ∷ ys) (take_over xs b back n)
 
-reading_line : (limit room : ℕ) (stop : Stop) (bytes back : List ℕ) (n : ℕ) → HasNoFeed bytes → length bytes < limit
+pub reading_line : (limit room : ℕ) (stop : Stop) (bytes back : List ℕ) (n : ℕ) → HasNoFeed bytes → length bytes < limit
     → room ≡ length bytes + 1 + n → reading limit room stop (bytes ++ 10 ∷ back) ≡ line bytes (reading limit n stop back)
 unfolding reading
 reading_line limit room stop bytes back n clean short fits =

@@ -5,4 +5,5 @@ pub mod LineReader
 pub mod Lines
 pub mod MemoryInputs
 pub mod MemorySink
+pub mod SaidLines
 pub mod Sinks
