@@ -1,5 +1,5 @@
 //! Vector clocks.
-ghost use Rattle.std.specs.Prelude.{◌≡◌, ℕ, ◌+◌, ◌*◌, ◌<◌, ◌≤◌, ◌↔◌, max, length, IfOk, OnOk, OnErr, IsTrue, [], vec_capacity};
+ghost use Rattle.std.specs.Prelude.{◌≡◌, ◌≢◌, ℕ, ◌+◌, ◌*◌, ◌<◌, ◌≤◌, ◌↔◌, max, length, IfOk, OnOk, OnErr, IsTrue, [], vec_capacity};
 ghost use Rattle.rd_clock.specs.Clock.{component, IsTick, IsRaise, IsJoin};
 
 use rd_base::{NoMemory, Steps};
@@ -33,11 +33,13 @@ impl Clock {
         }
     }
 
-    /// Makes room for the threads below that number. Every component is as before, and after want of memory all is.
+    /// Makes room for the threads below that number. It takes memory only where there isn't room for them yet. Every component is as
+    /// before, and after want of memory all is.
     pub fn reserve(&mut self, threads: u32) -> Result<(), NoMemory>
         ensures room { OnOk result (length self.new ≡ max (length self.old) threads) }
         ensures kept { (thread : ℕ) → component self.new thread ≡ component self.old thread }
         ensures err { OnErr result (self.new ≡ self.old) }
+        ensures memory { OnErr result (length self.old < threads) }
     {
         let room = threads as usize;
         let old = self.components.len();
@@ -48,13 +50,14 @@ impl Clock {
         Ok(())
     }
 
-    /// An equal clock.
+    /// An equal clock. One without room takes no memory.
     pub fn copy(&self, alloc: Global) -> Result<Clock, NoMemory>
-        ensures { IfOk result (λ clock. clock ≡ self.now) }
+        ensures value { IfOk result (λ clock. clock ≡ self.now) }
+        ensures memory { OnErr result (self.now ≢ []) }
     {
-        Ok(Clock {
-            components: Vec::from_slice(alloc, self.components.as_slice())?,
-        })
+        let mut components = Vec::with_capacity(alloc, self.components.len())?;
+        components.extend_from_slice(self.components.as_slice())?;
+        Ok(Clock { components })
     }
 
     /// A clock that counts the same, with room for the threads below that number, in one allocation.
@@ -62,6 +65,7 @@ impl Clock {
         ensures room { IfOk result (λ clock. length clock ≡ max (length self.now) threads) }
         ensures kept { IfOk result
             (λ clock. (thread : ℕ) → component clock thread ≡ component self.now thread) }
+        ensures memory { OnErr result (0 < max (length self.now) threads) }
     {
         let room = self.components.len().max(threads as usize);
         let mut copy = Clock {
