@@ -1,5 +1,6 @@
 //! Events by numbers.
-ghost use Rattle.std.specs.Prelude.{◌≡◌, IfOk};
+ghost use Rattle.std.specs.Prelude.{◌≡◌, ◌≢◌, [], IfOk, OnErr};
+ghost use Rattle.rd_event.specs.declared.events.Call.{Call as CallOf};
 
 use rd_base::{NoMemory, Slots};
 use std::alloc::Global;
@@ -17,9 +18,10 @@ pub struct Call {
 }
 
 impl Call {
-    /// An equal call.
+    /// An equal call. Without slots it takes no memory.
     pub fn copy(&self, alloc: Global) -> Result<Call, NoMemory>
-        ensures { IfOk result (λ call. call ≡ self.now) }
+        ensures value { IfOk result (λ call. call ≡ self.now) }
+        ensures memory { OnErr result (self.now.slots ≢ []) }
     {
         Ok(Call {
             thread: self.thread,
@@ -47,9 +49,11 @@ pub enum Event {
 }
 
 impl Event {
-    /// An equal event.
+    /// An equal event. Only a call with slots takes memory.
     pub fn copy(&self, alloc: Global) -> Result<Event, NoMemory>
-        ensures { IfOk result (λ event. event ≡ self.now) }
+        ensures value { IfOk result (λ event. event ≡ self.now) }
+        ensures memory { OnErr result
+            ((call : CallOf) × (self.now ≡ Event.Call call) × (call.slots ≢ [])) }
     {
         Ok(match self {
             Event::Fork { thread, child } => Event::Fork {
