@@ -128,12 +128,13 @@ fn walk(
 
 /// A path from the first place to the second: rising places, at least two, of which there is an edge from each to the next. There is
 /// none exactly where the first place doesn't reach the second. Each step goes as far as a path may. It looks at each pair of
-/// places between the two.
+/// places between the two. It takes memory only where the first place comes before the second.
 pub fn path(alloc: Global, events: &[Event], i: u32, j: u32) -> Result<Option<Places>, NoMemory>
     requires from { i < length events.now }
     requires to { j < length events.now }
     ensures some { IfOk result (λ found. IfSome found (λ places. IsPath events.now i places j)) }
     ensures none { IfOk result (λ found. IfNone found (¬ (Reaches events.now i j))) }
+    ensures memory { OnErr result (i < j) }
 {
     if j <= i {
         return Ok(None);
