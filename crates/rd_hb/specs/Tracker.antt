@@ -1,7 +1,7 @@
 -- What a tracker holds of a list of events: this project's profile.
 use Rattle.std.specs.Prelude.{◌≡◌, ◌↔◌, ℕ, ◌*◌, ◌<◌, ◌≤◌, Bool, false, IsTrue, List, [], ◌∷◌, ◌++◌, length, Option, None, Some, slice_get, slice_index_or}
 use Rattle.rd_event.specs.declared.events.Event.{Event}
-use Rattle.rd_event.specs.declared.events.Event.TheVariants.{Call}
+use Rattle.rd_event.specs.declared.events.Event.TheVariants.{Fork, Join, Acquire, Release, Call}
 use Rattle.rd_clock.specs.Clock.{component}
 use Rattle.rd_hb.specs.EventClocks.{IsOf, OwnNumber, IsClock}
 use Rattle.rd_order.specs.EventLists.{IsKnownThread, WellFormed, joins}
@@ -78,6 +78,15 @@ pub record IsNextEvent (tracking : Tracking) (roots : ℕ → Bool) (es : List E
   pub stands : TrackerStandsFor tracking roots es
   pub formed : WellFormed roots (es ++ e ∷ [])
   pub numbered : (u : ℕ) → forked_thread e ≡ Some u → u ≡ length tracking.threads
+
+-- to take the event may take memory: a fork begins a thread, a release gives a lock a clock, and who joins a thread or acquires a
+-- lock may need room for all known threads. A call takes none
+abbrev pub MayGrow : List Tracked → Event → Type 0
+MayGrow threads (Fork thread child) = Unit {0}
+MayGrow threads (Join thread child) = length (tracked_thread threads thread).clock < length threads
+MayGrow threads (Acquire thread lock) = length (tracked_thread threads thread).clock < length threads
+MayGrow threads (Release thread lock) = Unit {0}
+MayGrow threads (Call call) = ⊥
 
 -- where the event at a place of a list stands
 pub record IsStamp (es : List Event) (place : ℕ) (stamp : Stamp) : Type 0 where

@@ -5,7 +5,7 @@ ghost use Rattle.rd_event.specs.declared.events.Event.TheVariants as event;
 ghost use Rattle.rd_order.specs.EventLists.{threads_after};
 ghost use Rattle.rd_order.specs.Order.{thread_of};
 ghost use Rattle.rd_clock.specs.Clock.{component, IsJoin, IsTick};
-ghost use Rattle.rd_hb.specs.Tracker.{IsNextEvent, IsStamp, TrackerStandsFor, clock_of, event_bound, handed_by, known_to, last_stamp, last_release, tracked_thread};
+ghost use Rattle.rd_hb.specs.Tracker.{IsNextEvent, IsStamp, MayGrow, TrackerStandsFor, clock_of, event_bound, handed_by, known_to, last_stamp, last_release, tracked_thread};
 ghost use Rattle.rd_hb.specs.TrackerParts.{IsBegun, IsCounted, IsHeard, IsLearnt, IsReleased, IsShared};
 ghost use Rattle.rd_hb.specs.declared.tracker.Tracked.{Tracked as TrackedOf};
 
@@ -143,6 +143,7 @@ impl Tracker {
             (length (tracked_thread self.new.threads
             (thread_of event.now)).clock ≤ length self.old.threads) }
         ensures err { OnErr result (self.new ≡ self.old) }
+        ensures memory { OnErr result (MayGrow self.old.threads event.now) }
         ensures cost { steps.new ≤ steps.old + event_bound event.now
             (threads_after event.now (length self.old.threads)) }
     {
@@ -285,6 +286,8 @@ impl Tracker {
 
         // after an error all is as before; the steps are bounded
         ensures err { OnErr result (self.new ≡ self.old) }
+        ensures memory { OnErr result
+            (length (tracked_thread self.old.threads thread).clock < length self.old.threads) }
         ensures cost { steps.new ≤ steps.old + 2 * length self.old.threads }
     {
         let room = self.threads.len() as u32;
@@ -434,6 +437,8 @@ impl Tracker {
 
         // after an error all is as before; the steps are bounded
         ensures err { OnErr result (self.new ≡ self.old) }
+        ensures memory { OnErr result
+            (length (tracked_thread self.old.threads thread).clock < length self.old.threads) }
         ensures cost { steps.new ≤ steps.old + (2 * length self.old.threads + 1) }
     {
         if self.is_known(thread, child, steps) {
@@ -465,6 +470,8 @@ impl Tracker {
 
         // after an error all is as before; the steps are bounded
         ensures err { OnErr result (self.new ≡ self.old) }
+        ensures memory { OnErr result
+            (length (tracked_thread self.old.threads thread).clock < length self.old.threads) }
         ensures cost { steps.new + 1 ≤ steps.old + 4 * length self.old.threads }
     {
         let room = self.threads.len() as u32;
@@ -508,6 +515,8 @@ impl Tracker {
 
         // after an error all is as before; the steps are bounded
         ensures err { OnErr result (self.new ≡ self.old) }
+        ensures memory { OnErr result
+            (length (tracked_thread self.old.threads thread).clock < length self.old.threads) }
         ensures cost { steps.new ≤ steps.old + (2 * length self.old.threads + 2) }
     {
         self.hear(thread, child, steps)?;
@@ -542,6 +551,8 @@ impl Tracker {
 
         // after an error all is as before; the steps are bounded
         ensures err { OnErr result (self.new ≡ self.old) }
+        ensures memory { OnErr result
+            (length (tracked_thread self.old.threads thread).clock < length self.old.threads) }
         ensures cost { steps.new ≤ steps.old + 4 * length self.old.threads }
     {
         self.hear_lock(thread, lock, steps)?;
