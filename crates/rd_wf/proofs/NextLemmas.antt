@@ -1,5 +1,5 @@
 -- What a roster holds after one line more, and what its public call says.
-use Rattle.std.proofs.Common.{◌≡◌, inl, inr, ℕ, zero, suc, ◌+◌, ◌-◌, ◌<◌, ◌≤◌, Bool, true, false, not, cond, ◌==◌, ◌||◌, ◌&&◌, List, [], ◌∷◌, ◌++◌, map, Option, Some, None, Result, Ok, Err, IfOk, IfErr, OnOk, OnErr, IsTrue, Contains, filter_map, length, unwrap_or, nat_lt, refl, sym, ap, subst, ◌∙◌, arith, add-zero, true≢false}
+use Rattle.std.proofs.Common.{◌≡◌, inl, inr, ℕ, zero, suc, ◌+◌, ◌-◌, ◌<◌, ◌≤◌, Bool, true, false, not, cond, ◌==◌, ◌||◌, ◌&&◌, List, [], ◌∷◌, ◌++◌, map, Option, Some, None, Result, Ok, Err, IfOk, IfErr, OnOk, OnErr, Contains, filter_map, length, unwrap_or, nat_lt, refl, sym, ap, subst, ◌∙◌, arith, add-zero, true≢false}
 use Rattle.std.specs.List.{IsDistinct, AllByRecursion, cons_option}
 use Rattle.std.specs.Map.{lookup, keys_of}
 use Rattle.std.specs.Cmp.Lexicographic.{bytes_decides, nat_list_eq_equiv}
@@ -25,7 +25,7 @@ use Rattle.rd_wf.specs.declared.causes.WfRefused.TheVariants.{Cause, NoMemory}
 use Rattle.rd_wf.specs.declared.causes.Accepted.{Accepted}
 use Rattle.rd_wf.specs.declared.roster.Lock.{Lock}
 use Rattle.rd_wf.specs.declared.roster.Roster.{Roster}
-use Rattle.rd_wf.specs.MayFollow.{begun_name, acting_name, joined_name, acquired_name, released_name, is_header, is_event, passes, threads_of, joined_of, with_lock, locks_of, is_acquire_of, is_release_of, acquires, releases, headers, same_name, is_among, place, first_broken, MayFollow, IsBrokenFirst, takes_memory}
+use Rattle.rd_wf.specs.MayFollow.{begun_name, acting_name, joined_name, acquired_name, released_name, is_header, is_event, passes, threads_of, joined_of, with_lock, locks_of, is_acquire_of, is_release_of, acquires, releases, headers, same_name, is_among, place, first_broken, MayFollow, IsBrokenFirst, TakesMemory}
 use Rattle.rd_wf.specs.Roster.{RosterStandsFor, kinds_in, kind_entry, thread_entry, object_entry, free_lock, lock_in, depth_of, thread_count, lock_count, Accepts, Refuses}
 use Rattle.rd_wf.proofs.FollowLemmas.{among_decides, follows_from_none, broken_from_some}
 use Rattle.rd_wf.proofs.LockLemmas.{and-true, and-false, place_known, place_below, found_written, found_pushed, same_place, depth_stays, deeper, shallower, locks_push, acquires_push, releases_push}
@@ -440,11 +440,11 @@ err_broken old new limits line (Err e) refuses = λ kinds lines stands cause sam
     (refused.0 kinds lines stands, broken_from_some kinds limits lines line cause (refused.0 kinds lines stands))
 
 pub err_memory : (old new : Roster) (limits : Limits) (line : Line) (r : Result Accepted WfRefused) → IfErr r (Refuses old new limits line)
-    → IfErr r (λ e. e ≡ NoMemory → (kinds : List Kind) (lines : List Line) → RosterStandsFor kinds old lines → (first_broken kinds limits lines line ≡ None) × IsTrue (takes_memory line))
+    → IfErr r (λ e. e ≡ NoMemory → (kinds : List Kind) (lines : List Line) → RosterStandsFor kinds old lines → MayFollow kinds limits lines line × TakesMemory lines line)
 err_memory old new limits line (Ok accepted) refuses = tt
 err_memory old new limits line (Err e) refuses = λ same kinds lines stands.
     let refused : Refuses old new limits line NoMemory = subst (Refuses old new limits line) same refuses in
-    let told = refused kinds lines stands in (told.0, told.1)
+    let told = refused kinds lines stands in (follows_from_none kinds limits lines line told.0, told.1)
 
 pub err_stands : (old new : Roster) (limits : Limits) (line : Line) (r : Result Accepted WfRefused) → IfErr r (Refuses old new limits line)
     → OnErr r ((kinds : List Kind) (lines : List Line) → RosterStandsFor kinds old lines → RosterStandsFor kinds new lines)

@@ -124,10 +124,6 @@ line_call _ = None
 abbrev pub is_call : Line → Bool
 is_call line = is_some (line_call line)
 
--- to accept it takes memory: it begins a thread, acquires a lock, declares an object, or is a call
-abbrev pub takes_memory : Line → Bool
-takes_memory line = is_some (begun_name line) || (is_some (acquired_name line) || (is_some (declared_name line) || is_call line))
-
 -- ---- names and their places
 
 -- two names are the same
@@ -344,3 +340,19 @@ accepted_of kinds before (Header version) = accepted.Nothing
 accepted_of kinds before (Thread thread) = accepted.Root (length (threads_of before))
 accepted_of kinds before (Object name kind) = accepted.Object (length (objects_of before)) (place (kind_names kinds) kind)
 accepted_of kinds before (Event event) = accepted.Event (numbered_event kinds before event)
+
+-- ---- memory
+
+-- to accept the event behind these lines takes memory: it begins a thread, acquires a lock for the first time, or is a call with slots
+abbrev pub EventTakesMemory : List Line → LineEvent → Type 0
+EventTakesMemory before (Fork thread child) = Unit {0}
+EventTakesMemory before (Acquire thread lock) = ¬ (Contains (locks_of before) lock)
+EventTakesMemory before (Call thread object method slots) = slots ≢ []
+EventTakesMemory before _ = ⊥
+
+-- to accept the line takes memory: it names a thread, declares an object, or is such an event
+abbrev pub TakesMemory : List Line → Line → Type 0
+TakesMemory before (Thread thread) = Unit {0}
+TakesMemory before (Object name kind) = Unit {0}
+TakesMemory before (Event event) = EventTakesMemory before event
+TakesMemory before _ = ⊥

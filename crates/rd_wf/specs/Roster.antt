@@ -1,5 +1,5 @@
 -- What a roster holds of the accepted lines of a trace: this project's profile.
-use Rattle.std.specs.Prelude.{◌≡◌, ℕ, ◌+◌, ◌<◌, ◌==◌, Bool, false, nat_lt, ◌&&◌, not, if◌then◌else◌, List, [], ◌∷◌, ◌++◌, map, length, Contains, filter_map, Option, Some, None, unwrap_or, IsTrue}
+use Rattle.std.specs.Prelude.{◌≡◌, ℕ, ◌+◌, ◌<◌, ◌==◌, Bool, false, nat_lt, ◌&&◌, not, if◌then◌else◌, List, [], ◌∷◌, ◌++◌, map, length, Contains, filter_map, Option, Some, None, unwrap_or}
 use Rattle.std.specs.List.{IsDistinct}
 use Rattle.indexmap.specs.IndexMap.{get_by, index_map_len}
 use Rattle.rd_base.specs.declared.limits.Limits.{Limits}
@@ -18,7 +18,7 @@ use Rattle.rd_wf.specs.declared.roster.judge.FoundObject.{FoundObject}
 use Rattle.rd_wf.specs.declared.roster.judge.FoundThread.{FoundThread}
 use Rattle.rd_wf.specs.declared.methods.FoundMethod.{FoundMethod}
 use Rattle.rd_wf.specs.declared.methods.Methods.{Methods}
-use Rattle.rd_wf.specs.MayFollow.{threads_of, joined_of, locks_of, objects_of, acquires, releases, headers, events, is_among, passes, same_name, kind_number, place, first_broken, accepted_of, takes_memory}
+use Rattle.rd_wf.specs.MayFollow.{threads_of, joined_of, locks_of, objects_of, acquires, releases, headers, events, is_among, passes, same_name, kind_number, place, first_broken, accepted_of, TakesMemory}
 use Rattle.rd_ecl.specs.Kinds.{Kind, KindMethod, kind_names, method_names, kind_slots_at}
 
 -- how many threads, locks and objects the roster numbers
@@ -194,4 +194,4 @@ Accepts old new limits line accepted = (kinds : List Kind) (lines : List Line) �
 abbrev pub Refuses : Roster → Roster → Limits → Line → WfRefused → Type 0
 Refuses old new limits line (Cause cause) = Forbids old limits line cause × (new ≡ old)
 Refuses old new limits line NoMemory = (kinds : List Kind) (lines : List Line) → RosterStandsFor kinds old lines →
-    (first_broken kinds limits lines line ≡ None) × IsTrue (takes_memory line) × RosterStandsFor kinds new lines
+    (first_broken kinds limits lines line ≡ None) × TakesMemory lines line × RosterStandsFor kinds new lines

@@ -47,10 +47,10 @@ pub struct Roster {
 }
 
 impl Roster {
-    ghost use Rattle.std.specs.Prelude.{◌≡◌, ◌≢◌, ◌<◌, ◌≤◌, List, [], ◌∷◌, ◌++◌, IfOk, IfErr, OnOk, OnErr, IsTrue, length, slice_get};
+    ghost use Rattle.std.specs.Prelude.{◌≡◌, ◌≢◌, ◌<◌, ◌≤◌, List, [], ◌∷◌, ◌++◌, IfOk, IfErr, OnOk, OnErr, length, slice_get};
     ghost use Rattle.rd_base.specs.Limits.{AreUsable};
     ghost use Rattle.rd_event.specs.declared.items.Line.{Line as LineOf};
-    ghost use Rattle.rd_wf.specs.MayFollow.{IsBrokenFirst, MayFollow, first_broken, accepted_of, same_name, threads_of, locks_of, objects_of, headers, events, takes_memory};
+    ghost use Rattle.rd_wf.specs.MayFollow.{IsBrokenFirst, MayFollow, first_broken, accepted_of, same_name, threads_of, locks_of, objects_of, headers, events, TakesMemory};
     ghost use Rattle.std.specs.List.{AllPairs};
     ghost use Rattle.rd_ecl.specs.Kinds.{Kind, kind_names, kinds_of};
     ghost use Rattle.rd_wf.specs.Roster.{RosterStandsFor, Accepts, Refuses, names_in, object_names_in, thread_count, lock_count, object_count};
@@ -320,10 +320,10 @@ impl Roster {
         }
     }
 
-    /// Accepts the next line, if it may follow the accepted ones, and says what it is in numbers. Else it refuses the line, by the
-    /// cause that names the first rule that the line breaks, and nothing changes. Want of memory comes only for a line that may
-    /// follow, and that begins a thread, acquires a lock, declares an object or is a call. The roster then stands for the same
-    /// lines as before.
+    /// Accepts the next line, if it may follow the accepted ones, and says what it is in numbers. Else it refuses the
+    /// line, by the cause that names the first rule that the line breaks, and nothing changes. Want of memory comes only for a line
+    /// that may follow, and that begins a thread, acquires a lock for the first time, declares an object or is a call with slots. The
+    /// roster then stands for the same lines as before.
     pub fn accept(&mut self, line: &Line, limits: &Limits) -> Result<Accepted, WfRefused>
         requires { AreUsable limits.now }
 
@@ -354,8 +354,7 @@ impl Roster {
         ensures memory { IfErr result
             (λ e. e ≡ WfRefused.NoMemory → (kinds : List Kind) (lines : List LineOf) →
             RosterStandsFor kinds self.old lines →
-            (first_broken kinds limits.now lines line.now ≡ None)
-            × IsTrue (takes_memory line.now)) }
+            MayFollow kinds limits.now lines line.now × TakesMemory lines line.now) }
         ensures err { OnErr result
             ((kinds : List Kind) (lines : List LineOf) → RosterStandsFor kinds self.old lines →
             RosterStandsFor kinds self.new lines) }

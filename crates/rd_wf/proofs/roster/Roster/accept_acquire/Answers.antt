@@ -1,12 +1,15 @@
-use Rattle.std.proofs.Common.{◌≡◌, ℕ, ◌<◌, ◌≤◌, ◌+◌, Bool, true, false, not, subst, sym, refl, ap, ◌∙◌, arith}
+use Rattle.std.proofs.Common.{rules, Contains, List, ◌≡◌, ℕ, ◌<◌, ◌≤◌, ◌+◌, Bool, true, false, not, subst, sym, refl, ap, ◌∙◌, arith}
 use Rattle.std.proofs.Math.Bool.{not-not}
 use Rattle.indexmap.specs.IndexMap.{index_map_len}
 use Rattle.indexmap.specs.Layout.{set_value_at}
 use Rattle.indexmap.proofs.CallerLemmas.{index_map_len-with_value_at}
+use Rattle.rd_ecl.specs.Kinds.{Kind}
+use Rattle.rd_event.specs.declared.items.Line.{Line}
 use Rattle.rd_wf.specs.declared.roster.Lock.{Lock}
 use Rattle.rd_wf.specs.MayFollow.{is_among, place, threads_of, locks_of, accepted_of}
-use Rattle.rd_wf.specs.Roster.{depth_of, lock_in}
+use Rattle.rd_wf.specs.Roster.{RosterStandsFor, depth_of, lock_in}
 use Rattle.rd_wf.proofs.FollowLemmas.{known_lock}
+use Rattle.rd_wf.proofs.PlaceLemmas.{not_known}
 use Rattle.rd_wf.proofs.NextLemmas.{IsWritten, written_new, written_known, after_acquire}
 use Rattle.rd_wf.proofs.roster.Roster.accept_acquire.Goals as goal
 use Rattle.rd_wf.proofs.roster.Roster.accept_acquire.Goals.{then-used+in_ok-put_last, else-used}
@@ -59,3 +62,10 @@ returns-clause-ok c = λ kinds lines stands.
       permitted.1,
       after_acquire kinds self _ lines stands refl c.args.thread.now lock held refl refl refl refl known thread own written.0 written.1 (ap (λ n. n + 1) c.in-Ok.ensures.depth),
     )
+
+pub returns-in_err-put_last-clause-refused : goal.returns-in_err-put_last-clause-refused
+returns-in_err-put_last-clause-refused c =
+    let new_lock : (kinds : List Kind) (lines : List Line) → RosterStandsFor kinds c.args.self.now lines → ¬ (Contains (locks_of lines) c.args.lock.now) =
+    λ kinds lines stands. not_known (locks_of lines) c.args.lock.now
+    (sym (not-not _) ∙ ap not (sym (c.in-Ok.ensures.unknown kinds lines stands) ∙ c.if-used.true)) in
+    search rules

@@ -15,7 +15,7 @@ returns-clause-ok c = λ kinds lines stands.
         object = numbers.object;
         kind = numbers.kind;
         method = numbers.method;
-        slots = c.in_ok-slots.ensures i;
+        slots = c.in_ok-slots.ensures.value i;
       } in call))) ∙ permitted.1,
       after_call kinds c.args.self.now _ lines stands refl refl c.args.thread.now c.args.object.now c.args.method.now c.args.slots.now refl refl refl refl,
     )
