@@ -5,6 +5,7 @@ pub mod LockLemmas
 pub mod NearLemmas
 pub mod NextLemmas
 pub mod PlaceLemmas
+pub mod RangeLemmas
 pub mod RosterLemmas
 pub mod TableLemmas
 pub mod UseLemmas

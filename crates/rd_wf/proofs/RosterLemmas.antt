@@ -229,7 +229,7 @@ module _ (kinds : List Kind) (roster : Roster) (lines : List Line) (stands : Ros
   names_are : keys_of roster.kinds.entries ≡ kind_names kinds
   names_are = names-kinds roster.kinds.entries ∙ ap kind_names stands.kind_entries
 
-  kinds_total : index_map_len roster.kinds ≡ length kinds
+  pub kinds_total : index_map_len roster.kinds ≡ length kinds
   kinds_total = sym (length-map roster.kinds.entries kind_entry) ∙ ap length stands.kind_entries
 
   pub kind_place : (kind : List ℕ) (o : Option ℕ) → o ≡ index_of_by (same_name kind) roster.kinds → unwrap_or o (index_map_len roster.kinds) ≡ place (kind_names kinds) kind

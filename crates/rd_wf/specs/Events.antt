@@ -5,10 +5,13 @@ use Rattle.rd_base.specs.Limits.{AreUsable}
 use Rattle.rd_base.specs.declared.limits.Limits.{Limits}
 use Rattle.rd_event.specs.declared.items.Line.{Line}
 use Rattle.rd_event.specs.declared.items.Line.TheVariants.{Event}
+use Rattle.rd_event.specs.Events.{EventInRange}
 use Rattle.rd_event.specs.declared.events.Event.{Event as Numbered}
 use Rattle.rd_order.specs.EventLists.{IsCallOf, IsKnownThread, WellFormed, calls, givings, joins, takings}
 use Rattle.rd_order.specs.Order.{call_in, exclusive}
 use Rattle.rd_ecl.specs.Kinds.{Kind}
+use Rattle.rd_wf.specs.declared.causes.Accepted.{Accepted}
+use Rattle.rd_wf.specs.declared.causes.Accepted.TheVariants as accepted
 use Rattle.rd_wf.specs.MayFollow.{MayFollow, acquires, events, is_root, joined_of, locks_of, numbered_event, object_kinds, place, releases, threads_of}
 
 -- ---- roots and events
@@ -36,6 +39,13 @@ abbrev pub events_of : List Kind → List Line → List Numbered
 events_of kinds lines = events_from kinds [] lines
 
 -- ---- accepted lines
+
+-- what an accepted line is in numbers is within range: its threads, objects and kinds have 32 bits, and its event is in range
+abbrev pub AcceptedInRange : Accepted → Type 0
+AcceptedInRange accepted.Nothing = Unit {0}
+AcceptedInRange (accepted.Root thread) = thread < 2 ^ 32
+AcceptedInRange (accepted.Object object kind) = (object < 2 ^ 32) × (kind < 2 ^ 32)
+AcceptedInRange (accepted.Event event) = EventInRange event
 
 -- the line may follow those in front of it, within some usable limits of 32 bits
 pub record IsAccepted (kinds : List Kind) (before : List Line) (line : Line) : Type 0 where

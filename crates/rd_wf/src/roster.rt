@@ -49,7 +49,9 @@ pub struct Roster {
 impl Roster {
     ghost use Rattle.std.specs.Prelude.{◌≡◌, ◌≢◌, ◌<◌, ◌≤◌, List, [], ◌∷◌, ◌++◌, IfOk, IfErr, OnOk, OnErr, length, slice_get};
     ghost use Rattle.rd_base.specs.Limits.{AreUsable};
+    ghost use Rattle.rd_event.specs.Items.{LineInRange};
     ghost use Rattle.rd_event.specs.declared.items.Line.{Line as LineOf};
+    ghost use Rattle.rd_wf.specs.Events.{AcceptedInRange};
     ghost use Rattle.rd_wf.specs.MayFollow.{IsBrokenFirst, MayFollow, first_broken, accepted_of, same_name, threads_of, locks_of, objects_of, headers, events, TakesMemory};
     ghost use Rattle.std.specs.List.{AllPairs};
     ghost use Rattle.rd_ecl.specs.Kinds.{Kind, kind_names, kinds_of};
@@ -320,7 +322,7 @@ impl Roster {
         }
     }
 
-    /// Accepts the next line, if it may follow the accepted ones, and says what it is in numbers. Else it refuses the
+    /// Accepts the next line, if it may follow the accepted ones, and says what it is in numbers, each in its range. Else it refuses the
     /// line, by the cause that names the first rule that the line breaks, and nothing changes. Want of memory comes only for a line
     /// that may follow, and that begins a thread, acquires a lock for the first time, declares an object or is a call with slots. The
     /// roster then stands for the same lines as before.
@@ -340,6 +342,9 @@ impl Roster {
         ensures few { OnOk result
             ((kinds : List Kind) (lines : List LineOf) → RosterStandsFor kinds self.old lines →
             length (threads_of (lines ++ line.now ∷ [])) ≤ 4294967295) }
+        ensures range { IfOk result
+            (λ accepted. (kinds : List Kind) (lines : List LineOf) →
+            RosterStandsFor kinds self.old lines → LineInRange line.now → AcceptedInRange accepted) }
 
         // or it is refused with its cause, and nothing changes
         ensures refused { IfErr result

@@ -1,5 +1,6 @@
 use Rattle.std.proofs.Common.{arith}
 use Rattle.rd_wf.proofs.NextLemmas.{ok_few, ok_follows, err_broken, err_memory, err_stands}
+use Rattle.rd_wf.proofs.RangeLemmas.{ok_range}
 use Rattle.rd_wf.proofs.roster.Roster.accept.Goals as goal
 
 pub returns-clause-follows : goal.returns-clause-follows
@@ -17,3 +18,6 @@ returns-clause-err c = err_stands c.args.self.now c.take.new.self c.args.limits.
 pub returns-clause-few : goal.returns-clause-few
 returns-clause-few c =
     ok_few c.args.self.now c.take.new.self c.args.limits.now c.args.line.now c.take.result c.take.ensures.ok (omega (arith, c.take.new.self.few_threads))
+
+pub returns-clause-range : goal.returns-clause-range
+returns-clause-range c = ok_range c.args.self.now c.take.new.self c.args.limits.now c.args.line.now c.take.result c.take.ensures.ok
