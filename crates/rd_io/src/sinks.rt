@@ -1,6 +1,6 @@
 //! Sinks of bytes.
 ghost use Rattle.std.specs.Prelude.{◌≡◌, ℕ, ◌≤◌, List, Option, take, length, true, false, IfOk, IfErr, OnOk, OnErr};
-ghost use Rattle.rd_io.specs.Inputs.{next_count};
+ghost use Rattle.rd_io.specs.Inputs.{Rose};
 ghost use Rattle.rd_io.specs.Sinks.{Appends, Writes, is_failed};
 
 use crate::inputs::Failed;
@@ -23,8 +23,7 @@ pub trait Sink {
         ensures bound { IfOk result (λ count. count ≤ length part.now) }
         ensures written { Writes (written self.old) (written self.new) part.now result }
         ensures later { faults self.old ≤ faults self.new }
-        ensures failed { is_failed part.now result ≡ true →
-            (faults self.new ≡ next_count (faults self.old))
+        ensures failed { is_failed part.now result ≡ true → Rose (faults self.old) (faults self.new)
             × (at_fault self.new ≡ written self.new) }
         ensures calm { is_failed part.now result ≡ false →
             (faults self.new ≡ faults self.old) × (at_fault self.new ≡ at_fault self.old) };
@@ -38,7 +37,7 @@ pub struct WriteFault {
 }
 
 /// Writes the whole part, in as many writes as it takes. A fault comes only where a write failed or took
-/// nothing: it is the last and the only one that did, and the bytes before it are written. It takes no memory.
+/// nothing: it is the last one that did, and the bytes before it are written. It takes no memory.
 pub fn write_all<S: Sink>(out: &mut S, part: &[u8]) -> Result<(), WriteFault>
     ensures ok { OnOk result (Appends (S.written out.old) (S.written out.new) part.now) }
     ensures front { IfErr result (λ fault. (fault.written ≤ length part.now)
@@ -46,7 +45,7 @@ pub fn write_all<S: Sink>(out: &mut S, part: &[u8]) -> Result<(), WriteFault>
     ensures later { S.faults out.old ≤ S.faults out.new }
     ensures calm { OnOk result (S.faults out.new ≡ S.faults out.old) }
     ensures kept { OnOk result (S.at_fault out.new ≡ S.at_fault out.old) }
-    ensures cause { OnErr result ((S.faults out.new ≡ next_count (S.faults out.old))
+    ensures cause { OnErr result (Rose (S.faults out.old) (S.faults out.new)
         × (S.at_fault out.new ≡ S.written out.new)) }
 {
     let mut written = 0;

@@ -1,5 +1,5 @@
 -- A run in which nothing failed writes all.
-use Rattle.rd_io.specs.Inputs.{next_count}
+use Rattle.rd_io.specs.Inputs.{Rose}
 use Rattle.rd_walk.specs.Output.{HasOutcome, IsWell, Outcome, StatusTellsFault}
 use Rattle.rd_walk.specs.Traces.{IsWholeOutput}
 use Rattle.rd_walk.specs.declared.status.Status.TheVariants.{Clean, Raced, Usage, SpecRefused, TraceRefused, ReplayDiffers, InputFault, OutputFault, NoMemory, LimitReached}
@@ -40,7 +40,7 @@ whole_from whole outcome part status well is text told =
 pub none_failed : (before now : ℕ) (point written : Option (List ℕ)) (status : Status) → StatusTellsFault before now point written status → before < 2 ^ 63
     → now ≡ before → status ≢ OutputFault
 none_failed before now point written status tells few same failed =
-    let risen : now ≡ next_count before = (subst (λ s. StatusTellsFault before now point written s) failed tells).0 in omega arith
+    let risen : Rose before now = (subst (λ s. StatusTellsFault before now point written s) failed tells).0 in omega arith
 
 -- a count that stays doesn't rise
 pub not_risen : (before now : ℕ) → now ≡ before → nat_lt before now ≡ false

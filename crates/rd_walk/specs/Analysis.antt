@@ -3,7 +3,7 @@ use Rattle.std.specs.Prelude.{◌≡◌, ◌≢◌, ◌≤◌, ℕ, IfOk, List, 
 use Rattle.rd_base.specs.Limits.{AreUsable}
 use Rattle.rd_base.specs.declared.limits.Limits.{Limits}
 use Rattle.rd_event.specs.declared.items.Line.{Line}
-use Rattle.rd_io.specs.Inputs.{next_count, Rose}
+use Rattle.rd_io.specs.Inputs.{Rose}
 use Rattle.rd_io.specs.Sinks.{Appends}
 use Rattle.rd_ecl.specs.Kinds.{Kind}
 use Rattle.rd_wf.specs.MayFollow.{MayFollow, accepted_of, threads_of}
@@ -31,11 +31,11 @@ WritesBetween old new before now = (part : List ℕ) × (now ≡ before ++ part)
 abbrev pub WritesFront : Option (List ℕ) → Option (List ℕ) → List ℕ → List ℕ → Type 0
 WritesFront old new before now = (part : List ℕ) × (rest : List ℕ) × (now ≡ before ++ (part ++ rest)) × Appends old new part
 
--- A failed write is told as one: the count of faults rose by one exactly where it is told, and nothing was written behind the point where
+-- A failed write is told as one: the count of faults rose exactly where it is told, and nothing was written behind the point where
 -- the write failed.
 abbrev pub TellsFault : {T : Type 0} → ℕ → ℕ → Option (List ℕ) → Option (List ℕ) → Result T Halt → Type 0
 TellsFault before now point written (Ok _) = now ≡ before
-TellsFault before now point written (Err halt.OutputFault) = (now ≡ next_count before) × (point ≡ written)
+TellsFault before now point written (Err halt.OutputFault) = Rose before now × (point ≡ written)
 TellsFault before now point written (Err halt.NoMemory) = now ≡ before
 
 -- Each fault is told as one: the inputs' count of faults rose where the answer is this one, and stays for any other that tells no failure;

@@ -1,12 +1,12 @@
 -- What a command writes, and its status, and how far it is written. This project's profile.
-use Rattle.rd_io.specs.Inputs.{next_count, fault_line}
+use Rattle.rd_io.specs.Inputs.{Rose, fault_line}
 use Rattle.rd_walk.specs.declared.analysis.Halt.TheVariants as halt
 use Rattle.rd_walk.specs.declared.analysis.Halt.{Halt}
 use Rattle.rd_walk.specs.declared.status.Status.TheVariants.{Clean, Raced, Usage, SpecRefused, TraceRefused, ReplayDiffers, InputFault, OutputFault, NoMemory, LimitReached}
 use Rattle.rd_walk.specs.declared.status.Status.{Status}
 use Rattle.rd_walk.specs.declared.status.TraceStatus.TheVariants as trace
 use Rattle.rd_walk.specs.declared.status.TraceStatus.{TraceStatus}
-use Rattle.std.specs.Prelude.{◌≡◌, ◌⊎◌, ℕ, List, ◌++◌, Option, ◌+◌, [], Result, Ok, Err}
+use Rattle.std.specs.Prelude.{◌≡◌, ◌⊎◌, ℕ, List, ◌++◌, Option, [], Result, Ok, Err}
 
 -- the number of a status
 abbrev pub code_of : Status → ℕ
@@ -46,10 +46,10 @@ abbrev pub HasOutcome : (Outcome → Type 0) → Status → List ℕ → Type 0
 HasOutcome Is NoMemory bytes = (bytes ≡ []) ⊎ ((outcome : Outcome) × Is outcome × IsOutput NoMemory bytes outcome)
 HasOutcome Is status bytes = (outcome : Outcome) × Is outcome × IsOutput status bytes outcome
 
--- A failed write is told as one: the sink's count of faults rose by one exactly where the status says so, and nothing was written behind the
+-- A failed write is told as one: the sink's count of faults rose exactly where the status says so, and nothing was written behind the
 -- point where the write failed.
 abbrev pub StatusTellsFault : ℕ → ℕ → Option (List ℕ) → Option (List ℕ) → Status → Type 0
-StatusTellsFault before now point written OutputFault = (now ≡ next_count before) × (point ≡ written)
+StatusTellsFault before now point written OutputFault = Rose before now × (point ≡ written)
 StatusTellsFault before now point written status = now ≡ before
 
 -- the status of a run that was cut short
