@@ -8,7 +8,7 @@ use Rattle.rd_kinds.specs.Shipped.{reserved_names, shipped_kinds}
 use Rattle.rd_walk.proofs.OutputLemmas.{fault_no_well, halted_no_well, has_outcome, outcome_of, well_written}
 use Rattle.rd_spec_commands.proofs.RefusalLemmas.{refusal_no_well}
 use Rattle.rd_walk.specs.Output.{HasOutcome, IsOutput, IsWell, Outcome, fault_outcome}
-use Rattle.rd_check.specs.Checked.{check_outcome}
+use Rattle.rd_check.specs.Checked.{check_outcome, check_texts}
 use Rattle.rd_replaying.specs.States.{built_in_kinds}
 use Rattle.rd_walk.specs.Traces.{IsTraceOutcome, OpensOnly, ReportsTrace, TakesTrace}
 use Rattle.rd_spec_commands.specs.Meanings.{LeavesSpec, ReadsSpec}
@@ -26,7 +26,7 @@ use Rattle.std.proofs.lemmas.Bool.Decides.{nat_tests}
 use Rattle.std.specs.Prelude.{is_none}
 
 pub runs_shipped : (trace : List ℕ) (limits : Limits) (rose : Bool) (old new : Source) (part : List ℕ) (status : Status) (before after : ℕ)
-    → ReportsTrace (check_outcome shipped_kinds) built_in_kinds trace limits rose old new part status before after → Runs (check_meaning trace None) limits rose old new part status before after
+    → ReportsTrace (check_texts shipped_kinds) built_in_kinds trace limits rose old new part status before after → Runs (check_meaning trace None) limits rose old new part status before after
 runs_shipped trace limits rose old new part status before after checks = record {
   output = outcome_of (IsTraceOutcome (check_outcome shipped_kinds) built_in_kinds trace limits rose old new) (IsCheckOutcome trace None limits rose old new)
       (λ outcome is. elim is [
@@ -95,7 +95,7 @@ module _ (trace file : List ℕ) (limits : Limits) (before now : ℕ) (old new :
 
 module _ (trace file : List ℕ) (limits : Limits) (rose : Bool) (old mid new : Source) (part : List ℕ) (status : Status) (before after : ℕ)
     (leaves : LeavesSpec file old mid) (bytes : List ℕ) (said : List SpecifiedKind) (reads : ReadsSpec file old mid bytes) (says : SpecSays bytes reserved_names said)
-    (checks : ReportsTrace (check_outcome (shipped_kinds ++ said)) (kinds_of (shipped_kinds ++ said)) trace limits rose mid new part status before after) where
+    (checks : ReportsTrace (check_texts (shipped_kinds ++ said)) (kinds_of (shipped_kinds ++ said)) trace limits rose mid new part status before after) where
   abbrev kinds : List SpecifiedKind
   kinds = shipped_kinds ++ said
 
@@ -109,8 +109,8 @@ module _ (trace file : List ℕ) (limits : Limits) (rose : Bool) (old mid new : 
   traced outcome (inl fault) = inl (record { risen = fault.risen; some_unopened = omega (arith, fault.some_unopened, reads.opens); is = fault.is })
   traced outcome (inr checked) = inr (inr (record { all_opened = omega (arith, checked.0, reads.opens); kinds = kinds; are = are; is = checked.1 }))
 
-  took : TakesTrace (kinds_of kinds) trace limits rose (record mid { files = old.files }) new before after → TakesTrace (kinds_of kinds) trace limits rose old new before after
-  took takes = record { whole = takes.whole; read = takes.read; cost = takes.cost }
+  took : TakesTrace (check_texts kinds).lines (kinds_of kinds) trace limits rose (record mid { files = old.files }) new part before after → TakesTrace (check_texts kinds).lines (kinds_of kinds) trace limits rose old new part before after
+  took takes = record { whole = takes.whole; begun = takes.begun; first = takes.first; is_begun = takes.is_begun; read = takes.read; cost = takes.cost }
 
   pub runs_said : Runs (check_meaning trace (Some file)) limits rose old new part status before after
   runs_said = record {
@@ -128,7 +128,7 @@ module _ (trace file : List ℕ) (limits : Limits) (rose : Bool) (old mid new : 
       λ more. (
         kinds,
         are,
-        took (subst (λ files. TakesTrace (kinds_of kinds) trace limits rose (record mid { files = files }) new before after) leaves.opened.files (checks.taken (omega (arith, more, reads.opens)))),
+        took (subst (λ files. TakesTrace (check_texts kinds).lines (kinds_of kinds) trace limits rose (record mid { files = files }) new part before after) leaves.opened.files (checks.taken (omega (arith, more, reads.opens)))),
       ),
       λ more.
           let ((taken, held), cost) = checks.unopened (omega (arith, more, reads.opens)) in

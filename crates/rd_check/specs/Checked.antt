@@ -13,6 +13,7 @@ use Rattle.rd_report.specs.Races.{Told, race_text}
 use Rattle.rd_report.specs.Texts.{Naming, ending_text, naming}
 use Rattle.rd_report.specs.declared.endings.Ending.{Ending}
 use Rattle.rd_replaying.specs.Replaying.{replay_of}
+use Rattle.rd_walk.specs.Traces.{ReportTexts}
 use Rattle.rd_walk.specs.Walk.{Entry, Walked, ending_of, entries_of, items}
 use Rattle.rd_walk.specs.declared.walk.WalkEnd.{WalkEnd}
 use Rattle.rd_wf.specs.Events.{events_of}
@@ -90,3 +91,7 @@ check_outcome kinds walked =
       text = race_texts kinds entries ++ ending_text (thread_names entries) races ending;
       status = check_status races ending;
     }
+
+-- what `check` writes for accepted lines and in all
+abbrev pub check_texts : List SpecifiedKind → ReportTexts
+check_texts kinds = record { lines = race_texts kinds; outcome = check_outcome kinds }

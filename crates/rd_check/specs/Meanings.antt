@@ -9,7 +9,7 @@ use Rattle.rd_io.specs.Inputs.{Source, file_of}
 use Rattle.rd_io.specs.Lines.Stop.{end}
 use Rattle.rd_kinds.specs.Shipped.{reserved_names, shipped_kinds}
 use Rattle.rd_walk.specs.Output.{Outcome}
-use Rattle.rd_check.specs.Checked.{check_outcome}
+use Rattle.rd_check.specs.Checked.{check_outcome, check_texts}
 use Rattle.rd_walk.specs.Walk.{ending_of, trace_of}
 use Rattle.rd_walk.specs.declared.status.Status.TheVariants.{NoMemory}
 use Rattle.rd_walk.specs.declared.status.Status.{Status}
@@ -37,17 +37,17 @@ IsCheckOutcome trace (Some file) limits rose old new outcome =
     ⊎ (IsSpecFileRefused file rose old new outcome ⊎ IsCheckedWith trace (Some file) 2 limits rose old new outcome)
 
 -- so it is with the kinds of its objects
-abbrev pub TakesKnown : Option (List ℕ) → List ℕ → Limits → Bool → Source → Source → ℕ → ℕ → Type 0
-TakesKnown file trace limits rose old new before after =
-    (kinds : List SpecifiedKind) × AreKinds old file kinds × TakesTrace (kinds_of kinds) trace limits rose old new before after
+abbrev pub TakesKnown : Option (List ℕ) → List ℕ → Limits → Bool → Source → Source → List ℕ → ℕ → ℕ → Type 0
+TakesKnown file trace limits rose old new part before after =
+    (kinds : List SpecifiedKind) × AreKinds old file kinds × TakesTrace (check_texts kinds).lines (kinds_of kinds) trace limits rose old new part before after
 
 -- what was taken of the last file that was opened, and nothing where none was, and the steps that were counted
-abbrev pub TakesChecked : List ℕ → Option (List ℕ) → Limits → Bool → Source → Source → ℕ → ℕ → Type 0
-TakesChecked trace None limits rose old new before after =
-    (new.opens ≡ old.opens + 1 → TakesKnown None trace limits rose old new before after)
+abbrev pub TakesChecked : List ℕ → Option (List ℕ) → Limits → Bool → Source → Source → List ℕ → ℕ → ℕ → Type 0
+TakesChecked trace None limits rose old new part before after =
+    (new.opens ≡ old.opens + 1 → TakesKnown None trace limits rose old new part before after)
     × (new.opens ≡ old.opens → IsUntaken old new × (after ≡ before))
-TakesChecked trace (Some file) limits rose old new before after =
-    (new.opens ≡ old.opens + 2 → TakesKnown (Some file) trace limits rose old new before after)
+TakesChecked trace (Some file) limits rose old new part before after =
+    (new.opens ≡ old.opens + 2 → TakesKnown (Some file) trace limits rose old new part before after)
     × (new.opens ≡ old.opens + 1 → TakesSpec file old new × (after ≡ before))
     × (new.opens ≡ old.opens → IsUntaken old new × (after ≡ before))
 

@@ -12,7 +12,7 @@ use Rattle.rd_report.specs.declared.endings.Ending.{Ending}
 use Rattle.rd_replaying.proofs.EndingLemmas.{well_end}
 use Rattle.rd_walk.proofs.FileLemmas.{ending_at, entries_at}
 use Rattle.rd_walk.specs.Output.{HasOutcome, IsOutput, IsWell, Outcome, IsFront}
-use Rattle.rd_replaying.specs.States.{replay_outcome, replayed_text, states_text, built_in_kinds}
+use Rattle.rd_replaying.specs.States.{replay_outcome, replay_texts, replayed_text, states_text, built_in_kinds}
 use Rattle.rd_replaying.specs.Endings.{check_status, replay_status, ending_of_report, thread_names}
 use Rattle.rd_replaying.specs.Replaying.{replay_of}
 use Rattle.rd_walk.specs.Traces.{IsTraceOutcome, IsWholeOutput, walk_on, ReportsTrace}
@@ -26,7 +26,7 @@ use Rattle.std.proofs.Common.{◌≡◌, ℕ, List, [], refl, sym, ap, ◌∙◌
 use Rattle.std.specs.Prelude.{option_map}
 
 pub runs_replay : (trace : List ℕ) (limits : Limits) (rose : Bool) (old new : Source) (part : List ℕ) (status : Status) (before after : ℕ)
-    → ReportsTrace (replay_outcome built_in_kinds) built_in_kinds trace limits rose old new part status before after → Runs (replay_meaning trace) limits rose old new part status before after
+    → ReportsTrace (replay_texts built_in_kinds) built_in_kinds trace limits rose old new part status before after → Runs (replay_meaning trace) limits rose old new part status before after
 runs_replay trace limits rose old new part status before after reports = record {
   output = reports.output;
   opened = reports.opened;

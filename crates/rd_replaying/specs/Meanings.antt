@@ -3,7 +3,7 @@ use Rattle.std.specs.Prelude.{◌≡◌, ◌⊎◌, ℕ, ◌+◌, Bool, List, []
 use Rattle.rd_base.specs.declared.limits.Limits.{Limits}
 use Rattle.rd_io.specs.Inputs.{Source, file_of}
 use Rattle.rd_io.specs.Lines.Stop.{end}
-use Rattle.rd_replaying.specs.States.{replay_outcome, built_in_kinds}
+use Rattle.rd_replaying.specs.States.{replay_outcome, replay_texts, built_in_kinds}
 use Rattle.rd_walk.specs.Traces.{IsReadWhole, IsTraceOutcome, IsUntaken, IsWholeOutput, TakesTrace}
 use Rattle.rd_walk.specs.Meanings.{Meaning}
 use Rattle.rd_walk.specs.Walk.{ending_of, trace_of}
@@ -12,9 +12,9 @@ use Rattle.rd_walk.specs.declared.status.Status.TheVariants.{NoMemory}
 use Rattle.rd_walk.specs.declared.walk.WalkEnd.TheVariants.{End}
 
 -- what was taken of a trace, where it was opened, and else nothing, and the steps that were counted
-abbrev pub TakesReplayed : List ℕ → Limits → Bool → Source → Source → ℕ → ℕ → Type 0
-TakesReplayed trace limits rose old new before after =
-    (new.opens ≡ old.opens + 1 → TakesTrace built_in_kinds trace limits rose old new before after)
+abbrev pub TakesReplayed : List ℕ → Limits → Bool → Source → Source → List ℕ → ℕ → ℕ → Type 0
+TakesReplayed trace limits rose old new part before after =
+    (new.opens ≡ old.opens + 1 → TakesTrace (replay_texts built_in_kinds).lines built_in_kinds trace limits rose old new part before after)
     × (new.opens ≡ old.opens → IsUntaken old new × (after ≡ before))
 
 -- nothing is left out

@@ -12,6 +12,7 @@ use Rattle.rd_report.specs.declared.endings.Ending.TheVariants as report
 use Rattle.rd_report.specs.declared.endings.Ending.{Ending}
 use Rattle.rd_walk.specs.Output.{Outcome}
 use Rattle.rd_replaying.specs.Replaying.{recorded_of, replay_of}
+use Rattle.rd_walk.specs.Traces.{ReportTexts}
 use Rattle.rd_walk.specs.Walk.{Entry, Walked, ending_of, entries_of, items}
 use Rattle.rd_wf.specs.MayFollow.{object_kinds, objects_of}
 use Rattle.std.specs.Prelude.{ℕ, zero, suc, ◌+◌, List, [], ◌++◌, length, Option, Some, None}
@@ -45,6 +46,10 @@ replay_outcome kinds walked =
     let entries = entries_of walked in
     let ending = ending_of_report (replay_of kinds entries) (ending_of walked) in
     record { text = replayed_text (thread_names entries) (states_text kinds entries) ending; status = check_status 0 ending }
+
+-- nothing is written for the lines
+abbrev pub replay_texts : List Kind → ReportTexts
+replay_texts kinds = record { lines = λ entries. []; outcome = replay_outcome kinds }
 
 -- those of a trace that is replayed
 abbrev pub built_in_kinds : List Kind

@@ -6,23 +6,23 @@ use Rattle.rd_ecl.specs.Specified.{SpecifiedKind}
 use Rattle.rd_io.specs.Inputs.{Source}
 use Rattle.rd_kinds.specs.Shipped.{counter_kind, dictionary_kind, register_kind, set_kind, shipped_kinds}
 use Rattle.rd_walk.proofs.OutputLemmas.{has_outcome}
-use Rattle.rd_walk.specs.Output.{IsOutput, Outcome}
+use Rattle.rd_walk.specs.Output.{IsOutput}
 use Rattle.either.specs.Either.{either}
 use Rattle.either.specs.declared.Either.{Either}
-use Rattle.rd_check.specs.Checked.{check_outcome}
+use Rattle.rd_check.specs.Checked.{check_outcome, race_texts}
 use Rattle.rd_check.specs.declared.checking.Check.{Check}
 use Rattle.rd_ecl.specs.Kinds.{Kind}
 use Rattle.rd_replaying.specs.States.{replay_outcome}
 use Rattle.rd_replaying.specs.declared.states.ReplayAlone.{ReplayAlone}
 use Rattle.rd_walk.specs.Analysis.{TellsFaults}
-use Rattle.rd_walk.specs.Walk.{Walked}
+use Rattle.rd_walk.specs.Traces.{ReportTexts}
 use Rattle.rd_walk.specs.declared.analysis.Halt.TheVariants as halt
 use Rattle.rd_walk.specs.declared.analysis.Halt.{Halt}
 use Rattle.std.specs.Result.{IsErr, IsErrAnd}
 use Rattle.rd_walk.specs.Meanings.{Runs}
 use Rattle.rd_walk.specs.declared.status.Status.{Status}
 use Rattle.rd_wf.specs.MayFollow.{same_name}
-use Rattle.std.proofs.Common.{◌≡◌, ℕ, zero, suc, ◌<◌, Bool, true, false, cond, List, Option, Some, None, Result, Ok, Err, refl, sym, subst, ◌∙◌, arith}
+use Rattle.std.proofs.Common.{◌≡◌, ℕ, zero, suc, ◌<◌, Bool, true, false, cond, List, [], Option, Some, None, Result, Ok, Err, refl, sym, subst, ◌∙◌, arith}
 use Rattle.std.specs.Option.{option_and_then}
 use Rattle.std.specs.Prelude.{codes, slice_get}
 
@@ -43,9 +43,12 @@ no_fault_told fault (Ok answer) is inputs before point written = absurd is.1
 no_fault_told fault (Err e) is inputs before point written =
     subst (λ h. TellsFaults fault inputs inputs before before point written (Err h)) (sym is.1) (record { input = λ same. cc; calm = tt; output = refl })
 
--- the outcome of one of the commands that walk over a trace, by what it does with each line
-abbrev pub part_outcome : List Kind → Either Check ReplayAlone → Walked → Outcome
-part_outcome kinds part walked = either (λ check. check_outcome check.spec.now walked) (λ alone. replay_outcome kinds walked) part
+-- what one of the commands that walk over a trace writes, by what it does with each line
+abbrev pub part_texts : List Kind → Either Check ReplayAlone → ReportTexts
+part_texts kinds part = record {
+  lines = λ entries. either (λ check. race_texts check.spec.now entries) (λ alone. []) part;
+  outcome = λ walked. either (λ check. check_outcome check.spec.now walked) (λ alone. replay_outcome kinds walked) part;
+}
 
 -- each number below the count of the built-in kinds is that of one
 pub shipped_at : (number : ℕ) → number < 4 → (built_in : SpecifiedKind) × (slice_get shipped_kinds number ≡ Some built_in)

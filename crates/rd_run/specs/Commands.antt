@@ -47,7 +47,7 @@ usage_meaning = record {
   files = [];
   specification = None;
   outcome = λ limits rose old new outcome. outcome ≡ usage_outcome;
-  takes = λ limits rose old new before after. (new ≡ old) × (after ≡ before);
+  takes = λ limits rose old new part before after. (new ≡ old) × (after ≡ before);
   reads = λ limits old new. ⊤;
   writes = λ limits old part status. (part ≡ usage_outcome.text) × (status ≡ Usage);
 }

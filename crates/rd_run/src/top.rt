@@ -11,7 +11,7 @@ ghost use Rattle.rd_kinds.specs.Shipped.{shipped_kinds};
 ghost use Rattle.rd_run.specs.Commands.{asked_command, named_number, command_of, meaning_of, usage_outcome};
 ghost use Rattle.rd_walk.specs.Analysis.{TellsFaults};
 ghost use Rattle.rd_walk.specs.Output.{IsOutput, StatusTellsFault, report_status};
-ghost use Rattle.rd_check.specs.Checked.{check_outcome};
+ghost use Rattle.rd_check.specs.Checked.{check_texts};
 ghost use Rattle.rd_replaying.specs.Replaying.{BeginWithBuiltIn};
 ghost use Rattle.rd_walk.specs.Traces.{ReportsTrace};
 ghost use Rattle.rd_walk.specs.Meanings.{Runs, WritesAll};
@@ -111,7 +111,7 @@ fn check<I: Inputs, S: Sink, L: Ledger>(
         old.opens ≤ 2 ^ 63 →
         (new : Source) × (part : List ℕ) × (I.told inputs.new ≡ Some new)
         × Appends (S.written out.old) (S.written out.new) part
-        × ReportsTrace (check_outcome spec.now) (kinds_of spec.now) trace.now limits.now
+        × ReportsTrace (check_texts spec.now) (kinds_of spec.now) trace.now limits.now
         (nat_lt (I.faults inputs.old)
         (I.faults inputs.new)) old new part
         (report_status result) steps.old steps.new }

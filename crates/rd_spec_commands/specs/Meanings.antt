@@ -70,8 +70,8 @@ abbrev pub IsSaidOutcome : List ℕ → Limits → Bool → Source → Source �
 IsSaidOutcome file limits rose old new outcome = IsUnread rose outcome ⊎ IsJudged file rose old new outcome
 
 -- what was taken of the specification, where it was opened, and else nothing; no step is counted
-abbrev pub TakesSaid : List ℕ → Limits → Bool → Source → Source → ℕ → ℕ → Type 0
-TakesSaid file limits rose old new before after =
+abbrev pub TakesSaid : List ℕ → Limits → Bool → Source → Source → List ℕ → ℕ → ℕ → Type 0
+TakesSaid file limits rose old new part before after =
     (new.opens ≡ old.opens + 1 → TakesSpec file old new) × (new.opens ≡ old.opens → IsUntaken old new) × (after ≡ before)
 
 -- nothing is left out
@@ -97,7 +97,7 @@ kind_meaning built_in = record {
   files = [];
   specification = None;
   outcome = λ limits rose old new outcome. outcome ≡ kind_outcome built_in;
-  takes = λ limits rose old new before after. (new ≡ old) × (after ≡ before);
+  takes = λ limits rose old new part before after. (new ≡ old) × (after ≡ before);
   reads = λ limits old new. ⊤;
   writes = λ limits old part status. (status ≡ NoMemory) ⊎ ((part ≡ (kind_outcome built_in).text) × (status ≡ Clean));
 }

@@ -5,7 +5,8 @@ use Rattle.std.proofs.lemmas.List.{append_assoc, append-nil, length-append}
 use Rattle.std.proofs.lemmas.List.Elements.{All-nil, All-push}
 use Rattle.rd_base.specs.declared.limits.Limits.{Limits}
 use Rattle.rd_io.specs.LineReader.{GivesLine, HasNoFeed, Reader, fresh, with_more}
-use Rattle.rd_walk.specs.Progress.{IsCut, IsTakenOfTrace, with_feed}
+use Rattle.rd_walk.specs.Progress.{IsBegun, IsCut, IsTakenOfTrace, with_feed}
+use Rattle.rd_walk.specs.Walk.{Entry}
 
 feeds_more : (lines : List (List ℕ)) (line : List ℕ) → flat_map with_feed (lines ++ line ∷ []) ≡ flat_map with_feed lines ++ with_feed line
 feeds_more [] line = append-nil (with_feed line)
@@ -45,6 +46,10 @@ module _ (limits : Limits) (taken bytes : List ℕ) (old : Reader) (lines : List
     short = omega (arith, fits, so_far.limit);
     bound = omega (arith, ap length all_taken, length-append (flat_map with_feed lines) (old.pending ++ bytes), past, so_far.room);
   }
+
+-- all texts of the lines were written, and perhaps more behind them
+pub all_begun : (text : List Entry → List ℕ) (more part : List ℕ) (entries : List Entry) → part ≡ text entries ++ more → IsBegun text part entries
+all_begun text more part entries is = record { told = entries; last = []; is = sym (append-nil entries); one = omega arith; written = (more, is) }
 
 pub read_more : (limits : Limits) (taken now : List ℕ) (accepted more : ℕ) → now ≡ taken → accepted ≤ more → IsTakenOfTrace limits taken accepted → IsTakenOfTrace limits now more
 read_more limits taken now accepted more same further read = record {

@@ -12,23 +12,24 @@ use Rattle.rd_walk.specs.declared.analysis.Halt.TheVariants as halt
 use Rattle.rd_walk.specs.declared.walk.WalkEnd.{WalkEnd}
 use Rattle.rd_walk.specs.declared.walk.WalkEnd.TheVariants.{End, Refused, Fault}
 use Rattle.rd_wf.specs.Events.{AreAccepted}
-use Rattle.rd_walk.specs.Traces.{HasReported, IsReadWhole, IsTraceOutcome, ReportsTrace, walk_of, walk_on}
+use Rattle.rd_walk.specs.Traces.{HasReported, IsReadWhole, IsTraceOutcome, ReportTexts, ReportsTrace, walk_of, walk_on}
 use Rattle.rd_walk.specs.Output.{IsFront, IsOutput, IsWell, Outcome, fault_outcome, report_status}
 use Rattle.rd_walk.specs.declared.analysis.Halt.{Halt}
 use Rattle.rd_walk.specs.declared.status.TraceStatus.{TraceStatus}
 use Rattle.std.specs.Result.{IsErr, IsErrAnd}
-use Rattle.rd_walk.specs.Progress.{IsTakenOfTrace}
+use Rattle.rd_walk.specs.Progress.{IsBegun, IsTakenOfTrace}
 use Rattle.rd_walk.specs.Walk.{Entry, Walked, after, ending_of, ends, entries_of, items, step_bound, trace_of}
 use Rattle.rd_walk.specs.declared.status.Status.{Status}
 use Rattle.rd_walk.specs.declared.status.Status.TheVariants.{NoMemory}
 use Rattle.rd_walk.proofs.AcceptedLemmas.{trace_accepted}
 use Rattle.rd_walk.proofs.OutputLemmas.{fault_no_well, front_only, halted_no_well, has_outcome, report_without, well_written}
 use Rattle.rd_walk.proofs.ProgressLemmas.{read_more}
-use Rattle.rd_walk.proofs.FileLemmas.{bound_at, count_at, ending_at, file_is, opens_none, opens_once, opens_only, rest_is, taken_is}
+use Rattle.rd_walk.proofs.WalkLemmas.{entries_after}
+use Rattle.rd_walk.proofs.FileLemmas.{ending_at, file_is, opens_none, opens_once, opens_only, rest_is, taken_is}
 
-module _ (report : Walked → Outcome) (kinds : List Kind) (name : List ℕ) (limits : Limits) where
+module _ (texts : ReportTexts) (kinds : List Kind) (name : List ℕ) (limits : Limits) where
   -- nothing was opened, and nothing written
-  reports_before : (faults : ℕ) (old : Source) (steps : ℕ) → ReportsTrace report kinds name limits (ltb faults faults) old old [] NoMemory steps steps
+  reports_before : (faults : ℕ) (old : Source) (steps : ℕ) → ReportsTrace texts kinds name limits (ltb faults faults) old old [] NoMemory steps steps
   reports_before faults old steps =
       record {
         output = inl refl;
@@ -40,17 +41,17 @@ module _ (report : Walked → Outcome) (kinds : List Kind) (name : List ℕ) (li
 
   -- memory ran out before that
   pub reports_without : (ended : Result TraceStatus Halt) → IsErr ended × IsErrAnd ended (λ e. e ≡ halt.NoMemory) → (faults : ℕ) (old : Source) (steps : ℕ)
-      → ReportsTrace report kinds name limits (ltb faults faults) old old [] (report_status ended) steps steps
+      → ReportsTrace texts kinds name limits (ltb faults faults) old old [] (report_status ended) steps steps
   reports_without ended is faults old steps =
-      subst (λ status. ReportsTrace report kinds name limits (ltb faults faults) old old [] status steps steps) (sym (report_without ended is)) (reports_before faults old steps)
+      subst (λ status. ReportsTrace texts kinds name limits (ltb faults faults) old old [] status steps steps) (sym (report_without ended is)) (reports_before faults old steps)
 
   -- the trace could not be opened
   pub reports_unopened : (before now : ℕ) (old new : Source) (part : List ℕ) (status : Status) (steps : ℕ) → before < 2 ^ 63 → Rose before now
-      → IsNotOpened old new name → IsOutput status part fault_outcome → ReportsTrace report kinds name limits (ltb before now) old new part status steps steps
+      → IsNotOpened old new name → IsOutput status part fault_outcome → ReportsTrace texts kinds name limits (ltb before now) old new part status steps steps
   reports_unopened before now old new part status steps few risen opened output =
       let rose : ltb before now ≡ true = grind (arith, nat_tests) in
       record {
-        output = has_outcome (IsTraceOutcome report kinds name limits (ltb before now) old new) status part fault_outcome
+        output = has_outcome (IsTraceOutcome texts.outcome kinds name limits (ltb before now) old new) status part fault_outcome
             (inl (record { risen = rose; some_unopened = omega (arith, opened.opens); is = refl })) output;
         opened = opens_none name old new opened;
         taken = λ more. absurd (omega (arith, opened.opens, more));
@@ -59,30 +60,30 @@ module _ (report : Walked → Outcome) (kinds : List Kind) (name : List ℕ) (li
       }
 
   -- it was opened, and the report is done with it
-  module _ (text : List Entry → List ℕ)
-      (fronts : (entries : List Entry) (walked : Walked) → AreAccepted kinds (items (entries_of (after entries walked))) → IsFront (text entries) (report (after entries walked)).text)
-      (well : (walked : Walked) → IsWell (report walked).status → ending_of walked ≡ End)
+  module _ (fronts : (entries : List Entry) (walked : Walked) → AreAccepted kinds (items (entries_of (after entries walked))) → IsFront (texts.lines entries) (texts.outcome (after entries walked)).text)
+      (well : (walked : Walked) → IsWell (texts.outcome walked).status → ending_of walked ≡ End)
       (usable : AreUsable limits) (range : limits.threads < 2 ^ 32) (before now : ℕ) (old mid new : Source) (entries : List Entry) (taken part : List ℕ)
       (status : Status) (from to : ℕ) (few : before < 2 ^ 63) (few_opens : old.opens ≤ 2 ^ 63) (opened : IsOpened old mid name) (takes : Takes mid new taken)
-      (cost : to ≤ from + step_bound entries) (read : IsTakenOfTrace limits taken (length entries)) where
+      (cost : to ≤ from + step_bound entries) (read : IsTakenOfTrace limits taken (length entries)) (begun : IsBegun texts.lines part entries) where
     module _ (walked : Walked) (rose : Bool) (is_rose : ltb before now ≡ rose) where
       -- the walk of the whole file, or of what was taken of it
       reports_over : (walk_is : walk_of kinds name limits rose old new ≡ after entries walked)
-          → IsOutput status part (report (after entries walked)) → (IsWell status → IsReadWhole kinds name limits old new)
-          → ReportsTrace report kinds name limits (ltb before now) old new part status from to
+          → IsOutput status part (texts.outcome (after entries walked)) → (IsWell status → IsReadWhole kinds name limits old new)
+          → ReportsTrace texts kinds name limits (ltb before now) old new part status from to
       reports_over walk_is output read_whole =
-          subst (λ r. ReportsTrace report kinds name limits r old new part status from to) (sym is_rose)
+          subst (λ r. ReportsTrace texts kinds name limits r old new part status from to) (sym is_rose)
           (record {
-            output = has_outcome (IsTraceOutcome report kinds name limits rose old new) status part (report (walk_of kinds name limits rose old new))
+            output = has_outcome (IsTraceOutcome texts.outcome kinds name limits rose old new) status part (texts.outcome (walk_of kinds name limits rose old new))
                 (inr (opens_once name old mid new taken few_opens opened takes, refl))
-                (subst (λ w. IsOutput status part (report w)) (sym walk_is) output);
+                (subst (λ w. IsOutput status part (texts.outcome w)) (sym walk_is) output);
             opened = opens_only name old mid new taken few_opens opened takes;
             taken = λ more. record {
               whole = rest_is name old mid new taken few_opens opened takes;
-              read = read_more limits taken new.taken (length entries) (length (entries_of (walk_of kinds name limits rose old new)))
-                  (taken_is name old mid new taken few_opens opened takes)
-                  (subst (λ w. length entries ≤ length (entries_of w)) (sym walk_is) (count_at entries walked)) read;
-              cost = let bound = subst (λ w. step_bound entries ≤ step_bound (entries_of w)) (sym walk_is) (bound_at entries walked) in omega (arith, bound, cost);
+              begun = entries;
+              first = (entries_of walked, ap entries_of walk_is ∙ entries_after entries walked);
+              is_begun = begun;
+              read = read_more limits taken new.taken (length entries) (length entries) (taken_is name old mid new taken few_opens opened takes) (omega arith) read;
+              cost = cost;
             };
             unopened = λ same. absurd (omega (arith, same, opens_once name old mid new taken few_opens opened takes));
             read = read_whole;
@@ -108,12 +109,12 @@ module _ (report : Walked → Outcome) (kinds : List Kind) (name : List ℕ) (li
         }
 
     -- the lines end otherwise
-    not_well : (ending : WalkEnd) → ending ≢ End → IsOutput status part (report (after entries (ends ending))) → ¬ (IsWell status)
+    not_well : (ending : WalkEnd) → ending ≢ End → IsOutput status part (texts.outcome (after entries (ends ending))) → ¬ (IsWell status)
     not_well ending other output is =
-        other (sym (ending_at entries ending) ∙ well (after entries (ends ending)) (well_written status part (report (after entries (ends ending))) is output))
+        other (sym (ending_at entries ending) ∙ well (after entries (ends ending)) (well_written status part (texts.outcome (after entries (ends ending))) is output))
 
-    pub reports_opened : HasReported text report kinds limits taken new.held entries part status before now
-        → ReportsTrace report kinds name limits (ltb before now) old new part status from to
+    pub reports_opened : HasReported texts kinds limits taken new.held entries part status before now
+        → ReportsTrace texts kinds name limits (ltb before now) old new part status from to
     reports_opened (inl (End, (none, is), output, risen, calm)) =
         let quiet : ltb before now ≡ false = let same = calm (λ e. cc) in grind (arith, nat_tests) in
         reports_over (ends End) false quiet (whole_walk (ends End) is) output (λ _. read_to_end none is)
@@ -124,13 +125,13 @@ module _ (report : Walked → Outcome) (kinds : List Kind) (name : List ℕ) (li
     reports_opened (inl (Fault, is, output, risen, calm)) =
         let rose : ltb before now ≡ true = let r = risen refl in grind (arith, nat_tests) in
         reports_over (ends Fault) true rose (fault_walk (ends Fault) is) output (λ read. absurd (not_well Fault (λ e. cc) output read))
-    reports_opened (inr (halt, rest, on, texts, halted, calm)) =
+    reports_opened (inr (halt, rest, on, is_text, halted, calm)) =
         let quiet : ltb before now ≡ false = grind (arith, nat_tests) in
         let (walked, is) = on end new.held in
         let accepted : AreAccepted kinds (items (entries_of (after entries walked)))
         = subst (λ w. AreAccepted kinds (items (entries_of w))) is (trace_accepted kinds limits usable range end (taken ++ new.held)) in
         let (more, front) = fronts entries walked accepted in
         reports_over walked false quiet (whole_walk walked is)
-        (subst (λ s. IsOutput s part (report (after entries walked))) (sym halted)
-        (front_only halt part (rest ++ more) (report (after entries walked)) (front ∙ ap (λ t. t ++ more) texts ∙ append_assoc part rest more)))
+        (subst (λ s. IsOutput s part (texts.outcome (after entries walked))) (sym halted)
+        (front_only halt part (rest ++ more) (texts.outcome (after entries walked)) (front ∙ ap (λ t. t ++ more) is_text ∙ append_assoc part rest more)))
         (λ read. absurd (halted_no_well halt (subst IsWell halted read)))

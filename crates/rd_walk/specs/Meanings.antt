@@ -15,8 +15,8 @@ pub record Meaning : Type 1 where
   pub specification : Option (List ℕ)
   -- what it writes, and its status
   pub outcome : Limits → Bool → Source → Source → Outcome → Type 0
-  -- what was taken of the last file that was opened, and the steps that were counted, before it and after it
-  pub takes : Limits → Bool → Source → Source → ℕ → ℕ → Type 0
+  -- what was taken of the last file that was opened, by what was written, and the steps that were counted, before it and after it
+  pub takes : Limits → Bool → Source → Source → List ℕ → ℕ → ℕ → Type 0
   -- the trace was read to its end
   pub reads : Limits → Source → Source → Type 0
   -- Nothing is left out: where all files are there and nothing is refused, the whole is written, unless memory ran out. It is said of runs
@@ -30,7 +30,7 @@ pub record Runs (meaning : Meaning) (limits : Limits) (rose : Bool) (old new : S
   -- the files that were opened
   pub opened : OpensOnly meaning.files old new
   -- what was taken of them, and the steps that were counted
-  pub taken : meaning.takes limits rose old new before after
+  pub taken : meaning.takes limits rose old new part before after
   -- the trace was read to its end, where the status says so
   pub read : IsWell status → meaning.reads limits old new
 

@@ -9,6 +9,7 @@ use Rattle.rd_io.specs.declared.lines.ReadEnd.TheVariants.{ReadFault, LineTooLon
 use Rattle.rd_base.specs.declared.limits.Limits.{Limits}
 use Rattle.rd_base.specs.declared.limits.LimitName.TheVariants.{Bytes, Line}
 use Rattle.rd_ecl.specs.Kinds.{Kind}
+use Rattle.rd_walk.specs.Output.{IsFront}
 use Rattle.rd_walk.specs.Walk.{Entry, Walked, after, ends, items, trace_of, walk}
 use Rattle.rd_wf.specs.declared.causes.TraceCause.TheVariants.{NoFinalNewline, Limit}
 use Rattle.rd_walk.specs.declared.walk.WalkEnd.{WalkEnd}
@@ -50,6 +51,15 @@ pub record IsCut (limits : Limits) (taken : List ℕ) (reader : Reader) (lines :
   pub clean : All HasNoFeed lines
   pub limit : reader.limit ≡ limits.line
   pub room : length (flat_map with_feed lines) + reader.room ≡ limits.bytes
+
+-- The accepted lines that were begun, where `part` is what was written: all of the text of the first of them, and behind these at most one
+-- line more. So no line is begun behind a write that failed.
+pub record IsBegun (text : List Entry → List ℕ) (part : List ℕ) (begun : List Entry) : Type 0 where
+  pub told : List Entry
+  pub last : List Entry
+  pub is : begun ≡ told ++ last
+  pub one : length last ≤ 1
+  pub written : IsFront (text told) part
 
 -- What was taken of a trace of which so many lines are accepted: some or all of these lines, and behind them no more bytes than a line
 -- may have, which hold whatever line was refused; and all in all at most one byte past the limit on bytes.

@@ -5,7 +5,7 @@ use Rattle.rd_ecl.specs.Kinds.{Kind}
 use Rattle.rd_io.specs.Inputs.{Rose, Source, file_of}
 use Rattle.rd_io.specs.Lines.Stop.{end, fault}
 use Rattle.rd_io.specs.Lines.{Stop}
-use Rattle.rd_walk.specs.Progress.{IsTakenOfTrace, WalksOn, WalksTo}
+use Rattle.rd_walk.specs.Progress.{IsBegun, IsTakenOfTrace, WalksOn, WalksTo}
 use Rattle.rd_walk.specs.Walk.{Entry, Walked, after, ends, ending_of, entries_of, step_bound, trace_of}
 use Rattle.rd_walk.specs.declared.analysis.Halt.{Halt}
 use Rattle.rd_walk.specs.declared.status.Status.{Status}
@@ -13,14 +13,21 @@ use Rattle.rd_walk.specs.declared.walk.WalkEnd.TheVariants.{End, Fault}
 use Rattle.rd_walk.specs.declared.walk.WalkEnd.{WalkEnd}
 use Rattle.std.specs.Prelude.{◌≡◌, ◌≢◌, ◌⊎◌, ℕ, List, ◌++◌, Option, Some, None, option_map, if◌then◌else◌, ◌+◌, ◌<◌, ◌≤◌, Bool, true, [], ◌∷◌, length, count_by, is_none}
 
--- What a report has done when it ends, which writes `text` for the lines and has this outcome: all was written, or it was cut short behind
+-- what a report writes
+pub record ReportTexts : Type 0 where
+  -- for accepted lines
+  pub lines : List Entry → List ℕ
+  -- in all, and its status
+  pub outcome : Walked → Outcome
+
+-- What a report has done when it ends, which writes these texts: all was written, or it was cut short behind
 -- the lines or in their text. These bytes were taken of the input and `held` is left of it, and the count of the inputs' faults rose where a
 -- read failed.
-abbrev pub HasReported : (List Entry → List ℕ) → (Walked → Outcome) → List Kind → Limits → List ℕ → List ℕ → List Entry → List ℕ → Status → ℕ → ℕ → Type 0
-HasReported text outcome kinds limits taken held entries part status before now =
-    ((ending : WalkEnd) × WalksTo kinds limits taken held entries ending × IsOutput status part (outcome (after entries (ends ending)))
+abbrev pub HasReported : ReportTexts → List Kind → Limits → List ℕ → List ℕ → List Entry → List ℕ → Status → ℕ → ℕ → Type 0
+HasReported texts kinds limits taken held entries part status before now =
+    ((ending : WalkEnd) × WalksTo kinds limits taken held entries ending × IsOutput status part (texts.outcome (after entries (ends ending)))
     × (ending ≡ Fault → Rose before now) × (ending ≢ Fault → now ≡ before))
-    ⊎ ((halt : Halt) × (rest : List ℕ) × WalksOn kinds limits taken entries × (text entries ≡ part ++ rest)
+    ⊎ ((halt : Halt) × (rest : List ℕ) × WalksOn kinds limits taken entries × (texts.lines entries ≡ part ++ rest)
     × (status ≡ halted_with halt) × (now ≡ before))
 
 -- what is walked over: where the count of the inputs' faults rose (`rose`) what was taken before a read failed, and else the whole file
@@ -59,12 +66,16 @@ pub record OpensOnly (names : List (List ℕ)) (old new : Source) : Type 0 where
 abbrev pub IsUntaken : Source → Source → Type 0
 IsUntaken old new = (new.taken ≡ old.taken) × (new.held ≡ old.held)
 
--- What was taken of a trace that was opened, and the steps that were counted: what was taken and what is left are the file's bytes, and no
--- more was taken than may be by how many of its lines are accepted; and the steps are those of these lines.
-pub record TakesTrace (kinds : List Kind) (trace : List ℕ) (limits : Limits) (rose : Bool) (old new : Source) (before after : ℕ) : Type 0 where
+-- What was taken of a trace that was opened, and the steps that were counted, where `part` was written: what was taken and what is left are
+-- the file's bytes; the accepted lines that were begun are the first of the file; no more was taken than may be by how many they are; and the
+-- steps are those of these lines.
+pub record TakesTrace (lines : List Entry → List ℕ) (kinds : List Kind) (trace : List ℕ) (limits : Limits) (rose : Bool) (old new : Source) (part : List ℕ) (before after : ℕ) : Type 0 where
   pub whole : file_of old.files trace ≡ Some (new.taken ++ new.held)
-  pub read : IsTakenOfTrace limits new.taken (length (entries_of (walk_of kinds trace limits rose old new)))
-  pub cost : after ≤ before + step_bound (entries_of (walk_of kinds trace limits rose old new))
+  pub begun : List Entry
+  pub first : (rest : List Entry) × (entries_of (walk_of kinds trace limits rose old new) ≡ begun ++ rest)
+  pub is_begun : IsBegun lines part begun
+  pub read : IsTakenOfTrace limits new.taken (length begun)
+  pub cost : after ≤ before + step_bound begun
 
 -- all of a trace was taken, and in the walk over it no line is refused
 pub record IsReadWhole (kinds : List Kind) (trace : List ℕ) (limits : Limits) (old new : Source) : Type 0 where
@@ -79,9 +90,9 @@ pub record IsWholeOutput (outcome : Outcome) (part : List ℕ) (status : Status)
   pub well : IsWell status
 
 -- what a report leaves of a trace whose objects are of these kinds, where inputs told `old` before the trace was opened
-pub record ReportsTrace (report : Walked → Outcome) (kinds : List Kind) (trace : List ℕ) (limits : Limits) (rose : Bool) (old new : Source) (part : List ℕ) (status : Status) (before after : ℕ) : Type 0 where
-  pub output : HasOutcome (IsTraceOutcome report kinds trace limits rose old new) status part
+pub record ReportsTrace (texts : ReportTexts) (kinds : List Kind) (trace : List ℕ) (limits : Limits) (rose : Bool) (old new : Source) (part : List ℕ) (status : Status) (before after : ℕ) : Type 0 where
+  pub output : HasOutcome (IsTraceOutcome texts.outcome kinds trace limits rose old new) status part
   pub opened : OpensOnly (trace ∷ []) old new
-  pub taken : new.opens ≡ old.opens + 1 → TakesTrace kinds trace limits rose old new before after
+  pub taken : new.opens ≡ old.opens + 1 → TakesTrace texts.lines kinds trace limits rose old new part before after
   pub unopened : new.opens ≡ old.opens → IsUntaken old new × (after ≡ before)
   pub read : IsWell status → IsReadWhole kinds trace limits old new

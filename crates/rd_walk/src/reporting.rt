@@ -8,7 +8,7 @@ ghost use Rattle.rd_io.specs.Sinks.{Appends};
 ghost use Rattle.rd_walk.specs.Traces.{HasReported, ReportsTrace};
 ghost use Rattle.rd_walk.specs.Analysis.{TellsFault, TellsFaults};
 ghost use Rattle.rd_walk.specs.Output.{IsFront, IsOutput, IsWell, Outcome, report_status};
-ghost use Rattle.rd_walk.specs.Progress.{IsTakenOfTrace};
+ghost use Rattle.rd_walk.specs.Progress.{IsBegun, IsTakenOfTrace};
 ghost use Rattle.rd_walk.specs.Walk.{Entry, Walked, after, ending_of, ends, entries_of, items, step_bound};
 ghost use Rattle.rd_wf.specs.Events.{AreAccepted};
 ghost use Rattle.rd_wf.specs.Roster.{RosterStandsFor, kinds_in};
@@ -84,10 +84,12 @@ fn report_opened<A: Report, I: Inputs, S: Sink, L: Ledger>(
         × Appends (S.written out.old) (S.written out.new) part
         × (steps.new ≤ steps.old + step_bound entries)
         × IsTakenOfTrace walker.old.limits taken (length entries)
+        × IsBegun (A.text (kinds_in walker.old.roster) walker.old.analysis) part entries
         × Goes (I.told inputs.old) (I.told inputs.new) (λ old new. Takes old new taken
-        × HasReported (A.text (kinds_in walker.old.roster) walker.old.analysis)
-        (A.outcome (kinds_in walker.old.roster) walker.old.analysis)
-        (kinds_in walker.old.roster) walker.old.limits taken new.held entries part (report_status result)
+        × HasReported (record {
+            lines = A.text (kinds_in walker.old.roster) walker.old.analysis;
+            outcome = A.outcome (kinds_in walker.old.roster) walker.old.analysis;
+        }) (kinds_in walker.old.roster) walker.old.limits taken new.held entries part (report_status result)
         (I.faults inputs.old) (I.faults inputs.new)) }
     ensures faults { TellsFaults TraceStatus.InputFault (I.faults inputs.old) (I.faults inputs.new)
         (S.faults out.old) (S.faults out.new) (S.at_fault out.new) (S.written out.new) result }
@@ -115,8 +117,10 @@ pub fn report_trace<A: Report, I: Inputs, S: Sink, L: Ledger>(
         old.opens ≤ 2 ^ 63 →
         (new : Source) × (part : List ℕ) × (I.told inputs.new ≡ Some new)
         × Appends (S.written out.old) (S.written out.new) part
-        × ReportsTrace (A.outcome (kinds_in walker.old.roster) walker.old.analysis)
-        (kinds_in walker.old.roster) trace.now walker.old.limits
+        × ReportsTrace (record {
+            lines = A.text (kinds_in walker.old.roster) walker.old.analysis;
+            outcome = A.outcome (kinds_in walker.old.roster) walker.old.analysis;
+        }) (kinds_in walker.old.roster) trace.now walker.old.limits
         (nat_lt (I.faults inputs.old)
         (I.faults inputs.new)) old new part (report_status result) steps.old steps.new }
     ensures faults { TellsFaults TraceStatus.InputFault (I.faults inputs.old) (I.faults inputs.new)

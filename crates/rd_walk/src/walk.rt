@@ -8,7 +8,8 @@ ghost use Rattle.rd_io.specs.LineReader.{fresh};
 ghost use Rattle.rd_io.specs.Lines.LinesEnding.{at_end};
 ghost use Rattle.rd_io.specs.Sinks.{Appends};
 ghost use Rattle.rd_walk.specs.Analysis.{TellsFault, WritesBetween, WritesFront};
-ghost use Rattle.rd_walk.specs.Progress.{IsTakenOfTrace, WalksOn, WalksTo, ending_for};
+ghost use Rattle.rd_walk.specs.Output.{IsFront};
+ghost use Rattle.rd_walk.specs.Progress.{IsBegun, IsTakenOfTrace, WalksOn, WalksTo, ending_for};
 ghost use Rattle.rd_walk.specs.Walk.{Entry, trace_end_of, items, judgement_of, line_bound, step_bound};
 ghost use Rattle.rd_ecl.specs.Kinds.{Kind};
 ghost use Rattle.rd_wf.specs.Roster.{RosterStandsFor, kinds_in};
@@ -184,10 +185,11 @@ pub fn walk_lines<A: Analysis, I: Inputs, S: Sink, L: Ledger>(
         (λ old new. Takes old new taken
         × WalksTo (kinds_in walker.old.roster) walker.old.limits taken new.held entries ending)) }
 
-    // or some of them
-    ensures halted { OnErr result ((entries : List Entry) × (taken : List ℕ)
-        × WritesFront (S.written out.old) (S.written out.new) []
-        (A.text (kinds_in walker.old.roster) walker.old.analysis entries)
+    // or some of them, and no line behind one of which not all was written
+    ensures halted { OnErr result ((entries : List Entry) × (taken : List ℕ) × (part : List ℕ)
+        × Appends (S.written out.old) (S.written out.new) part
+        × IsFront part (A.text (kinds_in walker.old.roster) walker.old.analysis entries)
+        × IsBegun (A.text (kinds_in walker.old.roster) walker.old.analysis) part entries
         × (steps.new ≤ steps.old + step_bound entries)
         × IsTakenOfTrace walker.old.limits taken (length entries)
         × WalksOn (kinds_in walker.old.roster) walker.old.limits taken entries

@@ -7,8 +7,8 @@ use Rattle.rd_wf.specs.Roster.{kinds_in}
 use Rattle.either.specs.Either.{MatchEither}
 use Rattle.rd_check.specs.Checking.{CheckBegins}
 use Rattle.rd_walk.specs.Output.{report_status}
-use Rattle.rd_run.proofs.RunLemmas.{no_fault_told, part_outcome}
-use Rattle.rd_check.specs.Checked.{check_outcome}
+use Rattle.rd_run.proofs.RunLemmas.{no_fault_told, part_texts}
+use Rattle.rd_check.specs.Checked.{check_texts}
 use Rattle.rd_replaying.specs.Replaying.{BeginWithBuiltIn, recorded_of}
 use Rattle.rd_walk.specs.Traces.{ReportsTrace}
 use Rattle.rd_walk.proofs.TraceLemmas.{reports_without}
@@ -22,7 +22,7 @@ returns-in_err-roster-clause-reports g c = λ old told few few_opens.
       [],
       told,
       appends_none wrote wrote refl,
-      reports_without (check_outcome spec) (kinds_of spec) c.args.trace.now c.args.limits.now c.from_residual.result c.from_residual.ensures
+      reports_without (check_texts spec) (kinds_of spec) c.args.trace.now c.args.limits.now c.from_residual.result c.from_residual.ensures
           (g.I.Inputs.faults c.args.inputs.now) old c.args.steps.now,
     )
 
@@ -34,7 +34,7 @@ returns-in_err-analysis-clause-reports g c = λ old told few few_opens.
       [],
       told,
       appends_none wrote wrote refl,
-      reports_without (check_outcome spec) (kinds_of spec) c.args.trace.now c.args.limits.now c.from_residual-in_err-analysis.result
+      reports_without (check_texts spec) (kinds_of spec) c.args.trace.now c.args.limits.now c.from_residual-in_err-analysis.result
           c.from_residual-in_err-analysis.ensures (g.I.Inputs.faults c.args.inputs.now) old c.args.steps.now,
     )
 
@@ -68,8 +68,8 @@ returns-clause-reports g c = λ old told few few_opens.
       part,
       now,
       writes,
-      subst (λ (T : Type 0). T) (λ i. ReportsTrace (check_outcome (spec i)) (c.in_ok-roster.ensures.kind_entries i) c.args.trace.now c.args.limits.now rose old new part status
+      subst (λ (T : Type 0). T) (λ i. ReportsTrace (check_texts (spec i)) (c.in_ok-roster.ensures.kind_entries i) c.args.trace.now c.args.limits.now rose old new part status
           c.args.steps.now c.report_trace.new.steps)
-          (subst (λ inner. ReportsTrace (part_outcome kinds inner) kinds c.args.trace.now c.args.limits.now rose old new part status c.args.steps.now c.report_trace.new.steps)
+          (subst (λ inner. ReportsTrace (part_texts kinds inner) kinds c.args.trace.now c.args.limits.now rose old new part status c.args.steps.now c.report_trace.new.steps)
           c.new-3.ensures.inner reports),
     )

@@ -4,7 +4,7 @@ use Rattle.rd_io.proofs.SinkLemmas.{appends_none}
 use Rattle.rd_ecl.specs.Kinds.{kind_names, kinds_of}
 use Rattle.rd_kinds.specs.Shipped.{shipped_kinds}
 use Rattle.rd_kinds.proofs.NameLemmas.{listed_differ}
-use Rattle.rd_check.specs.Checked.{check_outcome}
+use Rattle.rd_check.specs.Checked.{check_texts}
 use Rattle.rd_walk.specs.Output.{report_status}
 use Rattle.rd_walk.specs.Traces.{ReportsTrace}
 use Rattle.rd_replaying.specs.States.{built_in_kinds}
@@ -27,7 +27,7 @@ returns-clause-runs g c = λ old told few few_opens.
       now,
       writes,
       runs_shipped c.args.trace.now c.args.limits.now rose old new part (report_status c.check.result) c.args.steps.now c.check.new.steps
-          (subst (λ kinds. ReportsTrace (check_outcome kinds) (kinds_of kinds) c.args.trace.now c.args.limits.now rose old new part (report_status c.check.result) c.args.steps.now c.check.new.steps) c.in_ok-spec.ensures reports),
+          (subst (λ kinds. ReportsTrace (check_texts kinds) (kinds_of kinds) c.args.trace.now c.args.limits.now rose old new part (report_status c.check.result) c.args.steps.now c.check.new.steps) c.in_ok-spec.ensures reports),
     )
 
 pub returns-in_err-spec-clause-runs : goal.returns-in_err-spec-clause-runs
@@ -39,5 +39,5 @@ returns-in_err-spec-clause-runs g c = λ old told few few_opens.
       told,
       appends_none wrote wrote refl,
       runs_shipped c.args.trace.now c.args.limits.now (nat_lt faults faults) old old [] _ c.args.steps.now c.args.steps.now
-          (reports_without (check_outcome shipped_kinds) built_in_kinds c.args.trace.now c.args.limits.now c.from_residual.result c.from_residual.ensures faults old c.args.steps.now),
+          (reports_without (check_texts shipped_kinds) built_in_kinds c.args.trace.now c.args.limits.now c.from_residual.result c.from_residual.ensures faults old c.args.steps.now),
     )

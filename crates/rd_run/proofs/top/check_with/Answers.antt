@@ -4,7 +4,7 @@ use Rattle.std.proofs.lemmas.Option.{same_Some}
 use Rattle.rd_io.proofs.SinkLemmas.{appends_none}
 use Rattle.rd_ecl.specs.Kinds.{kind_names, kinds_of}
 use Rattle.rd_kinds.specs.Shipped.{shipped_kinds}
-use Rattle.rd_check.specs.Checked.{check_outcome}
+use Rattle.rd_check.specs.Checked.{check_texts}
 use Rattle.rd_spec_commands.specs.Meanings.{ReadsSpec}
 use Rattle.rd_io.specs.Inputs.{Rose}
 use Rattle.rd_spec_commands.specs.Specifications.{TellsUnread}
@@ -62,9 +62,9 @@ returns-in-Ok-with_shipped-clause-runs g c = λ old told few few_opens.
       writes,
       runs_said c.args.trace.now c.args.file.now c.args.limits.now (nat_lt before after) old mid new part c.report_status.result c.args.steps.now c.check.new.steps
           left bytes c.in-Ok.said was says
-          (subst (λ status. ReportsTrace (check_outcome (shipped_kinds ++ c.in-Ok.said)) (kinds_of (shipped_kinds ++ c.in-Ok.said)) c.args.trace.now c.args.limits.now (nat_lt before after) mid new part status c.args.steps.now c.check.new.steps) (sym c.report_status.ensures)
-          (subst (λ faults. ReportsTrace (check_outcome (shipped_kinds ++ c.in-Ok.said)) (kinds_of (shipped_kinds ++ c.in-Ok.said)) c.args.trace.now c.args.limits.now (nat_lt faults after) mid new part (report_status c.check.result) c.args.steps.now c.check.new.steps) calm
-          (subst (λ kinds. ReportsTrace (check_outcome kinds) (kinds_of kinds) c.args.trace.now c.args.limits.now (nat_lt (g.I.Inputs.faults c.read_spec.new.inputs) after) mid new part (report_status c.check.result) c.args.steps.now c.check.new.steps)
+          (subst (λ status. ReportsTrace (check_texts (shipped_kinds ++ c.in-Ok.said)) (kinds_of (shipped_kinds ++ c.in-Ok.said)) c.args.trace.now c.args.limits.now (nat_lt before after) mid new part status c.args.steps.now c.check.new.steps) (sym c.report_status.ensures)
+          (subst (λ faults. ReportsTrace (check_texts (shipped_kinds ++ c.in-Ok.said)) (kinds_of (shipped_kinds ++ c.in-Ok.said)) c.args.trace.now c.args.limits.now (nat_lt faults after) mid new part (report_status c.check.result) c.args.steps.now c.check.new.steps) calm
+          (subst (λ kinds. ReportsTrace (check_texts kinds) (kinds_of kinds) c.args.trace.now c.args.limits.now (nat_lt (g.I.Inputs.faults c.read_spec.new.inputs) after) mid new part (report_status c.check.result) c.args.steps.now c.check.new.steps)
           c.in-Ok-with_shipped.ensures reports))),
     )
 

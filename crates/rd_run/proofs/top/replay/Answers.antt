@@ -7,11 +7,11 @@ use Rattle.rd_kinds.specs.Shipped.{shipped_kinds}
 use Rattle.rd_kinds.proofs.NameLemmas.{listed_differ}
 use Rattle.rd_wf.specs.laws.NoLines.{told_none}
 use Rattle.rd_wf.specs.Roster.{kinds_in}
-use Rattle.rd_replaying.specs.States.{replay_outcome, built_in_kinds}
+use Rattle.rd_replaying.specs.States.{replay_texts, built_in_kinds}
 use Rattle.either.specs.Either.{MatchEither}
 use Rattle.rd_check.specs.Checking.{CheckBegins}
 use Rattle.rd_walk.specs.Output.{report_status}
-use Rattle.rd_run.proofs.RunLemmas.{part_outcome}
+use Rattle.rd_run.proofs.RunLemmas.{part_texts}
 use Rattle.rd_replaying.specs.Replaying.{recorded_of}
 use Rattle.rd_walk.specs.Traces.{ReportsTrace}
 use Rattle.rd_replaying.proofs.ReplayLemmas.{runs_replay}
@@ -30,7 +30,7 @@ returns-in_err-spec-clause-runs g c = λ old told few few_opens.
       told,
       appends_none wrote wrote refl,
       runs_replay c.args.trace.now c.args.limits.now (nat_lt faults faults) old old [] _ c.args.steps.now c.args.steps.now
-          (reports_without (replay_outcome built_in_kinds) built_in_kinds c.args.trace.now c.args.limits.now c.from_residual.result c.from_residual.ensures faults old c.args.steps.now),
+          (reports_without (replay_texts built_in_kinds) built_in_kinds c.args.trace.now c.args.limits.now c.from_residual.result c.from_residual.ensures faults old c.args.steps.now),
     )
 
 pub returns-in_err-roster-clause-runs : goal.returns-in_err-roster-clause-runs
@@ -42,7 +42,7 @@ returns-in_err-roster-clause-runs g c = λ old told few few_opens.
       told,
       appends_none wrote wrote refl,
       runs_replay c.args.trace.now c.args.limits.now (nat_lt faults faults) old old [] _ c.args.steps.now c.args.steps.now
-          (reports_without (replay_outcome built_in_kinds) built_in_kinds c.args.trace.now c.args.limits.now c.from_residual-in_err-roster.result c.from_residual-in_err-roster.ensures faults old c.args.steps.now),
+          (reports_without (replay_texts built_in_kinds) built_in_kinds c.args.trace.now c.args.limits.now c.from_residual-in_err-roster.result c.from_residual-in_err-roster.ensures faults old c.args.steps.now),
     )
 
 pub report_trace-requires-clause-begins : goal.report_trace-requires-clause-begins
@@ -67,7 +67,7 @@ returns-clause-runs g c = λ old told few few_opens.
       now,
       writes,
       runs_replay c.args.trace.now c.args.limits.now rose old new part status c.args.steps.now c.report_trace.new.steps
-          (subst (λ k. ReportsTrace (replay_outcome k) k c.args.trace.now c.args.limits.now rose old new part status c.args.steps.now c.report_trace.new.steps) kinds
-          (subst (λ inner. ReportsTrace (part_outcome (kinds_in c.in_ok-roster.roster) inner) (kinds_in c.in_ok-roster.roster) c.args.trace.now c.args.limits.now rose old new part
+          (subst (λ k. ReportsTrace (replay_texts k) k c.args.trace.now c.args.limits.now rose old new part status c.args.steps.now c.report_trace.new.steps) kinds
+          (subst (λ inner. ReportsTrace (part_texts (kinds_in c.in_ok-roster.roster) inner) (kinds_in c.in_ok-roster.roster) c.args.trace.now c.args.limits.now rose old new part
           status c.args.steps.now c.report_trace.new.steps) c.new-2.ensures.inner reports)),
     )

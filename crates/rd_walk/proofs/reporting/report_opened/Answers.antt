@@ -1,10 +1,11 @@
-use Rattle.std.proofs.Common.{◌≡◌, ◌++◌, ap, inl, inr, Result, Ok}
+use Rattle.std.proofs.Common.{◌≡◌, ◌++◌, refl, ap, inl, inr, Result, Ok}
 use Rattle.rd_io.proofs.SinkLemmas.{appends_on}
 use Rattle.rd_walk.specs.declared.walk.WalkEnd.{WalkEnd}
 use Rattle.rd_walk.specs.declared.walk.WalkEnd.TheVariants.{Fault}
 use Rattle.rd_walk.specs.declared.analysis.Halt.{Halt}
 use Rattle.rd_wf.specs.Roster.{kinds_in}
 use Rattle.rd_walk.proofs.OutputLemmas.{failed_with}
+use Rattle.rd_walk.proofs.ProgressLemmas.{all_begun}
 use Rattle.rd_walk.specs.Output.{report_status}
 use Rattle.rd_walk.proofs.reporting.report_opened.Goals as goal
 
@@ -30,6 +31,7 @@ returns-clause-reported g c =
       appends_on _ _ _ front part text writes,
       cost,
       read,
+      all_begun (g.A.Analysis.text kinds start) part (front ++ part) entries refl,
       λ old told. let (new, now, (takes, walks)) = goes old told in (
         new,
         now,
@@ -48,8 +50,7 @@ returns-clause-reported g c =
 
 pub returns-in_err-ending-clause-reported : goal.returns-in_err-ending-clause-reported
 returns-in_err-ending-clause-reported g c =
-    let (entries, taken, front, cost, read, on, goes) = c.in_err-ending.ensures.halted in
-    let (part, rest, is, writes) = front in
+    let (entries, taken, part, writes, (rest, is), begun, cost, read, on, goes) = c.in_err-ending.ensures.halted in
     let (halt, failed, gives) = failed_with c.from_residual.result _ c.from_residual.ensures in (
       entries,
       taken,
@@ -57,6 +58,7 @@ returns-in_err-ending-clause-reported g c =
       writes,
       cost,
       read,
+      begun,
       λ old told. let (new, now, takes) = goes old told in (
         new,
         now,

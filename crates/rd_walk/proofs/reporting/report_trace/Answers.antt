@@ -2,7 +2,7 @@ use Rattle.std.proofs.Common.{[], refl, subst, arith}
 use Rattle.rd_io.proofs.SinkLemmas.{appends_none}
 use Rattle.rd_wf.specs.Roster.{kinds_in}
 use Rattle.rd_walk.specs.Output.{fault_outcome, report_status}
-use Rattle.rd_walk.specs.Traces.{HasReported}
+use Rattle.rd_walk.specs.Traces.{HasReported, ReportTexts}
 use Rattle.rd_walk.proofs.OutputLemmas.{report_cut}
 use Rattle.rd_walk.proofs.TraceLemmas.{reports_opened, reports_unopened, reports_without}
 use Rattle.rd_walk.proofs.reporting.report_trace.Goals as goal
@@ -12,12 +12,12 @@ returns-in_err-reader-clause-reports g c = λ old told few few_opens.
     let wrote = g.S.Sink.written c.args.out.now in
     let faults = g.I.Inputs.faults c.args.inputs.now in
     let kinds = kinds_in c.args.walker.now.roster in
-    let outcome = g.A.Report.outcome kinds c.args.walker.now.analysis in (
+    let texts : ReportTexts = record { lines = g.A.Analysis.text kinds c.args.walker.now.analysis; outcome = g.A.Report.outcome kinds c.args.walker.now.analysis } in (
       old,
       [],
       told,
       appends_none wrote wrote refl,
-      reports_without outcome kinds c.args.trace.now c.args.walker.now.limits c.from_residual.result c.from_residual.ensures faults old c.args.steps.now,
+      reports_without texts kinds c.args.trace.now c.args.walker.now.limits c.from_residual.result c.from_residual.ensures faults old c.args.steps.now,
     )
 
 pub returns-in_default-clause-reports : goal.returns-in_default-clause-reports
@@ -28,7 +28,7 @@ returns-in_default-clause-reports g c = λ old told few few_opens.
       _,
       now,
       c.in_ok-write_fault.ensures.ok,
-      reports_unopened (g.A.Report.outcome kinds c.args.walker.now.analysis) kinds c.args.trace.now c.args.walker.now.limits (g.I.Inputs.faults c.args.inputs.now)
+      reports_unopened (record { lines = g.A.Analysis.text kinds c.args.walker.now.analysis; outcome = g.A.Report.outcome kinds c.args.walker.now.analysis }) kinds c.args.trace.now c.args.walker.now.limits (g.I.Inputs.faults c.args.inputs.now)
           (g.I.Inputs.faults c.open.new.self) old new _ _ c.args.steps.now few c.in_default.ensures.cause.failed opened (refl, refl),
     )
 
@@ -41,7 +41,7 @@ returns-in_err-write_fault-clause-reports g c = λ old told few few_opens.
       part,
       now,
       writes,
-      reports_unopened (g.A.Report.outcome kinds c.args.walker.now.analysis) kinds c.args.trace.now c.args.walker.now.limits (g.I.Inputs.faults c.args.inputs.now)
+      reports_unopened (record { lines = g.A.Analysis.text kinds c.args.walker.now.analysis; outcome = g.A.Report.outcome kinds c.args.walker.now.analysis }) kinds c.args.trace.now c.args.walker.now.limits (g.I.Inputs.faults c.args.inputs.now)
           (g.I.Inputs.faults c.open.new.self) old new part _ c.args.steps.now few c.in_default.ensures.cause.failed opened
           (report_cut c.from_residual-in_err-write_fault.result _ c.from_residual-in_err-write_fault.ensures part rest fault_outcome is),
     )
@@ -49,21 +49,20 @@ returns-in_err-write_fault-clause-reports g c = λ old told few few_opens.
 pub returns-clause-reports : goal.returns-clause-reports
 returns-clause-reports g c = λ old told few few_opens.
     let (mid, opened_now, opened) = c.in-Ok.ensures.told old told in
-    let (entries, taken, part, writes, cost, read, goes) = c.report_opened.ensures.reported in
+    let (entries, taken, part, writes, cost, read, begun, goes) = c.report_opened.ensures.reported in
     let (new, now, (takes, reported)) = goes mid opened_now in
     let before = g.I.Inputs.faults c.args.inputs.now in
     let after = g.I.Inputs.faults c.report_opened.new.inputs in
     let kinds = kinds_in c.args.walker.now.roster in
     let start = c.args.walker.now.analysis in
-    let text = g.A.Analysis.text kinds start in
     let status = report_status c.report_opened.result in
-    let outcome = g.A.Report.outcome kinds start in (
+    let texts : ReportTexts = record { lines = g.A.Analysis.text kinds start; outcome = g.A.Report.outcome kinds start } in (
       new,
       part,
       now,
       writes,
-      reports_opened outcome kinds c.args.trace.now c.args.walker.now.limits text (λ entries walked. c.law_of_outcomes.ensures.fronts kinds entries walked c.requires.begins)
+      reports_opened texts kinds c.args.trace.now c.args.walker.now.limits (λ entries walked. c.law_of_outcomes.ensures.fronts kinds entries walked c.requires.begins)
           (c.law_of_outcomes.ensures.well kinds) c.requires.usable (omega arith) before after old mid new entries taken part status c.args.steps.now
-          c.report_opened.new.steps few few_opens opened takes cost read
-          (subst (λ faults. HasReported text outcome kinds c.args.walker.now.limits taken new.held entries part status faults after) c.in-Ok.ensures.cause.calm reported),
+          c.report_opened.new.steps few few_opens opened takes cost read begun
+          (subst (λ faults. HasReported texts kinds c.args.walker.now.limits taken new.held entries part status faults after) c.in-Ok.ensures.cause.calm reported),
     )

@@ -12,7 +12,7 @@ use Rattle.rd_walk.specs.Progress.{WalksTo, ending_for}
 use Rattle.rd_walk.specs.declared.walk.WalkEnd.TheVariants.{Refused}
 use Rattle.rd_walk.proofs.WalkLemmas.{bound_more, items_more}
 use Rattle.rd_walk.proofs.ContinueLemmas.{continues_fresh, continues_line, walks_end, walks_further, walks_on, walks_refused, walks_to_refusal}
-use Rattle.rd_walk.proofs.ProgressLemmas.{cut_line, cut_none, read_so_far}
+use Rattle.rd_walk.proofs.ProgressLemmas.{all_begun, cut_line, cut_none, read_so_far}
 use Rattle.rd_walk.proofs.walk.walk_lines.Goals as goal
 
 pub lines-init : goal.lines-init
@@ -150,12 +150,10 @@ returns-in-Err-take_line-clause-halted g c =
       | inl (quiet, steps) ↦ (
         entries,
         taken ++ bytes,
-        (
-          g.A.Analysis.text kinds start entries,
-          [],
-          sym (append-nil (g.A.Analysis.text kinds start entries)),
-          subst (λ now. Appends wrote now (g.A.Analysis.text kinds start entries)) (sym quiet) text,
-        ),
+        g.A.Analysis.text kinds start entries,
+        subst (λ now. Appends wrote now (g.A.Analysis.text kinds start entries)) (sym quiet) text,
+        ([], sym (append-nil (g.A.Analysis.text kinds start entries))),
+        all_begun (g.A.Analysis.text kinds start) [] (g.A.Analysis.text kinds start entries) entries (sym (append-nil (g.A.Analysis.text kinds start entries))),
         omega (arith, cost, steps),
         read_so_far limits taken bytes c.lines.reader lines cut (length entries) (omega arith) answered.past answered.fits,
         walks_further kinds limits taken bytes c.lines.reader entries so_far,
@@ -167,12 +165,10 @@ returns-in-Err-take_line-clause-halted g c =
           let (part, rest, is, writes) = rw c.number-number.ensures.value at front in (
             entries ++ entry ∷ [],
             taken ++ bytes,
-            (
-              g.A.Analysis.text kinds start entries ++ part,
-              rest,
-              is ∙ sym (append_assoc (g.A.Analysis.text kinds start entries) part rest),
-              appends_on _ _ _ (g.A.Analysis.text kinds start entries) part text writes,
-            ),
+            g.A.Analysis.text kinds start entries ++ part,
+            appends_on _ _ _ (g.A.Analysis.text kinds start entries) part text writes,
+            (rest, is ∙ sym (append_assoc (g.A.Analysis.text kinds start entries) part rest)),
+            record { told = entries; last = entry ∷ []; is = refl; one = omega arith; written = (part, refl) },
             omega (arith, cost, cost_now, bound_more [] entries entry),
             read_so_far limits taken bytes c.lines.reader lines cut (length (entries ++ entry ∷ [])) (omega (arith, counted, length-append entries (entry ∷ []))) answered.past answered.fits,
             walks_on kinds limits (taken ++ bytes) c.next.new.self (entries ++ entry ∷ [])
