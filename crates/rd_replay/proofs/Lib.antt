@@ -1,3 +1,4 @@
+pub mod EndLemmas
 pub mod LawLemmas
 pub mod ReplayLemmas
 pub mod ReplayerLemmas

@@ -1,4 +1,5 @@
 pub mod Replays
+pub mod EndShapes
 pub mod Replayer
 pub use Rattle.rd_kinds.specs.Machines
 pub use Rattle.rd_kinds.specs.Objects

@@ -4,5 +4,5 @@
 mod laws;
 mod replayer;
 
-pub use laws::law_of_replays;
+pub use laws::{law_of_end_shapes, law_of_replays};
 pub use replayer::{Match, Replayer};
