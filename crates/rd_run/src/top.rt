@@ -127,6 +127,7 @@ fn check<I: Inputs, S: Sink, L: Ledger>(
         roster,
         analysis: Replaying::new(alloc, part),
         line: Line::Skip,
+        refused: None,
     };
     report_trace(&mut walker, trace, inputs, out, steps)
 }
@@ -236,6 +237,7 @@ fn replay<I: Inputs, S: Sink, L: Ledger>(
         roster,
         analysis: Replaying::new(alloc, part),
         line: Line::Skip,
+        refused: None,
     };
     report_trace(&mut walker, trace, inputs, out, steps)
 }

@@ -87,8 +87,8 @@ fn report_opened<A: Report, I: Inputs, S: Sink, L: Ledger>(
         × IsBegun (A.text (kinds_in walker.old.roster) walker.old.analysis) part entries
         × Goes (I.told inputs.old) (I.told inputs.new) (λ old new. Takes old new taken
         × HasReported (record {
-            lines = A.text (kinds_in walker.old.roster) walker.old.analysis;
-            outcome = A.outcome (kinds_in walker.old.roster) walker.old.analysis;
+          lines = A.text (kinds_in walker.old.roster) walker.old.analysis;
+          outcome = A.outcome (kinds_in walker.old.roster) walker.old.analysis;
         }) (kinds_in walker.old.roster) walker.old.limits taken new.held entries part (report_status result)
         (I.faults inputs.old) (I.faults inputs.new)) }
     ensures faults { TellsFaults TraceStatus.InputFault (I.faults inputs.old) (I.faults inputs.new)
@@ -118,8 +118,8 @@ pub fn report_trace<A: Report, I: Inputs, S: Sink, L: Ledger>(
         (new : Source) × (part : List ℕ) × (I.told inputs.new ≡ Some new)
         × Appends (S.written out.old) (S.written out.new) part
         × ReportsTrace (record {
-            lines = A.text (kinds_in walker.old.roster) walker.old.analysis;
-            outcome = A.outcome (kinds_in walker.old.roster) walker.old.analysis;
+          lines = A.text (kinds_in walker.old.roster) walker.old.analysis;
+          outcome = A.outcome (kinds_in walker.old.roster) walker.old.analysis;
         }) (kinds_in walker.old.roster) trace.now walker.old.limits
         (nat_lt (I.faults inputs.old)
         (I.faults inputs.new)) old new part (report_status result) steps.old steps.new }

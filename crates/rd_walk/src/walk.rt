@@ -1,5 +1,5 @@
 //! The walk over the lines of a trace.
-ghost use Rattle.std.specs.Prelude.{◌≡◌, ◌≢◌, ◌⊎◌, ℕ, ◌+◌, ◌-◌, ◌<◌, ◌≤◌, ◌^◌, List, [], ◌∷◌, ◌++◌, Ok, Err, Some, None, length, IfOk, IfErr, OnErr};
+ghost use Rattle.std.specs.Prelude.{◌≡◌, ◌≢◌, ◌⊎◌, ℕ, ◌+◌, ◌-◌, ◌<◌, ◌≤◌, ◌^◌, List, [], ◌∷◌, ◌++◌, Ok, Err, Some, IsSome, length, IfOk, IfErr, OnErr};
 ghost use Rattle.rd_base.specs.Limits.{AreUsable};
 ghost use Rattle.rd_event.specs.Reading.{item_of};
 ghost use Rattle.rd_event.specs.declared.items.Line.{Line as Item};
@@ -43,6 +43,15 @@ pub struct Walker<A> {
     pub analysis: A,
     /// the last line that was read
     pub line: Line,
+    /// why the last line was refused, where it was
+    pub refused: Option<TraceCause>,
+}
+
+/// What became of a line. Where it is refused, the walker has the cause, so that the answer for each line is small.
+#[derive(Clone, Copy)]
+enum Taken {
+    Accepted,
+    Refused,
 }
 
 /// How a trace ends whose lines ended well. The number is that of its last line.
@@ -77,14 +86,14 @@ fn at_refusal(refused: ReadEnd, number: u64, limits: &Limits) -> WalkEnd
     }
 }
 
-/// Takes a line: it is judged, and what it says is handed on. The answer is a cause where the line is refused.
+/// Takes a line: it is judged, and what it says is handed on.
 fn take_line<A: Analysis, S: Sink, L: Ledger>(
     walker: &mut Walker<A>,
     number: u64,
     bytes: &[u8],
     out: &mut S,
     steps: &mut Steps<L>,
-) -> Result<Option<TraceCause>, Halt>
+) -> Result<Taken, Halt>
     requires usable { AreUsable walker.old.limits }
     requires stands { (kinds : List Kind) × (start : A) × (before : List Entry)
         × RosterStandsFor kinds walker.old.roster (items before)
@@ -93,7 +102,7 @@ fn take_line<A: Analysis, S: Sink, L: Ledger>(
 
     // a line is accepted and handed on
     ensures taken { IfOk result
-        (λ refused. refused ≡ None → (kinds : List Kind) (start : A) (before : List Entry) →
+        (λ taken. taken ≡ Taken.Accepted → (kinds : List Kind) (start : A) (before : List Entry) →
         RosterStandsFor kinds walker.old.roster (items before) →
         A.leads kinds start before walker.old.analysis →
         (item : Item) × (judgement_of kinds walker.old.limits (items before) bytes.now ≡ Ok item)
@@ -106,13 +115,14 @@ fn take_line<A: Analysis, S: Sink, L: Ledger>(
         × (steps.new ≤ steps.old + line_bound (items before) item)) }
 
     // or refused, and all else is as before
+    ensures cause { IfOk result (λ taken. taken ≡ Taken.Refused → IsSome walker.new.refused) }
     ensures refused { IfOk result
-        (λ refused. (cause : TraceCause) → refused ≡ Some cause →
+        (λ taken. taken ≡ Taken.Refused → (cause : TraceCause) → walker.new.refused ≡ Some cause →
         (kinds : List Kind) (before : List Entry) →
         RosterStandsFor kinds walker.old.roster (items before) →
         (judgement_of kinds walker.old.limits (items before) bytes.now ≡ Err cause)
         × RosterStandsFor kinds walker.new.roster (items before)) }
-    ensures silent { IfOk result (λ refused. (cause : TraceCause) → refused ≡ Some cause →
+    ensures silent { IfOk result (λ taken. taken ≡ Taken.Refused →
         (out.new ≡ out.old) × (walker.new.analysis ≡ walker.old.analysis)
         × (steps.new ≡ steps.old)) }
 
@@ -149,11 +159,14 @@ fn take_line<A: Analysis, S: Sink, L: Ledger>(
                 steps,
             )
             else {
-                return Ok(None);
+                return Ok(Taken::Accepted);
             };
             Err(halt)
         }
-        Err(Refusal::Cause(cause)) => Ok(Some(cause)),
+        Err(Refusal::Cause(cause)) => {
+            walker.refused = Some(cause);
+            Ok(Taken::Refused)
+        }
         Err(Refusal::NoMemory) => Err(Halt::NoMemory),
     }
 }
@@ -210,10 +223,10 @@ pub fn walk_lines<A: Analysis, I: Inputs, S: Sink, L: Ledger>(
         }
         let number = reader.number();
         match take_line(walker, number, reader.line(), out, steps) {
-            Ok(None) => {}
-            Ok(Some(cause)) => return Ok(WalkEnd::Refused {
+            Ok(Taken::Accepted) => {}
+            Ok(Taken::Refused) => return Ok(WalkEnd::Refused {
                 line: number,
-                cause,
+                cause: walker.refused.unwrap(),
             }),
             Err(halt) => return Err(halt),
         }

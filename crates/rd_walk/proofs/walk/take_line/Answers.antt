@@ -4,7 +4,7 @@ use Rattle.rd_walk.specs.Walk.{items}
 use Rattle.rd_walk.proofs.walk.take_line.Goals as goal
 
 pub returns-in-Err-Cause-clause-refused : goal.returns-in-Err-Cause-clause-refused
-returns-in-Err-Cause-clause-refused g c = λ cause is kinds before stands.
+returns-in-Err-Cause-clause-refused g c = λ is cause told kinds before stands.
     let same : c.in-Err-Cause.cause ≡ cause = cc in (
       c.in-Err-Cause.ensures.refused c.in-Err-Cause.cause c.in-Err-Cause.field-0-is kinds (items before) stands ∙ ap Err same,
       c.in-Err-Cause.ensures.same kinds (items before) stands,

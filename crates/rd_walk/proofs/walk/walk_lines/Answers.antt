@@ -91,7 +91,7 @@ lines-preserved g c =
     let limits = c.args.walker.now.limits in
     let kinds = kinds_in c.args.walker.now.roster in
     let start = c.args.walker.now.analysis in
-    let taking = c.in-Ok-None.ensures.taken c.in-Ok-None.field-0-is kinds start entries stands leads in
+    let taking = c.in-Ok-Accepted.ensures.taken c.in-Ok-Accepted.field-0-is kinds start entries stands leads in
     let (item, says, stands_now, leads_now, writes, cost_now) = rw (c.number-number.ensures.value, c.line.ensures, same) at taking in
     let entry : Entry = record { number = c.next.new.self.number; item = item } in (
       entries ++ entry ∷ [],
@@ -106,21 +106,22 @@ lines-preserved g c =
       omega (arith, cost, cost_now, bound_more [] entries entry),
       takes_on _ _ _ taken bytes told (λ old is. let r = goes old is in (r.0, r.1, r.2.0)),
       c.in-Ok-Line.ensures.calm (λ e. let fault = sym (ap Ok c.in-Ok-Line.field-0-is) ∙ e in cc) ∙ calm,
-      c.in-Ok-None.ensures.fault ∙ faults,
-      c.in-Ok-None.ensures.limits ∙ same,
+      c.in-Ok-Accepted.ensures.fault ∙ faults,
+      c.in-Ok-Accepted.ensures.limits ∙ same,
       cut_line limits taken bytes c.lines.reader lines cut c.next.new.self answered.leaves,
       omega (arith, length-append lines (c.next.new.self.line ∷ []), length-append entries (entry ∷ []), counted),
     )
 
-pub returns-in-Ok-Some-clause-walked : goal.returns-in-Ok-Some-clause-walked
-returns-in-Ok-Some-clause-walked g c =
+pub returns-in-Ok-Refused-clause-walked : goal.returns-in-Ok-Refused-clause-walked
+returns-in-Ok-Refused-clause-walked g c =
     let (entries, taken, lines, going, so_far, stands, leads, text, cost, told, calm, faults, same, cut, counted) = c.lines.invariant in
     let (bytes, answered, goes) = (rw c.in-Ok-Line.field-0-is at c.in-Ok-Line.ensures.tells) going in
     let moves = (rw c.in-Ok-Line.field-0-is at c.in-Ok-Line.ensures.moves) going in
     let limits = c.args.walker.now.limits in
     let kinds = kinds_in c.args.walker.now.roster in
-    let refusal = c.in-Ok-Some.ensures.refused c.in-Ok-Some.cause c.in-Ok-Some.field-0-is kinds entries stands in
-    let silent = c.in-Ok-Some.ensures.silent c.in-Ok-Some.cause c.in-Ok-Some.field-0-is in (
+    let cause = c.unwrap.result in
+    let refusal = c.in-Ok-Refused.ensures.refused c.in-Ok-Refused.field-0-is cause c.unwrap.ensures kinds entries stands in
+    let silent = c.in-Ok-Refused.ensures.silent c.in-Ok-Refused.field-0-is in (
       entries,
       taken ++ bytes,
       rw silent.1 leads,
@@ -129,10 +130,10 @@ returns-in-Ok-Some-clause-walked g c =
       omega (arith, cost, silent.2),
       read_so_far limits taken bytes c.lines.reader lines cut (length entries) (omega arith) answered.past answered.fits,
       takes_then _ _ _ taken bytes (λ (source : Source). ⊥ → source.held ≡ [])
-          (λ (source : Source). WalksTo kinds limits (taken ++ bytes) source.held entries (Refused c.number-number.result c.in-Ok-Some.cause))
-          (λ source none. subst (λ n. WalksTo kinds limits (taken ++ bytes) source.held entries (Refused n c.in-Ok-Some.cause)) (sym c.number-number.ensures.value)
+          (λ (source : Source). WalksTo kinds limits (taken ++ bytes) source.held entries (Refused c.number-number.result cause))
+          (λ source none. subst (λ n. WalksTo kinds limits (taken ++ bytes) source.held entries (Refused n cause)) (sym c.number-number.ensures.value)
           (walks_to_refusal kinds limits taken bytes c.lines.reader c.next.new.self entries so_far answered.tells moves.number source.held
-          c.in-Ok-Some.cause (rw (c.line.ensures, same) at refusal.0)))
+          cause (rw (c.line.ensures, same) at refusal.0)))
           told goes,
     )
 
