@@ -1,4 +1,4 @@
--- A header and blocks of kinds are read as the same kinds.
+-- A header and blocks of kinds are read as these kinds.
 use Rattle.std.proofs.Common.{◌≡◌, ◌≢◌, ℕ, zero, suc, ◌+◌, ◌*◌, ◌<◌, ◌≤◌, Bool, true, false, List, [], ◌∷◌, ◌++◌, codes, get_or, length, length-append, Option, Some, None, if◌then◌else◌, refl, sym, ◌∙◌, ap, subst, arith, ◌⊎◌, inl, inr}
 use Rattle.std.specs.Prelude.{All, AllPairs, Contains, IsSome, flat_map, nat_le, set}
 use Rattle.std.specs.List.{AllByRecursion, AllZip}
@@ -10,7 +10,7 @@ use Rattle.rd_ecl.specs.declared.kinds.Method.{Method}
 use Rattle.rd_ecl.specs.Formulas.{Tree}
 use Rattle.rd_ecl.specs.Specified.{IsKind, IsWhole, SpecifiedKind, formula_at, method_predicates, names_of, with_method, with_pair}
 use Rattle.rd_ecl.specs.Variables.{AreVariables}
-use Rattle.rd_ecl.proofs.PairLemmas.{at_other, at_set, known}
+use Rattle.rd_ecl.proofs.PairLemmas.{at_other, at_set, equal_drafts, known}
 use Rattle.rd_lines.specs.declared.forms.Stage.TheVariants.{Outside}
 use Rattle.rd_lines.specs.Lines.{words_of, kind as kind_said, method as method_said, commute as commute_said}
 use Rattle.rd_reading.specs.Adding.{AcceptsSpecLine, with_header, with_kind}
@@ -19,16 +19,38 @@ use Rattle.rd_reading.specs.Causes.{AreNumbers, HasManyPredicates, HasManyTokens
 use Rattle.rd_reading.specs.Known.{kind_in, kind_without, kinds_so_far, nothing, specified_kind_names, stage_of, variables_at}
 use Rattle.rd_reading.specs.Texts.{HasNewNames, ReadsLines, SpecSays, no_more, skips, takes}
 use Rattle.rd_reading.specs.declared.known.Known.{Known}
+use Rattle.rd_reading.proofs.DraftLemmas.{said_kinds}
 use Rattle.rd_reading.proofs.LineLemmas.{short_few}
 use Rattle.rd_reading.proofs.NumberLemmas.{AreDifferent}
 use Rattle.rd_reading.proofs.OneLemmas.{none_apart}
 use Rattle.rd_reading.proofs.RepeatLemmas.{none_repeated}
 use Rattle.rd_reading.proofs.VerdictLemmas.{no_end}
-use Rattle.rd_spec.specs.Again.{AreSame, IsSame}
 use Rattle.rd_spec.proofs.AcceptLemmas.{accepted, header_accepted, kind_clean, method_clean, other_first}
 use Rattle.rd_spec.proofs.FewLemmas.{few_parts}
 use Rattle.rd_spec.proofs.MethodLines.{IsUnset, at, fresh_behind, methods_more, methods_unset, name_kept, with_methods}
 use Rattle.rd_spec.proofs.PairLines.{IsReady, pair_clean}
+
+-- ---- kinds that are the same
+
+-- two kinds have one name, the same methods, and one formula for each pair of them
+record IsSame (kind other : SpecifiedKind) : Type 0 where
+  name : kind.name ≡ other.name
+  methods : kind.methods ≡ other.methods
+  formulas : (first second : ℕ) → first ≤ second → second < length kind.methods → formula_at kind first second ≡ formula_at other first second
+
+-- as many kinds, one by one the same
+abbrev AreSame : List SpecifiedKind → List SpecifiedKind → Type 0
+AreSame [] [] = Unit {0}
+AreSame (kind ∷ kinds) (other ∷ others) = IsSame kind other × AreSame kinds others
+AreSame _ _ = ⊥
+
+-- what else there is of kinds is equal then
+equal_all : (kinds others : List SpecifiedKind) → AllByRecursion IsKind kinds → AllByRecursion IsKind others → AreSame kinds others → kinds ≡ others
+equal_all [] [] each also same = refl
+equal_all [] (other ∷ others) each also same = absurd same
+equal_all (kind ∷ kinds) [] each also same = absurd same
+equal_all (kind ∷ kinds) (other ∷ others) (is, each) (is_also, also) (here, same) =
+    (λ i. equal_drafts kind other is.draft is_also.draft here.name here.methods here.formulas i ∷ equal_all kinds others each also same i)
 
 -- ---- lines, each of which is accepted
 
@@ -477,9 +499,9 @@ may_come taken (kind ∷ kinds) (here, each) (one, free) = ((here, one), may_com
 none_whole : IsWhole (kind_without [])
 none_whole first second ordered within = absurd (omega (arith, within))
 
-pub blocks_said : (text : List ℕ) (taken : List (List ℕ)) (kinds : List SpecifiedKind) → IsOfBlocks text kinds → All IsKind kinds → HasNewNames taken kinds
+blocks_read_as : (text : List ℕ) (taken : List (List ℕ)) (kinds : List SpecifiedKind) → IsOfBlocks text kinds → All IsKind kinds → HasNewNames taken kinds
     → length text ≤ MOST_SPEC_BYTES → (read : List SpecifiedKind) × SpecSays text taken read × AreSame kinds read
-blocks_said text taken kinds is each names short =
+blocks_read_as text taken kinds is each names short =
     let begins = is.begins in
     let first : Known = with_header nothing in
     let rest = blocks_read taken first is.blocks [] kinds refl none_whole tt names.different names.few
@@ -497,3 +519,9 @@ blocks_said text taken kinds is each names short =
       },
       rest.same,
     )
+
+pub blocks_said : (text : List ℕ) (taken : List (List ℕ)) (kinds : List SpecifiedKind) → IsOfBlocks text kinds → All IsKind kinds → HasNewNames taken kinds
+    → length text ≤ MOST_SPEC_BYTES → SpecSays text taken kinds
+blocks_said text taken kinds is each names short =
+    let (read, says, same) = blocks_read_as text taken kinds is each names short in
+    subst (SpecSays text taken) (sym (equal_all kinds read (each_by_recursion IsKind kinds each) (each_by_recursion IsKind read (said_kinds text taken read says)) same)) says

@@ -3,14 +3,14 @@ ghost use Rattle.std.specs.Prelude.{◌≡◌, ◌≤◌, ◌⊎◌, ℕ, List, 
 ghost use Rattle.rd_ecl.specs.Specified.{IsKind, SpecifiedKind};
 ghost use Rattle.rd_print.specs.Printed.{spec_text};
 ghost use Rattle.rd_base.specs.declared.limits.TheConstants.{MOST_SPEC_BYTES};
-ghost use Rattle.rd_spec.specs.Again.{AreSame, MayBeRead};
+ghost use Rattle.rd_spec.specs.Again.{MayBeRead};
 ghost use Rattle.rd_reading.specs.Blocks.{IsOfBlocks};
 ghost use Rattle.rd_reading.specs.Texts.{HasNewNames, IsSpecRefused, SpecSays};
 ghost use Rattle.rd_reading.specs.declared.parsing.SpecRefused.{SpecRefused};
 
 /// The law of specifications: each text says one specification or has one refusal, and never both. A text that says kinds is a
 /// header and a block for each of them. They are always at most 32, of different names, none of them taken, each with a formula in
-/// the fragment for each pair of its methods. A text of such blocks that isn't too long says the same kinds, and so does the
+/// the fragment for each pair of its methods. A text of such blocks that isn't too long says these kinds, and so does the
 /// canonical text of such kinds.
 pub fn law_of_specifications()
     // each text says one specification, or has one refusal
@@ -26,7 +26,7 @@ pub fn law_of_specifications()
         → SpecSays text taken x → ¬ (IsSpecRefused text taken refused) }
 
     // a text that says kinds is a header and a block for each of them, which are kinds with names of their own; and such a text,
-    // where it isn't too long, says the same kinds
+    // where it isn't too long, says these kinds
     ensures blocks { (text : List ℕ) (taken : List (List ℕ)) (kinds : List SpecifiedKind) →
         SpecSays text taken kinds → IsOfBlocks text kinds }
     ensures kinds { (text : List ℕ) (taken : List (List ℕ)) (kinds : List SpecifiedKind) →
@@ -35,10 +35,9 @@ pub fn law_of_specifications()
         SpecSays text taken kinds → HasNewNames taken kinds }
     ensures read { (text : List ℕ) (taken : List (List ℕ)) (kinds : List SpecifiedKind) →
         IsOfBlocks text kinds → All IsKind kinds → HasNewNames taken kinds →
-        length text ≤ MOST_SPEC_BYTES
-        → (read : List SpecifiedKind) × SpecSays text taken read × AreSame kinds read }
+        length text ≤ MOST_SPEC_BYTES → SpecSays text taken kinds }
 
     // the canonical text is read again
     ensures again { (kinds : List SpecifiedKind) (taken : List (List ℕ)) → MayBeRead kinds taken
-        → (read : List SpecifiedKind) × SpecSays (spec_text kinds) taken read × AreSame kinds read }
+        → SpecSays (spec_text kinds) taken kinds }
 {}
