@@ -10,4 +10,4 @@ returns-in-Some c =
     ap (λ o. unwrap_or (option_copied o) Nil) (sym c.in-Some.is)
     ∙ value_found (option_copied c.get.result) c.args.key.now c.self.inside.entries.entries c.get.ensures.value
     ∙ ap (value_at c.args.key.now) c.self.view_is in
-    subst (λ held. IfOk c.copy.result (λ value. value ≡ held)) found c.copy.ensures
+    subst (λ held. IfOk c.copy.result (λ value. value ≡ held)) found c.copy.ensures.value
