@@ -1,7 +1,8 @@
 //! Lists of pairs.
-ghost use Rattle.std.specs.Prelude.{◌≡◌};
+ghost use Rattle.std.specs.Prelude.{◌≡◌, [], ◌∷◌, ◌++◌, OnOk, OnErr};
 
-use rd_base::Value;
+use rd_base::{NoMemory, Value};
+use std::alloc::Global;
 use std::marker::Model;
 
 /// Pairs of values. Contracts see it as the list of the pairs.
@@ -20,6 +21,24 @@ impl Model for ValuePairs {
 }
 
 impl ValuePairs {
+    /// No pairs. It takes no memory.
+    pub fn new(alloc: Global) -> ValuePairs
+        ensures { result ≡ [] }
+    {
+        ValuePairs {
+            pairs: Vec::new(alloc),
+        }
+    }
+
+    /// Puts a pair last. After want of memory the list is as before.
+    pub fn push(&mut self, key: Value, value: Value) -> Result<(), NoMemory>
+        ensures ok { OnOk result (self.new ≡ self.old ++ (key, value) ∷ []) }
+        ensures err { OnErr result (self.new ≡ self.old) }
+    {
+        self.pairs.push((key, value))?;
+        Ok(())
+    }
+
     /// The list with these pairs. It takes no memory.
     pub fn from_pairs(pairs: Vec<(Value, Value)>) -> ValuePairs
         ensures { result ≡ pairs.items }
@@ -51,6 +70,24 @@ impl Model for ValueCounts {
 }
 
 impl ValueCounts {
+    /// No values. It takes no memory.
+    pub fn new(alloc: Global) -> ValueCounts
+        ensures { result ≡ [] }
+    {
+        ValueCounts {
+            counts: Vec::new(alloc),
+        }
+    }
+
+    /// Puts a value with its count last. After want of memory the list is as before.
+    pub fn push(&mut self, value: Value, count: u64) -> Result<(), NoMemory>
+        ensures ok { OnOk result (self.new ≡ self.old ++ (value, count) ∷ []) }
+        ensures err { OnErr result (self.new ≡ self.old) }
+    {
+        self.counts.push((value, count))?;
+        Ok(())
+    }
+
     /// The list with these pairs. It takes no memory.
     pub fn from_counts(counts: Vec<(Value, u64)>) -> ValueCounts
         ensures { result ≡ counts.items }
