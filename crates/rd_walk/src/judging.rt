@@ -1,11 +1,12 @@
 //! What is said of the bytes of a line.
-ghost use Rattle.std.specs.Prelude.{◌≡◌, ◌≤◌, ◌++◌, [], ◌∷◌, List, Err, Ok, Some, length, IfOk, IfErr, OnOk, OnErr};
+ghost use Rattle.std.specs.Prelude.{◌≡◌, ◌⊎◌, ◌≤◌, ◌++◌, [], ◌∷◌, List, Err, Ok, Some, length, IfOk, IfErr, OnOk, OnErr};
 ghost use Rattle.rd_base.specs.Limits.{AreUsable};
 ghost use Rattle.rd_event.specs.Reading.{item_of};
 ghost use Rattle.rd_event.specs.declared.items.Line.{Line as Item};
 ghost use Rattle.rd_walk.specs.Walk.{judgement_of};
 ghost use Rattle.rd_ecl.specs.Kinds.{Kind};
-ghost use Rattle.rd_wf.specs.MayFollow.{MayFollow, accepted_of, threads_of};
+ghost use Rattle.rd_walk.specs.Walk.{IsCallLine};
+ghost use Rattle.rd_wf.specs.MayFollow.{MayFollow, TakesMemory, accepted_of, threads_of};
 ghost use Rattle.rd_wf.specs.Roster.{RosterStandsFor};
 
 use rd_base::Limits;
@@ -24,7 +25,7 @@ pub enum Refusal {
 
 /// Reads the bytes of a line into `line`, and asks the roster whether what they say may follow its lines. It then has it, and the
 /// answer says what it is in numbers. A refusal leaves the roster as it was, and the line may be anything. Want of memory comes only
-/// for bytes that say an item.
+/// for bytes that say an item, which begin as a call, or whose item may follow and takes memory.
 #[tactic(auto, unfolding(crate::specs::Walk::judgement_of))]
 pub fn judge(
     alloc: Global,
@@ -59,7 +60,10 @@ pub fn judge(
         (kinds : List Kind) (before : List Item) →
         RosterStandsFor kinds roster.old before → judgement_of kinds limits.now before bytes.now ≡ Err cause) }
     ensures memory { IfErr result
-        (λ e. e ≡ Refusal.NoMemory → (item : Item) × (item_of bytes.now ≡ Some item)) }
+        (λ e. e ≡ Refusal.NoMemory → (item : Item) × (item_of bytes.now ≡ Some item)
+        × (IsCallLine bytes.now ⊎ ((kinds : List Kind) (before : List Item) →
+        RosterStandsFor kinds roster.old before →
+        MayFollow kinds limits.now before item × TakesMemory before item))) }
     ensures same { OnErr result
         ((kinds : List Kind) (before : List Item) → RosterStandsFor kinds roster.old before →
         RosterStandsFor kinds roster.new before) }

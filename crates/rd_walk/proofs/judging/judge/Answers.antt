@@ -1,4 +1,4 @@
-use Rattle.std.proofs.Common.{◌≡◌, ◌∙◌, ap, Err}
+use Rattle.std.proofs.Common.{◌≡◌, ◌∙◌, ap, inr, Err}
 use Rattle.rd_wf.specs.declared.causes.TraceCause.TheVariants.{Wf}
 use Rattle.rd_walk.proofs.WalkLemmas.{judged_broken}
 use Rattle.rd_walk.proofs.judging.judge.Goals as goal
@@ -11,3 +11,10 @@ returns-in-Err-Cause-clause-refused c = λ cause is kinds before stands.
 
 pub returns-in-Ok-accept-clause-stands : goal.returns-in-Ok-accept-clause-stands
 returns-in-Ok-accept-clause-stands c = λ kinds before stands. (c.in-Ok-accept.ensures.ok kinds before stands).2
+
+pub returns-in-Err-NoMemory-accept-clause-memory : goal.returns-in-Err-NoMemory-accept-clause-memory
+returns-in-Err-NoMemory-accept-clause-memory c = λ _. (
+  c.read_into.new.line,
+  c.in-Ok.ensures.item,
+  inr (λ kinds before stands. c.in-Err-NoMemory-accept.ensures.memory c.in-Err-NoMemory-accept.field-0-is kinds before stands),
+)

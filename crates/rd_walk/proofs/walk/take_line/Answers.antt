@@ -1,4 +1,4 @@
-use Rattle.std.proofs.Common.{◌≡◌, ◌∙◌, ap, Err, inr}
+use Rattle.std.proofs.Common.{◌≡◌, ◌∙◌, ap, Err, inl, inr}
 use Rattle.rd_walk.specs.Analysis.{IsNextEntry}
 use Rattle.rd_walk.specs.Walk.{items}
 use Rattle.rd_walk.proofs.walk.take_line.Goals as goal
@@ -56,4 +56,15 @@ returns-in-Err-clause-halted g c = λ kinds start before stands leads.
       c.in-Ok.ensures.judged kinds (items before) stands,
       c.in-Err.ensures.halted kinds start before leads next,
       c.in-Err.ensures.cost kinds start before leads next,
+    )
+
+pub returns-in-Err-NoMemory-clause-memory : goal.returns-in-Err-NoMemory-clause-memory
+returns-in-Err-NoMemory-clause-memory g c = λ _.
+    let (item, is, why) = c.in-Err-NoMemory.ensures.memory c.in-Err-NoMemory.field-0-is in (
+      item,
+      is,
+      elim why [
+        | inl call ↦ inl call
+        | inr follows ↦ inr (λ kinds before stands. (follows kinds before stands).0)
+      ],
     )
