@@ -29,6 +29,7 @@ use Rattle.rd_reading.specs.Texts.{ReadsLines, SpecSays, no_more, skips, takes}
 use Rattle.rd_reading.specs.declared.known.Block.{Block}
 use Rattle.rd_reading.specs.declared.known.Known.{Known}
 use Rattle.rd_reading.specs.declared.spec_causes.SpecCause.TheVariants.{Duplicate, Limit, MissingPair, OutsideFragment}
+use Rattle.rd_reading.proofs.MeaningLemmas.{given_values}
 use Rattle.rd_reading.proofs.NumberLemmas.{AreDifferent, in_order, number_within}
 use Rattle.rd_reading.proofs.OneLemmas.{never_repeated, none_apart}
 use Rattle.rd_reading.proofs.ScopeLemmas.{slots_are}
@@ -106,6 +107,7 @@ may_set kind line tokens first second read m n f draft order says clean =
       pair = record {
         fits = rw (← slots_are kind m, ← slots_are kind n) of.0;
         slots = of.1;
+        values = given_values (scope_of kind line tokens m n) read f says.gives;
         inside = inside kind line tokens first second read m n f says clean;
         few = at_most MOST_NODES (nodes f) (λ large. clean (Limit Nodes MOST_NODES) _ ((m, n, f, says, large, refl), refl));
         shallow = at_most MOST_LEVELS (levels f) (λ large. clean (Limit FormulaDepth MOST_LEVELS) _ ((m, n, f, says, large, refl), refl));
@@ -147,14 +149,14 @@ form_drafts taken known next line tokens (kind_said name) are right clean adds =
     subst AreDrafts (sym adds) (record {
       closed = all_kinds known.closed known.block are.closed are.draft
           (whole_of (kind_in known.block) (λ first second lacks. clean (MissingPair first second) 0 (lacks, refl)));
-      draft = no_draft name;
+      draft = no_draft name right.named;
     })
 form_drafts taken known next line tokens (method_said name arguments result) are right clean adds =
     let stands : stage_of known ≢ OutsideStage = λ outside. not_outside (sym right.stands ∙ outside) in
     subst AreDrafts (sym adds) (record {
       closed = are.closed;
       draft = draft_more (kind_in known.block) (record { name = name; variables = arguments ++ result ∷ [] })
-          (open_draft known.block stands are.draft)
+          (open_draft known.block stands are.draft) right.named
           (may_add (kind_in known.block) line tokens name arguments result right.each_argument right.gives clean);
     })
 form_drafts taken known next line tokens (commute_said first second read) are right clean (m, n, f, says, same) =
