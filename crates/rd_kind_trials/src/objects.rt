@@ -7,7 +7,7 @@ ghost use Rattle.rd_kinds.specs.Shipped.{shipped_kinds};
 use crate::samples::{
     built_in, commute, has_slots, is_so, is_spelled, is_state, kind_at, slots, state_line,
 };
-use rd_base::{Bytes, Value, spell_value};
+use rd_base::{Bytes, Slots, Value, read_value, spell_value};
 use rd_ecl::{KindSpec, Spec};
 use rd_kinds::{Counter, Dictionary, Object, Register, Set};
 use rd_object::{ApplyRefused, RefObject};
@@ -271,4 +271,105 @@ fn are_in_both_orders(rt: &impl Abort, alloc: Global, kinds: &Spec, rows: &[Row<
 fn calls_in_both_orders(rt: HostRuntime) {
     let spec = built_in(&rt, rt.alloc());
     are_in_both_orders(&rt, rt.alloc(), &spec, &ROWS);
+}
+
+// A kind, the number of a method, and its arguments.
+type Small<'a> = (u32, u8, &'a str);
+
+// Each is a call before two others, too, so that objects hold many shapes.
+const SMALL: [Small<'static>; 24] = [
+    (0, 0, ""),
+    (0, 1, "nil"),
+    (0, 1, "1"),
+    (0, 2, "1"),
+    (0, 2, "2"),
+    (1, 0, "0"),
+    (1, 0, "1"),
+    (1, 0, "-1"),
+    (1, 1, ""),
+    (2, 0, "1"),
+    (2, 0, "2"),
+    (2, 1, "1"),
+    (2, 1, "2"),
+    (2, 2, "1"),
+    (2, 2, "2"),
+    (2, 3, ""),
+    (3, 0, "1 1"),
+    (3, 0, "1 2"),
+    (3, 0, "1 nil"),
+    (3, 0, "2 1"),
+    (3, 0, "2 nil"),
+    (3, 1, "1"),
+    (3, 1, "2"),
+    (3, 2, ""),
+];
+
+// The slots of a call that gave a result.
+fn with_result(rt: &impl Abort, alloc: Global, args: &str, spelling: &Bytes) -> Slots {
+    let mut all = slots(rt, alloc, args);
+    let value = read_value(alloc, spelling.items()).expect(rt, "a value");
+    all.push(value).expect(rt, "memory");
+    all
+}
+
+// Do two calls of a kind with these results commute?
+fn commute_by(
+    rt: &impl Abort,
+    alloc: Global,
+    kind: &KindSpec,
+    calls: (Small<'_>, Small<'_>),
+    results: &Outcome,
+) -> bool {
+    let (first, second) = calls;
+    let a = with_result(rt, alloc, first.2, &results.first);
+    let b = with_result(rt, alloc, second.2, &results.second);
+    assert!(rt; has_slots(kind, first.1, a.items().len()));
+    assert!(rt; has_slots(kind, second.1, b.items().len()));
+    kind.commute(first.1, a.items(), second.1, b.items())
+}
+
+// Where two calls behind another commute by what they give, they give the same in the other order.
+fn may_be_exchanged(
+    rt: &impl Abort,
+    alloc: Global,
+    kinds: &Spec,
+    before: Small<'_>,
+    calls: (Small<'_>, Small<'_>),
+) -> bool
+    requires { kinds.now ≡ shipped_kinds }
+{
+    let kind = before.0;
+    assert!(rt; kind < 4);
+    let (before, first, second) = (
+        (before.1, before.2),
+        (calls.0.1, calls.0.2),
+        (calls.1.1, calls.1.2),
+    );
+    let straight = run_both(rt, alloc, kinds, kind, before, first, second);
+    let turned = run_both(rt, alloc, kinds, kind, before, second, first);
+    !commute_by(rt, alloc, kind_at(rt, kinds, kind), calls, &straight)
+        || are_alike(&straight, &turned)
+}
+
+// All pairs of calls behind this one.
+fn pairs_behind(rt: &impl Abort, alloc: Global, kinds: &Spec, before: Small<'_>)
+    requires { kinds.now ≡ shipped_kinds }
+{
+    for first in SMALL {
+        for second in SMALL {
+            if first.0 == before.0 && second.0 == before.0 {
+                let holds = may_be_exchanged(rt, alloc, kinds, before, (first, second));
+                is_so(rt, holds, first.2);
+            }
+        }
+    }
+}
+
+// The law of kinds once more, by what objects do: each pair of small calls that commute, behind each small call.
+#[test]
+fn pairs_of_small_calls(rt: HostRuntime) {
+    let spec = built_in(&rt, rt.alloc());
+    for before in SMALL {
+        pairs_behind(&rt, rt.alloc(), &spec, before);
+    }
 }
