@@ -26,7 +26,8 @@ pub(crate) fn list_of_bytes(alloc: Global, bytes: &[u8]) -> Result<Vec<u8>, Allo
     ensures value { IfOk result (λ list. list.items ≡ bytes.now) }
     ensures memory { OnErr result (bytes.now ≢ []) }
 {
-    let mut list = Vec::with_capacity(alloc, bytes.len())?;
-    list.extend_from_slice(bytes)?;
-    Ok(list)
+    if bytes.is_empty() {
+        return Ok(Vec::new(alloc));
+    }
+    Vec::from_slice(alloc, bytes)
 }

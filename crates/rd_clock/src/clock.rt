@@ -55,9 +55,12 @@ impl Clock {
         ensures value { IfOk result (λ clock. clock ≡ self.now) }
         ensures memory { OnErr result (self.now ≢ []) }
     {
-        let mut components = Vec::with_capacity(alloc, self.components.len())?;
-        components.extend_from_slice(self.components.as_slice())?;
-        Ok(Clock { components })
+        if self.components.is_empty() {
+            return Ok(Clock::new(alloc));
+        }
+        Ok(Clock {
+            components: Vec::from_slice(alloc, self.components.as_slice())?,
+        })
     }
 
     /// A clock that counts the same, with room for the threads below that number, in one allocation.
