@@ -11,38 +11,41 @@ last 8 bytes are.
 import itertools, random, string, sys
 
 MULTIPLIER, SEED, MASK = 0x9E3779B97F4A7C15, 0x243F6A8885A308D3, (1 << 64) - 1
+LENGTH = 32
 BYTES = (string.ascii_letters + string.digits + '_').encode()
 
 
 def state_behind(block):
     first, other = (int.from_bytes(block[at:at + 8], 'little') for at in (0, 8))
-    product = (first ^ (SEED + 32 & MASK)) * (other ^ MULTIPLIER)
+    product = (first ^ (SEED + LENGTH & MASK)) * (other ^ MULTIPLIER)
     return (product ^ product >> 64) & MASK
 
 
 def front():
     """24 bytes behind which each 8 bytes give the same hash."""
-    choices = random.Random(1)
+    generator = random.Random(1)
     while True:
-        block = b'n' + bytes(choices.choices(BYTES, k=15))
+        block = b'n' + bytes(generator.choices(BYTES, k=15))
         state = state_behind(block).to_bytes(8, 'little')
         if all(byte in BYTES for byte in state):
             return (block + state).decode()
 
 
 def names(count):
-    letters = BYTES.decode()
-    return [NAME + 'aaaaa' + ''.join(end) for end in itertools.islice(itertools.product(letters, repeat=3), count)]
+    begin = front() + 'aaaaa'
+    return [begin + ''.join(end) for end in itertools.islice(itertools.product(BYTES.decode(), repeat=3), count)]
 
 
-what, count, NAME = sys.argv[1], int(sys.argv[2]), front()
-if what == 'objects':
+def main():
+    if len(sys.argv) != 3 or sys.argv[1] not in ('objects', 'locks', 'variables'):
+        sys.exit(__doc__)
+    what, chosen = sys.argv[1], names(int(sys.argv[2]))
+    if what == 'variables':
+        print('rdspec 1\nkind chosen\nmethod m', *chosen, '-> result')
+        return
     print('rdtrace 1\nthread main')
-    for name in names(count):
-        print(f'object {name} register')
-elif what == 'locks':
-    print('rdtrace 1\nthread main')
-    for name in names(count):
-        print(f'acquire main {name}')
-else:
-    print('rdspec 1\nkind chosen\nmethod m', *names(count), '-> result')
+    for name in chosen:
+        print(f'object {name} register' if what == 'objects' else f'acquire main {name}')
+
+
+main()
