@@ -1,6 +1,29 @@
 //! The kinds of objects that are built in: `register`, `counter`, `set` and `dictionary`.
 #![tactic(auto)]
 
+// What is said of each kind that is built in, by the names of the kinds in the order of their numbers.
+macro_rules! dispatch {
+    // the first object of the kind with this number
+    (start $alloc:expr, $number:expr; $last:ident) => { Object::$last($last::start($alloc)) };
+    (start $alloc:expr, $number:expr; $first:ident, $($more:ident),+) => {
+        if $number == 0 {
+            Object::$first($first::start($alloc))
+        } else {
+            dispatch!(start $alloc, $number - 1; $($more),+)
+        }
+    };
+    // what the body says of the object
+    (match $object:expr, $one:ident => $body:expr; $($kind:ident),+) => {
+        match $object {
+            $(Object::$kind($one) => $body,)+
+        }
+    };
+    // each kind put last
+    (push $spec:ident, $alloc:expr; $($kind:ident),+) => {
+        $(push(&mut $spec, $kind($alloc)?)?;)+
+    };
+}
+
 mod common_formulas;
 mod counter;
 mod dictionary;

@@ -18,18 +18,6 @@ pub use register::Register;
 pub use set::Set;
 use std::alloc::Global;
 
-// What the body says of the object, whichever kind it has.
-macro_rules! dispatch {
-    ($object:expr, $one:ident => $body:expr) => {
-        match $object {
-            Object::Register($one) => $body,
-            Object::Counter($one) => $body,
-            Object::Set($one) => $body,
-            Object::Dictionary($one) => $body,
-        }
-    };
-}
-
 /// An object of a kind that is built in.
 #[derive(Debug, Drop)]
 pub enum Object {
@@ -46,12 +34,7 @@ impl Object {
         ensures kind { object_kind result ≡ kind }
         ensures first { shape_of result ≡ (machine_for result).first }
     {
-        match kind {
-            0 => Object::Register(Register::start(alloc)),
-            1 => Object::Counter(Counter::start(alloc)),
-            2 => Object::Set(Set::start(alloc)),
-            _ => Object::Dictionary(Dictionary::start(alloc)),
-        }
+        dispatch!(start alloc, kind; Register, Counter, Set, Dictionary)
     }
 
     /// Runs a call of the method with this number, which has as many arguments, and gives its result. `BadArgument` comes exactly
@@ -67,13 +50,13 @@ impl Object {
             (machine_for self.old).step method args.now (shape_of self.old) ≡ refuses slot) }
         ensures err { OnErr result (shape_of self.new ≡ shape_of self.old) }
     {
-        dispatch!(self, one => one.apply(method, args))
+        dispatch!(match self, one => one.apply(method, args); Register, Counter, Set, Dictionary)
     }
 
     /// What the object holds.
     pub fn shape(&self) -> Result<Shape, NoMemory>
         ensures { IfOk result (λ shape. shape ≡ shape_of self.now) }
     {
-        dispatch!(self, one => one.shape())
+        dispatch!(match self, one => one.shape(); Register, Counter, Set, Dictionary)
     }
 }

@@ -25,10 +25,7 @@ pub fn shipped(alloc: Global) -> Result<Spec, NoMemory>
     ensures { IfOk result (λ spec. spec ≡ shipped_kinds) }
 {
     let mut spec = Spec::empty(alloc);
-    push(&mut spec, register(alloc)?)?;
-    push(&mut spec, counter(alloc)?)?;
-    push(&mut spec, set(alloc)?)?;
-    push(&mut spec, dictionary(alloc)?)?;
+    dispatch!(push spec, alloc; register, counter, set, dictionary);
     Ok(spec)
 }
 
