@@ -1,9 +1,13 @@
 pub mod CommuteLemmas
 pub mod EqualLemmas
 pub mod FragmentLemmas
+pub mod ListedLemmas
 pub mod MethodLemmas
 pub mod PairLemmas
+pub mod ReducedPairLemmas
+pub mod ReductionLemmas
 pub mod RoomLemmas
+pub mod SlotPairLemmas
 pub mod TestLemmas
 pub mod VariableLemmas
 pub mod WalkLemmas

@@ -9,7 +9,7 @@ use Rattle.std.proofs.lemmas.List.Folds.{flat_map-map}
 use Rattle.rd_ecl.specs.declared.formulas.Predicate.{Predicate}
 use Rattle.rd_ecl.specs.Formulas.{Tree, distinct, distinct_from}
 use Rattle.rd_ecl.specs.declared.relations.Relations.{Relations}
-use Rattle.rd_ecl.specs.Relations.{Gathers, RelationsAreCounted, kept_relations, part_of}
+use Rattle.rd_ecl.specs.Relations.{Gathers, RelationsAreCounted, kept_relations, part_of, with_room}
 use Rattle.rd_ecl.specs.Specified.{SpecifiedKind, all_pairs, formula_at, method_predicates, predicates_at}
 use Rattle.rd_ecl.proofs.PairLemmas.{none_of, not_asked, some_of}
 use Rattle.rd_ecl.proofs.RoomLemmas.{distinct_both}
@@ -179,3 +179,17 @@ kept_all kind m seen rows few known h =
     let room = h.0.few in
     let count = h.0.count in
     rw (walk_is kind m rows few known, ← is) (omega (arith, room, count))
+
+-- a walk over a kind of few predicates finds no sixth
+pub goes_on : (kind : SpecifiedKind) (m other : ℕ) (seen more : Relations) (room : Bool) → length kind.pairs ≡ MOST_METHODS * length kind.methods
+    → length kind.methods ≤ MOST_METHODS → m < length kind.methods → other < length kind.methods → length (method_predicates kind m) ≤ MOST_PREDICATES
+    → IsKept kind m other seen → Gathers (kept_relations seen) (part_of kind m other) (with_room room more) → IsKept kind m (other + 1) more
+goes_on kind m other seen more true rows few known below least h k = kept_more kind m other seen more h k
+goes_on kind m other seen more false rows few known below least h k =
+    let full = kept_full kind m other seen rows few known below h k in
+    absurd (omega (arith, full, least))
+
+-- what is kept after the whole walk
+pub kept_whole : (kind : SpecifiedKind) (m : ℕ) (seen : Relations) → length kind.pairs ≡ MOST_METHODS * length kind.methods → length kind.methods ≤ MOST_METHODS
+    → m < length kind.methods → IsKept kind m (length kind.methods) seen → kept_relations seen ≡ method_predicates kind m
+kept_whole kind m seen rows few known h = h.1 ∙ sym (walk_is kind m rows few known)

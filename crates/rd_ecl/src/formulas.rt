@@ -1,10 +1,11 @@
 //! Formulas: when two calls of a pair of methods commute.
-ghost use Rattle.std.specs.Prelude.{◌≡◌, ◌+◌, ◌≤◌, ◌<◌, ◌^◌, ◌&&◌, ◌↔◌, ℕ, List, IfNone, IsNone, IsTrue, IsFalse, length, Option, Some, None, if◌then◌else◌, slice_get};
+ghost use Rattle.std.specs.Prelude.{◌≡◌, ◌+◌, ◌≤◌, ◌<◌, ◌^◌, ◌&&◌, ◌↔◌, ℕ, List, IfNone, IsNone, IsTrue, IsFalse, length, Option, Some, None, option_copied, if◌then◌else◌, slice_get};
 ghost use Rattle.rd_base.specs.declared.values.Value.{Value};
 ghost use Rattle.rd_ecl.specs.declared.formulas.Predicate.{Predicate};
 ghost use Rattle.rd_ecl.specs.declared.formulas.Rel.{Rel};
 ghost use Rattle.rd_ecl.specs.declared.formulas.Rel.TheVariants.{Lt, Le};
 ghost use Rattle.rd_ecl.specs.declared.formulas.Reason.TheVariants.{NotOverCross, OrOfCross};
+ghost use Rattle.rd_ecl.specs.Reduction.{predicate_holds};
 ghost use Rattle.rd_ecl.specs.Formulas.{Tree, tree_of, holds, Fits, post_order, first_offence, nodes, levels, InFragment, FitsTerm, term_value, relates, relate, slots_of, crosses_sides, same_predicate, same_value, offence, or_later, earlier_of};
 
 use rd_base::{MOST_TOKENS, Value};
@@ -271,6 +272,28 @@ fn walk(formula: &Formula, number: u64) -> FormulaWalk
                 crosses: left.crosses || right.crosses,
                 first,
             }
+        }
+    }
+}
+
+// The value of a term, where its slot is there.
+fn value_in<'a>(term: &'a Term, slots: &'a [Value]) -> Option<&'a Value>
+    ensures { option_copied result ≡ term_value term.now slots.now }
+{
+    match term {
+        Term::Slot(slot) => slots.get(usize::from(*slot)),
+        Term::Const(value) => Some(value),
+    }
+}
+
+impl Predicate {
+    /// Does it hold of a call with these slots? Not where it speaks of a slot that isn't there. It takes no memory.
+    pub fn holds(&self, slots: &[Value]) -> bool
+        ensures { result ≡ predicate_holds self.now slots.now }
+    {
+        match (value_in(&self.left, slots), value_in(&self.right, slots)) {
+            (Some(left), Some(right)) => are_related(self.rel, left, right),
+            _ => false,
         }
     }
 }

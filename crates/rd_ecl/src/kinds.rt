@@ -1,15 +1,17 @@
 //! A kind of objects and its methods.
-ghost use Rattle.std.specs.Prelude.{◌≡◌, ◌≢◌, ◌↔◌, ℕ, List, [], ◌∷◌, ◌++◌, IfOk, OnOk, OnErr, IsTrue, AllPairs, Contains, IsOk, Some, None, replicate, length, ◌+◌, ◌*◌, ◌<◌, ◌≤◌, ◌&&◌, option_map};
+ghost use Rattle.std.specs.Prelude.{◌≡◌, ◌≢◌, ◌↔◌, ℕ, List, [], ◌∷◌, ◌++◌, IfOk, IfSome, OnOk, OnErr, IsTrue, AllPairs, Contains, IsOk, Some, None, replicate, length, ◌+◌, ◌*◌, ◌<◌, ◌≤◌, ◌&&◌, option_map};
 ghost use Rattle.rd_base.specs.declared.values.Value.{Value};
 ghost use Rattle.rd_ecl.specs.Variables.{IsVariable, is_variable, is_among, are_different};
-ghost use Rattle.rd_ecl.specs.Formulas.{Tree, tree_of};
-ghost use Rattle.rd_ecl.specs.Relations.{Gathers, RelationsAreCounted, kept_relations, part_of};
+ghost use Rattle.rd_ecl.specs.Formulas.{Tree, nodes, tree_of};
+ghost use Rattle.rd_ecl.specs.Reduction.{AreListed};
+ghost use Rattle.rd_ecl.specs.Relations.{Gathers, RelationsAreCounted, kept_relations, part_of, with_room};
 ghost use Rattle.rd_ecl.specs.Specified.{IsDraft, IsKind, IsPair, IsWhole, MayAdd, MayPair, SpecifiedKind, commutes, formula_at, may_pair, method_predicates, pair_holds, slots_at, with_method, with_pair};
 
 use crate::formulas::Formula;
 use crate::names::Names;
+use crate::predicates::Predicates;
 use crate::relations::Relations;
-use rd_base::{MOST_METHODS, MOST_PREDICATES, Name, NoMemory, Value};
+use rd_base::{MOST_METHODS, MOST_PREDICATES, MOST_TOKENS, Name, NoMemory, Value};
 use std::alloc::Global;
 use std::marker::Model;
 
@@ -90,6 +92,44 @@ impl KindSpec {
         }
         let formula = self.formula(m, m);
         formula.holds(a, b) && formula.holds(b, a)
+    }
+
+    // Adds what the formula of a method and another says of it. Is there room for it?
+    fn gather<'a>(&'a self, seen: &mut Relations<'a>, method: u8, other: u8) -> bool
+        requires counted { RelationsAreCounted seen.old }
+        requires known { (method < length self.now.methods) × (other < length self.now.methods) }
+        ensures { Gathers (kept_relations seen.old) (part_of self.now method other)
+            (with_room result seen.new) }
+    {
+        let (low, high) = (method.min(other), method.max(other));
+        seen.add_all(self.formula(low, high), method, low, high)
+    }
+
+    // The distinct relations of a method on its side alone.
+    fn relations(&self, method: u8) -> Relations<'_>
+        requires { method < length self.now.methods }
+        ensures counted { RelationsAreCounted result }
+        ensures value { kept_relations result ≡ method_predicates self.now method }
+    {
+        let mut seen = Relations::none();
+        let count = self.methods().len() as u8;
+        for other in 0..count {
+            // a kind has no sixth
+            let _room = self.gather(&mut seen, method, other);
+        }
+        seen
+    }
+
+    /// The distinct relations of the method with this number on its side alone, without the side: at
+    /// most 5. They come pair by pair of methods, by the first of a pair, then by the second, and in a
+    /// formula from left to right.
+    pub fn predicates(&self, alloc: Global, method: u8) -> Result<Predicates, NoMemory>
+        requires { method < length self.now.methods }
+        ensures value { IfOk result
+            (λ predicates. predicates ≡ method_predicates self.now method) }
+        ensures few { IfOk result (λ predicates. length predicates ≤ MOST_PREDICATES) }
+    {
+        self.relations(method).to_predicates(alloc)
     }
 }
 
@@ -206,8 +246,10 @@ impl KindDraft {
     ) -> Option<&'a Formula>
         requires pair { (first ≤ second) × (second < length self.now.methods) }
         requires asked { (low ≤ high) × (high < length self.now.methods) }
-        ensures { option_map (λ part. tree_of part.now) result ≡ formula_at
+        requires few { nodes (tree_of formula.now) ≤ MOST_TOKENS }
+        ensures value { option_map (λ part. tree_of part.now) result ≡ formula_at
             (with_pair self.now first second (tree_of formula.now)) low high }
+        ensures few { IfSome result (λ part. nodes (tree_of part.now) ≤ MOST_TOKENS) }
     {
         // its clause says what is known of a draft
         let _methods = self.methods();
@@ -217,34 +259,38 @@ impl KindDraft {
         self.formula(low, high)
     }
 
-    // With what the formula of a method and another says of it, in the draft where this formula is set too.
+    // Adds what the formula of a method and another says of it, in the draft where this formula is set too. Is there room for it?
     fn gather<'a>(
         &'a self,
-        seen: Relations<'a>,
+        seen: &mut Relations<'a>,
         first: u8,
         second: u8,
         formula: &'a Formula,
         method: u8,
         other: u8,
-    ) -> Option<Relations<'a>>
-        requires counted { RelationsAreCounted seen }
+    ) -> bool
+        requires counted { RelationsAreCounted seen.old }
         requires known { (first ≤ second) × (second < length self.now.methods)
             × (method < length self.now.methods) × (other < length self.now.methods) }
-        ensures { Gathers (kept_relations seen.entry)
-            (part_of (with_pair self.now first second (tree_of formula.now)) method other) result }
+        requires few { nodes (tree_of formula.now) ≤ MOST_TOKENS }
+        ensures { Gathers (kept_relations seen.old)
+            (part_of (with_pair self.now first second (tree_of formula.now)) method other)
+            (with_room result seen.new) }
     {
         let (low, high) = (method.min(other), method.max(other));
         match self.formula_with(first, second, formula, low, high) {
-            Some(part) => seen.with_all(part, method, low, high),
-            None => Some(seen),
+            Some(part) => seen.add_all(part, method, low, high),
+            None => true,
         }
     }
 
     /// Has the method with this number at most 5 distinct relations on its side alone, with this formula for two methods in place
-    /// of one that is set? These go by their numbers: `first` is at most `second`. It takes no memory.
+    /// of one that is set? These go by their numbers: `first` is at most `second`. The formula has at most 512 nodes, so the walk over it
+    /// is as deep at most. It takes no memory.
     pub fn has_room<'a>(&'a self, first: u8, second: u8, formula: &'a Formula, method: u8) -> bool
-        requires { (first ≤ second) × (second < length self.now.methods)
+        requires known { (first ≤ second) × (second < length self.now.methods)
             × (method < length self.now.methods) }
+        requires few { nodes (tree_of formula.now) ≤ MOST_TOKENS }
         ensures { IsTrue result
             ↔ (length (method_predicates
             (with_pair self.now first second (tree_of formula.now)) method) ≤ MOST_PREDICATES) }
@@ -252,9 +298,8 @@ impl KindDraft {
         let mut seen = Relations::none();
         let count = self.methods().len() as u8;
         for other in 0..count {
-            match self.gather(seen, first, second, formula, method, other) {
-                Some(more) => seen = more,
-                None => return false,
+            if !self.gather(&mut seen, first, second, formula, method, other) {
+                return false;
             }
         }
         true
@@ -307,6 +352,15 @@ pub fn law_of_commuting()
         commutes kind m a n b ≡ pair_holds kind n m b a }
     ensures alike { (kind : SpecifiedKind) (m : ℕ) (a b : List Value) →
         commutes kind m a m b ≡ (pair_holds kind m m a b && pair_holds kind m m b a) }
+{}
+
+/// The law of predicates: the relations that a pair's formula has on one side are among the predicates of
+/// that side's method.
+#[tactic(auto, using(crate::proofs::ListedLemmas::pair_listed))]
+pub fn law_of_predicates()
+    ensures { (kind : SpecifiedKind) (m n : ℕ) (f : Tree) → IsKind kind → m ≤ n
+        → n < length kind.methods → formula_at kind m n ≡ Some f
+        → AreListed f (method_predicates kind m) (method_predicates kind n) }
 {}
 
 /// The law of equal kinds: two of one name, with the same methods and the same formula for each pair of them, are equal.

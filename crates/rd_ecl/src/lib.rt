@@ -1,10 +1,13 @@
-//! Specifications of kinds of objects: the methods of each kind.
+//! Specifications of kinds of objects: their methods, and formulas that say when two calls commute.
 #![tactic(auto)]
 
 mod formulas;
 mod kinds;
 mod names;
+mod predicates;
+mod reduction;
 mod relations;
+mod slot_pairs;
 mod specifications;
 
 pub use formulas::{
@@ -12,7 +15,10 @@ pub use formulas::{
 };
 pub use kinds::{
     KindDraft, KindSpec, Method, law_of_commuting, law_of_equal_kinds, law_of_pairs,
-    law_of_variables,
+    law_of_predicates, law_of_variables,
 };
 pub use names::Names;
+pub use predicates::Predicates;
+pub use reduction::{Reduced, Valuation, law_of_reductions, reduce};
+pub use slot_pairs::SlotPairs;
 pub use specifications::{AppendRefused, Spec};

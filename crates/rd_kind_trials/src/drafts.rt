@@ -1,4 +1,7 @@
 //! Kinds that are being made, and the relations that their methods have room for.
+ghost use Rattle.std.specs.Prelude.{◌≡◌, ◌≤◌, ◌+◌, ◌*◌};
+ghost use Rattle.rd_ecl.specs.Formulas.{nodes, tree_of};
+ghost use Rattle.rd_base.specs.declared.limits.TheConstants.{MOST_TOKENS};
 
 use crate::samples::{draft_of, is_so_at, is_text, outline};
 use rd_base::Value;
@@ -46,7 +49,9 @@ enum Sketch {
     Keeps,
 }
 
-fn equal(side: Side, left: Term, right: Term) -> Formula {
+fn equal(side: Side, left: Term, right: Term) -> Formula
+    ensures { nodes (tree_of result) ≡ 1 }
+{
     Formula::Atom {
         side,
         rel: Rel::Eq,
@@ -55,7 +60,9 @@ fn equal(side: Side, left: Term, right: Term) -> Formula {
     }
 }
 
-fn relation(sketch: Sketch) -> Formula {
+fn relation(sketch: Sketch) -> Formula
+    ensures { nodes (tree_of result) ≡ 1 }
+{
     match sketch {
         Sketch::IsInteger(side, value) => equal(
             side,
@@ -71,25 +78,24 @@ fn relation(sketch: Sketch) -> Formula {
     }
 }
 
-// The formula, and on a side the relation of the first slot to each integer from the one to below the other.
-fn and_integers(
-    rt: &impl Abort,
-    alloc: Global,
-    formula: Formula,
-    (side, from, to): (Side, i64, i64),
-) -> Formula {
-    let mut all = formula;
-    for value in from..to {
-        let left = Box::new(alloc, all).expect(rt, "memory");
-        let right = Box::new(alloc, relation(Sketch::IsInteger(side, value)));
-        all = Formula::And(left, right.expect(rt, "memory"));
+// On a side the relations of the first slot to so many integers, from the first one.
+fn integers(rt: &impl Abort, alloc: Global, side: Side, first: u8, count: u8) -> Formula
+    ensures { nodes (tree_of result) ≡ 2 * count + 1 }
+{
+    if count == 0 {
+        return Formula::True;
     }
-    all
+    let rest = integers(rt, alloc, side, first, count - 1);
+    let last = relation(Sketch::IsInteger(side, i64::from(first) + i64::from(count - 1)));
+    let rest = Box::new(alloc, rest).expect(rt, "memory");
+    Formula::And(rest, Box::new(alloc, last).expect(rt, "memory"))
 }
 
 // Integers on side 1, or not the relation.
-fn or_not(rt: &impl Abort, alloc: Global, count: i64, sketch: Sketch) -> Formula {
-    let integers = and_integers(rt, alloc, Formula::False, (Side::First, 0, count));
+fn or_not(rt: &impl Abort, alloc: Global, count: u8, sketch: Sketch) -> Formula
+    ensures { nodes (tree_of result) ≡ 2 * count + 4 }
+{
+    let integers = integers(rt, alloc, Side::First, 0, count);
     let relation = Box::new(alloc, relation(sketch)).expect(rt, "memory");
     let not = Box::new(alloc, Formula::Not(relation)).expect(rt, "memory");
     Formula::Or(Box::new(alloc, integers).expect(rt, "memory"), not)
@@ -99,18 +105,21 @@ fn or_not(rt: &impl Abort, alloc: Global, count: i64, sketch: Sketch) -> Formula
 fn has_room(
     rt: &impl Abort,
     draft: &KindDraft,
-    (first, second): (u8, u8),
+    first: u8,
+    second: u8,
     formula: &Formula,
     method: u8,
-) -> bool {
+) -> bool
+    requires { nodes (tree_of formula.now) ≤ MOST_TOKENS }
+{
     let count = draft.methods().len();
     assert!(rt; first <= second && usize::from(second) < count && usize::from(method) < count);
     draft.has_room(first, second, formula, method)
 }
 
-// A pair of methods, what its formula relates on a side and again, and the rooms of `put` and of `get`. `put` has one relation already,
-// that its two slots are equal.
-type Rooms = ((u8, u8), (Side, i64, i64), (Side, i64, i64), bool, bool);
+// A pair of methods, the integers that its formula names on a side and again, the first and how many, and the rooms of `put` and of `get`.
+// `put` has one relation already, that its two slots are equal.
+type Rooms = ((u8, u8), (Side, u8, u8), (Side, u8, u8), bool, bool);
 
 const ROOMS: [Rooms; 9] = [
     ((0, 1), (Side::First, 0, 4), (Side::First, 0, 0), true, true),
@@ -126,7 +135,7 @@ const ROOMS: [Rooms; 9] = [
     (
         (0, 1),
         (Side::First, 0, 4),
-        (Side::First, 3, 5),
+        (Side::First, 3, 2),
         false,
         true,
     ),
@@ -149,14 +158,14 @@ const ROOMS: [Rooms; 9] = [
     (
         (1, 1),
         (Side::First, 0, 3),
-        (Side::Second, 3, 5),
+        (Side::Second, 3, 2),
         true,
         true,
     ),
     (
         (1, 1),
         (Side::First, 0, 3),
-        (Side::Second, 3, 6),
+        (Side::Second, 3, 3),
         true,
         false,
     ),
@@ -178,9 +187,12 @@ fn has_room_for(
     method: u8,
 ) -> bool {
     let (pair, some, more, _, _) = *row;
-    let formula = and_integers(rt, alloc, Formula::True, some);
-    let formula = and_integers(rt, alloc, formula, more);
-    has_room(rt, draft, pair, &formula, method)
+    assert!(rt; some.2 < 100 && more.2 < 100);
+    let some = integers(rt, alloc, some.0, some.1, some.2);
+    let more = integers(rt, alloc, more.0, more.1, more.2);
+    let some = Box::new(alloc, some).expect(rt, "memory");
+    let formula = Formula::And(some, Box::new(alloc, more).expect(rt, "memory"));
+    has_room(rt, draft, pair.0, pair.1, &formula, method)
 }
 
 fn have_rooms(rt: &impl Abort, alloc: Global, draft: &KindDraft, rows: &[Rooms]) {
@@ -192,7 +204,7 @@ fn have_rooms(rt: &impl Abort, alloc: Global, draft: &KindDraft, rows: &[Rooms])
 
 // A relation that is turned round is another one. One that the pair of `put` and `put` has counts once with that. In a row are a relation,
 // how many others there are, and the room of `put`.
-const ONE_MORE: [(Sketch, i64, bool); 5] = [
+const ONE_MORE: [(Sketch, u8, bool); 5] = [
     (Sketch::IntegerIs(Side::First, 0), 3, true),
     (Sketch::IntegerIs(Side::First, 0), 4, false),
     (Sketch::IsInteger(Side::First, 0), 4, true),
@@ -205,18 +217,19 @@ fn has_room_for_one_more(
     rt: &impl Abort,
     alloc: Global,
     draft: &KindDraft,
-    count: i64,
+    count: u8,
     sketch: Sketch,
 ) -> bool {
+    assert!(rt; count < 100);
     let formula = or_not(rt, alloc, count, sketch);
-    has_room(rt, draft, (0, 1), &formula, 0)
+    has_room(rt, draft, 0, 1, &formula, 0)
 }
 
 fn have_room_for_one_more(
     rt: &impl Abort,
     alloc: Global,
     draft: &KindDraft,
-    rows: &[(Sketch, i64, bool)],
+    rows: &[(Sketch, u8, bool)],
 ) {
     for (number, (sketch, count, expected)) in rows.iter().enumerate() {
         let has_room = has_room_for_one_more(rt, alloc, draft, *count, *sketch);

@@ -10,4 +10,6 @@ mod kinds;
 #[cfg(test)]
 mod objects;
 #[cfg(test)]
+mod reductions;
+#[cfg(test)]
 mod samples;

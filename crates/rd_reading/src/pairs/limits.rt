@@ -24,6 +24,7 @@ fn is_set(kind: &KindDraft, first: u8, second: u8) -> bool
 fn has_room(kind: &KindDraft, first: u8, second: u8, formula: &Formula) -> bool
     requires known { (first ≤ second) × (second < length kind.now.methods) }
     requires unset { formula_at kind.now first second ≡ None }
+    requires few { nodes (tree_of formula.now) ≤ MOST_TOKENS }
     ensures { IsTrue result ↔ ¬ (HasManyPredicates kind.now first second (tree_of formula.now)) }
 {
     kind.has_room(first, second, formula, first) && kind.has_room(first, second, formula, second)

@@ -5,5 +5,4 @@ use Rattle.rd_ecl.proofs.WalkLemmas.{IsKept}
 use Rattle.rd_ecl.proofs.kinds.KindDraft.has_room.Given as goal
 
 abbrev pub invariant-loop-other : goal.invariant-loop-other
-invariant-loop-other l =
-    IsKept (with_pair l.self l.first l.second (tree_of l.formula)) l.method l.other (record { places = l.seen.0; taken = l.seen.1.0 }) × (l.count ≡ length l.self.methods)
+invariant-loop-other l = IsKept (with_pair l.self l.first l.second (tree_of l.formula)) l.method l.other l.seen × (l.count ≡ length l.self.methods)
