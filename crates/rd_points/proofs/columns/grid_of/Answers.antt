@@ -1,0 +1,12 @@
+use Rattle.std.proofs.Common.{map}
+use Rattle.rd_points.specs.Blocks.{one_way}
+use Rattle.rd_points.proofs.GridLemmas.{seen_more}
+use Rattle.rd_points.proofs.columns.grid_of.Goals as goal
+
+pub formulas_of-requires-clause-known : goal.formulas_of-requires-clause-known
+formulas_of-requires-clause-known c = c.requires.all_known c.loop-x.x-index _ c.loop-x-test.true
+
+pub loop-x-preserved : goal.loop-x-preserved
+loop-x-preserved c =
+    seen_more (λ row. row.items) (λ x. map (one_way c.args.kind.now x) c.args.blocks.now) c.args.blocks.now c.loop-x.x-index _ c.loop-x.grid.items c.push.new.self.items c.in_ok-formulas_of.field-0
+    c.loop-x-test.true c.in_ok-push.ensures.items c.in_ok-formulas_of.ensures c.loop-x.invariant

@@ -1,0 +1,5 @@
+pub mod Blocks
+pub mod Classes
+pub mod Compiled
+pub mod Points
+pub mod Tables

@@ -1,0 +1,105 @@
+//! What the formula of two blocks of classes says.
+ghost use Rattle.std.specs.Prelude.{◌≡◌, ◌<◌, ◌||◌, [], All, IfOk, length, map, slice_index_or};
+ghost use Rattle.rd_ecl.specs.Specified.{IsKind};
+ghost use Rattle.rd_points.specs.Blocks.{ArePredicates, formula_at, grid_of, one_way};
+ghost use Rattle.rd_points.specs.Classes.{clash};
+
+use crate::blocks::Block;
+use rd_base::NoMemory;
+use rd_ecl::{KindSpec, Predicates, Reduced, Valuation, reduce};
+use std::alloc::Global;
+
+// The formula with the first block's method on side 1; it says nothing where that is declared
+// behind the other's.
+fn one_way(
+    alloc: Global,
+    kind: &KindSpec,
+    predicates: &[Predicates],
+    x: Block,
+    y: Block,
+) -> Result<Reduced, NoMemory>
+    requires valid { IsKind kind.now }
+    requires known { (x.method < length kind.now.methods) × (y.method < length kind.now.methods) }
+    requires predicates { ArePredicates kind.now predicates.now }
+    ensures { IfOk result (λ reduced. reduced ≡ one_way kind.now x y) }
+{
+    if y.method < x.method {
+        return Ok(Reduced::True);
+    }
+    let formula = kind.formula(x.method, y.method);
+    let first = &predicates[usize::from(x.method)];
+    let second = &predicates[usize::from(y.method)];
+    let v = Valuation { bits: x.bits };
+    let w = Valuation { bits: y.bits };
+    reduce(alloc, formula, first, v, second, w)
+}
+
+// What the formula of a block and of each of these says, with the method of the first on side 1.
+fn formulas_of(
+    alloc: Global,
+    kind: &KindSpec,
+    predicates: &[Predicates],
+    blocks: &[Block],
+    x: Block,
+) -> Result<Vec<Reduced>, NoMemory>
+    requires valid { IsKind kind.now }
+    requires known { x.method < length kind.now.methods }
+    requires all_known { All (λ block. block.method < length kind.now.methods) blocks.now }
+    requires predicates { ArePredicates kind.now predicates.now }
+    ensures { IfOk result (λ formulas. formulas.items ≡ map (one_way kind.now x) blocks.now) }
+{
+    let mut formulas = Vec::with_capacity(alloc, blocks.len())?;
+    for y in blocks {
+        formulas.push(one_way(alloc, kind, predicates, x, *y)?)?;
+    }
+    Ok(formulas)
+}
+
+// What the formula of each two of these blocks says, with the method of the first on side 1.
+pub(crate) fn grid_of(
+    alloc: Global,
+    kind: &KindSpec,
+    predicates: &[Predicates],
+    blocks: &[Block],
+) -> Result<Vec<Vec<Reduced>>, NoMemory>
+    requires valid { IsKind kind.now }
+    requires all_known { All (λ block. block.method < length kind.now.methods) blocks.now }
+    requires predicates { ArePredicates kind.now predicates.now }
+    ensures { IfOk result
+        (λ grid. map (λ row. row.items) grid.items ≡ grid_of kind.now blocks.now) }
+{
+    let mut grid = Vec::with_capacity(alloc, blocks.len())?;
+    for x in blocks {
+        grid.push(formulas_of(alloc, kind, predicates, blocks, *x)?)?;
+    }
+    Ok(grid)
+}
+
+// What the formula of the blocks with these numbers says, with the method of the first on side 1.
+pub(crate) fn formula_at(grid: &[Vec<Reduced>], x: usize, y: usize) -> &Reduced
+    requires { y < length (slice_index_or (map (λ row. row.items) grid.now) x []) }
+    ensures { result.now ≡ formula_at (map (λ row. row.items) grid.now) x y }
+{
+    &grid[x][y]
+}
+
+// Do two classes with these slots clash, the first on side 1?
+fn clash(reduced: &Reduced, s: Option<u8>, t: Option<u8>) -> bool
+    ensures { result ≡ clash reduced.now s t }
+{
+    match reduced {
+        Reduced::True => false,
+        Reduced::False => s.is_none() && t.is_none(),
+        Reduced::Pairs(pairs) => match (s, t) {
+            (Some(s), Some(t)) => pairs.has(s, t),
+            _ => false,
+        },
+    }
+}
+
+// Do two classes with these slots conflict, by the formula with either method on side 1?
+pub(crate) fn meet(forward: &Reduced, backward: &Reduced, s: Option<u8>, t: Option<u8>) -> bool
+    ensures { result ≡ (clash forward.now s t || clash backward.now t s) }
+{
+    clash(forward, s, t) || clash(backward, t, s)
+}

@@ -1,0 +1,16 @@
+//! Access points of a kind: which classes there are, which of them a call touches, and which conflict.
+#![tactic(auto)]
+
+mod blocks;
+mod classes;
+mod columns;
+mod compiling;
+mod laws;
+mod rows;
+mod tables;
+mod touches;
+
+pub use classes::Class;
+pub use laws::{law_of_points, law_of_tables};
+pub use tables::Table;
+pub use touches::Touch;
