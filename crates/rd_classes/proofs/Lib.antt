@@ -1,0 +1,4 @@
+pub mod LeaderLemmas
+pub mod MergedLemmas
+pub mod PositionLemmas
+pub mod StepLemmas
