@@ -1,5 +1,5 @@
 -- Vector clocks, as lists of components (Fidge 1988, Mattern 1989).
-use Rattle.std.specs.Prelude.{◌≡◌, ◌≢◌, ℕ, ◌+◌, max, List, slice_index_or}
+use Rattle.std.specs.Prelude.{◌≡◌, ◌≢◌, ℕ, ◌+◌, max, min, List, slice_index_or}
 
 -- the component of a thread, 0 past the end
 abbrev pub component : List ℕ → ℕ → ℕ
@@ -18,3 +18,7 @@ pub record IsRaise (old new : List ℕ) (thread number : ℕ) : Type 0 where
 -- the greater of the two for each thread
 abbrev pub IsJoin : List ℕ → List ℕ → List ℕ → Type 0
 IsJoin old other new = (thread : ℕ) → component new thread ≡ max (component old thread) (component other thread)
+
+-- the lesser of the two for each thread
+abbrev pub IsMeet : List ℕ → List ℕ → List ℕ → Type 0
+IsMeet old other new = (thread : ℕ) → component new thread ≡ min (component old thread) (component other thread)

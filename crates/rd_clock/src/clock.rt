@@ -1,6 +1,6 @@
 //! Vector clocks.
 ghost use Rattle.std.specs.Prelude.{◌≡◌, ◌≢◌, ℕ, ◌+◌, ◌*◌, ◌<◌, ◌≤◌, ◌↔◌, max, length, IfOk, OnOk, OnErr, IsTrue, [], vec_capacity};
-ghost use Rattle.rd_clock.specs.Clock.{component, IsTick, IsRaise, IsJoin};
+ghost use Rattle.rd_clock.specs.Clock.{component, IsTick, IsRaise, IsJoin, IsMeet};
 
 use rd_base::{NoMemory, Steps};
 use std::alloc::Global;
@@ -153,6 +153,20 @@ impl Clock {
         for i in 0..theirs.len() {
             steps.tick();
             ours[i] = ours[i].max(theirs[i]);
+        }
+    }
+
+    /// Sets each component to the lesser of the two clocks', without counting steps. It has room for no more threads then than either. It
+    /// takes no memory.
+    pub fn meet(&mut self, other: &Clock)
+        ensures { IsMeet self.old other.now self.new }
+    {
+        self.components
+            .truncate(self.components.len().min(other.components.len()));
+        let theirs = other.components.as_slice();
+        let ours = self.components.as_mut_slice();
+        for i in 0..ours.len() {
+            ours[i] = ours[i].min(theirs[i]);
         }
     }
 }

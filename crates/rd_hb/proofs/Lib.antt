@@ -1,6 +1,7 @@
 pub mod CarryLemmas
 pub mod ClockLemmas
 pub mod ClockTestLemmas
+pub mod FloorLemmas
 pub mod KeptLemmas
 pub mod KnowsLemmas
 pub mod NewsLemmas

@@ -1,5 +1,5 @@
 -- What a tracker holds of a list of events: this project's profile.
-use Rattle.std.specs.Prelude.{◌≡◌, ◌↔◌, ℕ, ◌*◌, ◌<◌, ◌≤◌, Bool, false, IsTrue, List, [], ◌∷◌, ◌++◌, length, Option, None, Some, slice_get, slice_index_or}
+use Rattle.std.specs.Prelude.{◌≡◌, ◌↔◌, ◌⊎◌, ℕ, ◌*◌, ◌<◌, ◌≤◌, Bool, false, IsTrue, List, [], ◌∷◌, ◌++◌, length, Option, None, Some, slice_get, slice_index_or}
 use Rattle.rd_event.specs.declared.events.Event.{Event}
 use Rattle.rd_event.specs.declared.events.Event.TheVariants.{Fork, Join, Acquire, Release, Call}
 use Rattle.rd_clock.specs.Clock.{component}
@@ -97,3 +97,15 @@ pub record IsStamp (es : List Event) (place : ℕ) (stamp : Stamp) : Type 0 wher
 -- what is held of a thread as the stamp of its last event, where nothing was learnt since
 abbrev pub last_stamp : List Tracked → ℕ → Stamp
 last_stamp threads t = record { thread = t; number = (tracked_thread threads t).events; clock = (tracked_thread threads t).clock }
+
+-- ---- the floor
+
+-- the thread is known, and wasn't joined
+abbrev pub IsLive : List Tracked → ℕ → Type 0
+IsLive threads t = (t < length threads) × ((tracked_thread threads t).joined ≡ false)
+
+-- the clock has for each thread the least component over the clocks of the threads that weren't joined, and 0 where each was
+pub record IsFloor (threads : List Tracked) (floor : List ℕ) : Type 0 where
+  pub below : (t u : ℕ) → IsLive threads t → component floor u ≤ known_to threads t u
+  pub reached : (u : ℕ) → ((t : ℕ) × IsLive threads t × (known_to threads t u ≡ component floor u))
+      ⊎ (((t : ℕ) → ¬ (IsLive threads t)) × (component floor u ≡ 0))

@@ -7,7 +7,7 @@ use Rattle.rd_event.specs.declared.events.Event.TheVariants.{Fork, Join, Acquire
 use Rattle.rd_order.specs.EventLists.{is_hold}
 use Rattle.rd_order.specs.Order.{thread_of, forked_thread, exclusive, hold_given}
 use Rattle.rd_order.specs.OrderTests.{is_this}
-use Rattle.rd_hb.specs.Tracker.{tracked_thread, known_to, last_release}
+use Rattle.rd_hb.specs.Tracker.{IsFloor, IsLive, tracked_thread, known_to, last_release}
 use Rattle.rd_hb.specs.declared.tracker.Tracked.{Tracked}
 
 -- ---- what holds between steps
@@ -111,3 +111,10 @@ pub record IsAlike (a b : Stamp) : Type 0 where
 pub record IsReleased (lock : ℕ) (old new : List (Option Stamp)) (stamp : Stamp) : Type 0 where
   pub given : (last : Stamp) × (last_release new lock ≡ Some last) × IsAlike last stamp
   pub others : (l : ℕ) → l ≢ lock → last_release new l ≡ last_release old l
+
+-- ---- the floor
+
+-- the floor of these threads, where one of them wasn't joined
+abbrev pub IsFloorSoFar : List Tracked → Option (List ℕ) → Type 0
+IsFloorSoFar threads None = (t : ℕ) → ¬ (IsLive threads t)
+IsFloorSoFar threads (Some floor) = IsFloor threads floor × ((t : ℕ) × IsLive threads t)

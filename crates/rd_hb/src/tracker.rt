@@ -9,6 +9,7 @@ ghost use Rattle.rd_hb.specs.Tracker.{IsNextEvent, IsStamp, MayGrow, TrackerStan
 ghost use Rattle.rd_hb.specs.TrackerParts.{IsBegun, IsCounted, IsHeard, IsLearnt, IsReleased, IsShared};
 ghost use Rattle.rd_hb.specs.declared.tracker.Tracked.{Tracked as TrackedOf};
 
+mod floor;
 mod locks;
 
 use locks::{Release, SharedClock};

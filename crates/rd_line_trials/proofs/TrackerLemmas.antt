@@ -102,6 +102,40 @@ idle_child_may tracking stands count = record {
   numbered = subst (λ n. NextNumbers n idle_child) (sym count) idle_child_numbered;
 }
 
+-- ---- two roots call, one forks a thread, and that calls
+
+abbrev pub three_live : List Event
+three_live = sample_call 0 ∷ sample_call 1 ∷ Fork 1 2 ∷ sample_call 2 ∷ []
+
+three_live_follow : Follow two_roots [] three_live
+unfolding forks joins calls
+three_live_follow = (
+  may_call two_roots [] (numbered_call 0) (inl refl) refl (λ kind other. refl),
+  (
+    may_call two_roots (sample_call 0 ∷ []) (numbered_call 1) (inl refl) refl (λ kind other. refl),
+    (
+      may_fork two_roots (sample_call 0 ∷ sample_call 1 ∷ []) 1 2 (new_to_two (sample_call 0 ∷ sample_call 1 ∷ []) 2 (lit< tt) refl) (inl refl) refl,
+      (
+        may_call two_roots (sample_call 0 ∷ sample_call 1 ∷ Fork 1 2 ∷ []) (numbered_call 2) (inr (lit< tt)) refl (λ kind other. refl),
+        tt,
+      ),
+    ),
+  ),
+)
+
+three_live_numbered : NextNumbers 2 three_live
+three_live_numbered = (
+  λ u is. absurd (none-some u is),
+  (λ u is. absurd (none-some u is), (λ u is. sym (same_Some 2 u is), (λ u is. absurd (none-some u is), tt))),
+)
+
+pub three_live_may : (tracking : Tracking) → TrackerStandsFor tracking two_roots [] → length tracking.threads ≡ 2 → MayTakeAll tracking two_roots three_live
+three_live_may tracking stands count = record {
+  stands = stands;
+  formed = record { follow = three_live_follow; bounded = few_by_numbers two_roots 2 three_live two_below three_live_numbered (lit≤ tt) };
+  numbered = subst (λ n. NextNumbers n three_live) (sym count) three_live_numbered;
+}
+
 -- ---- two threads are forked, call and are joined
 
 abbrev pub family : List Event

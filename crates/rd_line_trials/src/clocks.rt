@@ -65,6 +65,8 @@ fn joins_two_clocks<L: Ledger>(rt: &impl Abort, alloc: Global, steps: &mut Steps
     has_components(rt, &ours, &[1, 0, 2], steps);
     let memory = Vec::with_capacity(alloc, 3).expect(rt, "memory");
     has_components(rt, &ours.copy_in(memory), &[1, 0, 2], steps);
+    ours.meet(&theirs);
+    has_components(rt, &ours, &[1, 0, 0], steps);
 }
 
 fn ticks_and_raises<L: Ledger>(rt: &impl Abort, alloc: Global, steps: &mut Steps<L>) {
@@ -196,7 +198,22 @@ fn calls_have_rows<L: Ledger>(
     Ok(right)
 }
 
-/// A thread forks two, each of which calls, joins both and calls. The calls have the same stamps where the rest has none.
+/// Has the tracker this floor, at the threads from 0 to 2?
+fn has_floor<L: Ledger>(
+    tracker: &Tracker,
+    floor: [u32; 3],
+    steps: &mut Steps<L>,
+) -> Result<bool, NoMemory> {
+    let found = tracker.floor()?;
+    let mut right = true;
+    for (thread, component) in floor.iter().enumerate() {
+        right = has_component(&found, thread as u32, *component, steps) && right;
+    }
+    Ok(right)
+}
+
+/// A thread forks two, each of which calls, joins both and calls. The calls have the same stamps where the rest has none. The thread that is
+/// left knows all.
 fn two_children<L: Ledger>(alloc: Global, steps: &mut Steps<L>) -> Result<bool, NoMemory> {
     let mut tracker = with_one_root(alloc)?;
     let mut passing = with_one_root(alloc)?;
@@ -232,7 +249,31 @@ fn two_children<L: Ledger>(alloc: Global, steps: &mut Steps<L>) -> Result<bool, 
     ];
     let known = has_rows(&mut tracker, &events, &rows, steps)?;
     let passed = calls_have_rows(&mut passing, &events, &rows, steps)?;
-    Ok(known && passed)
+    let floored = has_floor(&tracker, [5, 1, 1], steps)?;
+    Ok(known && passed && floored)
+}
+
+/// Two roots call, one forks a thread, and that calls: none of the three was joined, and no call is known to all.
+fn three_live<L: Ledger>(alloc: Global, steps: &mut Steps<L>) -> Result<bool, NoMemory> {
+    let mut tracker = with_two_roots(alloc)?;
+    let events = [
+        call(alloc, 0),
+        call(alloc, 1),
+        Event::Fork {
+            thread: 1,
+            child: 2,
+        },
+        call(alloc, 2),
+    ];
+    let rows = [
+        (0, 1, [1, 0, 0]),
+        (1, 1, [0, 1, 0]),
+        (1, 2, [0, 2, 0]),
+        (2, 1, [0, 2, 1]),
+    ];
+    let known = has_rows(&mut tracker, &events, &rows, steps)?;
+    let floored = has_floor(&tracker, [0, 0, 0], steps)?;
+    Ok(known && floored)
 }
 
 /// A thread joins one that had no event, and that another forked after a call: it knows that call.
@@ -374,6 +415,7 @@ fn stamps_of_events<L: Ledger>(rt: &impl Abort, alloc: Global, blank: Blank)
 {
     let mut steps = Steps::<L>::new(blank);
     are_told(rt, "two children", two_children(alloc, &mut steps));
+    are_told(rt, "three live", three_live(alloc, &mut steps));
     are_told(rt, "idle child", idle_child(alloc, &mut steps));
     are_told(rt, "strangers", strangers(alloc, &mut steps));
     are_told(rt, "guarded", guarded(alloc, &mut steps));
