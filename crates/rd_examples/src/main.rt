@@ -57,6 +57,8 @@ const EXAMPLES: &str = "\
     replay refused_bad_line.trace refused_bad_line.replay.out\n\
     replay replay_differs.trace replay_differs.replay.out\n\
     replay updates_in_turn.trace updates_in_turn.replay.out\n\
+    points account.spec account.points.out\n\
+    points sessions.spec sessions.points.out\n\
     spec account.spec account.spec.out\n\
     spec bounded_queue.spec bounded_queue.spec.out\n\
     spec refused_arguments.spec refused_arguments.spec.out\n\

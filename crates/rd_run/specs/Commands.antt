@@ -1,14 +1,18 @@
 -- What the words of the command line ask for.
 use Rattle.rd_walk.specs.Meanings.{Meaning}
 use Rattle.rd_check.specs.Meanings.{check_meaning}
-use Rattle.rd_spec_commands.specs.Meanings.{kind_meaning, spec_meaning}
+use Rattle.rd_points_command.specs.PointTexts.{points_text}
+use Rattle.rd_print.specs.Printed.{spec_text}
+use Rattle.rd_spec_commands.specs.Meanings.{kind_meaning, said_meaning}
 use Rattle.rd_replaying.specs.Meanings.{replay_meaning}
 use Rattle.rd_ecl.specs.Specified.{SpecifiedKind}
 use Rattle.rd_kinds.specs.Shipped.{shipped_kinds}
 use Rattle.rd_walk.specs.Output.{Outcome}
 use Rattle.rd_walk.specs.declared.status.Status.TheVariants.{Usage}
-use Rattle.rd_run.specs.declared.top.Command.TheVariants.{Check, CheckWith, Replay, Spec, Kind as BuiltIn}
-use Rattle.rd_run.specs.declared.top.Command.{Command as Asked}
+use Rattle.rd_run.specs.declared.commands.Said.TheVariants.{Spec, Points}
+use Rattle.rd_run.specs.declared.commands.Said.{Said}
+use Rattle.rd_run.specs.declared.commands.Command.TheVariants.{Check, CheckWith, Replay, OfSpec, Kind as BuiltIn}
+use Rattle.rd_run.specs.declared.commands.Command.{Command as Asked}
 use Rattle.rd_wf.specs.MayFollow.{same_name}
 use Rattle.std.specs.Prelude.{◌≡◌, ℕ, List, Option, Some, None, codes, option_map, slice_get, if◌then◌else◌, [], ◌∷◌, ⊤, find}
 
@@ -18,8 +22,8 @@ pub data Command : Type 0 where
   check : List ℕ → Option (List ℕ) → Command
   -- a trace
   replay : List ℕ → Command
-  -- a specification
-  spec : List ℕ → Command
+  -- a text of the kinds that a specification says
+  of_spec : Said → List ℕ → Command
   -- a kind that is built in
   kind : SpecifiedKind → Command
 
@@ -32,7 +36,8 @@ abbrev pub command_of : List (List ℕ) → Option Command
 command_of (word ∷ name ∷ []) =
     if same_name word (codes "check") then Some (check name None)
     else if same_name word (codes "replay") then Some (replay name)
-    else if same_name word (codes "spec") then Some (spec name)
+    else if same_name word (codes "spec") then Some (of_spec Spec name)
+    else if same_name word (codes "points") then Some (of_spec Points name)
     else if same_name word (codes "kind") then option_map kind (shipped_named name) else None
 command_of (word ∷ trace ∷ file ∷ []) = if same_name word (codes "check") then Some (check trace (Some file)) else None
 command_of _ = None
@@ -52,12 +57,17 @@ usage_meaning = record {
   writes = λ limits old part status. (part ≡ usage_outcome.text) × (status ≡ Usage);
 }
 
+-- the canonical text of kinds, or their access points
+abbrev pub said_text : Said → List SpecifiedKind → List ℕ
+said_text Spec kinds = spec_text kinds
+said_text Points kinds = points_text kinds
+
 -- what a command means
 abbrev pub meaning_of : Option Command → Meaning
 meaning_of None = usage_meaning
 meaning_of (Some (check trace file)) = check_meaning trace file
 meaning_of (Some (replay trace)) = replay_meaning trace
-meaning_of (Some (spec file)) = spec_meaning file
+meaning_of (Some (of_spec said file)) = said_meaning (said_text said) file
 meaning_of (Some (kind built_in)) = kind_meaning built_in
 
 -- ---- as the program has them
@@ -67,7 +77,7 @@ asked_command None = None
 asked_command (Some (Check trace)) = Some (check trace.now None)
 asked_command (Some (CheckWith trace file)) = Some (check trace.now (Some file.now))
 asked_command (Some (Replay trace)) = Some (replay trace.now)
-asked_command (Some (Spec file)) = Some (spec file.now)
+asked_command (Some (OfSpec said file)) = Some (of_spec said file.now)
 asked_command (Some (BuiltIn number)) = option_map kind (slice_get shipped_kinds number)
 
 -- the number of the built-in kind with this name

@@ -1,6 +1,7 @@
-//! A run of the program: `check` and `replay` over a trace, `spec` over a specification, `kind`.
+//! A run of the program: `check` and `replay` over a trace, `spec` and `points` over a specification, `kind`.
 #![tactic(auto)]
 
+mod commands;
 mod top;
 
 pub use rd_check::{law_of_checks, law_of_faults, law_of_reports};

@@ -1,14 +1,14 @@
 //! The call that the program makes.
 ghost use Rattle.rd_check.specs.Meanings.{check_meaning};
 ghost use Rattle.rd_replaying.specs.Meanings.{replay_meaning};
-ghost use Rattle.std.specs.Prelude.{◌≡◌, ◌≢◌, ◌⊎◌, ℕ, ◌<◌, ◌≤◌, ◌^◌, nat_lt, List, [], ◌++◌, Option, Some, None, length, AllPairs, IfOk, IfSome};
+ghost use Rattle.std.specs.Prelude.{◌≡◌, ◌≢◌, ◌⊎◌, ℕ, ◌<◌, ◌≤◌, ◌^◌, nat_lt, List, [], ◌++◌, Option, Some, None, length, AllPairs, IfOk};
 ghost use Rattle.rd_base.specs.Limits.{AreUsable};
 ghost use Rattle.rd_ecl.specs.Kinds.{kind_names, kinds_of};
 ghost use Rattle.rd_ecl.specs.Specified.{SpecifiedKind};
 ghost use Rattle.rd_io.specs.Inputs.{Source, Rose};
 ghost use Rattle.rd_io.specs.Sinks.{Appends};
 ghost use Rattle.rd_kinds.specs.Shipped.{shipped_kinds};
-ghost use Rattle.rd_run.specs.Commands.{asked_command, named_number, command_of, meaning_of, usage_outcome};
+ghost use Rattle.rd_run.specs.Commands.{command_of, meaning_of, usage_outcome};
 ghost use Rattle.rd_walk.specs.Analysis.{TellsFaults};
 ghost use Rattle.rd_walk.specs.Output.{IsOutput, StatusTellsFault, report_status};
 ghost use Rattle.rd_check.specs.Checked.{check_texts};
@@ -18,6 +18,7 @@ ghost use Rattle.rd_walk.specs.Meanings.{Runs, WritesAll};
 ghost use Rattle.rd_run.specs.Commands.Command.{check, kind, replay};
 ghost use Rattle.rd_spec_commands.specs.Meanings.{kind_outcome};
 
+use crate::commands::{Command, command_of};
 use either::Either;
 use rd_base::{Limits, NoMemory, Steps, Word};
 use rd_check::Check;
@@ -26,7 +27,7 @@ use rd_event::Line;
 use rd_io::{Inputs, Sink};
 use rd_kinds::shipped;
 use rd_replaying::{ReplayAlone, Replaying};
-use rd_spec_commands::{kind, read_spec, refuse_unread, spec, spec_command_status};
+use rd_spec_commands::{kind, read_spec, refuse_unread, report_spec, spec_command_status};
 use rd_walk::{
     Halt, Status, TraceStatus, Walker, report_status, report_trace, status_of, write_line,
 };
@@ -36,60 +37,6 @@ use std::sync::ledger::Ledger;
 
 /// What a command does with each accepted line of a trace: one type for all commands, so that the program has one walk.
 type Part<'a> = Either<Check<'a>, ReplayAlone>;
-
-/// What the words of the command line ask for.
-pub enum Command<'a> {
-    /// `check TRACE`
-    Check(&'a Word),
-    /// `check TRACE SPEC`
-    CheckWith(&'a Word, &'a Word),
-    /// `replay TRACE`
-    Replay(&'a Word),
-    /// `spec SPEC`
-    Spec(&'a Word),
-    /// `kind NAME`, where a kind that is built in has the name, by its number
-    Kind(u32),
-}
-
-/// The number of the kind that is built in with this name.
-fn shipped_number(name: &Word) -> Option<u32>
-    ensures named { result ≡ named_number name.now }
-    ensures known { IfSome result (λ number. number < 4) }
-{
-    if name.items() == b"register".as_slice() {
-        return Some(0);
-    }
-    if name.items() == b"counter".as_slice() {
-        return Some(1);
-    }
-    if name.items() == b"set".as_slice() {
-        return Some(2);
-    }
-    if name.items() == b"dictionary".as_slice() {
-        return Some(3);
-    }
-    None
-}
-
-fn command_of(words: &[Word]) -> Option<Command<'_>>
-    ensures asked { asked_command result ≡ command_of words.now }
-    ensures known { IfSome result
-        (λ command. (number : ℕ) → command ≡ Command.Kind number → number < 4) }
-{
-    match words {
-        [word, trace] if word.items() == b"check".as_slice() => Some(Command::Check(trace)),
-        [word, trace] if word.items() == b"replay".as_slice() => Some(Command::Replay(trace)),
-        [word, file] if word.items() == b"spec".as_slice() => Some(Command::Spec(file)),
-        [word, name] if word.items() == b"kind".as_slice() => match shipped_number(name) {
-            Some(number) => Some(Command::Kind(number)),
-            None => None,
-        },
-        [word, trace, file] if word.items() == b"check".as_slice() => {
-            Some(Command::CheckWith(trace, file))
-        }
-        _ => None,
-    }
-}
 
 /// `check` on a trace whose objects are of these kinds.
 fn check<I: Inputs, S: Sink, L: Ledger>(
@@ -259,8 +206,8 @@ fn refuse_usage<S: Sink>(out: &mut S) -> Status
 /// Runs the command that the words of the command line ask for, without the program's own name: `check TRACE` and `check TRACE SPEC`,
 /// which report the races of a trace by the formulas of the kinds that are built in, and of those of a specification, and say whether the
 /// recorded results are those of the objects; `replay TRACE`, which says this alone, and where it is so what the objects hold in the end;
-/// `spec SPEC`, which writes the canonical text of a specification, or where and why it is refused; or `kind NAME`, which writes that of a kind
-/// that is built in. Any other words write `refused usage`. Each line is handed to the output by itself, with its line feed.
+/// `spec SPEC`, which writes the canonical text of a specification, and `points SPEC`, which writes the access points of its kinds, or where
+/// and why it is refused; or `kind NAME`, which writes the canonical text of a kind that is built in. Any other words write `refused usage`. Each line is handed to the output by itself, with its line feed.
 ///
 /// Whatever the inputs and the output tell: `Usage` comes exactly where the words match no command, unless writing failed;
 /// `InputFault` exactly where the inputs' count of faults rose in this call, unless writing failed or memory ran out; `OutputFault`
@@ -336,7 +283,9 @@ pub fn run<I: Inputs, S: Sink, L: Ledger>(
         Some(Command::Replay(trace)) => {
             report_status(replay(alloc, trace, inputs, out, limits, steps))
         }
-        Some(Command::Spec(file)) => spec_command_status(spec(alloc, file, inputs, out)),
+        Some(Command::OfSpec(said, file)) => {
+            spec_command_status(report_spec(alloc, &said, file, inputs, out))
+        }
         Some(Command::Kind(number)) => spec_command_status(kind(alloc, number, out)),
     }
 }

@@ -1,5 +1,5 @@
--- What reading a specification leaves, and a run of `spec`.
-use Rattle.rd_spec_commands.specs.Meanings.{spec_meaning, LeavesSpec, ReadsSpec}
+-- What reading a specification leaves, and a run of a command that writes a text of its kinds.
+use Rattle.rd_spec_commands.specs.Meanings.{said_meaning, LeavesSpec, ReadsSpec}
 use Rattle.std.proofs.Common.{◌≡◌, ◌≢◌, ℕ, ◌^◌, ◌<◌, ◌≤◌, true, false, ltb, List, [], length, refl, sym, ◌∙◌, subst, arith, inl, inr}
 use Rattle.std.proofs.lemmas.Bool.Decides.{nat_tests}
 use Rattle.rd_base.specs.declared.limits.Limits.{Limits}
@@ -48,16 +48,16 @@ reads_text file old mid new bytes few opened front = record {
   text = record { whole = mid.held; held = opened.held; front = front.front };
 }
 
--- ---- a run of `spec`
+-- ---- a run
 
-module _ (file : List ℕ) (limits : Limits) (before now : ℕ) (old new : Source) (part : List ℕ) (status : Status) (steps : ℕ) (few : before < 2 ^ 63)
+module _ (text : List SpecifiedKind → List ℕ) (file : List ℕ) (limits : Limits) (before now : ℕ) (old new : Source) (part : List ℕ) (status : Status) (steps : ℕ) (few : before < 2 ^ 63)
     (leaves : LeavesSpec file old new) where
   pub spec_accepted : now ≡ before → (bytes : List ℕ) (said : List SpecifiedKind) → ReadsSpec file old new bytes → SpecSays bytes reserved_names said
-      → IsOutput status part (accepted_outcome said) → Runs (spec_meaning file) limits (ltb before now) old new part status steps steps
+      → IsOutput status part (accepted_outcome text said) → Runs (said_meaning text file) limits (ltb before now) old new part status steps steps
   spec_accepted same bytes said reads says output =
       let quiet : ltb before now ≡ false = grind (arith, nat_tests) in
       record {
-        output = has_outcome ((spec_meaning file).outcome limits (ltb before now) old new) status part (accepted_outcome said)
+        output = has_outcome ((said_meaning text file).outcome limits (ltb before now) old new) status part (accepted_outcome text said)
             (inr (record { calm = quiet; one_opened = reads.opens; bytes = bytes; text = reads.text; is = inl (said, says, refl) })) output;
         opened = leaves.opened;
         taken = (leaves.taken, leaves.unopened, refl);
@@ -65,30 +65,30 @@ module _ (file : List ℕ) (limits : Limits) (before now : ℕ) (old new : Sourc
       }
 
   pub spec_refused : now ≡ before → (bytes : List ℕ) (refused : Refusal) → ReadsSpec file old new bytes → IsSpecRefused bytes reserved_names refused
-      → IsOutput status part (refused_outcome refused) → Runs (spec_meaning file) limits (ltb before now) old new part status steps steps
+      → IsOutput status part (refused_outcome refused) → Runs (said_meaning text file) limits (ltb before now) old new part status steps steps
   spec_refused same bytes refused reads refuses output =
       let quiet : ltb before now ≡ false = grind (arith, nat_tests) in
       record {
-        output = has_outcome ((spec_meaning file).outcome limits (ltb before now) old new) status part (refused_outcome refused)
+        output = has_outcome ((said_meaning text file).outcome limits (ltb before now) old new) status part (refused_outcome refused)
             (inr (record { calm = quiet; one_opened = reads.opens; bytes = bytes; text = reads.text; is = inr (refused, refuses, refl) })) output;
         opened = leaves.opened;
         taken = (leaves.taken, leaves.unopened, refl);
         read = λ well. tt;
       }
 
-  pub spec_faulted : Rose before now → IsOutput status part fault_outcome → Runs (spec_meaning file) limits (ltb before now) old new part status steps steps
+  pub spec_faulted : Rose before now → IsOutput status part fault_outcome → Runs (said_meaning text file) limits (ltb before now) old new part status steps steps
   spec_faulted risen output =
       let rose : ltb before now ≡ true = grind (arith, nat_tests) in
       record {
-        output = has_outcome ((spec_meaning file).outcome limits (ltb before now) old new) status part fault_outcome (inl (record { risen = rose; is = refl })) output;
+        output = has_outcome ((said_meaning text file).outcome limits (ltb before now) old new) status part fault_outcome (inl (record { risen = rose; is = refl })) output;
         opened = leaves.opened;
         taken = (leaves.taken, leaves.unopened, refl);
         read = λ well. tt;
       }
 
-  pub spec_unread : status ≡ NoMemory → part ≡ [] → Runs (spec_meaning file) limits (ltb before now) old new part status steps steps
+  pub spec_unread : status ≡ NoMemory → part ≡ [] → Runs (said_meaning text file) limits (ltb before now) old new part status steps steps
   spec_unread is none =
-      subst (λ s. Runs (spec_meaning file) limits (ltb before now) old new part s steps steps) (sym is)
+      subst (λ s. Runs (said_meaning text file) limits (ltb before now) old new part s steps steps) (sym is)
       (record {
         output = inl none;
         opened = leaves.opened;
@@ -99,7 +99,7 @@ module _ (file : List ℕ) (limits : Limits) (before now : ℕ) (old new : Sourc
   -- as it is told why the specification isn't there
   pub spec_told : (unread : Unread) → TellsUnread unread status part → (unread ≡ Fault → Rose before now) → (unread ≢ Fault → now ≡ before)
       → ((refused : Refusal) → unread ≡ Refused refused → (bytes : List ℕ) × ReadsSpec file old new bytes × IsSpecRefused bytes reserved_names refused)
-      → Runs (spec_meaning file) limits (ltb before now) old new part status steps steps
+      → Runs (said_meaning text file) limits (ltb before now) old new part status steps steps
   spec_told Fault tells risen calm refuses = spec_faulted (risen refl) tells.0
   spec_told (Refused refused) tells risen calm refuses =
       let (bytes, reads, is) = refuses refused refl in spec_refused (calm (λ e. cc)) bytes refused reads is tells

@@ -1,11 +1,10 @@
 -- What a specification says, and the text of a kind, are written whole.
 use Rattle.rd_walk.proofs.WholeLemmas.{all_written}
-use Rattle.rd_spec_commands.specs.Meanings.{kind_meaning, spec_meaning, IsJudged, IsSpecText, IsUnread, kind_outcome}
+use Rattle.rd_spec_commands.specs.Meanings.{kind_meaning, said_meaning, IsJudged, IsSpecText, IsUnread, kind_outcome}
 use Rattle.rd_base.specs.declared.limits.Limits.{Limits}
 use Rattle.rd_ecl.specs.Specified.{SpecifiedKind}
 use Rattle.rd_io.specs.Inputs.{Source}
 use Rattle.rd_kinds.specs.Shipped.{reserved_names}
-use Rattle.rd_print.specs.Printed.{spec_text}
 use Rattle.rd_walk.proofs.OutputLemmas.{has_outcome}
 use Rattle.rd_walk.specs.Output.{HasOutcome, Outcome, IsOutput}
 use Rattle.rd_walk.specs.Meanings.{Runs, WritesAll}
@@ -42,27 +41,27 @@ whole_kind built_in limits old part status has other =
       | inr all ↦ inr (all.text ∙ ap (λ o. o.text) all.is, all.told ∙ ap (λ o. o.status) all.is)
     ]
 
--- what a specification says is printed
-said_whole : (bytes : List ℕ) (kinds : List SpecifiedKind) (outcome : Outcome) (part : List ℕ) (status : Status) → SpecSays bytes reserved_names kinds
-    → IsSpecOutcome bytes outcome → part ≡ outcome.text → status ≡ outcome.status → (part ≡ spec_text kinds) × (status ≡ Clean)
-said_whole bytes kinds outcome part status says (inl (others, also, is)) text told =
+-- what a specification says is written
+said_whole : (text : List SpecifiedKind → List ℕ) (bytes : List ℕ) (kinds : List SpecifiedKind) (outcome : Outcome) (part : List ℕ) (status : Status) → SpecSays bytes reserved_names kinds
+    → IsSpecOutcome text bytes outcome → part ≡ outcome.text → status ≡ outcome.status → (part ≡ text kinds) × (status ≡ Clean)
+said_whole text bytes kinds outcome part status says (inl (others, also, is)) wrote told =
     let same = one_said bytes reserved_names others kinds also says in
-    (text ∙ ap (λ o. o.text) is ∙ ap spec_text same, told ∙ ap (λ o. o.status) is)
-said_whole bytes kinds outcome part status says (inr (refused, refuses, is)) text told =
+    (wrote ∙ ap (λ o. o.text) is ∙ ap text same, told ∙ ap (λ o. o.status) is)
+said_whole text bytes kinds outcome part status says (inr (refused, refuses, is)) wrote told =
     absurd (never_refused bytes reserved_names kinds refused says refuses)
 
-pub whole_spec : (file : List ℕ) (limits : Limits) (old new : Source) (part : List ℕ) (status : Status)
-    → HasOutcome (λ outcome. IsUnread false outcome ⊎ IsJudged file false old new outcome) status part → status ≢ OutputFault
-    → WritesAll (spec_meaning file) limits old part status
-whole_spec file limits old new part status has other kinds bytes is says =
-    elim (all_written (λ outcome. IsUnread false outcome ⊎ IsJudged file false old new outcome) status part has other) [
+pub whole_said : (text : List SpecifiedKind → List ℕ) (file : List ℕ) (limits : Limits) (old new : Source) (part : List ℕ) (status : Status)
+    → HasOutcome (λ outcome. IsUnread false outcome ⊎ IsJudged text file false old new outcome) status part → status ≢ OutputFault
+    → WritesAll (said_meaning text file) limits old part status
+whole_said text file limits old new part status has other kinds bytes is says =
+    elim (all_written (λ outcome. IsUnread false outcome ⊎ IsJudged text file false old new outcome) status part has other) [
       | inl none ↦ inl none
       | inr all ↦ inr (by all.outcome all.is all.text all.told)
     ]
   where
-    by : (outcome : Outcome) → IsUnread false outcome ⊎ IsJudged file false old new outcome → part ≡ outcome.text → status ≡ outcome.status
-        → (part ≡ spec_text kinds) × (status ≡ Clean)
-    by outcome (inl unread) text told = absurd (true≢false (sym unread.risen))
-    by outcome (inr judged) text told =
-        said_whole judged.bytes kinds outcome part status
-        (subst (λ b. SpecSays b reserved_names kinds) (one_text old file bytes judged.bytes is judged.text) says) judged.is text told
+    by : (outcome : Outcome) → IsUnread false outcome ⊎ IsJudged text file false old new outcome → part ≡ outcome.text → status ≡ outcome.status
+        → (part ≡ text kinds) × (status ≡ Clean)
+    by outcome (inl unread) wrote told = absurd (true≢false (sym unread.risen))
+    by outcome (inr judged) wrote told =
+        said_whole text judged.bytes kinds outcome part status
+        (subst (λ b. SpecSays b reserved_names kinds) (one_text old file bytes judged.bytes is judged.text) says) judged.is wrote told

@@ -1,4 +1,4 @@
--- What `spec` and `kind` mean. This project's profile.
+-- What a command means that writes a text of the kinds that a specification says, and what `kind` means. This project's profile.
 use Rattle.rd_walk.specs.Traces.{IsUntaken, OpensOnly}
 use Rattle.rd_walk.specs.Meanings.{Meaning}
 use Rattle.rd_base.specs.declared.limits.Limits.{Limits}
@@ -31,12 +31,12 @@ pub record IsSpecFileRefused (file : List ℕ) (rose : Bool) (old new : Source) 
   pub is : outcome ≡ refused_outcome refused
 
 -- where the specification was read: it is judged
-pub record IsJudged (file : List ℕ) (rose : Bool) (old new : Source) (outcome : Outcome) : Type 0 where
+pub record IsJudged (of_kinds : List SpecifiedKind → List ℕ) (file : List ℕ) (rose : Bool) (old new : Source) (outcome : Outcome) : Type 0 where
   pub calm : rose ≡ false
   pub one_opened : new.opens ≡ old.opens + 1
   pub bytes : List ℕ
   pub text : IsSpecText old file bytes
-  pub is : IsSpecOutcome bytes outcome
+  pub is : IsSpecOutcome of_kinds bytes outcome
 
 -- where it could not be opened, or not be read
 pub record IsUnread (rose : Bool) (outcome : Outcome) : Type 0 where
@@ -65,9 +65,9 @@ pub record ReadsSpec (file : List ℕ) (old new : Source) (bytes : List ℕ) : T
   pub misses : new.misses ≡ old.misses
   pub text : IsSpecText old file bytes
 
--- `spec SPEC`: what is written
-abbrev pub IsSaidOutcome : List ℕ → Limits → Bool → Source → Source → Outcome → Type 0
-IsSaidOutcome file limits rose old new outcome = IsUnread rose outcome ⊎ IsJudged file rose old new outcome
+-- what is written where this is the text of the kinds
+abbrev pub IsSaidOutcome : (List SpecifiedKind → List ℕ) → List ℕ → Limits → Bool → Source → Source → Outcome → Type 0
+IsSaidOutcome text file limits rose old new outcome = IsUnread rose outcome ⊎ IsJudged text file rose old new outcome
 
 -- what was taken of the specification, where it was opened, and else nothing; no step is counted
 abbrev pub TakesSaid : List ℕ → Limits → Bool → Source → Source → List ℕ → ℕ → ℕ → Type 0
@@ -75,20 +75,20 @@ TakesSaid file limits rose old new part before after =
     (new.opens ≡ old.opens + 1 → TakesSpec file old new) × (new.opens ≡ old.opens → IsUntaken old new) × (after ≡ before)
 
 -- nothing is left out
-abbrev pub WritesSaid : List ℕ → Limits → Source → List ℕ → Status → Type 0
-WritesSaid file limits old part status =
+abbrev pub WritesSaid : (List SpecifiedKind → List ℕ) → List ℕ → Limits → Source → List ℕ → Status → Type 0
+WritesSaid text file limits old part status =
     (kinds : List SpecifiedKind) (bytes : List ℕ) → IsSpecText old file bytes → SpecSays bytes reserved_names kinds
-    → (status ≡ NoMemory) ⊎ ((part ≡ spec_text kinds) × (status ≡ Clean))
+    → (status ≡ NoMemory) ⊎ ((part ≡ text kinds) × (status ≡ Clean))
 
--- `spec SPEC`
-abbrev pub spec_meaning : List ℕ → Meaning
-spec_meaning file = record {
+-- a command that writes this text of the kinds
+abbrev pub said_meaning : (List SpecifiedKind → List ℕ) → List ℕ → Meaning
+said_meaning text file = record {
   files = file ∷ [];
   specification = Some file;
-  outcome = IsSaidOutcome file;
+  outcome = IsSaidOutcome text file;
   takes = TakesSaid file;
   reads = λ limits old new. ⊤;
-  writes = WritesSaid file;
+  writes = WritesSaid text file;
 }
 
 -- `kind NAME`, for the kind with that name: no file is named

@@ -1,10 +1,9 @@
--- What `spec` writes for the bytes of a specification, and its status. This project's profile.
+-- What a command writes of the specification that some bytes say, and its status. This project's profile.
 use Rattle.std.specs.Prelude.{◌≡◌, ◌⊎◌, ◌+◌, ℕ, List, [], Result, Ok, Err}
 use Rattle.rd_reading.specs.declared.spec_causes.SpecCause.{SpecCause}
 use Rattle.rd_reading.specs.declared.spec_causes.SpecCause.TheVariants.{Limit}
 use Rattle.rd_ecl.specs.Specified.{SpecifiedKind}
 use Rattle.rd_kinds.specs.Shipped.{reserved_names}
-use Rattle.rd_print.specs.Printed.{spec_text}
 use Rattle.rd_reading.specs.Texts.{IsSpecRefused, SpecSays}
 use Rattle.rd_reading.specs.declared.parsing.SpecRefused.{SpecRefused as Refusal}
 use Rattle.rd_reading.specs.RefusedTexts.{spec_refused_line}
@@ -33,18 +32,18 @@ spec_command_status (Ok spec.LimitReached) = LimitReached
 spec_command_status (Ok spec.InputFault) = InputFault
 spec_command_status (Err halt) = halted_with halt
 
--- where these kinds are said
-abbrev pub accepted_outcome : List SpecifiedKind → Outcome
-accepted_outcome kinds = record { text = spec_text kinds; status = Clean }
+-- where these kinds are said, of which this is the text
+abbrev pub accepted_outcome : (List SpecifiedKind → List ℕ) → List SpecifiedKind → Outcome
+accepted_outcome text kinds = record { text = text kinds; status = Clean }
 
 -- where a line is refused
 abbrev pub refused_outcome : Refusal → Outcome
 refused_outcome refused = record { text = spec_refused_line refused; status = spec_status refused.cause }
 
 -- the outcome for these bytes: they say kinds, or they are refused
-abbrev pub IsSpecOutcome : List ℕ → Outcome → Type 0
-IsSpecOutcome bytes outcome =
-    ((kinds : List SpecifiedKind) × SpecSays bytes reserved_names kinds × (outcome ≡ accepted_outcome kinds))
+abbrev pub IsSpecOutcome : (List SpecifiedKind → List ℕ) → List ℕ → Outcome → Type 0
+IsSpecOutcome text bytes outcome =
+    ((kinds : List SpecifiedKind) × SpecSays bytes reserved_names kinds × (outcome ≡ accepted_outcome text kinds))
     ⊎ ((refused : Refusal) × IsSpecRefused bytes reserved_names refused × (outcome ≡ refused_outcome refused))
 
 -- how many bytes of a file are read at most: one more than a text may have

@@ -1,8 +1,11 @@
-//! Reading a specification from a file, and the commands `spec` and `kind`.
+//! Reading a specification from a file, the commands that write a text of its kinds, and the command `kind`.
 #![tactic(auto)]
 
 mod kinds;
 mod specifications;
 
 pub use kinds::kind;
-pub use specifications::{SpecStatus, Unread, read_spec, refuse_unread, spec, spec_command_status};
+pub use specifications::{
+    CanonicalText, SpecReport, SpecStatus, Unread, read_spec, refuse_unread, report_spec,
+    spec_command_status,
+};

@@ -1,13 +1,14 @@
-//! Specifications from files, and the command `spec`.
-ghost use Rattle.rd_spec_commands.specs.Meanings.{spec_meaning, LeavesSpec, ReadsSpec};
-ghost use Rattle.std.specs.Prelude.{◌≡◌, ◌≢◌, ◌↔◌, Ok, ℕ, ◌<◌, ◌^◌, nat_lt, List, Err, Some, IfOk, IfErr};
+//! Specifications from files, and the commands that write a text of their kinds.
+ghost use Rattle.rd_spec_commands.specs.Meanings.{said_meaning, LeavesSpec, ReadsSpec};
+ghost use Rattle.std.specs.Prelude.{◌≡◌, ◌≢◌, ◌↔◌, Ok, ℕ, ◌<◌, ◌^◌, nat_lt, List, [], Err, Some, IfOk, IfErr, OnOk, OnErr};
+ghost use Rattle.rd_ecl.specs.Specified.{SpecifiedKind};
 ghost use Rattle.rd_base.specs.declared.limits.Limits.{Limits};
 ghost use Rattle.rd_io.specs.Inputs.{Source, Goes, Rose};
 ghost use Rattle.rd_io.specs.Sinks.{Appends};
 ghost use Rattle.rd_kinds.specs.Shipped.{reserved_names};
 ghost use Rattle.rd_reading.specs.Texts.{HasNewNames, IsSpecRefused, SpecSays};
 ghost use Rattle.rd_reading.specs.declared.parsing.SpecRefused.{SpecRefused as Refusal};
-ghost use Rattle.rd_walk.specs.Analysis.{TellsFault, TellsFaults};
+ghost use Rattle.rd_walk.specs.Analysis.{TellsFault, TellsFaults, WritesFront};
 ghost use Rattle.rd_walk.specs.Output.{IsOutput};
 ghost use Rattle.rd_walk.specs.Meanings.{Runs};
 ghost use Rattle.rd_spec_commands.specs.Specifications.{TellsUnread, accepted_outcome, refused_outcome, spec_command_status, spec_status};
@@ -99,16 +100,51 @@ pub fn read_spec<I: Inputs>(alloc: Global, file: &Word, inputs: &mut I) -> Resul
     }
 }
 
-/// Writes the canonical text of an accepted specification.
-fn accept<S: Sink>(alloc: Global, said: &Spec, out: &mut S) -> Result<SpecStatus, Halt>
+/// What a command writes of the kinds that a specification says.
+pub trait SpecReport {
+    /// The text of these kinds.
+    ghost text: { Self → List SpecifiedKind → List ℕ };
+
+    /// Writes the text of a specification's kinds.
+    fn write<S: Sink>(&self, alloc: Global, said: &Spec, out: &mut S) -> Result<(), Halt>
+        ensures ok { OnOk result
+            (Appends (S.written out.old) (S.written out.new) (text self.now said.now)) }
+        ensures front { OnErr result (WritesFront (S.written out.old) (S.written out.new) []
+            (text self.now said.now)) }
+        ensures fault { TellsFault (S.faults out.old) (S.faults out.new) (S.at_fault out.new)
+            (S.written out.new) result };
+}
+
+/// Their canonical text.
+#[derive(Clone, Copy, Debug, PartialEq, Eq)]
+pub struct CanonicalText;
+
+impl SpecReport for CanonicalText {
+    ghost use Rattle.rd_print.specs.Printed.{spec_text};
+
+    ghost text = { λ _ kinds. spec_text kinds };
+
+    fn write<S: Sink>(&self, alloc: Global, said: &Spec, out: &mut S) -> Result<(), Halt> {
+        let text = print(alloc, said)?;
+        write_lines(out, text.items())
+    }
+}
+
+/// Writes what is to be written of an accepted specification.
+fn accept<R: SpecReport, S: Sink>(
+    alloc: Global,
+    report: &R,
+    said: &Spec,
+    out: &mut S,
+) -> Result<SpecStatus, Halt>
     ensures output { (part : List ℕ) × Appends (S.written out.old) (S.written out.new) part
-        × IsOutput (spec_command_status result) part (accepted_outcome said.now) }
+        × IsOutput (spec_command_status result) part
+        (accepted_outcome (R.text report.now) said.now) }
     ensures clean { IfOk result (λ status. status ≡ SpecStatus.Clean) }
     ensures fault { TellsFault (S.faults out.old) (S.faults out.new) (S.at_fault out.new)
         (S.written out.new) result }
 {
-    let text = print(alloc, said)?;
-    write_lines(out, text.items())?;
+    report.write(alloc, said, out)?;
     Ok(SpecStatus::Clean)
 }
 
@@ -162,9 +198,10 @@ pub fn refuse_unread<S: Sink>(
     }
 }
 
-/// `spec SPEC`
-pub fn spec<I: Inputs, S: Sink>(
+/// Reads the specification in a file, and writes this of its kinds, or where and why it is refused.
+pub fn report_spec<R: SpecReport, I: Inputs, S: Sink>(
     alloc: Global,
+    report: &R,
     file: &Word,
     inputs: &mut I,
     out: &mut S,
@@ -174,7 +211,7 @@ pub fn spec<I: Inputs, S: Sink>(
         I.faults inputs.old < 2 ^ 63 → old.opens < 2 ^ 63 →
         (new : Source) × (part : List ℕ) × (I.told inputs.new ≡ Some new)
         × Appends (S.written out.old) (S.written out.new) part
-        × Runs (spec_meaning file.now) limits
+        × Runs (said_meaning (R.text report.now) file.now) limits
         (nat_lt (I.faults inputs.old) (I.faults inputs.new)) old new part
         (spec_command_status result) steps steps }
 
@@ -184,7 +221,7 @@ pub fn spec<I: Inputs, S: Sink>(
     ensures memory { result ≡ Err Halt.NoMemory → I.faults inputs.new ≡ I.faults inputs.old }
 {
     match read_spec(alloc, file, inputs) {
-        Ok(said) => accept(alloc, &said, out),
+        Ok(said) => accept(alloc, report, &said, out),
         Err(unread) => refuse_unread(alloc, &unread, out),
     }
 }

@@ -7,8 +7,8 @@ use Rattle.rd_spec_commands.specs.Specifications.{spec_command_status}
 use Rattle.rd_spec_commands.proofs.StatusLemmas.{spec_calm, spec_failed, spec_no_usage, spec_wrote, written_no_input, written_no_spec}
 use Rattle.rd_run.specs.Commands.{asked_command, meaning_of}
 use Rattle.rd_walk.specs.Meanings.{Runs, WritesAll}
-use Rattle.rd_run.specs.Commands.Command.{check, kind, replay, spec}
-use Rattle.rd_run.specs.declared.top.Command.{Command as Asked}
+use Rattle.rd_run.specs.Commands.Command.{check, kind, of_spec, replay}
+use Rattle.rd_run.specs.declared.commands.Command.{Command as Asked}
 use Rattle.rd_spec_commands.proofs.WholeLemmas.{runs_kind}
 use Rattle.rd_run.proofs.RunLemmas.{runs_usage, same_kind, shipped_at}
 use Rattle.rd_walk.proofs.WholeLemmas.{none_failed, not_risen}
@@ -170,55 +170,55 @@ pub returns-in-Some-Replay-clause-output_fault : goal.returns-in-Some-Replay-cla
 returns-in-Some-Replay-clause-output_fault g c =
     subst (StatusTellsFault _ _ _ _) (sym c.report_status-in-Some-Replay.ensures) (report_wrote _ _ _ _ c.replay.result c.replay.ensures.faults.output)
 
-pub returns-in-Some-Spec-clause-runs : goal.returns-in-Some-Spec-clause-runs
-returns-in-Some-Spec-clause-runs g c = λ old told few few_opens.
-    let (new, part, now, writes, runs) = c.spec.ensures.runs c.args.limits.now c.args.steps.now old told few few_opens in
-    let rose = nat_lt (g.I.Inputs.faults c.args.inputs.now) (g.I.Inputs.faults c.spec.new.inputs) in
-    let words = ap (λ (command : Asked). asked_command (Some command)) (sym c.in-Some-Spec.field-0-is) ∙ c.in-Some-Spec.ensures.asked in (
+pub returns-in-Some-OfSpec-clause-runs : goal.returns-in-Some-OfSpec-clause-runs
+returns-in-Some-OfSpec-clause-runs g c = λ old told few few_opens.
+    let (new, part, now, writes, runs) = c.report_spec.ensures.runs c.args.limits.now c.args.steps.now old told few few_opens in
+    let rose = nat_lt (g.I.Inputs.faults c.args.inputs.now) (g.I.Inputs.faults c.report_spec.new.inputs) in
+    let words = ap (λ (command : Asked). asked_command (Some command)) (sym c.in-Some-OfSpec.field-0-is) ∙ c.in-Some-OfSpec.ensures.asked in (
       new,
       part,
       now,
       writes,
       subst (λ command. Runs (meaning_of command) c.args.limits.now rose old new part c.spec_command_status.result c.args.steps.now c.args.steps.now) words
-          (subst (λ status. Runs (meaning_of (Some (spec c.in-Some-Spec.file.now))) c.args.limits.now rose old new part status c.args.steps.now c.args.steps.now) (sym c.spec_command_status.ensures) runs),
+          (subst (λ status. Runs (meaning_of (Some (of_spec c.in-Some-OfSpec.said c.in-Some-OfSpec.file.now))) c.args.limits.now rose old new part status c.args.steps.now c.args.steps.now) (sym c.spec_command_status.ensures) runs),
     )
 
-pub returns-in-Some-Spec-clause-whole : goal.returns-in-Some-Spec-clause-whole
-returns-in-Some-Spec-clause-whole g c = λ old told few few_opens few_faults calm silent.
-    let (new, part, now, writes, runs) = c.spec.ensures.runs c.args.limits.now c.args.steps.now old told few few_opens in
-    let words = ap (λ (command : Asked). asked_command (Some command)) (sym c.in-Some-Spec.field-0-is) ∙ c.in-Some-Spec.ensures.asked in
-    let wrote = spec_wrote _ _ _ _ c.spec.result c.spec.ensures.faults.output in (
+pub returns-in-Some-OfSpec-clause-whole : goal.returns-in-Some-OfSpec-clause-whole
+returns-in-Some-OfSpec-clause-whole g c = λ old told few few_opens few_faults calm silent.
+    let (new, part, now, writes, runs) = c.report_spec.ensures.runs c.args.limits.now c.args.steps.now old told few few_opens in
+    let words = ap (λ (command : Asked). asked_command (Some command)) (sym c.in-Some-OfSpec.field-0-is) ∙ c.in-Some-OfSpec.ensures.asked in
+    let wrote = spec_wrote _ _ _ _ c.report_spec.result c.report_spec.ensures.faults.output in (
       part,
       writes,
       subst (λ command. WritesAll (meaning_of command) c.args.limits.now old part c.spec_command_status.result) words
-          (subst (λ status. WritesAll (meaning_of (Some (spec c.in-Some-Spec.file.now))) c.args.limits.now old part status) (sym c.spec_command_status.ensures)
-          (whole_run (Some (spec c.in-Some-Spec.file.now)) c.args.limits.now _ old new part (spec_command_status c.spec.result) _ _ runs (not_risen _ _ calm)
-          (none_failed _ _ _ _ (spec_command_status c.spec.result) wrote few_faults silent) (λ none. absurd (some≢none none)))),
+          (subst (λ status. WritesAll (meaning_of (Some (of_spec c.in-Some-OfSpec.said c.in-Some-OfSpec.file.now))) c.args.limits.now old part status) (sym c.spec_command_status.ensures)
+          (whole_run (Some (of_spec c.in-Some-OfSpec.said c.in-Some-OfSpec.file.now)) c.args.limits.now _ old new part (spec_command_status c.report_spec.result) _ _ runs (not_risen _ _ calm)
+          (none_failed _ _ _ _ (spec_command_status c.report_spec.result) wrote few_faults silent) (λ none. absurd (some≢none none)))),
     )
 
-pub returns-in-Some-Spec-clause-usage : goal.returns-in-Some-Spec-clause-usage
-returns-in-Some-Spec-clause-usage g c = λ e. absurd (spec_no_usage c.spec.result (sym c.spec_command_status.ensures ∙ e))
+pub returns-in-Some-OfSpec-clause-usage : goal.returns-in-Some-OfSpec-clause-usage
+returns-in-Some-OfSpec-clause-usage g c = λ e. absurd (spec_no_usage c.report_spec.result (sym c.spec_command_status.ensures ∙ e))
 
-pub returns-in-Some-Spec-clause-untouched : goal.returns-in-Some-Spec-clause-untouched
-returns-in-Some-Spec-clause-untouched g c = λ none.
-    let words = ap (λ (command : Asked). asked_command (Some command)) (sym c.in-Some-Spec.field-0-is) ∙ c.in-Some-Spec.ensures.asked in
-    absurd (some_file c.in-Some-Spec.file.now [] (ap (λ command. (meaning_of command).files) words ∙ none))
+pub returns-in-Some-OfSpec-clause-untouched : goal.returns-in-Some-OfSpec-clause-untouched
+returns-in-Some-OfSpec-clause-untouched g c = λ none.
+    let words = ap (λ (command : Asked). asked_command (Some command)) (sym c.in-Some-OfSpec.field-0-is) ∙ c.in-Some-OfSpec.ensures.asked in
+    absurd (some_file c.in-Some-OfSpec.file.now [] (ap (λ command. (meaning_of command).files) words ∙ none))
 
-pub returns-in-Some-Spec-clause-spec_refused : goal.returns-in-Some-Spec-clause-spec_refused
-returns-in-Some-Spec-clause-spec_refused g c = λ refused.
-    let words = ap (λ (command : Asked). asked_command (Some command)) (sym c.in-Some-Spec.field-0-is) ∙ c.in-Some-Spec.ensures.asked in
-    (c.in-Some-Spec.file.now, ap (λ command. (meaning_of command).specification) (sym words))
+pub returns-in-Some-OfSpec-clause-spec_refused : goal.returns-in-Some-OfSpec-clause-spec_refused
+returns-in-Some-OfSpec-clause-spec_refused g c = λ refused.
+    let words = ap (λ (command : Asked). asked_command (Some command)) (sym c.in-Some-OfSpec.field-0-is) ∙ c.in-Some-OfSpec.ensures.asked in
+    (c.in-Some-OfSpec.file.now, ap (λ command. (meaning_of command).specification) (sym words))
 
-pub returns-in-Some-Spec-clause-input_fault : goal.returns-in-Some-Spec-clause-input_fault
-returns-in-Some-Spec-clause-input_fault g c = λ e. c.spec.ensures.faults.input (spec_failed c.spec.result (sym c.spec_command_status.ensures ∙ e))
+pub returns-in-Some-OfSpec-clause-input_fault : goal.returns-in-Some-OfSpec-clause-input_fault
+returns-in-Some-OfSpec-clause-input_fault g c = λ e. c.report_spec.ensures.faults.input (spec_failed c.report_spec.result (sym c.spec_command_status.ensures ∙ e))
 
-pub returns-in-Some-Spec-clause-calm : goal.returns-in-Some-Spec-clause-calm
-returns-in-Some-Spec-clause-calm g c = λ input output memory.
-    spec_calm c.spec.result c.spec.ensures.faults (λ e. input (c.spec_command_status.ensures ∙ e)) (λ e. output (c.spec_command_status.ensures ∙ e)) (λ e. memory (c.spec_command_status.ensures ∙ e))
+pub returns-in-Some-OfSpec-clause-calm : goal.returns-in-Some-OfSpec-clause-calm
+returns-in-Some-OfSpec-clause-calm g c = λ input output memory.
+    spec_calm c.report_spec.result c.report_spec.ensures.faults (λ e. input (c.spec_command_status.ensures ∙ e)) (λ e. output (c.spec_command_status.ensures ∙ e)) (λ e. memory (c.spec_command_status.ensures ∙ e))
 
-pub returns-in-Some-Spec-clause-output_fault : goal.returns-in-Some-Spec-clause-output_fault
-returns-in-Some-Spec-clause-output_fault g c =
-    subst (StatusTellsFault _ _ _ _) (sym c.spec_command_status.ensures) (spec_wrote _ _ _ _ c.spec.result c.spec.ensures.faults.output)
+pub returns-in-Some-OfSpec-clause-output_fault : goal.returns-in-Some-OfSpec-clause-output_fault
+returns-in-Some-OfSpec-clause-output_fault g c =
+    subst (StatusTellsFault _ _ _ _) (sym c.spec_command_status.ensures) (spec_wrote _ _ _ _ c.report_spec.result c.report_spec.ensures.faults.output)
 
 pub returns-in-Some-Kind-clause-runs : goal.returns-in-Some-Kind-clause-runs
 returns-in-Some-Kind-clause-runs g c = λ old told few few_opens.

@@ -5,7 +5,7 @@ use Rattle.rd_kinds.specs.Shipped.{counter_kind, dictionary_kind, register_kind,
 use Rattle.rd_run.specs.Commands.{command_of, shipped_named}
 use Rattle.rd_run.specs.Commands.Command.{kind}
 use Rattle.rd_run.proofs.RunLemmas.{named_kind}
-use Rattle.rd_run.proofs.top.command_of.Goals as goal
+use Rattle.rd_run.proofs.commands.command_of.Goals as goal
 
 pub returns-in-Some-clause-asked : goal.returns-in-Some-clause-asked
 unfolding counter_kind dictionary_kind register_kind set_kind

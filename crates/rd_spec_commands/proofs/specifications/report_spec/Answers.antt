@@ -3,7 +3,7 @@ use Rattle.std.proofs.lemmas.Option.{same_Some}
 use Rattle.rd_spec_commands.specs.Meanings.{ReadsSpec}
 use Rattle.rd_spec_commands.specs.Specifications.{spec_command_status}
 use Rattle.rd_spec_commands.proofs.SpecLemmas.{spec_accepted, spec_told}
-use Rattle.rd_spec_commands.proofs.specifications.spec.Goals as goal
+use Rattle.rd_spec_commands.proofs.specifications.report_spec.Goals as goal
 
 pub returns-in-Ok-clause-runs : goal.returns-in-Ok-clause-runs
 returns-in-Ok-clause-runs g c = λ limits steps old told few few_opens.
@@ -16,7 +16,7 @@ returns-in-Ok-clause-runs g c = λ limits steps old told few few_opens.
       part,
       now,
       writes,
-      spec_accepted c.args.file.now limits (g.I.Inputs.faults c.args.inputs.now) (g.I.Inputs.faults c.read_spec.new.inputs) old new part (spec_command_status c.accept.result) steps few
+      spec_accepted (g.R.SpecReport.text c.args.report.now) c.args.file.now limits (g.I.Inputs.faults c.args.inputs.now) (g.I.Inputs.faults c.read_spec.new.inputs) old new part (spec_command_status c.accept.result) steps few
           (leaves few_opens) (c.in-Ok.ensures.calm (λ e. let is = c.in-Ok.is in cc)) bytes c.in-Ok.said
           (subst (λ source. ReadsSpec c.args.file.now old source bytes) same read) says output,
     )
@@ -29,7 +29,7 @@ returns-in-Err-clause-runs g c = λ limits steps old told few few_opens.
       part,
       now,
       writes,
-      spec_told c.args.file.now limits (g.I.Inputs.faults c.args.inputs.now) (g.I.Inputs.faults c.read_spec.new.inputs) old new part (spec_command_status c.refuse_unread.result) steps few
+      spec_told (g.R.SpecReport.text c.args.report.now) c.args.file.now limits (g.I.Inputs.faults c.args.inputs.now) (g.I.Inputs.faults c.read_spec.new.inputs) old new part (spec_command_status c.refuse_unread.result) steps few
           (leaves few_opens) c.in-Err.unread tells
           (λ e. c.read_spec.ensures.fault (c.in-Err.is ∙ ap Err e))
           (λ other. c.read_spec.ensures.calm (λ e. other (let is = c.in-Err.is in cc)))

@@ -1,0 +1,94 @@
+//! What the words of the command line ask for.
+ghost use Rattle.std.specs.Prelude.{◌≡◌, ◌<◌, ℕ, IfSome};
+ghost use Rattle.rd_run.specs.Commands.{asked_command, command_of, named_number};
+
+use rd_base::Word;
+use rd_ecl::Spec;
+use rd_io::Sink;
+use rd_points_command::PointTables;
+use rd_spec_commands::{CanonicalText, SpecReport};
+use rd_walk::Halt;
+use std::alloc::Global;
+
+/// What is written of the kinds that a specification says.
+#[derive(Clone, Copy, Debug, PartialEq, Eq)]
+pub enum Said {
+    /// their canonical text
+    Spec,
+    /// their access points
+    Points,
+}
+
+impl SpecReport for Said {
+    ghost use Rattle.rd_run.specs.Commands.{said_text};
+
+    ghost text = { said_text };
+
+    fn write<S: Sink>(&self, alloc: Global, said: &Spec, out: &mut S) -> Result<(), Halt> {
+        match self {
+            Said::Spec => CanonicalText.write(alloc, said, out),
+            Said::Points => PointTables.write(alloc, said, out),
+        }
+    }
+}
+
+/// What the words of the command line ask for.
+pub enum Command<'a> {
+    /// `check TRACE`
+    Check(&'a Word),
+    /// `check TRACE SPEC`
+    CheckWith(&'a Word, &'a Word),
+    /// `replay TRACE`
+    Replay(&'a Word),
+    /// `spec SPEC` or `points SPEC`
+    OfSpec(Said, &'a Word),
+    /// `kind NAME`, where a kind that is built in has the name, by its number
+    Kind(u32),
+}
+
+/// The number of the kind that is built in with this name.
+fn shipped_number(name: &Word) -> Option<u32>
+    ensures named { result ≡ named_number name.now }
+    ensures known { IfSome result (λ number. number < 4) }
+{
+    if name.items() == b"register".as_slice() {
+        return Some(0);
+    }
+    if name.items() == b"counter".as_slice() {
+        return Some(1);
+    }
+    if name.items() == b"set".as_slice() {
+        return Some(2);
+    }
+    if name.items() == b"dictionary".as_slice() {
+        return Some(3);
+    }
+    None
+}
+
+/// The command that the words of the command line ask for, if they match one.
+pub(crate) fn command_of(words: &[Word]) -> Option<Command<'_>>
+    ensures asked { asked_command result ≡ command_of words.now }
+    ensures known { IfSome result
+        (λ command. (number : ℕ) → command ≡ Command.Kind number → number < 4) }
+{
+    match words {
+        [word, trace] if word.items() == b"check".as_slice() => Some(Command::Check(trace)),
+        [word, trace] if word.items() == b"replay".as_slice() => Some(Command::Replay(trace)),
+        [word, file] if word.items() == b"spec".as_slice() => Some(Command::OfSpec(
+            Said::Spec,
+            file,
+        )),
+        [word, file] if word.items() == b"points".as_slice() => {
+            Some(Command::OfSpec(Said::Points, file))
+        }
+        [word, name] if word.items() == b"kind".as_slice() => match shipped_number(name) {
+            Some(number) => Some(Command::Kind(number)),
+            None => None,
+        },
+        [word, trace, file] if word.items() == b"check".as_slice() => {
+            Some(Command::CheckWith(trace, file))
+        }
+        _ => None,
+    }
+}
