@@ -1,6 +1,7 @@
 //! The same for kinds that are drawn.
 
 use crate::calls::tells;
+use crate::merging::keeps_conflicts;
 use rd_base::NoMemory;
 use rd_reading::parse;
 use std::alloc::Global;
@@ -94,5 +95,6 @@ fn calls_of_drawn_kinds(rt: HostRuntime) {
         let spec = parse(rt.alloc(), text.as_bytes(), &[]).expect(&rt, "a specification");
         let kind = spec.kinds().first().expect(&rt, "a kind");
         tells(&rt, rt.alloc(), kind);
+        keeps_conflicts(&rt, rt.alloc(), kind);
     }
 }
