@@ -115,6 +115,18 @@ impl Clock {
         number <= self.get(thread, steps)
     }
 
+    /// Whether the component of a thread is at least that number, without counting steps. It takes no memory.
+    pub fn reaches(&self, thread: u32, number: u32) -> bool
+        ensures { IsTrue result ↔ (number ≤ component self.now thread) }
+    {
+        let place = thread as usize;
+        if place < self.components.len() {
+            number <= self.components[place]
+        } else {
+            number == 0
+        }
+    }
+
     /// Adds one to the component of a thread, for which there is room. It takes no memory and one step.
     pub fn tick<L: Ledger>(&mut self, thread: u32, steps: &mut Steps<L>)
         requires room { thread < length self.old }

@@ -1,6 +1,7 @@
 pub mod BlockLemmas
 pub mod ClassLemmas
 pub mod ColumnLemmas
+pub mod EqualPointLemmas
 pub mod GridLemmas
 pub mod NumberLemmas
 pub mod PointLemmas

@@ -1,5 +1,6 @@
 pub mod Blocks
 pub mod Classes
 pub mod Compiled
+pub mod PointLists
 pub mod Points
 pub mod Tables

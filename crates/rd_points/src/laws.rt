@@ -1,10 +1,14 @@
 //! The laws of access points.
-ghost use Rattle.std.specs.Prelude.{◌≡◌, ◌↔◌, ◌<◌, ◌≤◌, ℕ, List, length, false};
+ghost use Rattle.std.specs.Prelude.{◌≡◌, ◌↔◌, ◌<◌, ◌≤◌, ℕ, List, length, false, IsTrue};
 ghost use Rattle.rd_base.specs.declared.values.Value.{Value};
 ghost use Rattle.rd_ecl.specs.Specified.{IsKind, SpecifiedKind, commutes, slots_at};
 ghost use Rattle.rd_points.specs.Compiled.{compiled};
+ghost use Rattle.rd_points.specs.PointLists.{same_point};
 ghost use Rattle.rd_points.specs.Points.{Meets};
 ghost use Rattle.rd_points.specs.Tables.{IsInRange, IsRising, IsSymmetric, Tells, class_count};
+ghost use Rattle.rd_points.specs.declared.points.Point.{Point as PointOf};
+
+use rd_base::law_of_order;
 
 /// The law of access points: two calls on one object touch points that conflict exactly where they
 /// don't commute.
@@ -24,3 +28,10 @@ pub fn law_of_tables()
     ensures rising { (kind : SpecifiedKind) → IsRising (compiled kind) }
     ensures few { (kind : SpecifiedKind) → IsKind kind → class_count (compiled kind) ≤ 4096 }
 {}
+
+/// The law of equal points: the code finds two points equal exactly where they are.
+pub fn law_of_equal_points()
+    ensures { (a b : PointOf) → IsTrue (same_point a b) ↔ (a ≡ b) }
+{
+    law_of_order();
+}

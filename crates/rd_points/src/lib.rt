@@ -6,11 +6,13 @@ mod classes;
 mod columns;
 mod compiling;
 mod laws;
+mod points;
 mod rows;
 mod tables;
 mod touches;
 
 pub use classes::Class;
-pub use laws::{law_of_points, law_of_tables};
+pub use laws::{law_of_equal_points, law_of_points, law_of_tables};
+pub use points::{Point, Points};
 pub use tables::Table;
 pub use touches::Touch;
