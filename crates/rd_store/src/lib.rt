@@ -1,9 +1,14 @@
-//! What is kept of calls, and the races between them.
+//! What is kept of calls: witnesses, the races between them, and the store of cells of access points.
 #![tactic(auto)]
 
+mod laws;
+mod store;
+
+pub use laws::law_of_stores;
 use rd_clock::Stamp;
 use rd_event::Call;
 use std::rc::Rc;
+pub use store::Store;
 
 /// A call that was seen: the number of its line, from 1, its place among the events, from 0, and where it stands by clocks.
 #[derive(Debug, Drop)]

@@ -1,0 +1,4 @@
+pub mod CellLemmas
+pub mod EntryLemmas
+pub mod FewLemmas
+pub mod IndexLemmas

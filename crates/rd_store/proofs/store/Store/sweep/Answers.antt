@@ -1,0 +1,21 @@
+use Rattle.std.proofs.Common.{◌≡◌, length, add-one, sym, ap, ◌∙◌, arith}
+use Rattle.rd_store.specs.StoreParts.{swept_at, swept_below}
+use Rattle.rd_store.proofs.EntryLemmas.{length-swept_below, swept_all, swept_more, swept_none}
+use Rattle.rd_store.proofs.store.Store.sweep.Goals as goal
+
+pub loop-place-init : goal.loop-place-init
+loop-place-init c = sym (swept_none c.args.floor.now c.args.self.now)
+
+pub sweep_at-requires : goal.sweep_at-requires
+sweep_at-requires c =
+    omega (arith, c.len-place-end.ensures.len, ap length c.loop-place.invariant, length-swept_below c.args.floor.now c.args.self.now c.loop-place.place)
+
+pub loop-place-preserved : goal.loop-place-preserved
+loop-place-preserved c =
+    c.sweep_at.ensures ∙ ap (λ store. swept_at c.args.floor.now store c.loop-place.place) c.loop-place.invariant
+    ∙ rw add-one (swept_more c.args.floor.now c.args.self.now c.loop-place.place (omega (arith, c.len-place-end.ensures.len)))
+
+pub returns : goal.returns
+returns c =
+    let all : c.loop-place.place ≡ length c.args.self.now = omega (arith, c.len-place-end.ensures.len) in
+    swept_all c.args.floor.now c.args.self.now c.loop-place.self c.len-place-end.ensures.one_each (c.loop-place.invariant ∙ ap (swept_below c.args.floor.now c.args.self.now) all)
