@@ -1,5 +1,5 @@
 -- What the tracker and the detector of a check hold of one line more.
-use Rattle.std.proofs.Common.{◌≡◌, ◌≢◌, ◌<◌, ◌≤◌, ◌⊎◌, inl, inr, ℕ, ◌+◌, ◌*◌, ◌==◌, ◌||◌, Bool, true, false, cond, ltb, List, [], ◌∷◌, ◌++◌, length, Option, Some, None, is_some, refl, sym, ap, subst, ◌∙◌, arith, true≢false}
+use Rattle.std.proofs.Common.{◌≡◌, ◌≢◌, ◌<◌, ◌≤◌, ◌⊎◌, inl, inr, ℕ, ◌+◌, ◌==◌, ◌||◌, Bool, false, cond, ltb, List, [], ◌∷◌, ◌++◌, length, Option, Some, None, is_some, refl, sym, ap, subst, ◌∙◌, arith, true≢false}
 use Rattle.std.specs.List.{cons_option}
 use Rattle.std.proofs.lemmas.Bool.{cases_eq, cases_lt, eq-eqb, ne_eqb, lt-ltb, le-ltb}
 use Rattle.std.proofs.lemmas.List.{append-nil, length-append}
@@ -17,7 +17,7 @@ use Rattle.rd_order.specs.EventLists.{WellFormed, WellFormedWith, threads_after}
 use Rattle.rd_order.specs.Order.{forked_thread}
 use Rattle.rd_hb.specs.Tracker.{IsNextEvent, IsStamp, TrackerStandsFor, Tracking, event_bound}
 use Rattle.rd_clock.specs.declared.clock.Stamp.{Stamp}
-use Rattle.rd_detect.proofs.DetectLemmas.{stands_quiet}
+use Rattle.rd_detect.proofs.CellLemmas.{stands_quiet, stands_unbegun}
 use Rattle.rd_wf.proofs.EventsLemmas.{all_roots, events_more, no_events, roots_more, threads_more, told_formed, told_more}
 use Rattle.rd_detect.proofs.RaceLemmas.{not_reported}
 use Rattle.rd_check.proofs.ReportLemmas.{answer_text, event_numbers_more, events_all, next_races_is, next_text_is, passing, quiet_events, quiet_numbers, quiet_races, quiet_texts, races_more, races_within, texts_more}
@@ -25,7 +25,7 @@ use Rattle.rd_walk.proofs.WalkLemmas.{items_more}
 use Rattle.rd_check.specs.Checking.{AreNamed, Checks, IsNextEventLine, IsNextLine, CheckLeads, Tracks, next_races, next_text}
 use Rattle.std.specs.Prelude.{max, min}
 use Rattle.rd_detect.specs.Commuting.{Commute, calls_commute}
-use Rattle.rd_detect.specs.Detect.{IsAnswer, IsNextCall, DetectorStandsFor}
+use Rattle.rd_detect.specs.Detect.{IsAnswer, IsNextCall, DetectorStandsFor, detection_bound, tables_of}
 use Rattle.rd_report.specs.Races.{IsKnownRace, IsNamed}
 use Rattle.rd_report.specs.Texts.{Naming, naming}
 use Rattle.rd_store.specs.declared.Race.{Race}
@@ -34,10 +34,10 @@ use Rattle.rd_wf.specs.Events.{AreTold, event_of, events_of, root_count, roots_o
 use Rattle.rd_walk.specs.Analysis.{IsNextEntry}
 use Rattle.rd_ecl.specs.Kinds.{Kind, kinds_of}
 use Rattle.rd_ecl.specs.Specified.{SpecifiedKind}
-use Rattle.rd_wf.specs.MayFollow.{MayFollow, accepted_of, begun_name, call_count, events, is_call, is_event, is_root, is_skip, numbered_event, threads_of}
-use Rattle.rd_check.specs.Checked.{entry_events, event_numbers, race_at, race_texts, races_of, text_with}
+use Rattle.rd_wf.specs.MayFollow.{MayFollow, accepted_of, begun_name, events, is_event, is_root, is_skip, numbered_event, threads_of}
+use Rattle.rd_check.specs.Checked.{check_bound, detector_bound, entry_events, event_numbers, race_at, race_texts, races_of, text_with}
 use Rattle.rd_detect.specs.RaceTests.{latest_of}
-use Rattle.rd_walk.specs.Walk.{Entry, items, line_bound}
+use Rattle.rd_walk.specs.Walk.{Entry, items, tracking_bound}
 use Rattle.rd_check.specs.declared.checking.Check.{Check}
 use Rattle.rd_wf.specs.declared.roster.Roster.{Roster}
 use Rattle.rd_wf.specs.declared.causes.Accepted.{Accepted}
@@ -135,7 +135,7 @@ module _ (kinds : List Kind) where
 
   -- the bound on the tracker's steps for an event behind lines
   bound_event : (before : List Line) (event : LineEvent)
-      → event_bound (numbered_event kinds before event) (length (threads_of (before ++ Event event ∷ []))) ≤ line_bound before (Event event)
+      → event_bound (numbered_event kinds before event) (length (threads_of (before ++ Event event ∷ []))) ≤ tracking_bound before (Event event)
   bound_event before (Fork thread child) = omega arith
   bound_event before (Join thread child) = omega arith
   bound_event before (Acquire thread lock) = omega arith
@@ -181,14 +181,14 @@ module _ (kinds : List Kind) where
       count = count ∙ sym event_threads;
     }
 
-    -- its steps are no more than those of the line
-    pub event_cost : event_bound e (threads_after e (length tracker.threads)) ≤ line_bound before line
+    -- its steps on clocks are no more than those of the line
+    pub event_cost : event_bound e (threads_after e (length tracker.threads)) ≤ tracking_bound before line
     event_cost =
         let (event, is, number) = event_line before line e next.told_as in
         let same : event_bound e (threads_after e (length tracker.threads)) ≡ event_bound (numbered_event kinds before event) (length (threads_of (before ++ Event event ∷ []))) =
         ap (event_bound e) (sym event_threads ∙ ap (λ l. length (threads_of (before ++ l ∷ []))) is)
         ∙ ap (λ x. event_bound x (length (threads_of (before ++ Event event ∷ [])))) number in
-        subst (λ l. event_bound e (threads_after e (length tracker.threads)) ≤ line_bound before l) (sym is) (omega (arith, same, bound_event before event))
+        subst (λ l. event_bound e (threads_after e (length tracker.threads)) ≤ tracking_bound before l) (sym is) (omega (arith, same, bound_event before event))
 
   -- ---- other lines
 
@@ -236,6 +236,10 @@ next_line kinds start now entries roster line numbers leads next =
 
 -- ---- a line that is no call
 
+no_longer : (numbers : List ℕ) → length numbers ≡ 0 → numbers ≡ []
+no_longer [] none = refl
+no_longer (number ∷ numbers) none = absurd (omega (arith, none))
+
 module _ (start now : Check) (tracker : Tracking) (before : List Entry) (entry : Entry) (checks : Checks start before now)
     (tracks : Tracks (kinds_of start.spec.now) tracker (items before ++ entry.item ∷ [])) where
   abbrev spec : List SpecifiedKind
@@ -250,37 +254,62 @@ module _ (start now : Check) (tracker : Tracking) (before : List Entry) (entry :
   tracks_now : Tracks kinds tracker (items (before ++ entry ∷ []))
   tracks_now = subst (Tracks kinds tracker) (sym (items_more before entry)) tracks
 
-  calls_more : is_call entry.item ≡ false → call_count (items (before ++ entry ∷ [])) ≡ call_count (items before)
-  calls_more quiet =
-      ap call_count (items_more before entry) ∙ sum_by_push (λ l. cond (is_call l) 1 0) (items before) entry.item
-      ∙ ap (λ b. call_count (items before) + cond b 1 0) quiet ∙ omega arith
+  abbrev earlier : List Numbered
+  earlier = entry_events spec before
 
-  checks_no_event : is_event entry.item ≡ false → is_call entry.item ≡ false → Checks start (before ++ entry ∷ []) new
-  checks_no_event quiet no_call = record {
+  abbrev Detects : (ℕ → Bool) → Type 0
+  Detects roots = DetectorStandsFor spec now.detector roots (event_numbers before) earlier
+
+  -- the lines that are no roots leave the roots
+  same_roots_now : is_root entry.item ≡ false → root_count (items (before ++ entry ∷ [])) ≡ root_count (items before)
+  same_roots_now no_root = ap root_count (items_more before entry) ∙ roots_more (items before) entry.item ∙ ap (λ b. root_count (items before) + cond b 1 0) no_root ∙ omega arith
+
+  unrooted : is_root entry.item ≡ false → Detects (roots_of (items (before ++ entry ∷ [])))
+  unrooted no_root = subst (λ m. Detects (λ t. ltb t m)) (sym (same_roots_now no_root)) checks.detects
+
+  formed_now : WellFormedWith kinds (roots_of (items (before ++ entry ∷ []))) (entry_events spec (before ++ entry ∷ []))
+  formed_now = told_formed kinds (items (before ++ entry ∷ [])) tracks_now.told
+
+  -- a root comes before every event, so that the detector doesn't stand for any yet
+  rooted : (name : List ℕ) (limits : Limits) → entry.item ≡ Thread name → MayFollow kinds limits (items before) entry.item → Detects (roots_of (items (before ++ entry ∷ [])))
+  rooted name limits is follows =
+      let no_event : earlier ≡ [] = no_events kinds (items before) checks.tracks.told (early kinds (items before) name limits (subst (MayFollow kinds limits (items before)) is follows)) in
+      let no_number : event_numbers before ≡ [] = no_longer (event_numbers before) (checks.detects.lengths ∙ ap length no_event) in
+      let was : DetectorStandsFor spec now.detector (roots_of (items before)) [] []
+      = subst (λ numbers. DetectorStandsFor spec now.detector (roots_of (items before)) numbers []) no_number
+      (subst (DetectorStandsFor spec now.detector (roots_of (items before)) (event_numbers before)) no_event checks.detects) in
+      let formed : WellFormedWith kinds (roots_of (items (before ++ entry ∷ []))) []
+      = subst (WellFormedWith kinds (roots_of (items (before ++ entry ∷ [])))) (quiet_events spec before entry (ap is_event is) ∙ no_event) formed_now in
+      subst (DetectorStandsFor spec now.detector (roots_of (items (before ++ entry ∷ []))) (event_numbers before)) (sym no_event)
+      (subst (λ numbers. DetectorStandsFor spec now.detector (roots_of (items (before ++ entry ∷ []))) numbers []) (sym no_number)
+      (stands_unbegun spec now.detector (roots_of (items before)) (roots_of (items (before ++ entry ∷ []))) formed was))
+
+  checks_no_event : is_event entry.item ≡ false → Detects (roots_of (items (before ++ entry ∷ []))) → Checks start (before ++ entry ∷ []) new
+  checks_no_event quiet detects = record {
     starts = checks.starts;
     spec = checks.spec;
     formulas = checks.formulas;
-    asks = checks.asks;
     tracks = tracks_now;
-    detects = subst (λ (T : Type 0). T) (λ i. DetectorStandsFor now.detector.calls (sym (quiet_numbers spec before entry quiet) i) (sym (quiet_events spec before entry quiet) i)) checks.detects;
-    held = checks.held ∙ sym (calls_more no_call);
+    detects = subst (λ (T : Type 0). T)
+        (λ i. DetectorStandsFor spec now.detector (roots_of (items (before ++ entry ∷ []))) (sym (quiet_numbers spec before entry quiet) i) (sym (quiet_events spec before entry quiet) i)) detects;
     races = checks.races ∙ sym (quiet_races spec before entry quiet);
   }
 
-  checks_other_event : (event : LineEvent) → entry.item ≡ Event event → is_call entry.item ≡ false → ((call : CallOf) → numbered_event kinds (items before) event ≢ numbered.Call call)
+  checks_other_event : (event : LineEvent) → entry.item ≡ Event event → ((call : CallOf) → numbered_event kinds (items before) event ≢ numbered.Call call)
       → Checks start (before ++ entry ∷ []) new
-  checks_other_event event is no_call other =
+  checks_other_event event is other =
       let e : Numbered = numbered_event kinds (items before) event in
-      let none : latest_of (calls_commute spec) (entry_events spec before ++ e ∷ []) (length (entry_events spec before)) ≡ None
-      = not_reported (Commute spec) (calls_commute spec) (passing spec) (entry_events spec before) e other in record {
+      let none : latest_of (calls_commute spec) (earlier ++ e ∷ []) (length earlier) ≡ None
+      = not_reported (Commute spec) (calls_commute spec) (passing spec) earlier e other in
+      let formed : WellFormedWith kinds (roots_of (items (before ++ entry ∷ []))) (earlier ++ e ∷ [])
+      = subst (WellFormedWith kinds (roots_of (items (before ++ entry ∷ [])))) (events_all spec before entry event is) formed_now in record {
         starts = checks.starts;
         spec = checks.spec;
         formulas = checks.formulas;
-        asks = checks.asks;
         tracks = tracks_now;
-        detects = subst (λ (T : Type 0). T) (λ i. DetectorStandsFor now.detector.calls (sym (event_numbers_more spec before entry event is) i) (sym (events_all spec before entry event is) i))
-            (stands_quiet now.detector.calls (event_numbers before) (entry_events spec before) entry.number e other checks.detects);
-        held = checks.held ∙ sym (calls_more no_call);
+        detects = subst (λ (T : Type 0). T)
+            (λ i. DetectorStandsFor spec now.detector (roots_of (items (before ++ entry ∷ []))) (sym (event_numbers_more spec before entry event is) i) (sym (events_all spec before entry event is) i))
+            (stands_quiet spec now.detector (roots_of (items (before ++ entry ∷ []))) (event_numbers before) earlier entry.number e other formed (unrooted (ap is_root is)));
         races = checks.races ∙ sym (races_more spec before entry event is ∙ ap (λ o. races_of spec before + cond (is_some o) 1 0) none ∙ omega arith);
       }
 
@@ -291,14 +320,14 @@ module _ (start now : Check) (tracker : Tracking) (before : List Entry) (entry :
   checks_quiet numbers next other = by entry.item refl
     where
       by : (item : Line) → entry.item ≡ item → Checks start (before ++ entry ∷ []) new
-      by Skip is = checks_no_event (ap is_event is) (ap is_call is)
-      by (Header version) is = checks_no_event (ap is_event is) (ap is_call is)
-      by (Thread name) is = checks_no_event (ap is_event is) (ap is_call is)
-      by (Object name kind) is = checks_no_event (ap is_event is) (ap is_call is)
-      by (Event (Fork thread child)) is = checks_other_event (Fork thread child) is (ap is_call is) (λ call same. cc)
-      by (Event (Join thread child)) is = checks_other_event (Join thread child) is (ap is_call is) (λ call same. cc)
-      by (Event (Acquire thread lock)) is = checks_other_event (Acquire thread lock) is (ap is_call is) (λ call same. cc)
-      by (Event (Release thread lock)) is = checks_other_event (Release thread lock) is (ap is_call is) (λ call same. cc)
+      by Skip is = checks_no_event (ap is_event is) (unrooted (ap is_root is))
+      by (Header version) is = checks_no_event (ap is_event is) (unrooted (ap is_root is))
+      by (Thread name) is = checks_no_event (ap is_event is) (rooted name next.limits is next.follows)
+      by (Object name kind) is = checks_no_event (ap is_event is) (unrooted (ap is_root is))
+      by (Event (Fork thread child)) is = checks_other_event (Fork thread child) is (λ call same. cc)
+      by (Event (Join thread child)) is = checks_other_event (Join thread child) is (λ call same. cc)
+      by (Event (Acquire thread lock)) is = checks_other_event (Acquire thread lock) is (λ call same. cc)
+      by (Event (Release thread lock)) is = checks_other_event (Release thread lock) is (λ call same. cc)
       by (Event (Call thread object method slots)) is =
           absurd (other _ (next.told_as ∙ ap (accepted_of kinds (items before)) is))
 
@@ -365,19 +394,6 @@ module _ (start now : Check) (before : List Entry) (entry : Entry) (e : Numbered
   event_is : (event : LineEvent) × (entry.item ≡ Event event) × (numbered.Call call ≡ numbered_event known (items before) event)
   event_is = event_line known (items before) entry.item (numbered.Call call) next.told_as
 
-  is_called : is_call entry.item ≡ true
-  is_called = by event_is.0 event_is.1 event_is.2
-    where
-      by : (event : LineEvent) → entry.item ≡ Event event → numbered.Call call ≡ numbered_event known (items before) event → is_call entry.item ≡ true
-      by (Fork thread child) is e = cc
-      by (Join thread child) is e = cc
-      by (Acquire thread lock) is e = cc
-      by (Release thread lock) is e = cc
-      by (Call thread object method slots) is e = ap is_call is
-
-  is_event_line : is_event entry.item ≡ true
-  is_event_line = ap is_event event_is.1
-
   -- the lines with the call are told of by their events
   told_now : AreTold known (items before ++ entry.item ∷ [])
   told_now = told_next known now.tracker (items before) entry.item (accepted.Event (numbered.Call call)) next
@@ -385,18 +401,26 @@ module _ (start now : Check) (before : List Entry) (entry : Entry) (e : Numbered
   events_now : events_of known (items before ++ entry.item ∷ []) ≡ es ++ numbered.Call call ∷ []
   events_now = event_last known now.tracker (items before) entry.item (numbered.Call call) next
 
-  -- the call is the next one for the detector
+  -- the call leaves the roots
+  same_roots_then : root_count (items before ++ entry.item ∷ []) ≡ root_count (items before)
+  same_roots_then = same_roots known now.tracker (items before) entry.item (numbered.Call call) next
+
+  formed_then : WellFormedWith known (roots_of (items before)) (es ++ numbered.Call call ∷ [])
+  formed_then = subst (λ m. WellFormedWith known (λ t. ltb t m) (es ++ numbered.Call call ∷ [])) same_roots_then
+      (subst (WellFormedWith known (roots_of (items before ++ entry.item ∷ []))) events_now (told_formed known (items before ++ entry.item ∷ []) told_now))
+
+  -- the call is the next one for the detector, where the tracker has taken it
   pub call_next : (stamp : Stamp) → ((roots : ℕ → Bool) (es : List Numbered) → IsNextEvent now.tracker roots es e → IsStamp (es ++ e ∷ []) (length es) stamp)
-      → IsNextCall now.detector.kinds now.detector.calls (event_numbers before) es place call stamp
-  call_next stamp stamped = record {
-    stands = checks.detects;
-    at_end = ready.at_end;
-    stamped = subst (λ x. IsStamp (es ++ x ∷ []) (length es) stamp) called
-        (stamped (roots_of (items before)) es (event_next known now.tracker (items before) entry.item e ready.next));
-    roots = roots_of (items before ++ entry.item ∷ []);
-    formed = subst (λ those. WellFormedWith (kinds_of those) (roots_of (items before ++ entry.item ∷ [])) (es ++ numbered.Call call ∷ [])) (sym checks.asks)
-        (subst (WellFormedWith known (roots_of (items before ++ entry.item ∷ []))) events_now (told_formed known (items before ++ entry.item ∷ []) told_now));
-  }
+      → (tracker : Tracking) → ((roots : ℕ → Bool) (es : List Numbered) → IsNextEvent now.tracker roots es e → TrackerStandsFor tracker roots (es ++ e ∷ []))
+      → IsNextCall asked now.detector tracker (roots_of (items before)) (event_numbers before) es place call stamp
+  call_next stamp stamped tracker stood =
+      let ahead = event_next known now.tracker (items before) entry.item e ready.next in record {
+        stands = checks.detects;
+        at_end = ready.at_end;
+        stamped = subst (λ x. IsStamp (es ++ x ∷ []) (length es) stamp) called (stamped (roots_of (items before)) es ahead);
+        formed = formed_then;
+        tracked = subst (λ x. TrackerStandsFor tracker (roots_of (items before)) (es ++ x ∷ [])) called (stood (roots_of (items before)) es ahead);
+      }
 
   -- the count of reported calls stays small
   pub call_races : now.races ≤ 4294967294
@@ -418,32 +442,33 @@ module _ (start now : Check) (before : List Entry) (entry : Entry) (e : Numbered
       })
 
   -- the steps of the tracker and of the detector keep together to the bound
-  pub call_cost : (steps middle after : ℕ) → middle ≤ steps + event_bound e (threads_after e (length now.tracker.threads))
-      → after ≤ middle + length now.detector.calls → after ≤ steps + line_bound (items before) entry.item
-  call_cost steps middle after track detect =
+  pub call_cost : (tracker : Tracking) → length tracker.threads ≡ threads_after e (length now.tracker.threads) → (steps middle after : ℕ)
+      → middle ≤ steps + event_bound e (threads_after e (length now.tracker.threads))
+      → after ≤ middle + detection_bound now.detector.tables (length tracker.threads) call → after ≤ steps + check_bound asked (items before) entry.item
+  call_cost tracker count steps middle after track detect =
       let threads : ℕ = length (threads_of (items before ++ entry.item ∷ [])) in
-      let known : threads ≡ length now.tracker.threads = event_threads known now.tracker (items before) entry.item (numbered.Call call) next in
-      let tracked : middle ≤ steps + event_bound (numbered.Call call) (threads_after (numbered.Call call) (length now.tracker.threads))
-      = subst (λ x. middle ≤ steps + event_bound x (threads_after x (length now.tracker.threads))) called track in
-      let bound : line_bound (items before) entry.item ≡ 2 * threads + call_count (items before)
-      = ap (λ b. cond b (2 * threads + call_count (items before)) (cond (is_event entry.item) (4 * threads) 0)) is_called in
-      omega (arith, checks.held, tracked, known, bound, detect)
+      let same : length tracker.threads ≡ threads = count ∙ sym (event_threads known now.tracker (items before) entry.item e ready.next) in
+      let told : event_of known (items before) entry.item ≡ Some (numbered.Call call) = ap (event_of known (items before)) event_is.1 ∙ ap Some (sym event_is.2) in
+      let detected : after ≤ middle + detector_bound asked threads (event_of known (items before) entry.item)
+      = subst (λ o. after ≤ middle + detector_bound asked threads o) (sym told)
+      (subst (λ n. after ≤ middle + detection_bound (tables_of asked) n call) same
+      (subst (λ tables. after ≤ middle + detection_bound tables (length tracker.threads) call) checks.detects.tables_are detect)) in
+      omega (arith, track, detected, event_cost known now.tracker (items before) entry.item e ready.next)
 
   -- what is kept, and what is written
-  pub checks_call : (new : Check) → new.spec.now ≡ now.spec.now → new.formulas ≡ now.formulas → new.detector.kinds ≡ now.detector.kinds → Tracks known new.tracker (items before ++ entry.item ∷ [])
-      → DetectorStandsFor new.detector.calls (event_numbers before ++ entry.number ∷ []) (es ++ numbered.Call call ∷ []) → length new.detector.calls ≡ length now.detector.calls + 1
+  pub checks_call : (new : Check) → new.spec.now ≡ now.spec.now → new.formulas ≡ now.formulas → Tracks known new.tracker (items before ++ entry.item ∷ [])
+      → DetectorStandsFor asked new.detector (roots_of (items before)) (event_numbers before ++ entry.number ∷ []) (es ++ numbered.Call call ∷ [])
       → new.races ≡ now.races + next_races asked es (numbered.Call call) → Checks start (before ++ entry ∷ []) new
-  checks_call new one_spec one_formulas one_kinds tracks detects held races =
-      let (event, is, same) = event_is in record {
+  checks_call new one_spec one_formulas tracks detects races =
+      let (event, is, same) = event_is in
+      let roots_now : root_count (items (before ++ entry ∷ [])) ≡ root_count (items before) = ap root_count (items_more before entry) ∙ same_roots_then in record {
         starts = checks.starts;
         spec = one_spec ∙ checks.spec;
         formulas = one_formulas ∙ checks.formulas;
-        asks = one_kinds ∙ checks.asks;
         tracks = subst (Tracks known new.tracker) (sym (items_more before entry)) tracks;
         detects = subst (λ (T : Type 0). T)
-            (λ i. DetectorStandsFor new.detector.calls (sym (event_numbers_more asked before entry event is) i) ((ap (λ e. es ++ e ∷ []) same ∙ sym (events_all asked before entry event is)) i)) detects;
-        held = held ∙ ap (λ n. n + 1) checks.held ∙ ap (λ b. call_count (items before) + cond b 1 0) (sym is_called)
-            ∙ sym (ap call_count (items_more before entry) ∙ sum_by_push (λ l. cond (is_call l) 1 0) (items before) entry.item);
+            (λ i. DetectorStandsFor asked new.detector (λ t. ltb t (sym roots_now i)) (sym (event_numbers_more asked before entry event is) i)
+            ((ap (λ e. es ++ e ∷ []) same ∙ sym (events_all asked before entry event is)) i)) detects;
         races = races ∙ ap (λ n. n + next_races asked es (numbered.Call call)) checks.races ∙ ap (λ e. races_of asked before + next_races asked es e) same ∙ sym (races_more asked before entry event is);
       }
 
@@ -453,25 +478,22 @@ module _ (start now : Check) (before : List Entry) (entry : Entry) (e : Numbered
       texts_more asked before entry event is checks.tracks.told
       ∙ (λ k. race_texts asked before ++ next_text asked (sym ready.naming_is k) (event_numbers before) entry.number es (sym same k))
 
-  -- what the detector answers, by the kinds of the specification
+  -- what the detector answers
   abbrev Answered : Option Race → Type 0
-  Answered answer = IsAnswer now.detector.kinds (event_numbers before ++ entry.number ∷ []) (es ++ numbered.Call call ∷ []) place answer
-
-  answer_asked : (answer : Option Race) → Answered answer → IsAnswer asked (event_numbers before ++ entry.number ∷ []) (es ++ numbered.Call call ∷ []) place answer
-  answer_asked answer is = subst (λ those. IsAnswer those (event_numbers before ++ entry.number ∷ []) (es ++ numbered.Call call ∷ []) place answer) checks.asks is
+  Answered answer = IsAnswer asked (event_numbers before ++ entry.number ∷ []) (es ++ numbered.Call call ∷ []) place answer
 
   pub known_race : (answer : Option Race) (race : Race) → Answered answer → answer ≡ Some race → (those : List SpecifiedKind) → those ≡ now.spec.now → IsKnownRace those names race
   known_race answer race is some those same =
       subst (λ these. IsKnownRace these names race) (sym (same ∙ checks.spec))
-      (race_known race (subst (IsAnswer asked (event_numbers before ++ entry.number ∷ []) (es ++ numbered.Call call ∷ []) place) some (answer_asked answer is)))
+      (race_known race (subst (IsAnswer asked (event_numbers before ++ entry.number ∷ []) (es ++ numbered.Call call ∷ []) place) some is))
 
   pub races_call : (answer : Option Race) → Answered answer → (races : ℕ) → races ≡ now.races + cond (is_some answer) 1 0
       → races ≡ now.races + next_races asked es (numbered.Call call)
   races_call answer is races counted =
-      counted ∙ ap (λ n. now.races + n) (sym (next_races_is asked names (event_numbers before) entry.number es call place ready.at_end answer (answer_asked answer is)))
+      counted ∙ ap (λ n. now.races + n) (sym (next_races_is asked names (event_numbers before) entry.number es call place ready.at_end answer is))
 
   pub text_call : (answer : Option Race) → Answered answer
       → race_texts asked (before ++ entry ∷ []) ≡ race_texts asked before ++ answer_text asked names answer
   text_call answer is =
       texts_call ∙ ap (λ text. race_texts asked before ++ text)
-      (next_text_is asked names (event_numbers before) entry.number es call place ready.at_end answer (answer_asked answer is))
+      (next_text_is asked names (event_numbers before) entry.number es call place ready.at_end answer is)

@@ -109,7 +109,7 @@ module _ (trace file : List ℕ) (limits : Limits) (rose : Bool) (old mid new : 
   traced outcome (inl fault) = inl (record { risen = fault.risen; some_unopened = omega (arith, fault.some_unopened, reads.opens); is = fault.is })
   traced outcome (inr checked) = inr (inr (record { all_opened = omega (arith, checked.0, reads.opens); kinds = kinds; are = are; is = checked.1 }))
 
-  took : TakesTrace (check_texts kinds).lines (kinds_of kinds) trace limits rose (record mid { files = old.files }) new part before after → TakesTrace (check_texts kinds).lines (kinds_of kinds) trace limits rose old new part before after
+  took : TakesTrace (check_texts kinds) (kinds_of kinds) trace limits rose (record mid { files = old.files }) new part before after → TakesTrace (check_texts kinds) (kinds_of kinds) trace limits rose old new part before after
   took takes = record { whole = takes.whole; begun = takes.begun; first = takes.first; is_begun = takes.is_begun; read = takes.read; cost = takes.cost }
 
   pub runs_said : Runs (check_meaning trace (Some file)) limits rose old new part status before after
@@ -128,7 +128,7 @@ module _ (trace file : List ℕ) (limits : Limits) (rose : Bool) (old mid new : 
       λ more. (
         kinds,
         are,
-        took (subst (λ files. TakesTrace (check_texts kinds).lines (kinds_of kinds) trace limits rose (record mid { files = files }) new part before after) leaves.opened.files (checks.taken (omega (arith, more, reads.opens)))),
+        took (subst (λ files. TakesTrace (check_texts kinds) (kinds_of kinds) trace limits rose (record mid { files = files }) new part before after) leaves.opened.files (checks.taken (omega (arith, more, reads.opens)))),
       ),
       λ more.
           let ((taken, held), cost) = checks.unopened (omega (arith, more, reads.opens)) in

@@ -18,7 +18,7 @@ use Rattle.rd_check.proofs.ReportLemmas.{passing, texts_report}
 use Rattle.rd_check.specs.Checked.{check_outcome, entry_events, race_texts, races_before, races_of}
 use Rattle.rd_replaying.proofs.DeclaredLemmas.{calls_declared}
 use Rattle.rd_check.specs.Reports.{IsChecked}
-use Rattle.rd_walk.specs.Walk.{ending_of, entries_of, items, trace_of, walk}
+use Rattle.rd_walk.specs.Walk.{ending_of, entries_of, items, trace_of}
 
 -- ---- how many calls are reported
 

@@ -6,8 +6,8 @@ use Rattle.std.proofs.lemmas.Bool.Decides.{Decides-and, Decides-eqb}
 use Rattle.std.proofs.lemmas.List.Elements.{filter_map-append}
 use Rattle.std.proofs.lemmas.Option.{slice_get_within, unwrap_or-slice_get}
 use Rattle.rd_clock.specs.Clock.{component}
-use Rattle.rd_detect.specs.Detect.{IsOfKind, IsWitness}
-use Rattle.rd_detect.proofs.AskLemmas.{call_fits, of_kind}
+use Rattle.rd_detect.specs.Detect.{IsWitness}
+use Rattle.rd_detect.proofs.AskLemmas.{IsOfKind, call_fits, of_kind}
 use Rattle.rd_ecl.specs.Kinds.{kinds_of}
 use Rattle.rd_ecl.specs.Specified.{SpecifiedKind, kind_at}
 use Rattle.rd_print.specs.Printed.{name_at}

@@ -21,7 +21,7 @@ use Rattle.rd_walk.specs.declared.walk.WalkEnd.TheVariants.{End}
 use Rattle.rd_walk.specs.declared.walk.WalkEnd.{WalkEnd}
 use Rattle.rd_wf.proofs.EventsLemmas.{accepted_told}
 use Rattle.rd_wf.specs.Events.{AreAccepted, AreAcceptedFrom}
-use Rattle.std.proofs.Common.{◌≡◌, ℕ, List, [], ◌++◌, sym, ap, ◌∙◌, subst, ◌+◌, ◌∷◌}
+use Rattle.std.proofs.Common.{◌≡◌, ℕ, List, [], ◌++◌, sym, ap, ◌∙◌, subst, ◌∷◌}
 use Rattle.std.proofs.lemmas.List.{append-nil, append_assoc, map-append}
 
 -- of lines one after another, the first are accepted, and so are those behind them

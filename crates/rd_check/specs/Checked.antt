@@ -2,23 +2,25 @@
 use Rattle.rd_replaying.specs.Endings.{thread_names, ending_of_report, check_status}
 use Rattle.rd_walk.specs.Output.{Outcome}
 use Rattle.rd_detect.specs.Commuting.{calls_commute}
+use Rattle.rd_detect.specs.Detect.{detection_bound, tables_of}
 use Rattle.rd_detect.specs.RaceTests.{latest_of}
 use Rattle.rd_ecl.specs.Kinds.{kinds_of}
 use Rattle.rd_ecl.specs.Specified.{SpecifiedKind}
 use Rattle.rd_event.specs.declared.events.Call.{Call}
 use Rattle.rd_event.specs.declared.events.Event.TheVariants as event
 use Rattle.rd_event.specs.declared.events.Event.{Event}
+use Rattle.rd_event.specs.declared.items.Line.{Line}
 use Rattle.rd_hb.specs.ClockTests.{clock_at}
 use Rattle.rd_report.specs.Races.{Told, race_text}
 use Rattle.rd_report.specs.Texts.{Naming, ending_text, naming}
 use Rattle.rd_report.specs.declared.endings.Ending.{Ending}
 use Rattle.rd_replaying.specs.Replaying.{replay_of}
 use Rattle.rd_walk.specs.Traces.{ReportTexts}
-use Rattle.rd_walk.specs.Walk.{Entry, Walked, ending_of, entries_of, items}
+use Rattle.rd_walk.specs.Walk.{Entry, Walked, ending_of, entries_of, items, tracking_bound}
 use Rattle.rd_walk.specs.declared.walk.WalkEnd.{WalkEnd}
-use Rattle.rd_wf.specs.Events.{events_of}
-use Rattle.rd_wf.specs.MayFollow.{is_event}
-use Rattle.std.specs.Prelude.{ℕ, zero, suc, ◌+◌, Bool, List, [], ◌++◌, length, filter_map, slice_get, Option, Some, None, is_some, unwrap_or, if◌then◌else◌}
+use Rattle.rd_wf.specs.Events.{event_of, events_of}
+use Rattle.rd_wf.specs.MayFollow.{is_event, threads_of}
+use Rattle.std.specs.Prelude.{ℕ, zero, suc, ◌+◌, Bool, List, [], ◌∷◌, ◌++◌, length, filter_map, slice_get, Option, Some, None, is_some, unwrap_or, if◌then◌else◌}
 
 -- the number of the line of an event
 abbrev pub event_number : Entry → Option ℕ
@@ -92,6 +94,15 @@ check_outcome kinds walked =
       status = check_status races ending;
     }
 
--- what `check` writes for accepted lines and in all
+-- The bound on the steps of the detector for an event, by the number of threads that are known once it is done: only a call takes some
+abbrev pub detector_bound : List SpecifiedKind → ℕ → Option Event → ℕ
+detector_bound kinds threads (Some (event.Call call)) = detection_bound (tables_of kinds) threads call
+detector_bound kinds threads _ = 0
+
+-- The bound on the steps of `check` for an accepted line behind others, by the kinds: those on clocks, and those of the detector
+abbrev pub check_bound : List SpecifiedKind → List Line → Line → ℕ
+check_bound kinds before item = tracking_bound before item + detector_bound kinds (length (threads_of (before ++ item ∷ []))) (event_of (kinds_of kinds) before item)
+
+-- what `check` writes for accepted lines and in all, and the bound on its steps
 abbrev pub check_texts : List SpecifiedKind → ReportTexts
-check_texts kinds = record { lines = race_texts kinds; outcome = check_outcome kinds }
+check_texts kinds = record { lines = race_texts kinds; outcome = check_outcome kinds; bound = check_bound kinds }

@@ -1,5 +1,5 @@
 -- What `check` keeps of the accepted lines.
-use Rattle.std.specs.Prelude.{◌≡◌, ◌≤◌, ℕ, List, [], ◌∷◌, ◌++◌, length, is_some, slice_get, Some, if◌then◌else◌}
+use Rattle.std.specs.Prelude.{◌≡◌, ◌≤◌, ℕ, Bool, List, [], ◌∷◌, ◌++◌, length, is_some, slice_get, Some, if◌then◌else◌}
 use Rattle.rd_base.specs.Limits.{AreUsable}
 use Rattle.rd_base.specs.declared.limits.Limits.{Limits}
 use Rattle.rd_event.specs.declared.events.Call.{Call}
@@ -12,10 +12,11 @@ use Rattle.rd_detect.specs.Detect.{DetectorStandsFor}
 use Rattle.rd_detect.specs.RaceTests.{latest_of}
 use Rattle.rd_ecl.specs.Kinds.{Kind, kinds_of}
 use Rattle.rd_ecl.specs.Specified.{SpecifiedKind}
+use Rattle.rd_order.specs.EventLists.{WellFormedWith}
 use Rattle.rd_report.specs.Races.{IsNamed}
 use Rattle.rd_report.specs.Texts.{Naming, naming}
 use Rattle.rd_wf.specs.Events.{AreTold, events_of, roots_of}
-use Rattle.rd_wf.specs.MayFollow.{MayFollow, accepted_of, call_count, threads_of}
+use Rattle.rd_wf.specs.MayFollow.{MayFollow, accepted_of, threads_of}
 use Rattle.rd_check.specs.Checked.{entry_events, event_numbers, race_at, races_of, text_with}
 use Rattle.rd_walk.specs.Walk.{Entry, items}
 use Rattle.rd_check.specs.declared.checking.Check.{Check}
@@ -37,10 +38,10 @@ pub record IsNextLine (kinds : List Kind) (tracker : Tracking) (before : List Li
   pub few : length (threads_of (before ++ line ∷ [])) ≤ 4294967295
   pub told_as : numbers ≡ accepted_of kinds before line
 
--- it has taken no line, and asks the formulas of its specification
+-- it has taken no line, and its detector is one of no call for the kinds of its specification
 pub record IsNew (start : Check) : Type 0 where
   pub no_event : start.tracker ≡ record { threads = []; locks = [] }
-  pub no_call : start.detector ≡ record { kinds = start.spec.now; calls = [] }
+  pub no_call : (roots : ℕ → Bool) → WellFormedWith (kinds_of start.spec.now) roots [] → DetectorStandsFor start.spec.now start.detector roots [] []
   pub no_race : start.races ≡ 0
   pub formulas : start.formulas ≡ start.spec.now
 
@@ -51,9 +52,7 @@ pub record Checks (start : Check) (entries : List Entry) (now : Check) : Type 0 
   pub spec : now.spec.now ≡ start.spec.now
   pub formulas : now.formulas ≡ start.spec.now
   pub tracks : Tracks (kinds_of start.spec.now) now.tracker (items entries)
-  pub asks : now.detector.kinds ≡ start.spec.now
-  pub detects : DetectorStandsFor now.detector.calls (event_numbers entries) (entry_events start.spec.now entries)
-  pub held : length now.detector.calls ≡ call_count (items entries)
+  pub detects : DetectorStandsFor start.spec.now now.detector (roots_of (items entries)) (event_numbers entries) (entry_events start.spec.now entries)
   pub races : now.races ≡ races_of start.spec.now entries
 
 -- so it is where the kinds are these

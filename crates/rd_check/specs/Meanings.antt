@@ -39,7 +39,7 @@ IsCheckOutcome trace (Some file) limits rose old new outcome =
 -- so it is with the kinds of its objects
 abbrev pub TakesKnown : Option (List ℕ) → List ℕ → Limits → Bool → Source → Source → List ℕ → ℕ → ℕ → Type 0
 TakesKnown file trace limits rose old new part before after =
-    (kinds : List SpecifiedKind) × AreKinds old file kinds × TakesTrace (check_texts kinds).lines (kinds_of kinds) trace limits rose old new part before after
+    (kinds : List SpecifiedKind) × AreKinds old file kinds × TakesTrace (check_texts kinds) (kinds_of kinds) trace limits rose old new part before after
 
 -- what was taken of the last file that was opened, and nothing where none was, and the steps that were counted
 abbrev pub TakesChecked : List ℕ → Option (List ℕ) → Limits → Bool → Source → Source → List ℕ → ℕ → ℕ → Type 0

@@ -1,5 +1,5 @@
 -- What a report says of the bytes of a trace, in the words of accepted lines and of races: this project's profile.
-use Rattle.std.specs.Prelude.{◌≡◌, ◌⊎◌, ℕ, zero, suc, ◌+◌, ◌<◌, List, [], ◌++◌, All, length}
+use Rattle.std.specs.Prelude.{◌≡◌, ◌⊎◌, ℕ, zero, suc, ◌<◌, List, [], ◌++◌, All, length}
 use Rattle.rd_base.specs.declared.limits.Limits.{Limits}
 use Rattle.rd_detect.specs.Commuting.{Commute}
 use Rattle.rd_detect.specs.Races.{Reported, IsLatest}

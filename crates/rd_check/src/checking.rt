@@ -15,7 +15,7 @@ use rd_wf::{Accepted, Roster};
 use std::alloc::Global;
 use std::sync::ledger::Ledger;
 
-/// Keeps the clocks of the threads and the calls, counts the calls that are reported, and writes each race.
+/// Keeps the clocks of the threads and the cells of the calls, counts the calls that are reported, and writes each race.
 #[derive(Debug, Drop)]
 pub struct Check<'a> {
     alloc: Global,
@@ -26,24 +26,25 @@ pub struct Check<'a> {
     /// the text of the last race, kept for its memory
     text: Bytes,
     tracker: Tracker,
-    detector: Detector<'a>,
+    detector: Detector,
     pub(crate) races: u64,
 }
 
 impl<'a> Check<'a> {
-    ghost use Rattle.std.specs.Prelude.{◌≡◌, ◌+◌, ◌<◌, ◌≤◌, ◌^◌, ℕ, List, ◌∷◌, [], ◌++◌, Option, is_some, if◌then◌else◌, length, IfOk, IfErr, OnOk, OnErr};
+    ghost use Rattle.std.specs.Prelude.{◌≡◌, ◌+◌, ◌<◌, ◌≤◌, ◌^◌, ℕ, Bool, List, ◌∷◌, [], ◌++◌, Option, is_some, if◌then◌else◌, length, IfOk, IfErr, OnOk, OnErr};
     ghost use Rattle.rd_io.specs.Sinks.{Appends};
     ghost use Rattle.rd_event.specs.declared.events.Event.{Event as EventOf};
     ghost use Rattle.rd_event.specs.declared.events.Event.TheVariants as event;
     ghost use Rattle.rd_event.specs.declared.items.Line.{Line as LineOf};
-    ghost use Rattle.rd_detect.specs.Detect.{IsAnswer, IsNextCall, DetectorStandsFor};
+    ghost use Rattle.rd_detect.specs.Detect.{IsAnswer, IsNextCall, DetectorStandsFor, detection_bound};
     ghost use Rattle.rd_report.specs.Races.{IsKnownRace, race_text, told_by};
     ghost use Rattle.rd_report.specs.Texts.{naming_in};
     ghost use Rattle.rd_walk.specs.Analysis.{TellsFault, WritesBetween, WritesFront};
     ghost use Rattle.rd_check.specs.Checking.{Checks, IsNew, IsNextEventLine, IsNextLine};
-    ghost use Rattle.rd_check.specs.Checked.{entry_events, race_texts};
-    ghost use Rattle.rd_walk.specs.Walk.{Entry, items, line_bound};
+    ghost use Rattle.rd_check.specs.Checked.{check_bound, entry_events, race_texts};
+    ghost use Rattle.rd_walk.specs.Walk.{Entry, items};
     ghost use Rattle.rd_ecl.specs.Kinds.{kinds_of};
+    ghost use Rattle.rd_ecl.specs.Specified.{SpecifiedKind};
 
     /// A check of no lines.
     pub fn new(alloc: Global, spec: &'a Spec) -> Result<Check<'a>, NoMemory>
@@ -68,38 +69,35 @@ impl<'a> Check<'a> {
         line: u64,
         place: u32,
         call: &Call,
-        stamp: &Stamp,
+        stamp: Stamp,
         steps: &mut Steps<L>,
     ) -> Result<Option<Race>, Halt>
-        requires next { (numbers : List ℕ) × (es : List EventOf)
-            × IsNextCall self.old.detector.kinds self.old.detector.calls numbers es place call.now stamp.now }
+        requires next { (kinds : List SpecifiedKind) × (roots : ℕ → Bool) × (numbers : List ℕ) × (es : List EventOf)
+            × IsNextCall kinds self.old.detector self.old.tracker roots numbers es place call.now stamp }
         requires few { self.old.races + 1 < 2 ^ 64 }
 
         // the call is judged and kept, and other parts stay
         ensures same { (self.new.spec.now ≡ self.old.spec.now)
             × (self.new.tracker ≡ self.old.tracker)
-            × (self.new.detector.kinds ≡ self.old.detector.kinds)
             × (self.new.formulas ≡ self.old.formulas) }
-        ensures answer { IfOk result (λ answer. (numbers : List ℕ) (es : List EventOf)
-            → IsNextCall self.old.detector.kinds self.old.detector.calls numbers es place call.now stamp.now
-            → IsAnswer self.old.detector.kinds (numbers ++ line ∷ [])
-            (es ++ event.Call call.now ∷ []) place answer) }
-        ensures stands { OnOk result ((numbers : List ℕ) (es : List EventOf)
-            → IsNextCall self.old.detector.kinds self.old.detector.calls numbers es place call.now stamp.now
-            → DetectorStandsFor self.new.detector.calls (numbers ++ line ∷ [])
+        ensures answer { IfOk result (λ answer. (kinds : List SpecifiedKind) (roots : ℕ → Bool) (numbers : List ℕ) (es : List EventOf)
+            → IsNextCall kinds self.old.detector self.old.tracker roots numbers es place call.now stamp
+            → IsAnswer kinds (numbers ++ line ∷ []) (es ++ event.Call call.now ∷ []) place answer) }
+        ensures stands { OnOk result ((kinds : List SpecifiedKind) (roots : ℕ → Bool) (numbers : List ℕ) (es : List EventOf)
+            → IsNextCall kinds self.old.detector self.old.tracker roots numbers es place call.now stamp
+            → DetectorStandsFor kinds self.new.detector roots (numbers ++ line ∷ [])
             (es ++ event.Call call.now ∷ [])) }
-        ensures held { OnOk result
-            (length self.new.detector.calls ≡ length self.old.detector.calls + 1) }
 
         // races are counted, only memory can stop it, and the steps are bounded
         ensures races { IfOk result
             (λ answer. self.new.races ≡ self.old.races + (if is_some answer then 1 else 0)) }
         ensures memory { IfErr result (λ halt. halt ≡ Halt.NoMemory) }
-        ensures cost { steps.new ≤ steps.old + length self.old.detector.calls }
+        ensures cost { steps.new ≤ steps.old
+            + detection_bound self.old.detector.tables (length self.old.tracker.threads) call.now }
     {
         let Ok(answer) = self
             .detector
-            .call(line, place, call, stamp, &self.tracker, steps)
+            .take(line, place, call, stamp, &self.tracker, steps)
         else {
             return Err(Halt::NoMemory);
         };
@@ -192,7 +190,7 @@ impl<'a> Check<'a> {
             (race_texts start.spec.now (before ++ record { number = number; item = item } ∷ []))) }
         ensures cost { (start : Check) (before : List Entry) (item : LineOf) →
             IsNextEventLine start self.old before item event.now (naming_in names.now) place →
-            steps.new ≤ steps.old + line_bound (items before) item }
+            steps.new ≤ steps.old + check_bound start.spec.now (items before) item }
         ensures fault { TellsFault (S.faults out.old) (S.faults out.new) (S.at_fault out.new)
             (S.written out.new) result }
     {
@@ -205,7 +203,7 @@ impl<'a> Check<'a> {
         let Ok(stamp) = self.tracker.event(event, steps) else {
             return Err(Halt::NoMemory);
         };
-        match self.detect(number, place, call, &stamp, steps) {
+        match self.detect(number, place, call, stamp, steps) {
             Ok(None) => Ok(()),
             Ok(Some(race)) => self.report(&race, names, out),
             Err(halt) => Err(halt),
@@ -216,13 +214,15 @@ impl<'a> Check<'a> {
 impl<'a> Analysis for Check<'a> {
     ghost use Rattle.rd_check.specs.laws.CheckLaws.{leads_none, no_text};
     ghost use Rattle.rd_check.specs.Checking.{CheckBegins, CheckLeads};
-    ghost use Rattle.rd_check.specs.Checked.{race_texts};
+    ghost use Rattle.rd_check.specs.Checked.{check_bound, race_texts};
 
     ghost begins = { CheckBegins };
 
     ghost leads = { CheckLeads };
 
     ghost text = { λ _ start. race_texts start.spec.now };
+
+    ghost bound = { λ _ start. check_bound start.spec.now };
 
     ghost starts = { leads_none };
 

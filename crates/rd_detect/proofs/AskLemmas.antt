@@ -1,12 +1,11 @@
--- Whose formulas tell whether two calls commute.
-use Rattle.std.proofs.Common.{◌≡◌, ◌↔◌, inl, inr, ℕ, ◌<◌, ◌≤◌, ◌==◌, ◌&&◌, Bool, true, false, not, IsTrue, List, [], ◌∷◌, ◌++◌, length, Option, Some, None, refl, sym, ap, subst, ◌∙◌, arith, true≢false}
+-- The kinds of calls.
+use Rattle.std.proofs.Common.{◌≡◌, inl, inr, ℕ, ◌<◌, ◌==◌, ◌&&◌, Bool, true, List, [], ◌∷◌, ◌++◌, length, Option, Some, None, refl, sym, ap, subst, ◌∙◌, arith}
 use Rattle.std.specs.Prelude.{All, IfSome, map, option_map, slice_get, unwrap_or}
-use Rattle.std.proofs.lemmas.Bool.{cases_Bool, cases_eq}
+use Rattle.std.proofs.lemmas.Bool.{cases_eq}
 use Rattle.std.proofs.lemmas.Bool.Decides.{Decides-and, Decides-eqb}
 use Rattle.std.proofs.lemmas.List.{length-map}
 use Rattle.std.proofs.lemmas.List.Elements.{All-get_or}
 use Rattle.std.proofs.lemmas.Option.{get_or_from_slice_get, slice_get-get_or, slice_get-map, slice_get_within}
-use Rattle.rd_clock.specs.Clock.{component}
 use Rattle.rd_ecl.specs.Kinds.{Kind, KindMethod, kind_of, kinds_of, method_of, methods_at, kind_slots_at}
 use Rattle.rd_ecl.specs.Specified.{SpecifiedKind, commutes, kind_at, no_kind, slots_at}
 use Rattle.rd_ecl.specs.declared.kinds.Method.{Method}
@@ -16,10 +15,8 @@ use Rattle.rd_event.specs.declared.events.Event.TheVariants.{Call}
 use Rattle.rd_order.specs.EventLists.{IsCallOf, WellFormed, calls, is_call_on}
 use Rattle.rd_order.specs.Order.{call_in}
 use Rattle.rd_order.proofs.EventListLemmas.{counted_once, formed_more}
-use Rattle.rd_store.specs.declared.Witness.{Witness}
 use Rattle.rd_ecl.proofs.CommuteLemmas.{symmetric}
 use Rattle.rd_detect.specs.Commuting.{Commute, calls_commute}
-use Rattle.rd_detect.specs.Detect.{IsAsked, IsOfKind, Meets}
 
 -- ---- the kind of a call
 
@@ -43,6 +40,11 @@ slots_in (Some method) = refl
 slots_kept : (methods : List Method) (number : ℕ) → kind_slots_at (map method_of methods) number ≡ slots_at methods number
 slots_kept methods number =
     ap (λ o. unwrap_or (option_map (λ (method : KindMethod). method.slots) o) 0) (slice_get-map method_of methods number) ∙ slots_in (slice_get methods number)
+
+-- a call is one of a method of this kind, with its slots
+pub record IsOfKind (kind : SpecifiedKind) (call : CallOf) : Type 0 where
+  pub method : call.method < length kind.methods
+  pub slots : length call.slots ≡ slots_at kind.methods call.method
 
 -- it is of a method of that kind, and has its slots
 pub of_kind : (kinds : List SpecifiedKind) (call : CallOf) → IsCallOf (kinds_of kinds) call → (call.kind < length kinds) × IsOfKind (kind_at kinds call.kind) call
@@ -76,38 +78,6 @@ one_kind roots es call other i formed at same = elim (cases_eq other.kind call.k
   where
     counted : other.object ≡ call.object → ((other.object == call.object) && (other.kind == other.kind)) ≡ true
     counted same = (Decides-and _ _ (Decides-eqb other.object call.object) (Decides-eqb other.kind other.kind)).1 (same, refl)
-
--- ---- their formula
-
-asked_formula : (kinds : List SpecifiedKind) (kind : SpecifiedKind) (call other : CallOf) → IsAsked kinds kind call other → other.object ≡ call.object
-    → calls_commute kinds other call ≡ commutes kind other.method other.slots call.method call.slots
-unfolding calls_commute
-asked_formula kinds kind call other asked same =
-    ap (λ k. commutes k other.method other.slots call.method call.slots) (ap (kind_at kinds) (asked.one_kind same) ∙ asked.asked)
-
--- an earlier call on the object that the clock doesn't cover meets the call exactly where their kind's formula fails
-pub meets_where : (kinds : List SpecifiedKind) (kind : SpecifiedKind) (call : CallOf) (clock : List ℕ) (seen : Witness) (covered holds : Bool)
-    → IsAsked kinds kind call seen.call → seen.call.object ≡ call.object → covered ≡ false → (IsTrue covered ↔ (seen.stamp.number ≤ component clock seen.call.thread))
-    → holds ≡ commutes kind seen.call.method seen.call.slots call.method call.slots
-    → (IsTrue (not holds) ↔ Meets (Commute kinds) call clock seen)
-meets_where kinds kind call clock seen covered holds asked same uncovered tells is = (
-  λ fails. record {
-    object = same;
-    uncovered = λ below. true≢false (sym (tells.1 below) ∙ uncovered);
-    apart = λ commute. true≢false (sym fails ∙ ap not (told ∙ commute));
-  },
-  λ meets. elim (cases_Bool holds) [
-    | inl true_is ↦ absurd (meets.apart (sym told ∙ true_is))
-    | inr false_is ↦ ap not false_is
-  ],
-)
-  where
-    told : holds ≡ calls_commute kinds seen.call call
-    told = is ∙ sym (asked_formula kinds kind call seen.call asked same)
-
--- what a test finds not to be so isn't so
-pub meets_not : {P : Type 0} (b : Bool) → (IsTrue b ↔ P) → b ≡ false → ¬ P
-meets_not b tells fails holds = true≢false (sym (tells.1 holds) ∙ fails)
 
 -- calls of one kind commute both ways
 pub commute_back : (kinds : List SpecifiedKind) (a b : CallOf) → a.kind ≡ b.kind → Commute kinds a b → Commute kinds b a

@@ -1,3 +1,11 @@
 pub mod AskLemmas
-pub mod DetectLemmas
+pub mod AskingLemmas
+pub mod CallLemmas
+pub mod CellLemmas
+pub mod DeadLemmas
+pub mod LookLemmas
 pub mod RaceLemmas
+pub mod SweepLemmas
+pub mod TouchLemmas
+pub mod TouchingLemmas
+pub mod WitnessLemmas

@@ -1,60 +1,70 @@
 //! The detector.
-ghost use Rattle.std.specs.Prelude.{◌≡◌, ℕ, ◌+◌, ◌<◌, ◌≤◌, ◌↔◌, List, [], ◌∷◌, ◌++◌, All, length, Some, IfOk, OnOk, OnErr, IsTrue, option_map, slice_get};
+ghost use Rattle.std.specs.Prelude.{◌≡◌, ℕ, ◌+◌, ◌*◌, ◌<◌, ◌≤◌, Bool, List, [], ◌∷◌, ◌++◌, All, Contains, flat_map, length, map, IfOk, OnOk, OnErr, IfNone, IfSome, MatchOption, false, option_map};
+ghost use Rattle.std.specs.List.{sum_by};
+ghost use Rattle.rd_classes.specs.Merged.{merged};
+ghost use Rattle.rd_detect.specs.Detect.{Answers, AreBelow, IsAnswer, IsLatestOf, IsNextCall, IsRaceOf, IsSweptWhere, IsTaken, IsUntaken, DetectorStandsFor, asked_points, asking_bound, conflicting_points, detection_bound, in_class, is_due, later_of, point_of, table_at, tables_of, touched_points};
+ghost use Rattle.rd_detect.specs.Seats.{AreSeats};
+ghost use Rattle.rd_ecl.specs.Kinds.{kinds_of};
+ghost use Rattle.rd_ecl.specs.Specified.{SpecifiedKind};
 ghost use Rattle.rd_event.specs.declared.events.Event.{Event as EventOf};
 ghost use Rattle.rd_event.specs.declared.events.Event.TheVariants as event;
+ghost use Rattle.rd_hb.specs.Tracker.{IsFloor};
+ghost use Rattle.rd_hb.specs.declared.tracker.Tracked.{Tracked as TrackedOf};
+ghost use Rattle.rd_order.specs.EventLists.{WellFormedWith};
+ghost use Rattle.rd_points.specs.Compiled.{compiled};
+ghost use Rattle.rd_points.specs.declared.points.Point.{Point as PointOf};
+ghost use Rattle.rd_store.specs.Stores.{cell_count};
 ghost use Rattle.rd_store.specs.declared.Witness.{Witness as WitnessOf};
-ghost use Rattle.rd_detect.specs.Commuting.{Commute};
-ghost use Rattle.rd_detect.specs.Detect.{Answers, AreAsked, IsAnswer, IsAsked, IsNewest, IsNextCall, IsRaceOf, Meets, DetectorStandsFor};
-ghost use Rattle.rd_ecl.specs.Specified.{SpecifiedKind, kind_at};
 
+#[cfg(test)]
+mod tests;
+
+use crate::touching::{Found, copies, look, touch};
 use rd_base::{NoMemory, Steps};
+use rd_classes::{law_of_merging, merge};
 use rd_clock::{Clock, Stamp};
 use rd_ecl::{KindSpec, Spec};
 use rd_event::Call;
 use rd_hb::Tracker;
-use rd_store::{Race, Witness};
+use rd_points::Table;
+use rd_store::{Race, Store, Witness};
 use std::alloc::Global;
 use std::marker::Model;
 use std::rc::Rc;
 use std::sync::ledger::Ledger;
 
-// Does a call with this clock race with an earlier one? The kind is that of the calls.
-fn meets<L: Ledger>(
-    seen: &Witness,
-    kind: &KindSpec,
-    call: &Call,
-    clock: &Clock,
-    steps: &mut Steps<L>,
-) -> bool
-    requires { (kinds : List SpecifiedKind) × IsAsked kinds kind.now call.now seen.now.call }
-    ensures answer { (kinds : List SpecifiedKind) → IsAsked kinds kind.now call.now seen.now.call →
-        (IsTrue result ↔ Meets (Commute kinds) call.now clock.now seen.now) }
-    ensures cost { steps.new ≤ steps.old + 1 }
+// The merged table of a kind.
+fn merged_table(alloc: Global, kind: &KindSpec) -> Result<Table, NoMemory>
+    ensures { IfOk result (λ table. table ≡ merged (compiled kind.now)) }
 {
-    if seen.call.object != call.object {
-        return false;
+    match merge(alloc, Table::compile(alloc, kind)?) {
+        Ok(table) => Ok(table),
+        Err((_, error)) => Err(error),
     }
-    if clock.covers(seen.call.thread, seen.stamp.number, steps) {
-        return false;
-    }
-    !kind.commute(
-        seen.call.method,
-        seen.call.slots.items(),
-        call.method,
-        call.slots.items(),
-    )
 }
 
-/// The kinds whose formulas are asked, and each earlier call, from the oldest to the newest. Contracts see it as the two lists.
+// Those of all kinds.
+fn tables(alloc: Global, kinds: &[KindSpec]) -> Result<Vec<Table>, NoMemory>
+    ensures { IfOk result (λ tables. tables.items ≡ tables_of kinds.now) }
+{
+    let mut tables = Vec::new(alloc);
+    for kind in kinds {
+        tables.push(merged_table(alloc, kind)?)?;
+    }
+    Ok(tables)
+}
+
+/// Finds the calls that race. It keeps the merged table of access points of each kind; a cell for each point and each thread that touched
+/// it, with the thread's last call there; and how many cells were left by the last sweep. Contracts see it as these three.
 #[derive(Debug, Drop)]
-pub struct Detector<'a> {
+pub struct Detector {
     alloc: Global,
-    kinds: &'a [KindSpec],
-    held: Vec<Rc<Witness>>,
+    tables: Vec<Table>,
+    store: Store,
+    kept: u128,
 }
 
-impl<'a> Model for Detector<'a> {
-    ghost use Rattle.std.specs.Prelude.{map};
+impl Model for Detector {
     ghost use Rattle.rd_detect.specs.Detect.{Detecting};
     ghost use Rattle.std.specs.Coded.{codes};
     ghost use Rattle.rd_ecl.specs.Codes.{coded_tree};
@@ -63,94 +73,200 @@ impl<'a> Model for Detector<'a> {
 
     ghost coded = { Prim.hlevel (codes, coded_tree) };
 
-    ghost view = { λ d.
-        record { kinds = d.kinds.now; calls = map (λ held. held.value) d.held.items } };
+    ghost view = { λ d. record { tables = d.tables.items; store = d.store; kept = d.kept } };
 }
 
-impl<'a> Detector<'a> {
-    /// A detector without a call, which asks the formulas of these kinds. It stands for the list of no events.
-    pub fn new(alloc: Global, spec: &'a Spec) -> Result<Detector<'a>, NoMemory>
+impl Detector {
+    /// A detector without a call, for traces with objects of the kinds of a specification. It stands for the list of no events.
+    pub fn new(alloc: Global, spec: &Spec) -> Result<Detector, NoMemory>
         ensures empty { IfOk result
-            (λ detector. detector ≡ record { kinds = spec.now; calls = [] }) }
-        ensures stands { IfOk result (λ detector. DetectorStandsFor detector.calls [] []) }
+            (λ detector. detector ≡ record { tables = tables_of spec.now; store = []; kept = 0 }) }
+        ensures stands { IfOk result (λ detector. (roots : ℕ → Bool) →
+            WellFormedWith (kinds_of spec.now) roots [] →
+            DetectorStandsFor spec.now detector roots [] []) }
     {
         Ok(Detector {
             alloc,
-            kinds: spec.kinds(),
-            held: Vec::new(alloc),
+            tables: tables(alloc, spec.kinds())?,
+            store: Store::new(alloc),
+            kept: 0,
         })
     }
 
-    // The earlier call at this place among them.
-    fn earlier(&self, place: usize) -> &Rc<Witness>
-        requires { place < length self.now.calls }
-        ensures { slice_get self.now.calls place ≡ Some result.now.value }
-    {
-        &self.held[place]
-    }
-
-    // The newest earlier call that races with this one, which has this clock. The kind is that of the call.
-    fn newest<L: Ledger>(
-        &self,
-        kind: &KindSpec,
+    // What is found for a call with this clock. The points that it touches are entered then.
+    fn look<L: Ledger>(
+        &mut self,
         call: &Call,
         clock: &Clock,
         steps: &mut Steps<L>,
-    ) -> Option<&Rc<Witness>>
-        requires { AreAsked self.now.kinds kind.now call.now self.now.calls }
-        ensures newest { IsNewest (Commute self.now.kinds) self.now.calls call.now clock.now
-            (option_map (λ held. held.now.value) result) }
-        ensures cost { steps.new ≤ steps.old + length self.now.calls }
+    ) -> Result<Found, NoMemory>
+        requires { call.now.kind < length self.old.tables }
+        ensures latest { IfOk result (λ found. IsLatestOf self.old.store
+            (flat_map (conflicting_points (table_at self.old.tables call.now.kind))
+            (touched_points self.old.tables call.now)) clock.now
+            (option_map (λ held. held.value) found.latest)) }
+        ensures seats { IfOk result (λ found. AreSeats self.new.store call.now.thread
+            (touched_points self.old.tables call.now) found.seats.items) }
+        ensures same { IsUntaken self.old self.new }
+        ensures cost { (threads : ℕ) → AreBelow threads self.old.store → steps.new ≤ steps.old
+            + sum_by (asking_bound (table_at self.old.tables call.now.kind) threads)
+            (touched_points self.old.tables call.now) }
     {
-        let mut left = self.held.len();
-        'calls: while left > 0 {
-            left -= 1;
-            let seen = self.earlier(left);
-            if meets(seen, kind, call, clock, steps) {
-                return Some(seen);
-            }
+        let table = &self.tables[call.kind as usize];
+        let found = look(self.alloc, &mut self.store, table, call, clock, steps)?;
+        Ok(found)
+    }
+
+    // The floor of the threads, where with so many cells more a sweep may be due.
+    fn floor(&self, more: usize, tracker: &Tracker) -> Result<Option<Clock>, NoMemory>
+        ensures { IfOk result (λ floor. MatchOption floor
+            ((count : ℕ) → count ≤ cell_count self.now.store + more
+            → is_due count self.now.kept ≡ false)
+            (IsFloor tracker.now.threads)) }
+    {
+        if !may_be_due(self.store.cells(), more as u64, self.kept) {
+            return Ok(None);
         }
-        None
+        Ok(Some(tracker.floor()?))
+    }
+
+    // Drops the cells that the floor covers, where a sweep is due. Then there is a floor.
+    fn sweep(&mut self, floor: Option<Clock>)
+        requires { IfNone floor (is_due (cell_count self.old.store) self.old.kept ≡ false) }
+        ensures tables { self.new.tables ≡ self.old.tables }
+        ensures swept { (threads : List TrackedOf) → IfSome floor (IsFloor threads)
+            → IsSweptWhere (is_due (cell_count self.old.store) self.old.kept) threads self.old.kept
+            self.old.store self.new.store self.new.kept }
+    {
+        let Some(floor) = floor else {
+            return;
+        };
+        if is_due(self.store.cells(), self.kept) {
+            self.store.sweep(&floor);
+            self.kept = self.store.cells();
+        }
+    }
+
+    // Keeps a call in the cells of the points that it touches, whose indices these are. Then a sweep comes where it is due.
+    fn keep<L: Ledger>(
+        &mut self,
+        seats: &[usize],
+        witness: &Rc<Witness>,
+        tracker: &Tracker,
+        steps: &mut Steps<L>,
+    ) -> Result<(), NoMemory>
+        requires { AreSeats self.old.store witness.now.value.call.thread
+            (touched_points self.old.tables witness.now.value.call) seats.now }
+        ensures taken { OnOk result (IsTaken tracker.now.threads self.old self.new
+            witness.now.value.call witness.now.value) }
+        ensures err { OnErr result (IsUntaken self.old self.new) }
+        ensures cost { (threads : ℕ) → witness.now.value.call.thread < threads
+            → AreBelow threads self.old.store
+            → steps.new ≤ steps.old + length seats.now * (threads + 1) }
+    {
+        let count = seats.len();
+        let held = copies(self.alloc, witness, count)?;
+        let floor = self.floor(count, tracker)?;
+        touch(&mut self.store, seats, witness.call.thread, held, steps);
+        self.sweep(floor);
+        Ok(())
     }
 
     /// Takes the call at the next place of a trace that is well-formed with the specification, on the line of that number, with the
-    /// stamp that the tracker gave for it. It answers the race with the latest earlier call that races with it: on the same object, tied
-    /// to it by no order, and not commuting. After want of memory all is as before.
+    /// stamp that the tracker gave for it; the tracker stands for the trace with the call. It answers the race with the latest earlier call
+    /// that races with it: on the same object, tied to it by no order, and not commuting. Then it keeps the call in the cells of the points
+    /// that it touches; and where there are at least 64 cells and twice as many as the last sweep left, it drops those that each thread
+    /// knows which wasn't joined. After want of memory all is as before, but for room.
+    // kept out of line, so that a walk over other lines doesn't pay for its locals
+    #[inline(never)]
+    pub fn take<L: Ledger>(
+        &mut self,
+        line: u64,
+        place: u32,
+        call: &Call,
+        stamp: Stamp,
+        tracker: &Tracker,
+        steps: &mut Steps<L>,
+    ) -> Result<Option<Race>, NoMemory>
+        requires next { (kinds : List SpecifiedKind) × (roots : ℕ → Bool) × (lines : List ℕ) × (es : List EventOf)
+            × IsNextCall kinds self.old tracker.now roots lines es place call.now stamp }
+
+        // the call is judged and kept
+        ensures answer { IfOk result (λ answer. (kinds : List SpecifiedKind) (roots : ℕ → Bool) (lines : List ℕ) (es : List EventOf)
+            → IsNextCall kinds self.old tracker.now roots lines es place call.now stamp
+            → IsAnswer kinds (lines ++ line ∷ []) (es ++ event.Call call.now ∷ []) place answer) }
+        ensures stands { OnOk result ((kinds : List SpecifiedKind) (roots : ℕ → Bool) (lines : List ℕ) (es : List EventOf)
+            → IsNextCall kinds self.old tracker.now roots lines es place call.now stamp
+            → DetectorStandsFor kinds self.new roots (lines ++ line ∷ []) (es ++ event.Call call.now ∷ [])) }
+
+        // what it leaves, and a bound of the steps
+        ensures taken { OnOk result (IsTaken tracker.now.threads self.old self.new call.now
+            (record { line = line; place = place; call = call.now; stamp = stamp })) }
+        ensures err { OnErr result (IsUntaken self.old self.new) }
+        ensures cost { steps.new ≤ steps.old + detection_bound self.old.tables (length tracker.now.threads) call.now }
+    {
+        law_of_merging();
+        let Found { latest, seats } = self.look(call, &stamp.clock, steps)?;
+        let witness = witness(self.alloc, line, place, call, stamp)?;
+        let answer = answer(&witness, latest)?;
+        self.keep(seats.as_slice(), &witness, tracker, steps)?;
+        Ok(answer)
+    }
+
+    /// Takes a call as `take` does, where the stamp is only lent, and so copied.
     pub fn call<L: Ledger>(
         &mut self,
         line: u64,
         place: u32,
         call: &Call,
         stamp: &Stamp,
-        _tracker: &Tracker,
+        tracker: &Tracker,
         steps: &mut Steps<L>,
     ) -> Result<Option<Race>, NoMemory>
-        requires next { (lines : List ℕ) × (es : List EventOf)
-            × IsNextCall self.old.kinds self.old.calls lines es place call.now stamp.now }
+        requires next { (kinds : List SpecifiedKind) × (roots : ℕ → Bool) × (lines : List ℕ) × (es : List EventOf)
+            × IsNextCall kinds self.old tracker.now roots lines es place call.now stamp.now }
 
         // the call is judged and kept
-        ensures answer { IfOk result (λ answer. (lines : List ℕ) (es : List EventOf)
-            → IsNextCall self.old.kinds self.old.calls lines es place call.now stamp.now
-            → IsAnswer self.old.kinds (lines ++ line ∷ [])
-            (es ++ event.Call call.now ∷ []) place answer) }
-        ensures stands { OnOk result
-            ((lines : List ℕ) (es : List EventOf) →
-            IsNextCall self.old.kinds self.old.calls lines es place call.now stamp.now
-            → DetectorStandsFor self.new.calls (lines ++ line ∷ []) (es ++ event.Call call.now ∷ [])) }
+        ensures answer { IfOk result (λ answer. (kinds : List SpecifiedKind) (roots : ℕ → Bool) (lines : List ℕ) (es : List EventOf)
+            → IsNextCall kinds self.old tracker.now roots lines es place call.now stamp.now
+            → IsAnswer kinds (lines ++ line ∷ []) (es ++ event.Call call.now ∷ []) place answer) }
+        ensures stands { OnOk result ((kinds : List SpecifiedKind) (roots : ℕ → Bool) (lines : List ℕ) (es : List EventOf)
+            → IsNextCall kinds self.old tracker.now roots lines es place call.now stamp.now
+            → DetectorStandsFor kinds self.new roots (lines ++ line ∷ []) (es ++ event.Call call.now ∷ [])) }
 
-        // what stays, how many calls there are, and a bound of the steps
-        ensures kinds { self.new.kinds ≡ self.old.kinds }
-        ensures count { OnOk result (length self.new.calls ≡ length self.old.calls + 1) }
-        ensures err { OnErr result (self.new ≡ self.old) }
-        ensures cost { steps.new ≤ steps.old + length self.old.calls }
+        // what it leaves, and a bound of the steps
+        ensures taken { OnOk result (IsTaken tracker.now.threads self.old self.new call.now
+            (record { line = line; place = place; call = call.now; stamp = stamp.now })) }
+        ensures err { OnErr result (IsUntaken self.old self.new) }
+        ensures cost { steps.new ≤ steps.old + detection_bound self.old.tables (length tracker.now.threads) call.now }
     {
-        let witness = witness(self.alloc, line, place, call, stamp)?;
-        self.held.reserve(1)?;
-        let kind = &self.kinds[call.kind as usize];
-        let answer = answer(&witness, self.newest(kind, call, &stamp.clock, steps))?;
-        self.held.push_reserved(witness);
+        let stamp = copied(self.alloc, stamp)?;
+        let answer = self.take(line, place, call, stamp, tracker, steps)?;
         Ok(answer)
     }
+
+    /// How many cells there are: one for each point and each thread that touched it, but for those that were swept. It takes no memory.
+    pub fn cells(&self) -> u128
+        ensures { result ≡ cell_count self.now.store }
+    {
+        self.store.cells()
+    }
+}
+
+// Is a sweep due?
+fn is_due(cells: u128, kept: u128) -> bool
+    ensures { result ≡ is_due cells kept }
+{
+    64 <= cells && kept <= cells / 2
+}
+
+// May one be due with so many cells more?
+fn may_be_due(cells: u128, more: u64, kept: u128) -> bool
+    ensures { result ≡ false
+        → (count : ℕ) → count ≤ cells + more → is_due count kept ≡ false }
+{
+    let more = u128::from(more);
+    64 <= cells.saturating_add(more) && kept <= cells / 2 + more
 }
 
 // An equal stamp.
@@ -170,13 +286,12 @@ fn witness(
     line: u64,
     place: u32,
     call: &Call,
-    stamp: &Stamp,
+    stamp: Stamp,
 ) -> Result<Rc<Witness>, NoMemory>
     ensures { IfOk result
-        (λ held. held.value ≡ record { line = line; place = place; call = call.now; stamp = stamp.now }) }
+        (λ held. held.value ≡ record { line = line; place = place; call = call.now; stamp = stamp }) }
 {
     let call = call.copy(alloc)?;
-    let stamp = copied(alloc, stamp)?;
     let seen = Witness {
         line,
         place,
@@ -187,13 +302,13 @@ fn witness(
 }
 
 // The race of two calls of one kind.
-fn race_of(later: &Rc<Witness>, earlier: &Rc<Witness>) -> Result<Race, NoMemory>
-    ensures { IfOk result (λ race. IsRaceOf later.now.value earlier.now.value race) }
+fn race_of(later: &Rc<Witness>, earlier: Rc<Witness>) -> Result<Race, NoMemory>
+    ensures { IfOk result (λ race. IsRaceOf later.now.value earlier.value race) }
 {
     let (one, other) = (later.call.method, earlier.call.method);
     Ok(Race {
         later: later.clone()?,
-        earlier: earlier.clone()?,
+        earlier,
         kind: later.call.kind,
         first: one.min(other),
         second: one.max(other),
@@ -201,9 +316,8 @@ fn race_of(later: &Rc<Witness>, earlier: &Rc<Witness>) -> Result<Race, NoMemory>
 }
 
 // The race of a call with the newest earlier one that races with it, where there is one.
-fn answer(later: &Rc<Witness>, earlier: Option<&Rc<Witness>>) -> Result<Option<Race>, NoMemory>
-    ensures { IfOk result
-        (Answers later.now.value (option_map (λ held. held.now.value) earlier.entry)) }
+fn answer(later: &Rc<Witness>, earlier: Option<Rc<Witness>>) -> Result<Option<Race>, NoMemory>
+    ensures { IfOk result (Answers later.now.value (option_map (λ held. held.value) earlier)) }
 {
     match earlier {
         None => Ok(None),

@@ -1,9 +1,10 @@
 //! The laws of races: what their definitions say, proved for every list of events.
 ghost use Rattle.std.specs.Prelude.{◌≡◌, ◌≢◌, ◌↔◌, Bool, ℕ, ◌<◌, List, [], ◌∷◌, ◌++◌, length, MatchOption, IsTrue};
-ghost use Rattle.rd_detect.specs.Detect.{DetectorStandsFor};
+ghost use Rattle.rd_detect.specs.Detect.{Detecting, DetectorStandsFor};
+ghost use Rattle.rd_ecl.specs.Kinds.{kinds_of};
+ghost use Rattle.rd_order.specs.EventLists.{WellFormedWith};
 ghost use Rattle.rd_detect.specs.Commuting.{Commute};
 ghost use Rattle.rd_ecl.specs.Specified.{SpecifiedKind};
-ghost use Rattle.rd_store.specs.declared.Witness.{Witness};
 ghost use Rattle.rd_detect.specs.RaceTests.{Passing, is_racing, latest_of};
 ghost use Rattle.rd_detect.specs.Races.{Racing, Reported, IsLatest};
 ghost use Rattle.rd_event.specs.declared.events.Call.{Call as CallOf};
@@ -31,9 +32,17 @@ pub fn law_of_commuting()
         Commute kinds b a }
 {}
 
-/// An event that is no call leaves what a detector stands for: it stands for the list with that event too.
+/// What a detector stands for: an event that is no call leaves it, and it stands for the list with that event too; before the first event the roots may be
+/// others.
 pub fn law_of_detectors()
-    ensures { (held : List Witness) (lines : List ℕ) (es : List EventOf) (line : ℕ) (e : EventOf) →
+    ensures events { (kinds : List SpecifiedKind) (detecting : Detecting) (roots : ℕ → Bool)
+        (lines : List ℕ) (es : List EventOf) (line : ℕ) (e : EventOf) →
         ((call : CallOf) → e ≢ event.Call call) →
-        DetectorStandsFor held lines es → DetectorStandsFor held (lines ++ line ∷ []) (es ++ e ∷ []) }
+        WellFormedWith (kinds_of kinds) roots (es ++ e ∷ []) →
+        DetectorStandsFor kinds detecting roots lines es →
+        DetectorStandsFor kinds detecting roots (lines ++ line ∷ []) (es ++ e ∷ []) }
+    ensures roots { (kinds : List SpecifiedKind) (detecting : Detecting) (roots others : ℕ → Bool) →
+        WellFormedWith (kinds_of kinds) others [] →
+        DetectorStandsFor kinds detecting roots [] [] →
+        DetectorStandsFor kinds detecting others [] [] }
 {}

@@ -14,7 +14,7 @@ use Rattle.rd_walk.specs.declared.walk.WalkEnd.TheVariants.{End}
 -- what was taken of a trace, where it was opened, and else nothing, and the steps that were counted
 abbrev pub TakesReplayed : List ℕ → Limits → Bool → Source → Source → List ℕ → ℕ → ℕ → Type 0
 TakesReplayed trace limits rose old new part before after =
-    (new.opens ≡ old.opens + 1 → TakesTrace (replay_texts built_in_kinds).lines built_in_kinds trace limits rose old new part before after)
+    (new.opens ≡ old.opens + 1 → TakesTrace (replay_texts built_in_kinds) built_in_kinds trace limits rose old new part before after)
     × (new.opens ≡ old.opens → IsUntaken old new × (after ≡ before))
 
 -- nothing is left out

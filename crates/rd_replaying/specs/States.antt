@@ -47,9 +47,9 @@ replay_outcome kinds walked =
     let ending = ending_of_report (replay_of kinds entries) (ending_of walked) in
     record { text = replayed_text (thread_names entries) (states_text kinds entries) ending; status = check_status 0 ending }
 
--- nothing is written for the lines
+-- nothing is written for the lines, and no step is counted
 abbrev pub replay_texts : List Kind → ReportTexts
-replay_texts kinds = record { lines = λ entries. []; outcome = replay_outcome kinds }
+replay_texts kinds = record { lines = λ entries. []; outcome = replay_outcome kinds; bound = λ before item. 0 }
 
 -- those of a trace that is replayed
 abbrev pub built_in_kinds : List Kind

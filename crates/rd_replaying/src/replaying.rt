@@ -47,6 +47,8 @@ impl<A: Analysis> Analysis for Replaying<A> {
 
     ghost text = { λ kinds start. A.text kinds start.inner };
 
+    ghost bound = { λ kinds start. A.bound kinds start.inner };
+
     ghost starts = { λ kinds start begins. (A.starts kinds start.inner begins.0, begins.1) };
 
     ghost silent = { λ kinds start. A.silent kinds start.inner };

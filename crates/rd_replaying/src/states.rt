@@ -232,6 +232,8 @@ impl Analysis for ReplayAlone {
 
     ghost text = { λ _ _ _. [] };
 
+    ghost bound = { λ _ _ _ _. 0 };
+
     ghost starts = { λ _ _ _. tt };
 
     ghost silent = { λ _ _. refl };

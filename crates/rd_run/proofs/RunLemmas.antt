@@ -9,7 +9,7 @@ use Rattle.rd_walk.proofs.OutputLemmas.{has_outcome}
 use Rattle.rd_walk.specs.Output.{IsOutput}
 use Rattle.either.specs.Either.{either}
 use Rattle.either.specs.declared.Either.{Either}
-use Rattle.rd_check.specs.Checked.{check_outcome, race_texts}
+use Rattle.rd_check.specs.Checked.{check_bound, check_outcome, race_texts}
 use Rattle.rd_check.specs.declared.checking.Check.{Check}
 use Rattle.rd_ecl.specs.Kinds.{Kind}
 use Rattle.rd_replaying.specs.States.{replay_outcome}
@@ -48,6 +48,7 @@ abbrev pub part_texts : List Kind → Either Check ReplayAlone → ReportTexts
 part_texts kinds part = record {
   lines = λ entries. either (λ check. race_texts check.spec.now entries) (λ alone. []) part;
   outcome = λ walked. either (λ check. check_outcome check.spec.now walked) (λ alone. replay_outcome kinds walked) part;
+  bound = λ before item. either (λ check. check_bound check.spec.now before item) (λ alone. 0) part;
 }
 
 -- each number below the count of the built-in kinds is that of one

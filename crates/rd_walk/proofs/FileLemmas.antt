@@ -1,4 +1,5 @@
 -- What inputs leave that are opened and read, and what is walked over.
+use Rattle.rd_event.specs.declared.items.Line.{Line}
 use Rattle.rd_io.specs.Inputs.{Source, Takes, IsOpened, IsNotOpened, next_count, file_of}
 use Rattle.rd_walk.proofs.WalkLemmas.{bound_front, ending_after, entries_after}
 use Rattle.rd_walk.specs.Traces.{OpensOnly}
@@ -16,8 +17,9 @@ pub ending_at : (entries : List Entry) (ending : WalkEnd) → ending_of (after e
 unfolding ending_of
 ending_at entries ending = ending_after entries (ends ending)
 
-pub bound_at : (entries : List Entry) (walked : Walked) → step_bound entries ≤ step_bound (entries_of (after entries walked))
-bound_at entries walked = subst (λ es. step_bound entries ≤ step_bound es) (sym (entries_after entries walked)) (bound_front [] entries (entries_of walked))
+pub bound_at : (bound : List Line → Line → ℕ) (entries : List Entry) (walked : Walked) → step_bound bound entries ≤ step_bound bound (entries_of (after entries walked))
+bound_at bound entries walked =
+    subst (λ es. step_bound bound entries ≤ step_bound bound es) (sym (entries_after entries walked)) (bound_front bound [] entries (entries_of walked))
 
 pub count_at : (entries : List Entry) (walked : Walked) → length entries ≤ length (entries_of (after entries walked))
 count_at entries walked = omega (arith, ap length (entries_after entries walked), length-append entries (entries_of walked))

@@ -13,7 +13,7 @@ use Rattle.rd_walk.specs.declared.walk.WalkEnd.{WalkEnd}
 use Rattle.rd_walk.specs.declared.walk.WalkEnd.TheVariants.{End, Refused, Fault}
 use Rattle.rd_wf.specs.Events.{AreAccepted}
 use Rattle.rd_walk.specs.Traces.{HasReported, IsReadWhole, IsTraceOutcome, ReportTexts, ReportsTrace, walk_of, walk_on}
-use Rattle.rd_walk.specs.Output.{IsFront, IsOutput, IsWell, Outcome, fault_outcome, report_status}
+use Rattle.rd_walk.specs.Output.{IsFront, IsOutput, IsWell, fault_outcome, report_status}
 use Rattle.rd_walk.specs.declared.analysis.Halt.{Halt}
 use Rattle.rd_walk.specs.declared.status.TraceStatus.{TraceStatus}
 use Rattle.std.specs.Result.{IsErr, IsErrAnd}
@@ -64,7 +64,7 @@ module _ (texts : ReportTexts) (kinds : List Kind) (name : List ℕ) (limits : L
       (well : (walked : Walked) → IsWell (texts.outcome walked).status → ending_of walked ≡ End)
       (usable : AreUsable limits) (range : limits.threads < 2 ^ 32) (before now : ℕ) (old mid new : Source) (entries : List Entry) (taken part : List ℕ)
       (status : Status) (from to : ℕ) (few : before < 2 ^ 63) (few_opens : old.opens ≤ 2 ^ 63) (opened : IsOpened old mid name) (takes : Takes mid new taken)
-      (cost : to ≤ from + step_bound entries) (read : IsTakenOfTrace limits taken (length entries)) (begun : IsBegun texts.lines part entries) where
+      (cost : to ≤ from + step_bound texts.bound entries) (read : IsTakenOfTrace limits taken (length entries)) (begun : IsBegun texts.lines part entries) where
     module _ (walked : Walked) (rose : Bool) (is_rose : ltb before now ≡ rose) where
       -- the walk of the whole file, or of what was taken of it
       reports_over : (walk_is : walk_of kinds name limits rose old new ≡ after entries walked)

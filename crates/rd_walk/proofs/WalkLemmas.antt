@@ -8,7 +8,7 @@ use Rattle.rd_event.specs.Reading.{item_of}
 use Rattle.rd_event.specs.declared.items.Line.{Line}
 use Rattle.rd_ecl.specs.Kinds.{Kind}
 use Rattle.rd_wf.specs.MayFollow.{first_broken}
-use Rattle.rd_walk.specs.Walk.{Entry, Walked, accepted_or, after, bound_from, trace_end_of, ending_of, ends, entries_of, goes, goes_or_ends, items, judgement_of, judgement_of_item, line_bound, walk}
+use Rattle.rd_walk.specs.Walk.{Entry, Walked, accepted_or, after, bound_from, trace_end_of, ending_of, ends, entries_of, goes, goes_or_ends, items, judgement_of, judgement_of_item, walk}
 use Rattle.rd_wf.specs.declared.causes.WfCause.{WfCause}
 use Rattle.rd_wf.specs.declared.causes.TraceCause.{TraceCause}
 use Rattle.rd_wf.specs.declared.causes.TraceCause.TheVariants.{Wf}
@@ -60,20 +60,21 @@ unfolding after ending_of
 ending_after [] walked = refl
 ending_after (e ∷ es) walked = ending_after es walked
 
-pub bound_more : (before : List Line) (entries : List Entry) (entry : Entry)
-    → bound_from before (entries ++ entry ∷ []) ≡ bound_from before entries + line_bound (before ++ items entries) entry.item
+pub bound_more : (bound : List Line → Line → ℕ) (before : List Line) (entries : List Entry) (entry : Entry)
+    → bound_from bound before (entries ++ entry ∷ []) ≡ bound_from bound before entries + bound (before ++ items entries) entry.item
 unfolding bound_from
-bound_more before [] entry =
+bound_more bound before [] entry =
     let e : before ++ [] ≡ before = append-nil before in
     rw e (omega arith)
-bound_more before (x ∷ xs) entry =
-    let step = bound_more (before ++ x.item ∷ []) xs entry in
+bound_more bound before (x ∷ xs) entry =
+    let step = bound_more bound (before ++ x.item ∷ []) xs entry in
     let same : before ++ x.item ∷ [] ++ items xs ≡ before ++ x.item ∷ items xs = append_assoc before (x.item ∷ []) (items xs) in
     let there = rw same at step in
     omega arith
 
 -- the bound rises with further entries
-pub bound_front : (before : List Line) (entries more : List Entry) → bound_from before entries ≤ bound_from before (entries ++ more)
+pub bound_front : (bound : List Line → Line → ℕ) (before : List Line) (entries more : List Entry)
+    → bound_from bound before entries ≤ bound_from bound before (entries ++ more)
 unfolding bound_from
-bound_front before [] more = omega arith
-bound_front before (x ∷ xs) more = let step = bound_front (before ++ x.item ∷ []) xs more in omega arith
+bound_front bound before [] more = omega arith
+bound_front bound before (x ∷ xs) more = let step = bound_front bound (before ++ x.item ∷ []) xs more in omega arith

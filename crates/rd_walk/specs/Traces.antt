@@ -2,6 +2,7 @@
 use Rattle.rd_walk.specs.Output.{halted_with, HasOutcome, IsWell, Outcome, IsOutput, fault_outcome}
 use Rattle.rd_base.specs.declared.limits.Limits.{Limits}
 use Rattle.rd_ecl.specs.Kinds.{Kind}
+use Rattle.rd_event.specs.declared.items.Line.{Line}
 use Rattle.rd_io.specs.Inputs.{Rose, Source, file_of}
 use Rattle.rd_io.specs.Lines.Stop.{end, fault}
 use Rattle.rd_io.specs.Lines.{Stop}
@@ -13,12 +14,14 @@ use Rattle.rd_walk.specs.declared.walk.WalkEnd.TheVariants.{End, Fault}
 use Rattle.rd_walk.specs.declared.walk.WalkEnd.{WalkEnd}
 use Rattle.std.specs.Prelude.{◌≡◌, ◌≢◌, ◌⊎◌, ℕ, List, ◌++◌, Option, Some, None, option_map, if◌then◌else◌, ◌+◌, ◌<◌, ◌≤◌, Bool, true, [], ◌∷◌, length, count_by, is_none}
 
--- what a report writes
+-- what a report writes, and the bound on its steps
 pub record ReportTexts : Type 0 where
   -- for accepted lines
   pub lines : List Entry → List ℕ
   -- in all, and its status
   pub outcome : Walked → Outcome
+  -- the bound on the steps of a line behind others
+  pub bound : List Line → Line → ℕ
 
 -- What a report has done when it ends, which writes these texts: all was written, or it was cut short behind
 -- the lines or in their text. These bytes were taken of the input and `held` is left of it, and the count of the inputs' faults rose where a
@@ -69,13 +72,13 @@ IsUntaken old new = (new.taken ≡ old.taken) × (new.held ≡ old.held)
 -- What was taken of a trace that was opened, and the steps that were counted, where `part` was written: what was taken and what is left are
 -- the file's bytes; the accepted lines that were begun are the first of the file; no more was taken than may be by how many they are; and the
 -- steps are those of these lines.
-pub record TakesTrace (lines : List Entry → List ℕ) (kinds : List Kind) (trace : List ℕ) (limits : Limits) (rose : Bool) (old new : Source) (part : List ℕ) (before after : ℕ) : Type 0 where
+pub record TakesTrace (texts : ReportTexts) (kinds : List Kind) (trace : List ℕ) (limits : Limits) (rose : Bool) (old new : Source) (part : List ℕ) (before after : ℕ) : Type 0 where
   pub whole : file_of old.files trace ≡ Some (new.taken ++ new.held)
   pub begun : List Entry
   pub first : (rest : List Entry) × (entries_of (walk_of kinds trace limits rose old new) ≡ begun ++ rest)
-  pub is_begun : IsBegun lines part begun
+  pub is_begun : IsBegun texts.lines part begun
   pub read : IsTakenOfTrace limits new.taken (length begun)
-  pub cost : after ≤ before + step_bound begun
+  pub cost : after ≤ before + step_bound texts.bound begun
 
 -- all of a trace was taken, and in the walk over it no line is refused
 pub record IsReadWhole (kinds : List Kind) (trace : List ℕ) (limits : Limits) (old new : Source) : Type 0 where
@@ -93,6 +96,6 @@ pub record IsWholeOutput (outcome : Outcome) (part : List ℕ) (status : Status)
 pub record ReportsTrace (texts : ReportTexts) (kinds : List Kind) (trace : List ℕ) (limits : Limits) (rose : Bool) (old new : Source) (part : List ℕ) (status : Status) (before after : ℕ) : Type 0 where
   pub output : HasOutcome (IsTraceOutcome texts.outcome kinds trace limits rose old new) status part
   pub opened : OpensOnly (trace ∷ []) old new
-  pub taken : new.opens ≡ old.opens + 1 → TakesTrace texts.lines kinds trace limits rose old new part before after
+  pub taken : new.opens ≡ old.opens + 1 → TakesTrace texts kinds trace limits rose old new part before after
   pub unopened : new.opens ≡ old.opens → IsUntaken old new × (after ≡ before)
   pub read : IsWell status → IsReadWhole kinds trace limits old new

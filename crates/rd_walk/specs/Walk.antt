@@ -9,7 +9,7 @@ use Rattle.std.specs.List.{before_first}
 use Rattle.rd_event.specs.Reading.{is_call_keyword, is_space, item_of}
 use Rattle.rd_event.specs.declared.items.Line.{Line}
 use Rattle.rd_ecl.specs.Kinds.{Kind}
-use Rattle.rd_wf.specs.MayFollow.{call_count, first_broken, is_call, headers, is_event, threads_of}
+use Rattle.rd_wf.specs.MayFollow.{first_broken, is_call, headers, is_event, threads_of}
 use Rattle.rd_wf.specs.declared.causes.WfCause.{WfCause}
 use Rattle.rd_wf.specs.declared.causes.WfCause.TheVariants.{HeaderFirst}
 use Rattle.rd_wf.specs.declared.causes.TraceCause.{TraceCause}
@@ -83,17 +83,18 @@ unfoldable pub after : List Entry → Walked → Walked
 after [] walked = walked
 after (entry ∷ entries) walked = goes entry (after entries walked)
 
--- The bound on the steps of an accepted line behind others: for a call two for each thread that is known once it is done,
--- and one for each call before it; for another event four for each such thread; and none for what is no event
-abbrev pub line_bound : List Line → Line → ℕ
-line_bound before item =
-    if is_call item then 2 * length (threads_of (before ++ item ∷ [])) + call_count before
+-- The bound on the steps on clocks for an accepted line behind others, where they are kept: for a call two for each thread that is known once
+-- it is done, for another event four for each such thread, and none for what is no event
+abbrev pub tracking_bound : List Line → Line → ℕ
+tracking_bound before item =
+    if is_call item then 2 * length (threads_of (before ++ item ∷ []))
     else if is_event item then 4 * length (threads_of (before ++ item ∷ [])) else 0
 
-unfoldable pub bound_from : List Line → List Entry → ℕ
-bound_from before [] = 0
-bound_from before (entry ∷ entries) = line_bound before entry.item + bound_from (before ++ entry.item ∷ []) entries
+-- the bound on the steps of lines behind others, by that of one line behind those before it
+unfoldable pub bound_from : (List Line → Line → ℕ) → List Line → List Entry → ℕ
+bound_from bound before [] = 0
+bound_from bound before (entry ∷ entries) = bound before entry.item + bound_from bound (before ++ entry.item ∷ []) entries
 
 -- the bound on the steps of all accepted lines
-abbrev pub step_bound : List Entry → ℕ
-step_bound entries = bound_from [] entries
+abbrev pub step_bound : (List Line → Line → ℕ) → List Entry → ℕ
+step_bound bound entries = bound_from bound [] entries

@@ -24,6 +24,10 @@ impl<L: Analysis, R: Analysis> Analysis for Either<L, R> {
         (λ left. L.text kinds left entries)
         (λ right. R.text kinds right entries) start };
 
+    ghost bound = { λ kinds start before item. either
+        (λ left. L.bound kinds left before item)
+        (λ right. R.bound kinds right before item) start };
+
     ghost starts = { λ kinds start. leads_none
         (λ left. L.leads kinds left [])
         (λ right. R.leads kinds right []) (L.starts kinds) (R.starts kinds) start };

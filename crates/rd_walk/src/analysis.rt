@@ -1,7 +1,8 @@
 //! What a command does with each accepted line of a trace.
 ghost use Rattle.std.specs.Prelude.{◌≡◌, ◌+◌, ◌≤◌, ℕ, List, [], ◌∷◌, ◌++◌, OnOk, OnErr};
+ghost use Rattle.rd_event.specs.declared.items.Line.{Line as Item};
 ghost use Rattle.rd_walk.specs.Analysis.{IsNextEntry, TellsFault, WritesBetween, WritesFront};
-ghost use Rattle.rd_walk.specs.Walk.{Entry, items, line_bound};
+ghost use Rattle.rd_walk.specs.Walk.{Entry, items};
 ghost use Rattle.rd_ecl.specs.Kinds.{Kind};
 
 use rd_base::{NoMemory, Steps};
@@ -40,6 +41,9 @@ pub trait Analysis {
 
     /// What is written for these accepted lines, from the first on.
     ghost text: { List Kind → Self → List Entry → List ℕ };
+
+    /// How many steps it may take for a line behind other accepted ones, from the first on.
+    ghost bound: { List Kind → Self → List Item → Item → ℕ };
 
     /// Takes the next accepted line. After an `Err` the analysis is used no more.
     fn accept<S: Sink, L: Ledger>(
@@ -81,7 +85,7 @@ pub trait Analysis {
         ensures cost { (kinds : List Kind) (start : Self) (before : List Entry) →
             leads kinds start before self.old →
             IsNextEntry kinds roster.now before line.now accepted.now →
-            steps.new ≤ steps.old + line_bound (items before) line.now }
+            steps.new ≤ steps.old + bound kinds start (items before) line.now }
         ensures fault { TellsFault (S.faults out.old) (S.faults out.new) (S.at_fault out.new)
             (S.written out.new) result };
 

@@ -82,13 +82,14 @@ fn report_opened<A: Report, I: Inputs, S: Sink, L: Ledger>(
     // the report, and each fault is told as one
     ensures reported { (entries : List Entry) × (taken : List ℕ) × (part : List ℕ)
         × Appends (S.written out.old) (S.written out.new) part
-        × (steps.new ≤ steps.old + step_bound entries)
+        × (steps.new ≤ steps.old + step_bound (A.bound (kinds_in walker.old.roster) walker.old.analysis) entries)
         × IsTakenOfTrace walker.old.limits taken (length entries)
         × IsBegun (A.text (kinds_in walker.old.roster) walker.old.analysis) part entries
         × Goes (I.told inputs.old) (I.told inputs.new) (λ old new. Takes old new taken
         × HasReported (record {
           lines = A.text (kinds_in walker.old.roster) walker.old.analysis;
           outcome = A.outcome (kinds_in walker.old.roster) walker.old.analysis;
+          bound = A.bound (kinds_in walker.old.roster) walker.old.analysis;
         }) (kinds_in walker.old.roster) walker.old.limits taken new.held entries part (report_status result)
         (I.faults inputs.old) (I.faults inputs.new)) }
     ensures faults { TellsFaults TraceStatus.InputFault (I.faults inputs.old) (I.faults inputs.new)
@@ -120,6 +121,7 @@ pub fn report_trace<A: Report, I: Inputs, S: Sink, L: Ledger>(
         × ReportsTrace (record {
           lines = A.text (kinds_in walker.old.roster) walker.old.analysis;
           outcome = A.outcome (kinds_in walker.old.roster) walker.old.analysis;
+          bound = A.bound (kinds_in walker.old.roster) walker.old.analysis;
         }) (kinds_in walker.old.roster) trace.now walker.old.limits
         (nat_lt (I.faults inputs.old)
         (I.faults inputs.new)) old new part (report_status result) steps.old steps.new }

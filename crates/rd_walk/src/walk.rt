@@ -11,7 +11,7 @@ ghost use Rattle.rd_walk.specs.Analysis.{TellsFault, WritesBetween, WritesFront}
 ghost use Rattle.rd_walk.specs.Output.{IsFront};
 ghost use Rattle.rd_walk.specs.Progress.{IsBegun, IsTakenOfTrace, WalksOn, WalksTo, ending_for};
 ghost use Rattle.rd_wf.specs.MayFollow.{MayFollow};
-ghost use Rattle.rd_walk.specs.Walk.{Entry, IsCallLine, trace_end_of, items, judgement_of, line_bound, step_bound};
+ghost use Rattle.rd_walk.specs.Walk.{Entry, IsCallLine, trace_end_of, items, judgement_of, step_bound};
 ghost use Rattle.rd_ecl.specs.Kinds.{Kind};
 ghost use Rattle.rd_wf.specs.Roster.{RosterStandsFor, kinds_in};
 
@@ -113,7 +113,7 @@ fn take_line<A: Analysis, S: Sink, L: Ledger>(
         × WritesBetween (S.written out.old) (S.written out.new)
         (A.text kinds start before)
         (A.text kinds start (before ++ record { number = number; item = item } ∷ []))
-        × (steps.new ≤ steps.old + line_bound (items before) item)) }
+        × (steps.new ≤ steps.old + A.bound kinds start (items before) item)) }
 
     // or refused, and all else is as before
     ensures cause { IfOk result (λ taken. taken ≡ Taken.Refused → IsSome walker.new.refused) }
@@ -143,7 +143,7 @@ fn take_line<A: Analysis, S: Sink, L: Ledger>(
         × WritesFront (S.written out.old) (S.written out.new)
         (A.text kinds start before)
         (A.text kinds start (before ++ record { number = number; item = item } ∷ []))
-        × (steps.new ≤ steps.old + line_bound (items before) item))) }
+        × (steps.new ≤ steps.old + A.bound kinds start (items before) item))) }
     ensures fault { TellsFault (S.faults out.old) (S.faults out.new) (S.at_fault out.new)
         (S.written out.new) result }
 {
@@ -197,7 +197,7 @@ pub fn walk_lines<A: Analysis, I: Inputs, S: Sink, L: Ledger>(
         × RosterStandsFor (kinds_in walker.old.roster) walker.new.roster (items entries)
         × Appends (S.written out.old) (S.written out.new)
         (A.text (kinds_in walker.old.roster) walker.old.analysis entries)
-        × (steps.new ≤ steps.old + step_bound entries)
+        × (steps.new ≤ steps.old + step_bound (A.bound (kinds_in walker.old.roster) walker.old.analysis) entries)
         × IsTakenOfTrace walker.old.limits taken (length entries)
         × Goes (I.told inputs.old) (I.told inputs.new)
         (λ old new. Takes old new taken
@@ -208,7 +208,7 @@ pub fn walk_lines<A: Analysis, I: Inputs, S: Sink, L: Ledger>(
         × Appends (S.written out.old) (S.written out.new) part
         × IsFront part (A.text (kinds_in walker.old.roster) walker.old.analysis entries)
         × IsBegun (A.text (kinds_in walker.old.roster) walker.old.analysis) part entries
-        × (steps.new ≤ steps.old + step_bound entries)
+        × (steps.new ≤ steps.old + step_bound (A.bound (kinds_in walker.old.roster) walker.old.analysis) entries)
         × IsTakenOfTrace walker.old.limits taken (length entries)
         × WalksOn (kinds_in walker.old.roster) walker.old.limits taken entries
         × Goes (I.told inputs.old) (I.told inputs.new) (λ old new. Takes old new taken)) }

@@ -2,9 +2,8 @@
 use Rattle.std.specs.Prelude.{◌≡◌, List, [], length}
 use Rattle.std.proofs.Common.{refl, sym, ap, subst, arith, true≢false}
 use Rattle.std.proofs.lemmas.Option.{none-some}
-use Rattle.rd_order.specs.EventLists.{forks, joins}
+use Rattle.rd_order.specs.EventLists.{WellFormedWith, forks, joins}
 use Rattle.rd_hb.specs.Tracker.{TrackerStandsFor, Tracking}
-use Rattle.rd_detect.specs.Detect.{DetectorStandsFor}
 use Rattle.rd_wf.specs.Events.{events_of, roots_of}
 use Rattle.rd_ecl.specs.Kinds.{Kind, kinds_of}
 use Rattle.rd_wf.specs.laws.NoLines.{told_none}
@@ -26,13 +25,8 @@ stands_none kinds = record {
   releases = λ lock m gives. none-some gives.0 gives.1;
 }
 
-detects_none : DetectorStandsFor [] [] []
-detects_none = record {
-  lengths = refl;
-  sound = λ k witness at. absurd (none-some witness at);
-  whole = λ i call at. absurd (none-some _ at);
-  rising = λ k l witness other before at_k at_l. absurd (none-some witness at_k);
-}
+formed_none : (kinds : List Kind) → WellFormedWith kinds (roots_of []) []
+formed_none kinds = record { formed = (told_none kinds).told.formed; fit = λ k d inside. absurd (omega (arith, inside)) }
 
 pub leads_none : (kinds : List Kind) (start : Check) → CheckBegins kinds start → CheckLeads kinds start [] start
 unfolding races_of races_before
@@ -47,9 +41,7 @@ leads_none kinds start begins = record {
       stands = subst (λ tracker. TrackerStandsFor tracker (roots_of []) (events_of (kinds_of start.spec.now) [])) (sym begins.new.no_event) (stands_none (kinds_of start.spec.now));
       count = ap (λ tracker. length tracker.threads) begins.new.no_event;
     };
-    asks = ap (λ d. d.kinds) begins.new.no_call;
-    detects = subst (λ calls. DetectorStandsFor calls [] []) (sym (ap (λ d. d.calls) begins.new.no_call)) detects_none;
-    held = ap (λ d. length d.calls) begins.new.no_call;
+    detects = begins.new.no_call (roots_of []) (formed_none (kinds_of start.spec.now));
     races = begins.new.no_race;
   };
 }

@@ -103,7 +103,7 @@ lines-preserved g c =
       leads_now,
       subst (Appends (g.S.Sink.written c.args.out.now) (g.S.Sink.written c.take_line.new.out)) (sym writes.1)
           (appends_on _ _ _ (g.A.Analysis.text kinds start entries) writes.0 text writes.2),
-      omega (arith, cost, cost_now, bound_more [] entries entry),
+      omega (arith, cost, cost_now, bound_more (g.A.Analysis.bound kinds start) [] entries entry),
       takes_on _ _ _ taken bytes told (λ old is. let r = goes old is in (r.0, r.1, r.2.0)),
       c.in-Ok-Line.ensures.calm (λ e. let fault = sym (ap Ok c.in-Ok-Line.field-0-is) ∙ e in cc) ∙ calm,
       c.in-Ok-Accepted.ensures.fault ∙ faults,
@@ -170,7 +170,7 @@ returns-in-Err-take_line-clause-halted g c =
             appends_on _ _ _ (g.A.Analysis.text kinds start entries) part text writes,
             (rest, is ∙ sym (append_assoc (g.A.Analysis.text kinds start entries) part rest)),
             record { told = entries; last = entry ∷ []; is = refl; one = omega arith; written = (part, refl) },
-            omega (arith, cost, cost_now, bound_more [] entries entry),
+            omega (arith, cost, cost_now, bound_more (g.A.Analysis.bound kinds start) [] entries entry),
             read_so_far limits taken bytes c.lines.reader lines cut (length (entries ++ entry ∷ [])) (omega (arith, counted, length-append entries (entry ∷ []))) answered.past answered.fits,
             walks_on kinds limits (taken ++ bytes) c.next.new.self (entries ++ entry ∷ [])
                 (continues_line kinds limits taken bytes c.lines.reader c.next.new.self entries so_far answered.tells moves.number item says),

@@ -14,7 +14,7 @@ invariant-lines g l =
     × RosterStandsFor (kinds_in l.initial.walker.roster) l.walker.roster (items entries)
     × g.A.Analysis.leads (kinds_in l.initial.walker.roster) l.initial.walker.analysis entries l.walker.analysis
     × Appends (g.S.Sink.written l.initial.out) (g.S.Sink.written l.out) (g.A.Analysis.text (kinds_in l.initial.walker.roster) l.initial.walker.analysis entries)
-    × (l.steps ≤ l.initial.steps + step_bound entries)
+    × (l.steps ≤ l.initial.steps + step_bound (g.A.Analysis.bound (kinds_in l.initial.walker.roster) l.initial.walker.analysis) entries)
     × Goes (g.I.Inputs.told l.initial.inputs) (g.I.Inputs.told l.inputs) (λ old new. Takes old new taken)
     × (g.I.Inputs.faults l.inputs ≡ g.I.Inputs.faults l.initial.inputs)
     × (g.S.Sink.faults l.out ≡ g.S.Sink.faults l.initial.out)

@@ -1,4 +1,4 @@
-use Rattle.std.proofs.Common.{[], ◌∷◌, ◌++◌, length, Some, ap, refl, subst, sym, ◌∙◌, arith}
+use Rattle.std.proofs.Common.{[], ◌∷◌, ◌++◌, Some, ap, refl, subst, sym, ◌∙◌, arith}
 use Rattle.std.proofs.lemmas.List.{append-nil}
 use Rattle.std.proofs.lemmas.Result.{on_ok_weaker, on_err_weaker}
 use Rattle.rd_io.proofs.SinkLemmas.{appends_none}
@@ -12,6 +12,7 @@ use Rattle.rd_wf.specs.declared.causes.Accepted.TheVariants as accepted
 use Rattle.rd_walk.specs.Analysis.{WritesFront}
 use Rattle.rd_check.specs.Checking.{Tracks}
 use Rattle.rd_check.specs.Checked.{entry_events, event_numbers, race_texts}
+use Rattle.rd_wf.specs.Events.{roots_of}
 use Rattle.rd_walk.specs.Walk.{Entry, items}
 use Rattle.rd_walk.proofs.OutputLemmas.{always_ok}
 use Rattle.rd_check.proofs.CheckLemmas.{call_cost, call_next, call_races, checks_call, checks_quiet, event_cost, event_next, event_tracks, known_race, races_call, text_call, texts_quiet}
@@ -71,10 +72,12 @@ pub detect-requires-clause-next : goal.detect-requires-clause-next
 detect-requires-clause-next g c =
     let (start, before, item, ready) = c.requires in
     let entry : Entry = record { number = c.args.number; item = item } in (
+      start.spec.now,
+      roots_of (items before),
       event_numbers before,
       entry_events start.spec.now before,
       call_next start c.args.self.now before entry c.args.event.now c.in-Call.call c.in-Call.is (naming_in c.args.names.now) c.args.place ready
-          c.in-Ok-event.stamp c.in-Ok-event.ensures.stamp,
+          c.in-Ok-event.stamp c.in-Ok-event.ensures.stamp c.event.new.self c.in-Ok-event.ensures.stands,
     )
 
 pub detect-requires-clause-few : goal.detect-requires-clause-few
@@ -91,14 +94,14 @@ returns-in-Ok-None-clause-checks g c = λ start before item ready.
     let names = naming_in c.args.names.now in
     let numbers = event_numbers before in
     let es = entry_events start.spec.now before in
-    let next = call_next start c.args.self.now before entry c.args.event.now c.in-Call.call c.in-Call.is names c.args.place ready c.in-Ok-event.stamp c.in-Ok-event.ensures.stamp in
+    let next = call_next start c.args.self.now before entry c.args.event.now c.in-Call.call c.in-Call.is names c.args.place ready c.in-Ok-event.stamp c.in-Ok-event.ensures.stamp c.event.new.self c.in-Ok-event.ensures.stands in
     let said = c.in-Ok-None.ensures in
     let tracked = event_tracks (kinds_of start.spec.now) c.args.self.now.tracker (items before) item c.args.event.now ready.next c.event.new.self c.in-Ok-event.ensures.stands c.in-Ok-event.ensures.count in
-    checks_call start c.args.self.now before entry c.args.event.now c.in-Call.call c.in-Call.is names c.args.place ready c.detect.new.self said.same.0 said.same.3 said.same.2
+    checks_call start c.args.self.now before entry c.args.event.now c.in-Call.call c.in-Call.is names c.args.place ready c.detect.new.self said.same.0 said.same.2
     (subst (λ tracker. Tracks (kinds_of start.spec.now) tracker (items before ++ item ∷ [])) (sym said.same.1) tracked)
-    (said.stands numbers es next) said.held
+    (said.stands start.spec.now (roots_of (items before)) numbers es next)
     (races_call start c.args.self.now before entry c.args.event.now c.in-Call.call c.in-Call.is names c.args.place ready c.in-Ok-None.field-0
-    (said.answer numbers es next) c.detect.new.self.races said.races)
+    (said.answer start.spec.now (roots_of (items before)) numbers es next) c.detect.new.self.races said.races)
 
 pub returns-in-Ok-None-clause-written : goal.returns-in-Ok-None-clause-written
 returns-in-Ok-None-clause-written g c = λ start before item ready.
@@ -106,9 +109,9 @@ returns-in-Ok-None-clause-written g c = λ start before item ready.
     let names = naming_in c.args.names.now in
     let numbers = event_numbers before in
     let es = entry_events start.spec.now before in
-    let next = call_next start c.args.self.now before entry c.args.event.now c.in-Call.call c.in-Call.is names c.args.place ready c.in-Ok-event.stamp c.in-Ok-event.ensures.stamp in
+    let next = call_next start c.args.self.now before entry c.args.event.now c.in-Call.call c.in-Call.is names c.args.place ready c.in-Ok-event.stamp c.in-Ok-event.ensures.stamp c.event.new.self c.in-Ok-event.ensures.stands in
     let text = text_call start c.args.self.now before entry c.args.event.now c.in-Call.call c.in-Call.is names c.args.place ready c.in-Ok-None.field-0
-    (c.in-Ok-None.ensures.answer numbers es next) in (
+    (c.in-Ok-None.ensures.answer start.spec.now (roots_of (items before)) numbers es next) in (
       [],
       text ∙ ap (λ answer. race_texts start.spec.now before ++ answer_text start.spec.now names answer) c.in-Ok-None.field-0-is,
       appends_none (g.S.Sink.written c.args.out.now) (g.S.Sink.written c.args.out.now) refl,
@@ -117,7 +120,7 @@ returns-in-Ok-None-clause-written g c = λ start before item ready.
 pub returns-in-Ok-None-clause-cost : goal.returns-in-Ok-None-clause-cost
 returns-in-Ok-None-clause-cost g c = λ start before item ready.
     let entry : Entry = record { number = c.args.number; item = item } in
-    call_cost start c.args.self.now before entry c.args.event.now c.in-Call.call c.in-Call.is (naming_in c.args.names.now) c.args.place ready c.args.steps.now
+    call_cost start c.args.self.now before entry c.args.event.now c.in-Call.call c.in-Call.is (naming_in c.args.names.now) c.args.place ready c.event.new.self c.in-Ok-event.ensures.count c.args.steps.now
     c.event.new.steps c.detect.new.steps c.event.ensures.cost c.in-Ok-None.ensures.cost
 
 pub report-requires-clause-known : goal.report-requires-clause-known
@@ -127,10 +130,10 @@ report-requires-clause-known g c =
     let names = naming_in c.args.names.now in
     let numbers = event_numbers before in
     let es = entry_events start.spec.now before in
-    let next = call_next start c.args.self.now before entry c.args.event.now c.in-Call.call c.in-Call.is names c.args.place ready c.in-Ok-event.stamp c.in-Ok-event.ensures.stamp in
+    let next = call_next start c.args.self.now before entry c.args.event.now c.in-Call.call c.in-Call.is names c.args.place ready c.in-Ok-event.stamp c.in-Ok-event.ensures.stamp c.event.new.self c.in-Ok-event.ensures.stands in
     let said = c.in-Ok-Some.ensures in
     known_race start c.args.self.now before entry c.args.event.now c.in-Call.call c.in-Call.is names c.args.place ready c.in-Ok-Some.field-0 c.in-Ok-Some.race
-    (said.answer numbers es next) c.in-Ok-Some.field-0-is c.detect.new.self.spec.now said.same.0
+    (said.answer start.spec.now (roots_of (items before)) numbers es next) c.in-Ok-Some.field-0-is c.detect.new.self.spec.now said.same.0
 
 pub returns-in-Ok-Some-clause-checks : goal.returns-in-Ok-Some-clause-checks
 returns-in-Ok-Some-clause-checks g c = always_ok _ c.report.result (λ start before item ready.
@@ -138,17 +141,15 @@ returns-in-Ok-Some-clause-checks g c = always_ok _ c.report.result (λ start bef
     let names = naming_in c.args.names.now in
     let numbers = event_numbers before in
     let es = entry_events start.spec.now before in
-    let next = call_next start c.args.self.now before entry c.args.event.now c.in-Call.call c.in-Call.is names c.args.place ready c.in-Ok-event.stamp c.in-Ok-event.ensures.stamp in
+    let next = call_next start c.args.self.now before entry c.args.event.now c.in-Call.call c.in-Call.is names c.args.place ready c.in-Ok-event.stamp c.in-Ok-event.ensures.stamp c.event.new.self c.in-Ok-event.ensures.stands in
     let said = c.in-Ok-Some.ensures in
     let same = c.report.ensures.same in
     let tracked = event_tracks (kinds_of start.spec.now) c.args.self.now.tracker (items before) item c.args.event.now ready.next c.event.new.self c.in-Ok-event.ensures.stands c.in-Ok-event.ensures.count in
-    checks_call start c.args.self.now before entry c.args.event.now c.in-Call.call c.in-Call.is names c.args.place ready c.report.new.self (same.0 ∙ said.same.0) (same.4 ∙ said.same.3)
-    (ap (λ d. d.kinds) same.2 ∙ said.same.2)
+    checks_call start c.args.self.now before entry c.args.event.now c.in-Call.call c.in-Call.is names c.args.place ready c.report.new.self (same.0 ∙ said.same.0) (same.4 ∙ said.same.2)
     (subst (λ tracker. Tracks (kinds_of start.spec.now) tracker (items before ++ item ∷ [])) (sym (same.1 ∙ said.same.1)) tracked)
-    (subst (λ d. DetectorStandsFor d.calls (numbers ++ c.args.number ∷ []) (es ++ event.Call c.in-Call.call ∷ [])) (sym same.2) (said.stands numbers es next))
-    (ap (λ d. length d.calls) same.2 ∙ said.held)
+    (subst (λ d. DetectorStandsFor start.spec.now d (roots_of (items before)) (numbers ++ c.args.number ∷ []) (es ++ event.Call c.in-Call.call ∷ [])) (sym same.2) (said.stands start.spec.now (roots_of (items before)) numbers es next))
     (races_call start c.args.self.now before entry c.args.event.now c.in-Call.call c.in-Call.is names c.args.place ready c.in-Ok-Some.field-0
-    (said.answer numbers es next) c.report.new.self.races (same.3 ∙ said.races)))
+    (said.answer start.spec.now (roots_of (items before)) numbers es next) c.report.new.self.races (same.3 ∙ said.races)))
 
 pub returns-in-Ok-Some-clause-written : goal.returns-in-Ok-Some-clause-written
 returns-in-Ok-Some-clause-written g c = on_ok_weaker c.report.result
@@ -158,9 +159,9 @@ returns-in-Ok-Some-clause-written g c = on_ok_weaker c.report.result
     let names = naming_in c.args.names.now in
     let numbers = event_numbers before in
     let es = entry_events start.spec.now before in
-    let next = call_next start c.args.self.now before entry c.args.event.now c.in-Call.call c.in-Call.is names c.args.place ready c.in-Ok-event.stamp c.in-Ok-event.ensures.stamp in
+    let next = call_next start c.args.self.now before entry c.args.event.now c.in-Call.call c.in-Call.is names c.args.place ready c.in-Ok-event.stamp c.in-Ok-event.ensures.stamp c.event.new.self c.in-Ok-event.ensures.stands in
     let text = text_call start c.args.self.now before entry c.args.event.now c.in-Call.call c.in-Call.is names c.args.place ready c.in-Ok-Some.field-0
-    (c.in-Ok-Some.ensures.answer numbers es next) in (
+    (c.in-Ok-Some.ensures.answer start.spec.now (roots_of (items before)) numbers es next) in (
       answer_text start.spec.now names (Some c.in-Ok-Some.race),
       text ∙ ap (λ answer. race_texts start.spec.now before ++ answer_text start.spec.now names answer) c.in-Ok-Some.field-0-is,
       subst (λ kinds. Appends (g.S.Sink.written c.args.out.now) (g.S.Sink.written c.report.new.out)
@@ -177,9 +178,9 @@ returns-in-Ok-Some-clause-halted g c = on_err_weaker c.report.result
     let names = naming_in c.args.names.now in
     let numbers = event_numbers before in
     let es = entry_events start.spec.now before in
-    let next = call_next start c.args.self.now before entry c.args.event.now c.in-Call.call c.in-Call.is names c.args.place ready c.in-Ok-event.stamp c.in-Ok-event.ensures.stamp in
+    let next = call_next start c.args.self.now before entry c.args.event.now c.in-Call.call c.in-Call.is names c.args.place ready c.in-Ok-event.stamp c.in-Ok-event.ensures.stamp c.event.new.self c.in-Ok-event.ensures.stands in
     let text = text_call start c.args.self.now before entry c.args.event.now c.in-Call.call c.in-Call.is names c.args.place ready c.in-Ok-Some.field-0
-    (c.in-Ok-Some.ensures.answer numbers es next) in
+    (c.in-Ok-Some.ensures.answer start.spec.now (roots_of (items before)) numbers es next) in
     let (part, rest, is, writes) = subst (λ kinds. WritesFront (g.S.Sink.written c.args.out.now) (g.S.Sink.written c.report.new.out) []
     (race_text kinds names (told_by c.in-Ok-Some.race.later.value) (told_by c.in-Ok-Some.race.earlier.value)))
     (c.in-Ok-Some.ensures.same.0 ∙ ready.checks.spec) wrote in (
@@ -194,23 +195,23 @@ returns-in-Ok-Some-clause-halted g c = on_err_weaker c.report.result
 pub returns-in-Ok-Some-clause-cost : goal.returns-in-Ok-Some-clause-cost
 returns-in-Ok-Some-clause-cost g c = λ start before item ready.
     let entry : Entry = record { number = c.args.number; item = item } in
-    call_cost start c.args.self.now before entry c.args.event.now c.in-Call.call c.in-Call.is (naming_in c.args.names.now) c.args.place ready c.args.steps.now
+    call_cost start c.args.self.now before entry c.args.event.now c.in-Call.call c.in-Call.is (naming_in c.args.names.now) c.args.place ready c.event.new.self c.in-Ok-event.ensures.count c.args.steps.now
     c.event.new.steps c.detect.new.steps c.event.ensures.cost c.in-Ok-Some.ensures.cost
 
-pub returns-clause-halted : goal.returns-clause-halted
-returns-clause-halted g c = λ start before item ready.
+pub returns-in-Err-detect-clause-halted : goal.returns-in-Err-detect-clause-halted
+returns-in-Err-detect-clause-halted g c = λ start before item ready.
     let entry : Entry = record { number = c.args.number; item = item } in
     let (rest, is) = texts_grow start.spec.now before entry ready.next.tracks.told in
     ([], rest, is, appends_none (g.S.Sink.written c.args.out.now) (g.S.Sink.written c.args.out.now) refl)
 
-pub returns-clause-cost : goal.returns-clause-cost
-returns-clause-cost g c = λ start before item ready.
+pub returns-in-Err-detect-clause-cost : goal.returns-in-Err-detect-clause-cost
+returns-in-Err-detect-clause-cost g c = λ start before item ready.
     let entry : Entry = record { number = c.args.number; item = item } in
-    call_cost start c.args.self.now before entry c.args.event.now c.in-Call.call c.in-Call.is (naming_in c.args.names.now) c.args.place ready c.args.steps.now
+    call_cost start c.args.self.now before entry c.args.event.now c.in-Call.call c.in-Call.is (naming_in c.args.names.now) c.args.place ready c.event.new.self c.in-Ok-event.ensures.count c.args.steps.now
     c.event.new.steps c.detect.new.steps c.event.ensures.cost c.in-Err-detect.ensures.cost
 
 pub report-requires-clause-formulas : goal.report-requires-clause-formulas
 report-requires-clause-formulas g c =
     let (start, before, item, ready) = c.requires in
     let same = c.in-Ok-Some.ensures.same in
-    same.3 ∙ ready.checks.formulas ∙ sym (same.0 ∙ ready.checks.spec)
+    same.2 ∙ ready.checks.formulas ∙ sym (same.0 ∙ ready.checks.spec)

@@ -1,0 +1,105 @@
+-- What stays where a store gets room for cells.
+use Rattle.std.proofs.Common.{◌≡◌, inl, inr, ℕ, ◌+◌, ◌<◌, List, [], ◌∷◌, ◌++◌, length, Option, Some, None, sym, ap, subst, ◌∙◌, arith}
+use Rattle.std.specs.Prelude.{Contains, IsSome, slice_get, slice_index_or, take}
+use Rattle.std.proofs.lemmas.List.{take_more}
+use Rattle.std.proofs.lemmas.List.Elements.{Contains-get_or, Contains-push_cases}
+use Rattle.std.proofs.lemmas.Option.{get_or_from_slice_get, slice_get-get_or, slice_get_within}
+use Rattle.rd_order.proofs.OrderLemmas.{at_end, at_front, length_more}
+use Rattle.rd_points.specs.declared.points.Point.{Point}
+use Rattle.rd_store.specs.Stores.{HasRoom, IsSameStore, PointCells, cell_at, cell_of, point_at}
+use Rattle.rd_store.specs.declared.Witness.{Witness}
+use Rattle.rd_detect.specs.Detect.{AreBelow, Detecting, IsLatestOf, IsUncovered, IsUntaken}
+use Rattle.rd_detect.specs.Seats.{AreSeats}
+use Rattle.rd_detect.proofs.WitnessLemmas.{at_more}
+
+-- ---- cells
+
+abbrev pub SameCells : List PointCells → List PointCells → Type 0
+SameCells old new = (point : Point) (thread : ℕ) → cell_at new point thread ≡ cell_at old point thread
+
+pub same_cell : (old new : List PointCells) → IsSameStore old new → SameCells old new
+same_cell old new same point thread = ap (λ cells. cell_of cells thread) (same.cells point)
+
+pub same_joined : (old middle new : List PointCells) → IsSameStore old middle → IsSameStore middle new → IsSameStore old new
+same_joined old middle new one other = record {
+  cells = λ point. other.cells point ∙ one.cells point;
+  count = other.count ∙ one.count;
+  spare = λ point. let first = one.spare point in let second = other.spare point in omega arith;
+}
+
+uncovered_same : (old new : List PointCells) (points : List Point) (clock : List ℕ) (seen : Witness) → SameCells old new → IsUncovered old points clock seen → IsUncovered new points clock seen
+uncovered_same old new points clock seen same found = record {
+  point = found.point;
+  among = found.among;
+  thread = found.thread;
+  cell = same found.point found.thread ∙ found.cell;
+  uncovered = found.uncovered;
+}
+
+pub latest_same : (old new : List PointCells) (points : List Point) (clock : List ℕ) (latest : Option Witness) → SameCells old new → IsLatestOf old points clock latest → IsLatestOf new points clock latest
+latest_same old new points clock None same none = λ seen found. none seen (uncovered_same new old points clock seen (λ p t. sym (same p t)) found)
+latest_same old new points clock (Some latest) same is = (
+  uncovered_same old new points clock latest same is.0,
+  λ seen found. is.1 seen (uncovered_same new old points clock seen (λ p t. sym (same p t)) found),
+)
+
+pub below_same : (old new : List PointCells) (threads : ℕ) → SameCells old new → AreBelow threads old → AreBelow threads new
+below_same old new threads same below point thread seen cell = below point thread seen (sym (same point thread) ∙ cell)
+
+-- ---- room
+
+room_same : (old new : List PointCells) (thread : ℕ) (point : Point) → IsSameStore old new → HasRoom old thread point → HasRoom new thread point
+room_same old new thread point same room = elim room [
+  | inl some ↦ inl (subst (λ o. IsSome o) (sym (same_cell old new same point thread)) some)
+  | inr spare ↦ let more = same.spare point in inr (omega arith)
+]
+
+-- the index of one point more
+pub seats_more : (old new : List PointCells) (thread : ℕ) (points : List Point) (seats : List ℕ) (point : Point) (index : ℕ) → IsSameStore old new
+    → ((i : ℕ) (other : Point) → point_at old i ≡ Some other → point_at new i ≡ Some other) → point_at new index ≡ Some point → HasRoom new thread point
+    → AreSeats old thread points seats → AreSeats new thread (points ++ point ∷ []) (seats ++ index ∷ [])
+seats_more old new thread points seats point index same stay entered room was = record {
+  long = omega (arith, was.long, length_more points point, length_more seats index);
+  each = λ i other at. elim (at_more points point other i at) [
+    | inl before ↦
+        let seat = was.each i other before.1 in
+        (seat.0, at_front seats (index ∷ []) i (slice_get_within seats i seat.0 seat.1) ∙ seat.1, stay seat.0 other seat.2)
+    | inr last ↦ (
+      index,
+      ap (slice_get (seats ++ index ∷ [])) (last.0 ∙ sym was.long) ∙ at_end seats index,
+      entered ∙ ap Some (sym last.1),
+    )
+  ];
+  room = λ other has. elim (Contains-push_cases points point other has) [
+    | inl before ↦ room_same old new thread other same (was.room other before)
+    | inr last ↦ subst (HasRoom new thread) last room
+  ];
+}
+
+-- ---- what a call leaves
+
+pub untaken_joined : (old middle new : Detecting) → IsUntaken old middle → IsUntaken middle new → IsUntaken old new
+untaken_joined old middle new one other = record {
+  tables = other.tables ∙ one.tables;
+  store = same_joined old.store middle.store new.store one.store other.store;
+  kept = other.kept ∙ one.kept;
+}
+
+-- ---- the index of a point
+
+abbrev no_point : Point
+no_point = record { object = 0; class = 0; value = None }
+
+-- the point whose index stands at a place
+pub seat_of : (store : List PointCells) (thread : ℕ) (points : List Point) (seats : List ℕ) (i : ℕ) → AreSeats store thread points seats → i < length seats
+    → (point : Point) × (slice_get points i ≡ Some point) × Contains points point × (point_at store (slice_index_or seats i 0) ≡ Some point)
+seat_of store thread points seats i are inside =
+    let within : i < length points = omega (arith, inside, are.long) in
+    let at : slice_get points i ≡ Some (slice_index_or points i no_point) = slice_get-get_or points i no_point within in
+    let seat = are.each i (slice_index_or points i no_point) at in
+    (slice_index_or points i no_point, at, Contains-get_or points i no_point within, ap (point_at store) (get_or_from_slice_get seats i seat.0 0 seat.1) ∙ seat.2)
+
+-- as far as the next point
+pub done_more : (points : List Point) (i : ℕ) (point : Point) → slice_get points i ≡ Some point → take i points ++ point ∷ [] ≡ take (i + 1) points
+done_more points i point at =
+    ap (λ p. take i points ++ p ∷ []) (sym (get_or_from_slice_get points i point point at)) ∙ sym (take_more points i point (slice_get_within points i point at))

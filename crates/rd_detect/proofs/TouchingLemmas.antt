@@ -1,0 +1,91 @@
+-- What is kept step by step at the points that a call touches.
+use Rattle.std.proofs.Common.{◌≡◌, ◌≢◌, ◌↔◌, ◌⊎◌, inl, inr, ℕ, ◌<◌, ◌≤◌, Bool, true, false, if◌then◌else◌, IsTrue, List, [], ◌∷◌, ◌++◌, length, refl, sym, ap, subst, ◌∙◌, arith, true≢false}
+use Rattle.std.specs.Prelude.{All, Contains, IsSome, is_some}
+use Rattle.std.proofs.lemmas.Bool.{cases_Bool, cases_eq}
+use Rattle.std.proofs.lemmas.List.{get_or_append_left, get_or_push}
+use Rattle.rd_order.proofs.OrderLemmas.{length_more}
+use Rattle.std.proofs.lemmas.List.Elements.{Contains-append_left, Contains-push, Contains-push_cases}
+use Rattle.rd_points.specs.PointLists.{same_point}
+use Rattle.rd_points.specs.declared.points.Point.{Point}
+use Rattle.rd_store.specs.Stores.{HasRoom, IsTouched, PointCells, cell_at, cell_of}
+use Rattle.rd_store.specs.declared.Witness.{Witness}
+use Rattle.rd_detect.specs.Detect.{AreBelow, AreTouched}
+
+-- the code tells equal points
+abbrev pub PointsTold : Type 0
+PointsTold = (a b : Point) → (IsTrue (same_point a b)) ↔ (a ≡ b)
+
+same_or_other : PointsTold → (a b : Point) → (a ≡ b) ⊎ (a ≢ b)
+same_or_other told a b = elim (cases_Bool (same_point a b)) [
+  | inl same ↦ inl ((told a b).0 same)
+  | inr other ↦ inr (λ is. true≢false (sym ((told a b).1 is) ∙ other))
+]
+
+-- a store that holds nothing new of no points
+pub touched_none : (store : List PointCells) (thread : ℕ) (witness : Witness) → AreTouched store store [] thread witness
+touched_none store thread witness = record {
+  own = λ point has. absurd (omega (arith, has.1));
+  rest = λ point. inr refl;
+  others = λ point other differ. refl;
+  count = omega arith;
+}
+
+few_new : (b : Bool) → (if b then 0 else 1) ≤ 1
+few_new true = omega arith
+few_new false = omega arith
+
+module _ (told : PointsTold) (old middle new : List PointCells) (point : Point) (thread : ℕ) (witness : Witness) (touched : IsTouched middle new point thread witness) where
+  elsewhere : (other : Point) (one : ℕ) → other ≢ point → cell_at new other one ≡ cell_at middle other one
+  elsewhere other one differ = ap (λ cells. cell_of cells one) (touched.points other differ)
+
+  pub touched_more : (done : List Point) → AreTouched old middle done thread witness → AreTouched old new (done ++ point ∷ []) thread witness
+  touched_more done before = record {
+    own = λ other has. elim (same_or_other told other point) [
+      | inl same ↦ ap (λ p. cell_at new p thread) same ∙ touched.own
+      | inr differ ↦ elim (Contains-push_cases done point other has) [
+        | inl rest ↦ elsewhere other thread differ ∙ before.own other rest
+        | inr last ↦ absurd (differ (sym last))
+      ]
+    ];
+    rest = λ other. elim (same_or_other told other point) [
+      | inl same ↦ inl (subst (Contains (done ++ point ∷ [])) (sym same) (Contains-push done point))
+      | inr differ ↦ elim (before.rest other) [
+        | inl rest ↦ inl (Contains-append_left done (point ∷ []) other rest)
+        | inr same ↦ inr (elsewhere other thread differ ∙ same)
+      ]
+    ];
+    others = λ other one differ. elim (same_or_other told other point) [
+      | inl same ↦ ap (λ p. cell_at new p one) same ∙ touched.others one differ ∙ ap (λ p. cell_at middle p one) (sym same) ∙ before.others other one differ
+      | inr elsewhere_is ↦ elsewhere other one elsewhere_is ∙ before.others other one differ
+    ];
+    count = omega (arith, touched.count, before.count, few_new (is_some (cell_at middle point thread)), length_more done point);
+  }
+
+  -- the cells are of threads below a number
+  pub below_more : (threads : ℕ) → thread < threads → AreBelow threads middle → AreBelow threads new
+  below_more threads own below other one seen cell = elim (same_or_other told other point) [
+    | inl same ↦ elim (cases_eq one thread) [
+      | inl mine ↦ omega (arith, own, mine)
+      | inr differ ↦ below point one seen (sym (touched.others one differ) ∙ ap (λ p. cell_at new p one) (sym same) ∙ cell)
+    ]
+    | inr differ ↦ below other one seen (sym (elsewhere other one differ) ∙ cell)
+  ]
+
+  -- where there was room there is
+  pub room_more : (other : Point) → HasRoom middle thread other → HasRoom new thread other
+  room_more other room = elim (same_or_other told other point) [
+    | inl same ↦ inl (subst (λ o. IsSome o) (sym (ap (λ p. cell_at new p thread) same ∙ touched.own)) refl)
+    | inr differ ↦ elim room [
+      | inl some ↦ inl (subst (λ o. IsSome o) (sym (elsewhere other thread differ)) some)
+      | inr spare ↦ inr (omega (arith, spare, touched.spares other differ))
+    ]
+  ]
+
+-- ---- lists
+
+-- what holds of all holds of those in front, and of the last
+pub all_front : {X : Type 0} (P : X → Type 0) (xs : List X) (x : X) → All P (xs ++ x ∷ []) → All P xs
+all_front P xs x all = λ k d inside. subst P (get_or_append_left xs (x ∷ []) d k inside) (all k d (omega (arith, inside, length_more xs x)))
+
+pub all_last : {X : Type 0} (P : X → Type 0) (xs : List X) (x : X) → All P (xs ++ x ∷ []) → P x
+all_last P xs x all = subst P (get_or_push xs x x (length xs) refl) (all (length xs) x (omega (arith, length_more xs x)))

@@ -1,0 +1,59 @@
+//! What is asked of the store for a call.
+ghost use Rattle.std.specs.Prelude.{◌≡◌, ℕ, ◌+◌, ◌*◌, ◌≤◌, List, ◌++◌, length, map, IfOk, OnOk, option_map};
+ghost use Rattle.rd_detect.specs.Detect.{AreBelow, IsLatestOf, in_class, later_of};
+ghost use Rattle.rd_points.specs.declared.points.Point.{Point as PointOf};
+
+use rd_base::{NoMemory, Steps};
+use rd_clock::Clock;
+use rd_points::Point;
+use rd_store::{Store, Witness, law_of_stores};
+use std::rc::Rc;
+use std::sync::ledger::Ledger;
+
+// The later of two.
+fn later(
+    found: Option<Rc<Witness>>,
+    other: Option<&Rc<Witness>>,
+) -> Result<Option<Rc<Witness>>, NoMemory>
+    ensures { IfOk result (λ later. option_map (λ held. held.value) later
+        ≡ later_of (option_map (λ held. held.value) found) (option_map (λ held. held.now.value) other.entry)) }
+{
+    let Some(other) = other else {
+        return Ok(found);
+    };
+    if let Some(one) = &found {
+        if other.place <= one.place {
+            return Ok(found);
+        }
+    }
+    Ok(Some(other.clone()?))
+}
+
+/// The latest call that the clock doesn't cover of the cells of a point in these classes, or the one that was found before, where it is later. The point
+/// is as before then.
+pub fn ask<L: Ledger>(
+    store: &Store,
+    point: &mut Point,
+    classes: &[u32],
+    clock: &Clock,
+    found: Option<Rc<Witness>>,
+    steps: &mut Steps<L>,
+) -> Result<Option<Rc<Witness>>, NoMemory>
+    ensures latest { IfOk result (λ latest. (points : List PointOf)
+        → IsLatestOf store.now points clock.now (option_map (λ held. held.value) found)
+        → IsLatestOf store.now (points ++ map (in_class point.old) classes.now) clock.now
+        (option_map (λ held. held.value) latest)) }
+    ensures point { OnOk result (point.new ≡ point.old) }
+    ensures cost { (threads : ℕ) → AreBelow threads store.now
+        → steps.new ≤ steps.old + length classes.now * (threads + 1) }
+{
+    law_of_stores();
+    let own = point.class;
+    let mut found = found;
+    for class in classes {
+        point.class = *class;
+        found = later(found, store.latest_uncovered(point, clock, steps))?;
+    }
+    point.class = own;
+    Ok(found)
+}
