@@ -1,0 +1,186 @@
+//! Traces that are drawn: at each call both detectors name the same earlier call.
+ghost use Rattle.std.specs.Prelude.{◌≡◌, ◌<◌};
+
+use crate::drawing::{HEAD, Random, Sizes, append_events};
+use crate::trial::{Taken, Trial};
+use rd_base::Steps;
+use std::alloc::Global;
+use std::marker::Brand;
+use std::process::Abort;
+use std::sync::ledger::{Blank, Ledger};
+
+// How many calls raced, how many didn't, and behind how many there were fewer cells than before.
+#[derive(Drop)]
+struct Tally {
+    races: u32,
+    quiet: u32,
+    sweeps: u32,
+}
+
+impl Tally {
+    // Counts a call.
+    fn add(&mut self, is_race: bool, before: u128, after: u128) {
+        self.races = self.races.wrapping_add(u32::from(is_race));
+        self.quiet = self.quiet.wrapping_add(u32::from(!is_race));
+        self.sweeps = self.sweeps.wrapping_add(u32::from(after < before));
+    }
+}
+
+// Takes a line, where it may follow.
+fn takes<L: Ledger>(
+    rt: &impl Abort,
+    trial: &mut Trial,
+    line: &str,
+    tally: &mut Tally,
+    steps: &mut Steps<L>,
+) {
+    let before = trial.cells();
+    if let Taken::Call(race) = trial.take(rt, line, steps) {
+        tally.add(race.is_some(), before, trial.cells());
+    }
+}
+
+// Draws lines, each of which may follow or not.
+fn draws<L: Ledger>(
+    rt: &impl Abort,
+    alloc: Global,
+    trial: &mut Trial,
+    random: &mut Random,
+    sizes: Sizes,
+    tally: &mut Tally,
+    steps: &mut Steps<L>,
+) {
+    let mut lines = String::new(alloc);
+    append_events(rt, &mut lines, random, sizes);
+    for line in lines.as_str().split(';') {
+        takes(rt, trial, line, tally, steps);
+    }
+}
+
+// Takes the lines before the events.
+fn begins<L: Ledger>(
+    rt: &impl Abort,
+    alloc: Global,
+    trial: &mut Trial,
+    roots: u32,
+    steps: &mut Steps<L>,
+) {
+    let mut lines = String::new(alloc);
+    lines.push_str(HEAD).expect(rt, "memory");
+    for root in 0..roots {
+        write!(lines, ";thread t{root}").expect(rt, "memory");
+    }
+    for line in lines.as_str().split(';') {
+        assert!(rt;
+            matches!(trial.take(rt, line, steps), Taken::Quiet),
+            "{line}"
+        );
+    }
+}
+
+// What traces are drawn: with so many roots, so many threads or up to so many more, so many keys, one in so many events a join, and of so many
+// lines, each of which may follow or not.
+#[derive(Clone, Copy)]
+struct Batch {
+    roots: u32,
+    threads: u32,
+    more: u32,
+    keys: u32,
+    joins: u32,
+    lines: u32,
+}
+
+// The next trace.
+fn is_agreed<L: Ledger>(
+    rt: &impl Abort,
+    alloc: Global,
+    random: &mut Random,
+    batch: Batch,
+    tally: &mut Tally,
+    steps: &mut Steps<L>,
+) {
+    let more = random.below(batch.more.wrapping_add(1));
+    let sizes = Sizes {
+        threads: batch.threads.wrapping_add(more),
+        keys: batch.keys,
+        joins: batch.joins,
+    };
+    let mut trial = Trial::new(rt, alloc);
+    begins(rt, alloc, &mut trial, batch.roots, steps);
+    for _ in 0..batch.lines {
+        draws(rt, alloc, &mut trial, random, sizes, tally, steps);
+    }
+}
+
+// So many traces. At least so many calls race, as many don't, and so many leave fewer cells than there were.
+fn are_agreed<L: Ledger>(
+    rt: &impl Abort,
+    alloc: Global,
+    blank: Blank,
+    batch: Batch,
+    traces: u32,
+    wanted: (u32, u32),
+)
+    requires name { blank.name ≡ L.name }
+    requires parts { blank.parts ≡ L.parts }
+    requires some { 0 < blank.parts }
+{
+    let mut steps = Steps::<L>::new(blank);
+    let mut random = Random { state: batch.lines };
+    let mut tally = Tally {
+        races: 0,
+        quiet: 0,
+        sweeps: 0,
+    };
+    for _ in 0..traces {
+        is_agreed(rt, alloc, &mut random, batch, &mut tally, &mut steps);
+    }
+    let (races, quiet, sweeps) = (tally.races, tally.quiet, tally.sweeps);
+    assert!(rt;
+        races >= wanted.0 && quiet >= wanted.0 && sweeps >= wanted.1,
+        "{races} races, {quiet} calls that don't race, {sweeps} sweeps"
+    );
+}
+
+fn tries(rt: &impl Abort, alloc: Global, batch: Batch, traces: u32, wanted: (u32, u32)) {
+    are_agreed::<Brand>(rt, alloc, Blank::new(1), batch, traces, wanted);
+}
+
+#[test]
+fn few_keys(rt: HostRuntime) {
+    let batch = Batch {
+        roots: 2,
+        threads: 2,
+        more: 4,
+        keys: 3,
+        joins: 16,
+        lines: 100,
+    };
+    tries(&rt, rt.alloc(), batch, 500, (1_000, 0));
+}
+
+#[test]
+fn many_keys(rt: HostRuntime) {
+    let batch = Batch {
+        roots: 2,
+        threads: 2,
+        more: 4,
+        keys: 60,
+        joins: 64,
+        lines: 500,
+    };
+    tries(&rt, rt.alloc(), batch, 300, (5_000, 200));
+}
+
+#[test]
+fn many_threads(rt: HostRuntime) {
+    let batch = Batch {
+        roots: 4,
+        threads: 40,
+        more: 0,
+        keys: 30,
+        joins: 16,
+        lines: 1500,
+    };
+    tries(&rt, rt.alloc(), batch, 200, (5_000, 50));
+}
