@@ -6,6 +6,7 @@ use Rattle.std.proofs.lemmas.Bool.{cases_Bool, cases_lt, lt-ltb, ltb-true}
 use Rattle.std.proofs.lemmas.List.Elements.{Contains-append_left, Contains-push, Contains-push_cases}
 use Rattle.std.proofs.lemmas.List.{append_assoc, flat_map_more, map-append, map_more, take-append-drop}
 use Rattle.std.proofs.lemmas.List.Sums.{sum_by-append, sum_by_push}
+use Rattle.rd_order.proofs.OrderLemmas.{length_more}
 use Rattle.rd_base.specs.declared.values.Value.{Value}
 use Rattle.rd_event.specs.declared.events.Call.{Call as CallOf}
 use Rattle.rd_points.specs.declared.touches.Touch.{Touch}
@@ -76,24 +77,30 @@ module _ (store : List PointCells) (points : List Point) (point : Point) (clock 
 
 -- ---- one class more
 
-pub in_class_more : (point : Point) (points : List Point) (classes : List ℕ) (i object : ℕ) (value : Option Value) → i < length classes → object ≡ point.object → value ≡ point.value
-    → (points ++ map (in_class point) (take i classes)) ++ record { object = object; class = slice_index_or classes i 0; value = value } ∷ []
-    ≡ points ++ map (in_class point) (take (i + 1) classes)
-in_class_more point points classes i object value inside same_object same_value =
-    append_assoc points (map (in_class point) (take i classes)) _
-    ∙ ap (λ last. points ++ (map (in_class point) (take i classes) ++ last ∷ []))
-    (same_points object point.object (slice_index_or classes i 0) (slice_index_or classes i 0) value point.value same_object refl same_value)
-    ∙ ap (λ list. points ++ list) (sym (map_more (in_class point) classes i 0 inside))
+pub in_class_more : (point : Point) (points : List Point) (done : List ℕ) (class object : ℕ) (value : Option Value) → object ≡ point.object → value ≡ point.value
+    → (points ++ map (in_class point) done) ++ record { object = object; class = class; value = value } ∷ [] ≡ points ++ map (in_class point) (done ++ class ∷ [])
+in_class_more point points done class object value same_object same_value =
+    append_assoc points (map (in_class point) done) _
+    ∙ ap (λ last. points ++ (map (in_class point) done ++ last ∷ []))
+    (same_points object point.object class class value point.value same_object refl same_value)
+    ∙ ap (λ list. points ++ list) (sym (map-append (in_class point) done (class ∷ [])))
 
 pub cost_more : (start before after cells threads i : ℕ) → before ≤ start + i * (threads + 1) → after ≡ (before + 1) + cells → cells ≤ threads → after ≤ start + (i + 1) * (threads + 1)
 cost_more start before after cells threads i below is few = omega (arith, below, is, few)
 
+-- a step for each cell of one class more
+pub cost_one : (start before after cells threads : ℕ) (done : List ℕ) (class : ℕ) → before ≤ start + length done * (threads + 1) → after ≡ (before + 1) + cells → cells ≤ threads
+    → after ≤ start + length (done ++ class ∷ []) * (threads + 1)
+cost_one start before after cells threads done class below is few =
+    let longer : length done + 1 ≡ length (done ++ class ∷ []) = omega (arith, length_more done class) in
+    subst (λ n. after ≤ start + n * (threads + 1)) longer (cost_more start before after cells threads (length done) below is few)
+
 -- fewer classes than all cost no more
-pub cost_within : (start after len n i : ℕ) → i < len → after ≤ start + (i + 1) * n → after ≤ start + len * n
-cost_within start after len n i inside below =
-    let rest : ℕ = len - (i + 1) in
-    let all : len ≡ (i + 1) + rest = omega arith in
-    subst (λ m. after ≤ start + m * n) (sym all) (omega (arith, below))
+pub cost_within : (start after all n some : ℕ) → some ≤ all → after ≤ start + some * n → after ≤ start + all * n
+cost_within start after all n some within below =
+    let rest : ℕ = all - some in
+    let parts : all ≡ some + rest = omega arith in
+    subst (λ m. after ≤ start + m * n) (sym parts) (omega (arith, below))
 
 -- ---- one point more
 

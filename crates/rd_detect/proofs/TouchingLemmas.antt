@@ -1,8 +1,7 @@
 -- What is kept step by step at the points that a call touches.
-use Rattle.std.proofs.Common.{◌≡◌, ◌≢◌, ◌↔◌, ◌⊎◌, inl, inr, ℕ, ◌<◌, ◌≤◌, Bool, true, false, if◌then◌else◌, IsTrue, List, [], ◌∷◌, ◌++◌, length, refl, sym, ap, subst, ◌∙◌, arith, true≢false}
-use Rattle.std.specs.Prelude.{All, Contains, IsSome, is_some}
+use Rattle.std.proofs.Common.{◌≡◌, ◌≢◌, ◌↔◌, ◌⊎◌, inl, inr, ℕ, ◌+◌, ◌-◌, ◌*◌, ◌<◌, ◌≤◌, Bool, true, false, if◌then◌else◌, IsTrue, List, [], ◌∷◌, ◌++◌, refl, sym, ap, subst, ◌∙◌, arith, true≢false}
+use Rattle.std.specs.Prelude.{Contains, IsSome, is_some}
 use Rattle.std.proofs.lemmas.Bool.{cases_Bool, cases_eq}
-use Rattle.std.proofs.lemmas.List.{get_or_append_left, get_or_push}
 use Rattle.rd_order.proofs.OrderLemmas.{length_more}
 use Rattle.std.proofs.lemmas.List.Elements.{Contains-append_left, Contains-push, Contains-push_cases}
 use Rattle.rd_points.specs.PointLists.{same_point}
@@ -81,11 +80,23 @@ module _ (told : PointsTold) (old middle new : List PointCells) (point : Point) 
     ]
   ]
 
--- ---- lists
+-- the cells of a thread below a number, and of those that were there
+pub below_touched : (old new : List PointCells) (points : List Point) (thread threads : ℕ) (witness : Witness) → AreTouched old new points thread witness → thread < threads → AreBelow threads old → AreBelow threads new
+below_touched old new points thread threads witness touched own below point one seen cell = elim (cases_eq one thread) [
+  | inl mine ↦ omega (arith, own, mine)
+  | inr differ ↦ below point one seen (sym (touched.others point one differ) ∙ cell)
+]
 
--- what holds of all holds of those in front, and of the last
-pub all_front : {X : Type 0} (P : X → Type 0) (xs : List X) (x : X) → All P (xs ++ x ∷ []) → All P xs
-all_front P xs x all = λ k d inside. subst P (get_or_append_left xs (x ∷ []) d k inside) (all k d (omega (arith, inside, length_more xs x)))
+-- ---- one seat less
 
-pub all_last : {X : Type 0} (P : X → Type 0) (xs : List X) (x : X) → All P (xs ++ x ∷ []) → P x
-all_last P xs x all = subst P (get_or_push xs x x (length xs) refl) (all (length xs) x (omega (arith, length_more xs x)))
+-- the number of those before the last
+pub before_last : (count : ℕ) → ¬ (count ≡ 0) → (count - 1) + 1 ≡ count
+before_last count some = omega (arith, some)
+
+pub cost_last : (start middle after count others threads : ℕ) → ¬ (count ≡ 0) → middle ≤ start + (count - 1) * (threads + 1) → after ≤ middle + 2 + others → others + 1 ≤ threads
+    → after ≤ start + count * (threads + 1)
+cost_last start middle after count others threads some below more few =
+    subst (λ m. after ≤ start + m * (threads + 1)) (before_last count some) (omega (arith, below, more, few))
+
+pub cost_less : (start middle count threads : ℕ) → ¬ (count ≡ 0) → middle ≤ start + (count - 1) * (threads + 1) → middle ≤ start + count * (threads + 1)
+cost_less start middle count threads some below = subst (λ m. middle ≤ start + m * (threads + 1)) (before_last count some) (omega (arith, below))

@@ -1,7 +1,9 @@
 //! What is asked of the store for a call.
-ghost use Rattle.std.specs.Prelude.{◌≡◌, ℕ, ◌+◌, ◌*◌, ◌≤◌, List, ◌++◌, length, map, IfOk, OnOk, option_map};
+ghost use Rattle.std.specs.Prelude.{◌≡◌, ℕ, ◌+◌, ◌*◌, ◌≤◌, List, ◌++◌, length, map, IfOk, OnOk, Some, option_map};
 ghost use Rattle.rd_detect.specs.Detect.{AreBelow, IsLatestOf, in_class, later_of};
+ghost use Rattle.rd_detect.specs.Seats.{other_classes};
 ghost use Rattle.rd_points.specs.declared.points.Point.{Point as PointOf};
+ghost use Rattle.rd_store.specs.Stores.{point_at};
 
 use rd_base::{NoMemory, Steps};
 use rd_clock::Clock;
@@ -29,9 +31,9 @@ fn later(
     Ok(Some(other.clone()?))
 }
 
-/// The latest call that the clock doesn't cover of the cells of a point in these classes, or the one that was found before, where it is later. The point
-/// is as before then.
-pub fn ask<L: Ledger>(
+/// The latest call that the clock doesn't cover of the cells of a point in these classes but its own, or the one that was found before, where it is
+/// later. The point is as before then.
+pub fn ask_others<L: Ledger>(
     store: &Store,
     point: &mut Point,
     classes: &[u32],
@@ -41,19 +43,50 @@ pub fn ask<L: Ledger>(
 ) -> Result<Option<Rc<Witness>>, NoMemory>
     ensures latest { IfOk result (λ latest. (points : List PointOf)
         → IsLatestOf store.now points clock.now (option_map (λ held. held.value) found)
-        → IsLatestOf store.now (points ++ map (in_class point.old) classes.now) clock.now
+        → IsLatestOf store.now (points ++ map (in_class point.old) (other_classes point.old.class classes.now)) clock.now
         (option_map (λ held. held.value) latest)) }
     ensures point { OnOk result (point.new ≡ point.old) }
     ensures cost { (threads : ℕ) → AreBelow threads store.now
-        → steps.new ≤ steps.old + length classes.now * (threads + 1) }
+        → steps.new ≤ steps.old + length (other_classes point.old.class classes.now) * (threads + 1) }
 {
     law_of_stores();
     let own = point.class;
     let mut found = found;
     for class in classes {
+        if *class == own {
+            continue;
+        }
         point.class = *class;
         found = later(found, store.latest_uncovered(point, clock, steps))?;
     }
     point.class = own;
+    Ok(found)
+}
+
+/// The same for its own class, where this is one of those classes: the point stands at this index.
+pub fn ask_own<L: Ledger>(
+    store: &Store,
+    index: usize,
+    own: u32,
+    classes: &[u32],
+    clock: &Clock,
+    found: Option<Rc<Witness>>,
+    steps: &mut Steps<L>,
+) -> Result<Option<Rc<Witness>>, NoMemory>
+    requires { (point : PointOf) × (point_at store.now index ≡ Some point) }
+    ensures latest { IfOk result (λ latest. (points : List PointOf) (point : PointOf)
+        → point_at store.now index ≡ Some point → point.class ≡ own
+        → IsLatestOf store.now (points ++ map (in_class point) (other_classes own classes.now)) clock.now
+        (option_map (λ held. held.value) found)
+        → IsLatestOf store.now (points ++ map (in_class point) classes.now) clock.now (option_map (λ held. held.value) latest)) }
+    ensures cost { (threads before : ℕ) → AreBelow threads store.now
+        → steps.old ≤ before + length (other_classes own classes.now) * (threads + 1)
+        → steps.new ≤ before + length classes.now * (threads + 1) }
+{
+    law_of_stores();
+    if !classes.contains(&own) {
+        return Ok(found);
+    }
+    let found = later(found, store.latest_at(index, clock, steps))?;
     Ok(found)
 }

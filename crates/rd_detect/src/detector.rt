@@ -19,7 +19,7 @@ ghost use Rattle.rd_store.specs.declared.Witness.{Witness as WitnessOf};
 #[cfg(test)]
 mod tests;
 
-use crate::touching::{Found, copies, look, touch};
+use crate::touching::{Found, look, touch};
 use rd_base::{NoMemory, Steps};
 use rd_classes::{law_of_merging, merge};
 use rd_clock::{Clock, Stamp};
@@ -165,9 +165,15 @@ impl Detector {
             → steps.new ≤ steps.old + length seats.now * (threads + 1) }
     {
         let count = seats.len();
-        let held = copies(self.alloc, witness, count)?;
         let floor = self.floor(count, tracker)?;
-        touch(&mut self.store, seats, witness.call.thread, held, steps);
+        touch(
+            &mut self.store,
+            seats,
+            count,
+            witness.call.thread,
+            witness,
+            steps,
+        )?;
         self.sweep(floor);
         Ok(())
     }

@@ -1,13 +1,12 @@
 //! The points that a call touches: what is found there, and how it is kept there.
-ghost use Rattle.std.specs.Prelude.{◌≡◌, ℕ, ◌+◌, ◌*◌, ◌<◌, ◌≤◌, All, List, IfOk, flat_map, length, option_map, slice_get};
+ghost use Rattle.std.specs.Prelude.{◌≡◌, ℕ, ◌+◌, ◌*◌, ◌<◌, ◌≤◌, Contains, List, IfOk, OnErr, OnOk, flat_map, length, option_map, slice_get, take};
 ghost use Rattle.std.specs.List.{sum_by};
 ghost use Rattle.rd_detect.specs.Detect.{AreBelow, AreTouched, IsLatestOf, asking_bound, conflicting_points, point_of, points_in};
 ghost use Rattle.rd_detect.specs.Seats.{AreSeats};
 ghost use Rattle.rd_points.specs.declared.points.Point.{Point as PointOf};
-ghost use Rattle.rd_store.specs.Stores.{IsSameStore};
-ghost use Rattle.rd_store.specs.declared.Witness.{Witness as WitnessOf};
+ghost use Rattle.rd_store.specs.Stores.{HasRoom, IsSameStore, point_at};
 
-use crate::asking::ask;
+use crate::asking::{ask_others, ask_own};
 use arrayvec::ArrayVec;
 use rd_base::{NoMemory, Steps, Value};
 use rd_clock::Clock;
@@ -76,58 +75,44 @@ pub fn look<L: Ledger>(
     let mut seats = ArrayVec::new();
     for touch in touches {
         let mut point = point(alloc, call, *touch)?;
-        latest = ask(
-            store,
-            &mut point,
-            table.conflicts(touch.class),
-            clock,
-            latest,
-            steps,
-        )?;
-        seats.push(store.enter(point, call.thread)?);
+        let own = point.class;
+        let classes = table.conflicts(own);
+        latest = ask_others(store, &mut point, classes, clock, latest, steps)?;
+        let seat = store.enter(point, call.thread)?;
+        latest = ask_own(store, seat, own, classes, clock, latest, steps)?;
+        seats.push(seat);
     }
     Ok(Found { latest, seats })
 }
 
-/// The same, so many times.
-pub fn copies(
-    alloc: Global,
-    witness: &Rc<Witness>,
-    count: usize,
-) -> Result<Vec<Rc<Witness>>, NoMemory>
-    ensures same { IfOk result (λ held. All (λ one. one.value ≡ witness.now.value) held.items) }
-    ensures count { IfOk result (λ held. length held.items ≡ count) }
-{
-    let mut held = Vec::with_capacity(alloc, count)?;
-    for _ in 0..count {
-        held.push(witness.clone()?)?;
-    }
-    Ok(held)
-}
-
-/// Sets the cells of a thread at these points, each of which has room for it, to calls that are the same.
+/// Sets the cells of a thread at as many of these points as are told, each of which has room for it, to this call. Each growth comes first, so that
+/// after want of memory all is as before.
 pub fn touch<L: Ledger>(
     store: &mut Store,
     seats: &[usize],
+    count: usize,
     thread: u32,
-    held: Vec<Rc<Witness>>,
+    witness: &Rc<Witness>,
     steps: &mut Steps<L>,
-)
+) -> Result<(), NoMemory>
     requires seats { (points : List PointOf) × AreSeats store.old thread points seats.now }
-    requires count { length held.items ≡ length seats.now }
-    ensures touched { (points : List PointOf) (witness : WitnessOf)
-        → AreSeats store.old thread points seats.now → All (λ one. one.value ≡ witness) held.items
-        → AreTouched store.old store.new points thread witness }
+    requires count { count ≤ length seats.now }
+    ensures touched { OnOk result ((points : List PointOf) → AreSeats store.old thread points seats.now
+        → AreTouched store.old store.new (take count points) thread witness.now.value) }
+    ensures room { OnOk result ((points : List PointOf) → AreSeats store.old thread points seats.now
+        → (point : PointOf) → Contains points point → HasRoom store.new thread point) }
+    ensures stay { OnOk result ((index : ℕ) → point_at store.new index ≡ point_at store.old index) }
+    ensures err { OnErr result (store.new ≡ store.old) }
     ensures cost { (threads : ℕ) → thread < threads → AreBelow threads store.old
-        → steps.new ≤ steps.old + length seats.now * (threads + 1) }
+        → steps.new ≤ steps.old + count * (threads + 1) }
 {
     law_of_stores();
     law_of_equal_points();
-    let mut held = held;
-    for seat in seats {
-        let Some(witness) = held.pop() else {
-            return;
-        };
-        store.touch_at(*seat, thread, witness, steps);
+    if count == 0 {
+        return Ok(());
     }
+    let held = witness.clone()?;
+    touch(store, seats, count - 1, thread, witness, steps)?;
+    store.touch_at(seats[count - 1], thread, held, steps);
+    Ok(())
 }
