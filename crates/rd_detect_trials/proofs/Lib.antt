@@ -1,2 +1,3 @@
 mod CourseLemmas
+mod KindLemmas
 mod LineLemmas

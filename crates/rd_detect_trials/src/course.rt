@@ -1,12 +1,12 @@
 //! Lines that are given to a detector, as a command gives them.
-ghost use Rattle.std.specs.Prelude.{◌≡◌, ℕ, Bool, List, [], ◌∷◌, ◌++◌, length};
+ghost use Rattle.std.specs.Prelude.{◌≡◌, ◌≢◌, ◌<◌, ◌^◌, ℕ, Bool, List, [], ◌∷◌, ◌++◌, length, AllPairs};
 ghost use Rattle.rd_detect.specs.Detect.{DetectorStandsFor};
 ghost use Rattle.rd_detect_trials.specs.Courses.{IsNext, MayHappenNext, Stands};
+ghost use Rattle.rd_ecl.specs.Kinds.{kind_names, kinds_of};
 ghost use Rattle.rd_ecl.specs.Specified.{SpecifiedKind};
 ghost use Rattle.rd_event.specs.declared.events.Event.{Event as EventOf};
 ghost use Rattle.rd_event.specs.declared.items.Line.{Line as LineOf};
 ghost use Rattle.rd_hb.specs.Tracker.{TrackerStandsFor};
-ghost use Rattle.rd_kinds.specs.Shipped.{shipped_kinds};
 ghost use Rattle.rd_order.specs.EventLists.{threads_after};
 
 use rd_base::{Limits, Steps};
@@ -15,7 +15,6 @@ use rd_detect::{Detector, law_of_detectors};
 use rd_ecl::Spec;
 use rd_event::{Event, Line};
 use rd_hb::Tracker;
-use rd_kinds::law_of_shipped_kinds;
 use rd_store::Race;
 use rd_wf::{Accepted, Roster, WfRefused};
 use std::alloc::Global;
@@ -112,9 +111,9 @@ impl Model for Course {
 impl Course {
     /// No line.
     pub fn new(rt: &impl Abort, alloc: Global, spec: &Spec) -> Course
-        requires { spec.now ≡ shipped_kinds }
+        requires few { length spec.now < 2 ^ 32 }
+        requires different { AllPairs (λ x y. x ≢ y) (kind_names (kinds_of spec.now)) }
     {
-        law_of_shipped_kinds();
         let roster = Roster::new(alloc, spec).expect(rt, "memory");
         Course {
             roster: Box::new(alloc, roster).expect(rt, "memory"),

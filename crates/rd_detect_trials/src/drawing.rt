@@ -1,12 +1,15 @@
 //! Lines that are drawn.
 
+use crate::kinds::SHIPPED;
 use std::process::Abort;
 
-/// Of what the events of a trace are drawn: how many threads there may be, how many keys, and one in how many events is a join.
+/// Of what the events of a trace are drawn: how many threads there may be, how many keys, how many kinds of objects from the first on, and one
+/// in how many events is a join.
 #[derive(Clone, Copy)]
 pub struct Sizes {
     pub threads: u32,
     pub keys: u32,
+    pub kinds: u32,
     pub joins: u32,
 }
 
@@ -82,8 +85,42 @@ fn append_counter(rt: &impl Abort, text: &mut String, random: &mut Random) {
     }
 }
 
-// A call of one of the objects, mostly of those that have keys.
-fn append_call(rt: &impl Abort, text: &mut String, random: &mut Random, keys: u32) {
+// A value: nil, a truth value, a text, or mostly one of so many integers.
+fn append_value(rt: &impl Abort, text: &mut String, random: &mut Random, integers: u32) {
+    let integer = random.below(integers);
+    match random.below(12) {
+        0 => append(rt, text, "nil"),
+        1 => append(rt, text, "true"),
+        2 => append(rt, text, "\"a b\""),
+        3 => append(rt, text, "\"\""),
+        _ => write!(text, "{integer}").expect(rt, "memory"),
+    }
+}
+
+// Calls of the objects of the kinds of the specification. A value comes for each question mark, and behind the end.
+const SPECIFIED: [&str; 8] = [
+    "o4 move ? ? -> ",
+    "o4 look ? -> ",
+    "o5 raise ? ? -> ",
+    "o5 read ? -> ",
+    "o5 reset -> ",
+    "o6 open -> ",
+    "o6 close -> ",
+    "o7 link ? ? -> ",
+];
+
+// One of them.
+fn append_specified(rt: &impl Abort, text: &mut String, random: &mut Random, integers: u32) {
+    let number = random.below(8) as usize;
+    let call = SPECIFIED.get(number).copied().expect(rt, "a call");
+    for part in call.split('?') {
+        append(rt, text, part);
+        append_value(rt, text, random, integers);
+    }
+}
+
+// A call of one of the objects of the kinds that are built in, mostly of those that have keys.
+fn append_shipped(rt: &impl Abort, text: &mut String, random: &mut Random, keys: u32) {
     let key = random.below(keys);
     match random.below(8) {
         0 => append_register(rt, text, random),
@@ -93,9 +130,21 @@ fn append_call(rt: &impl Abort, text: &mut String, random: &mut Random, keys: u3
     }
 }
 
-/// The lines before the roots, with a semicolon between two.
+// A call of one of the objects.
+fn append_call(rt: &impl Abort, text: &mut String, random: &mut Random, sizes: Sizes) {
+    if random.below(sizes.kinds) < SHIPPED {
+        append_shipped(rt, text, random, sizes.keys);
+    } else {
+        append_specified(rt, text, random, sizes.keys);
+    }
+}
+
+/// The lines before the roots, with a semicolon between two: an object of each kind that is built in.
 pub const HEAD: &str =
     "rdtrace 1;object o0 dictionary;object o1 set;object o2 register;object o3 counter";
+
+/// What stands behind these lines for an object of each other kind.
+pub const MORE_OBJECTS: &str = ";object o4 pair;object o5 level;object o6 gate;object o7 link";
 
 /// An event, or a call with a lock taken before it and given back after it, with a semicolon between two. Each may follow or not.
 pub fn append_events(rt: &impl Abort, text: &mut String, random: &mut Random, sizes: Sizes) {
@@ -110,12 +159,12 @@ pub fn append_events(rt: &impl Abort, text: &mut String, random: &mut Random, si
         3 | 4 => write!(text, "release t{thread} l{lock}").expect(rt, "memory"),
         5..=9 => {
             write!(text, "acquire t{thread} l{lock};call t{thread} ").expect(rt, "memory");
-            append_call(rt, text, random, sizes.keys);
+            append_call(rt, text, random, sizes);
             write!(text, ";release t{thread} l{lock}").expect(rt, "memory");
         }
         _ => {
             write!(text, "call t{thread} ").expect(rt, "memory");
-            append_call(rt, text, random, sizes.keys);
+            append_call(rt, text, random, sizes);
         }
     }
 }

@@ -8,6 +8,8 @@ mod course;
 #[cfg(test)]
 mod drawing;
 #[cfg(test)]
+mod kinds;
+#[cfg(test)]
 mod listing;
 #[cfg(test)]
 mod random;

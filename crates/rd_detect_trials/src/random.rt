@@ -1,7 +1,8 @@
 //! Traces that are drawn: at each call both detectors name the same earlier call.
 ghost use Rattle.std.specs.Prelude.{◌≡◌, ◌<◌};
 
-use crate::drawing::{HEAD, Random, Sizes, append_events};
+use crate::drawing::{HEAD, MORE_OBJECTS, Random, Sizes, append_events};
+use crate::kinds::{ALL, SHIPPED};
 use crate::trial::{Taken, Trial};
 use rd_base::Steps;
 use std::alloc::Global;
@@ -9,19 +10,34 @@ use std::marker::Brand;
 use std::process::Abort;
 use std::sync::ledger::{Blank, Ledger};
 
-// How many calls raced, how many didn't, and behind how many there were fewer cells than before.
-#[derive(Drop)]
-struct Tally {
+// How many calls raced, and how many didn't.
+#[derive(Clone, Copy)]
+struct Count {
     races: u32,
     quiet: u32,
+}
+
+impl Count {
+    // Counts a call.
+    fn add(&mut self, is_race: bool) {
+        self.races = self.races.wrapping_add(u32::from(is_race));
+        self.quiet = self.quiet.wrapping_add(u32::from(!is_race));
+    }
+}
+
+// The calls of objects of each kind, and behind how many calls there were fewer cells than before.
+#[derive(Drop)]
+struct Tally {
+    kinds: [Count; ALL as usize],
     sweeps: u32,
 }
 
 impl Tally {
-    // Counts a call.
-    fn add(&mut self, is_race: bool, before: u128, after: u128) {
-        self.races = self.races.wrapping_add(u32::from(is_race));
-        self.quiet = self.quiet.wrapping_add(u32::from(!is_race));
+    // Counts a call of an object of this kind.
+    fn add(&mut self, kind: u32, is_race: bool, before: u128, after: u128) {
+        if let Some(count) = self.kinds.get_mut(kind as usize) {
+            count.add(is_race);
+        }
         self.sweeps = self.sweeps.wrapping_add(u32::from(after < before));
     }
 }
@@ -35,8 +51,8 @@ fn takes<L: Ledger>(
     steps: &mut Steps<L>,
 ) {
     let before = trial.cells();
-    if let Taken::Call(race) = trial.take(rt, line, steps) {
-        tally.add(race.is_some(), before, trial.cells());
+    if let Taken::Call(kind, race) = trial.take(rt, line, steps) {
+        tally.add(kind, race.is_some(), before, trial.cells());
     }
 }
 
@@ -57,17 +73,33 @@ fn draws<L: Ledger>(
     }
 }
 
+// What traces are drawn: with so many roots, so many threads or up to so many more, so many keys, objects of so many kinds from the first on,
+// one in so many events a join, and of so many lines, each of which may follow or not.
+#[derive(Clone, Copy)]
+struct Batch {
+    roots: u32,
+    threads: u32,
+    more: u32,
+    keys: u32,
+    kinds: u32,
+    joins: u32,
+    lines: u32,
+}
+
 // Takes the lines before the events.
 fn begins<L: Ledger>(
     rt: &impl Abort,
     alloc: Global,
     trial: &mut Trial,
-    roots: u32,
+    batch: Batch,
     steps: &mut Steps<L>,
 ) {
     let mut lines = String::new(alloc);
     lines.push_str(HEAD).expect(rt, "memory");
-    for root in 0..roots {
+    if batch.kinds > SHIPPED {
+        lines.push_str(MORE_OBJECTS).expect(rt, "memory");
+    }
+    for root in 0..batch.roots {
         write!(lines, ";thread t{root}").expect(rt, "memory");
     }
     for line in lines.as_str().split(';') {
@@ -76,18 +108,6 @@ fn begins<L: Ledger>(
             "{line}"
         );
     }
-}
-
-// What traces are drawn: with so many roots, so many threads or up to so many more, so many keys, one in so many events a join, and of so many
-// lines, each of which may follow or not.
-#[derive(Clone, Copy)]
-struct Batch {
-    roots: u32,
-    threads: u32,
-    more: u32,
-    keys: u32,
-    joins: u32,
-    lines: u32,
 }
 
 // The next trace.
@@ -103,16 +123,30 @@ fn is_agreed<L: Ledger>(
     let sizes = Sizes {
         threads: batch.threads.wrapping_add(more),
         keys: batch.keys,
+        kinds: batch.kinds,
         joins: batch.joins,
     };
     let mut trial = Trial::new(rt, alloc);
-    begins(rt, alloc, &mut trial, batch.roots, steps);
+    begins(rt, alloc, &mut trial, batch, steps);
     for _ in 0..batch.lines {
         draws(rt, alloc, &mut trial, random, sizes, tally, steps);
     }
 }
 
-// So many traces. At least so many calls race, as many don't, and so many leave fewer cells than there were.
+// Of objects of each of the kinds so many calls race at least, and as many don't.
+fn are_enough(rt: &impl Abort, tally: &Tally, kinds: u32, wanted: u32) {
+    let mut kind = 0u32;
+    for count in tally.kinds.iter().take(kinds as usize) {
+        let (races, quiet) = (count.races, count.quiet);
+        assert!(rt;
+            races >= wanted && quiet >= wanted,
+            "kind {kind}: {races} races, {quiet} calls that don't race"
+        );
+        kind = kind.wrapping_add(1);
+    }
+}
+
+// So many traces. Of objects of each kind so many calls race at least, as many don't, and so many leave fewer cells than there were.
 fn are_agreed<L: Ledger>(
     rt: &impl Abort,
     alloc: Global,
@@ -128,18 +162,15 @@ fn are_agreed<L: Ledger>(
     let mut steps = Steps::<L>::new(blank);
     let mut random = Random { state: batch.lines };
     let mut tally = Tally {
-        races: 0,
-        quiet: 0,
+        kinds: [Count { races: 0, quiet: 0 }; ALL as usize],
         sweeps: 0,
     };
     for _ in 0..traces {
         is_agreed(rt, alloc, &mut random, batch, &mut tally, &mut steps);
     }
-    let (races, quiet, sweeps) = (tally.races, tally.quiet, tally.sweeps);
-    assert!(rt;
-        races >= wanted.0 && quiet >= wanted.0 && sweeps >= wanted.1,
-        "{races} races, {quiet} calls that don't race, {sweeps} sweeps"
-    );
+    are_enough(rt, &tally, batch.kinds, wanted.0);
+    let sweeps = tally.sweeps;
+    assert!(rt; sweeps >= wanted.1, "{sweeps} sweeps");
 }
 
 fn tries(rt: &impl Abort, alloc: Global, batch: Batch, traces: u32, wanted: (u32, u32)) {
@@ -153,10 +184,11 @@ fn few_keys(rt: HostRuntime) {
         threads: 2,
         more: 4,
         keys: 3,
+        kinds: SHIPPED,
         joins: 16,
         lines: 100,
     };
-    tries(&rt, rt.alloc(), batch, 500, (1_000, 0));
+    tries(&rt, rt.alloc(), batch, 400, (150, 0));
 }
 
 #[test]
@@ -166,10 +198,11 @@ fn many_keys(rt: HostRuntime) {
         threads: 2,
         more: 4,
         keys: 60,
+        kinds: SHIPPED,
         joins: 64,
         lines: 500,
     };
-    tries(&rt, rt.alloc(), batch, 300, (5_000, 200));
+    tries(&rt, rt.alloc(), batch, 200, (1_500, 300));
 }
 
 #[test]
@@ -179,8 +212,37 @@ fn many_threads(rt: HostRuntime) {
         threads: 40,
         more: 0,
         keys: 30,
+        kinds: SHIPPED,
         joins: 16,
         lines: 1500,
     };
-    tries(&rt, rt.alloc(), batch, 200, (5_000, 50));
+    tries(&rt, rt.alloc(), batch, 100, (300, 50));
+}
+
+#[test]
+fn specified_kinds(rt: HostRuntime) {
+    let batch = Batch {
+        roots: 2,
+        threads: 2,
+        more: 4,
+        keys: 3,
+        kinds: ALL,
+        joins: 16,
+        lines: 150,
+    };
+    tries(&rt, rt.alloc(), batch, 200, (40, 20));
+}
+
+#[test]
+fn specified_kinds_with_many_keys(rt: HostRuntime) {
+    let batch = Batch {
+        roots: 2,
+        threads: 2,
+        more: 4,
+        keys: 40,
+        kinds: ALL,
+        joins: 64,
+        lines: 500,
+    };
+    tries(&rt, rt.alloc(), batch, 100, (100, 200));
 }

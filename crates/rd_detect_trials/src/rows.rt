@@ -12,7 +12,7 @@ use std::sync::ledger::{Blank, Ledger};
 // What a trace shows, its lines with a semicolon between two, and for each call the line of the earlier one that is named, or 0 where none is.
 type Row = (&'static str, &'static str, &'static [u64]);
 
-const ROWS: [Row; 15] = [
+const ROWS: [Row; 19] = [
     (
         "different keys",
         "rdtrace 1;thread main;object d dictionary;fork main a;fork main b;call a d put \"x\" 1 -> nil;call b d put \"y\" 2 -> nil;join main a;join main b;call main d size -> 2",
@@ -88,6 +88,26 @@ const ROWS: [Row; 15] = [
         "rdtrace 1;thread p;thread q;object s set;call p s add 1 -> true;call q s remove 1 -> true;call q s size -> 0;call p s contains 1 -> false",
         &[0, 5, 5, 6],
     ),
+    (
+        "calls with one value at different slots",
+        "rdtrace 1;thread p;thread q;object x pair;call p x move 1 2 -> nil;call q x move 3 4 -> nil;call q x move 2 3 -> nil;call q x look 1 -> nil;call p x look 3 -> nil",
+        &[0, 0, 5, 5, 7],
+    ),
+    (
+        "slots that are compared with constants",
+        "rdtrace 1;thread p;thread q;object x level;call p x raise 1 0 -> nil;call q x raise 1 3 -> nil;call q x read 1 -> nil;call p x read 1 -> 5;call p x reset -> nil;call q x reset -> nil",
+        &[0, 5, 0, 6, 6, 9],
+    ),
+    (
+        "methods that never commute, or always",
+        "rdtrace 1;thread p;thread q;object x gate;call p x open -> nil;call q x open -> nil;call q x close -> true;call p x close -> true;call p x close -> false",
+        &[0, 0, 5, 6, 7],
+    ),
+    (
+        "a formula that holds in one direction",
+        "rdtrace 1;thread p;thread q;object x link;call p x link 1 2 -> true;call q x link 2 3 -> true;call q x link 3 1 -> true;call p x link 3 4 -> nil;call p x link 3 4 -> true",
+        &[0, 5, 5, 0, 6],
+    ),
 ];
 
 // The race, where there is one, has its later call on this line and its earlier one on that, or there is none and that is 0.
@@ -109,7 +129,7 @@ fn is_answered<L: Ledger>(rt: &impl Abort, alloc: Global, row: Row, steps: &mut 
         match trial.take(rt, line, steps) {
             Taken::Refused => assert!(rt; false, "{name}: {line}"),
             Taken::Quiet => {}
-            Taken::Call(race) => {
+            Taken::Call(_, race) => {
                 let earlier = wanted.get(calls).copied().expect(rt, "a call of the row");
                 assert!(rt; is_between(&race, number, earlier), "{name}: {line}");
                 calls = calls.wrapping_add(1);

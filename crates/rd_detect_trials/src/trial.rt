@@ -1,11 +1,11 @@
 //! A trace that is given to the detector and to the slow one.
 
 use crate::course::{Course, Told};
+use crate::kinds::all_kinds;
 use crate::listing::{Found, Listing};
 use rd_base::Steps;
 use rd_ecl::Spec;
 use rd_event::{Call, Event, read_line};
-use rd_kinds::shipped;
 use rd_store::Race;
 use rd_wf::Accepted;
 use std::alloc::Global;
@@ -19,11 +19,11 @@ pub enum Taken {
     Refused,
     /// it is no call
     Quiet,
-    /// it is a call, and the detector answered this
-    Call(Option<Race>),
+    /// it is a call of an object of the kind with this number, and the detector answered that
+    Call(u32, Option<Race>),
 }
 
-/// The lines so far, whose objects are of the kinds that are built in, as both detectors keep them.
+/// The lines so far, whose objects are of all the kinds, as both detectors keep them.
 #[derive(Drop)]
 pub struct Trial {
     alloc: Global,
@@ -44,7 +44,7 @@ fn found(race: &Option<Race>) -> Option<Found> {
 impl Trial {
     /// No line.
     pub fn new(rt: &impl Abort, alloc: Global) -> Trial {
-        let spec = shipped(alloc).expect(rt, "memory");
+        let spec = all_kinds(rt, alloc);
         let course = Course::new(rt, alloc, &spec);
         Trial {
             alloc,
@@ -82,7 +82,7 @@ impl Trial {
             return Taken::Quiet;
         };
         self.is_agreed(rt, &call, &told, steps);
-        Taken::Call(told.race)
+        Taken::Call(call.kind, told.race)
     }
 
     /// How many cells the detector has.

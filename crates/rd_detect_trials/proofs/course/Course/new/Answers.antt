@@ -1,14 +1,9 @@
-use Rattle.std.proofs.Common.{◌≢◌, [], subst, sym}
-use Rattle.std.specs.Prelude.{AllPairs}
-use Rattle.rd_ecl.specs.Kinds.{kind_names, kinds_of}
+use Rattle.std.proofs.Common.{[], subst, sym}
+use Rattle.rd_ecl.specs.Kinds.{kinds_of}
 use Rattle.rd_wf.specs.Roster.{RosterStandsFor}
 use Rattle.rd_detect_trials.proofs.CourseLemmas.{if_ok}
 use Rattle.rd_detect_trials.proofs.LineLemmas.{stands_none}
 use Rattle.rd_detect_trials.proofs.course.Course.new.Goals as goal
-
-pub new-requires-clause-different : goal.new-requires-clause-different
-new-requires-clause-different g c =
-    subst (λ kinds. AllPairs (λ x y. x ≢ y) (kind_names (kinds_of kinds))) (sym c.requires) c.law_of_shipped_kinds.ensures.different_in_traces
 
 pub invariant_of-result : goal.invariant_of-result
 invariant_of-result g c = record {
