@@ -8,7 +8,7 @@ use Rattle.rd_order.proofs.OrderLemmas.{at_end, at_front, length_more}
 use Rattle.rd_points.specs.declared.points.Point.{Point}
 use Rattle.rd_store.specs.Stores.{HasRoom, IsSameStore, PointCells, cell_at, cell_of, point_at}
 use Rattle.rd_store.specs.declared.Witness.{Witness}
-use Rattle.rd_detect.specs.Detect.{AreBelow, Detecting, IsLatestOf, IsUncovered, IsUntaken}
+use Rattle.rd_detect.specs.Detect.{AreBelow, IsLatestOf, IsUncovered}
 use Rattle.rd_detect.specs.Seats.{AreSeats}
 use Rattle.rd_detect.proofs.WitnessLemmas.{at_more}
 
@@ -74,15 +74,6 @@ seats_more old new thread points seats point index same stay entered room was = 
     | inl before ↦ room_same old new thread other same (was.room other before)
     | inr last ↦ subst (HasRoom new thread) last room
   ];
-}
-
--- ---- what a call leaves
-
-pub untaken_joined : (old middle new : Detecting) → IsUntaken old middle → IsUntaken middle new → IsUntaken old new
-untaken_joined old middle new one other = record {
-  tables = other.tables ∙ one.tables;
-  store = same_joined old.store middle.store new.store one.store other.store;
-  kept = other.kept ∙ one.kept;
 }
 
 -- ---- the index of a point

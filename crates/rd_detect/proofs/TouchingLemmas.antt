@@ -20,15 +20,6 @@ same_or_other told a b = elim (cases_Bool (same_point a b)) [
   | inr other ↦ inr (λ is. true≢false (sym ((told a b).1 is) ∙ other))
 ]
 
--- a store that holds nothing new of no points
-pub touched_none : (store : List PointCells) (thread : ℕ) (witness : Witness) → AreTouched store store [] thread witness
-touched_none store thread witness = record {
-  own = λ point has. absurd (omega (arith, has.1));
-  rest = λ point. inr refl;
-  others = λ point other differ. refl;
-  count = omega arith;
-}
-
 few_new : (b : Bool) → (if b then 0 else 1) ≤ 1
 few_new true = omega arith
 few_new false = omega arith
@@ -59,16 +50,6 @@ module _ (told : PointsTold) (old middle new : List PointCells) (point : Point) 
     ];
     count = omega (arith, touched.count, before.count, few_new (is_some (cell_at middle point thread)), length_more done point);
   }
-
-  -- the cells are of threads below a number
-  pub below_more : (threads : ℕ) → thread < threads → AreBelow threads middle → AreBelow threads new
-  below_more threads own below other one seen cell = elim (same_or_other told other point) [
-    | inl same ↦ elim (cases_eq one thread) [
-      | inl mine ↦ omega (arith, own, mine)
-      | inr differ ↦ below point one seen (sym (touched.others one differ) ∙ ap (λ p. cell_at new p one) (sym same) ∙ cell)
-    ]
-    | inr differ ↦ below other one seen (sym (elsewhere other one differ) ∙ cell)
-  ]
 
   -- where there was room there is
   pub room_more : (other : Point) → HasRoom middle thread other → HasRoom new thread other
