@@ -1,13 +1,11 @@
 -- The test of a name.
-use Rattle.std.proofs.Common.{◌≡◌, ℕ, zero, suc, ◌+◌, ◌<◌, ◌≤◌, Bool, true, false, not, cond, nat_lt, Option, Some, None, ◌&&◌, List, [], ◌∷◌, length, get_or, leb, arith, ap, ◌∙◌, refl, Decides}
-use Rattle.std.specs.Bool.{beq}
-use Rattle.std.specs.Cmp.{booleans_Decides}
+use Rattle.std.proofs.Common.{◌≡◌, ℕ, ◌<◌, ◌≤◌, Bool, true, false, not, cond, nat_lt, Option, Some, None, List, [], ◌∷◌, length, get_or, leb, arith, refl, Decides}
 use Rattle.std.specs.List.{AllPass, position, prefix_len, position_or_len}
-use Rattle.std.proofs.lemmas.Bool.{and_parts}
 use Rattle.std.proofs.lemmas.Bool.Decides.{Decides-and, Decides-ltb, Decides-like, nat_tests}
 use Rattle.std.proofs.lemmas.List.Sums.{AllPass-from_list_all, list_all-from_AllPass, prefix_len-le-length, prefix_len_passes, prefix_len_stops}
 use Rattle.rd_base.specs.declared.limits.TheConstants.{MOST_NAME_BYTES}
 use Rattle.rd_base.specs.declared.names.TheConstants.{NAME_BYTES}
+use Rattle.rd_base.proofs.TableLemmas.{agree, flag_of_byte}
 use Rattle.rd_base.specs.Names.{IsName, is_name, is_name_byte}
 
 few_decides : (bytes : List ℕ) → Decides (leb (length bytes) MOST_NAME_BYTES) (length bytes ≤ MOST_NAME_BYTES)
@@ -22,30 +20,12 @@ is_name_decides bytes =
     (Decides-and _ _ (Decides-ltb 0 (length bytes)) (Decides-and _ _ (few_decides bytes)
     (AllPass-from_list_all is_name_byte bytes, list_all-from_AllPass is_name_byte bytes)))
 
--- the flags of the bytes from one on tell which are bytes of a name
-unfoldable agree : ℕ → List Bool → Bool
-agree first [] = true
-agree first (flag ∷ flags) = beq flag (is_name_byte first) && agree (first + 1) flags
-
-flag_at : (flags : List Bool) (first place : ℕ) (default : Bool) → agree first flags ≡ true → place < length flags
-    → get_or flags place default ≡ is_name_byte (first + place)
+name_bytes_agree : agree is_name_byte 0 NAME_BYTES ≡ true
 unfolding agree
-flag_at [] first place default all inside = absurd (omega arith)
-flag_at (flag ∷ flags) first zero default all inside =
-    let here : first ≡ first + 0 = omega arith in
-    (booleans_Decides flag (is_name_byte first)).0 (and_parts _ _ all).0 ∙ ap is_name_byte here
-flag_at (flag ∷ flags) first (suc place) default all inside =
-    let there : first + 1 + place ≡ first + suc place = omega arith in
-    flag_at flags (first + 1) place default (and_parts _ _ all).1 (omega arith) ∙ ap is_name_byte there
-
-table_agrees : agree 0 NAME_BYTES ≡ true
-unfolding agree
-table_agrees = refl
+name_bytes_agree = refl
 
 pub name_byte_at : (byte : ℕ) (default : Bool) → byte < 256 → get_or NAME_BYTES byte default ≡ is_name_byte byte
-name_byte_at byte default small =
-    let there : 0 + byte ≡ byte = omega arith in
-    flag_at NAME_BYTES 0 byte default table_agrees small ∙ ap is_name_byte there
+name_byte_at = flag_of_byte is_name_byte NAME_BYTES name_bytes_agree
 
 -- the first byte that fails a test, as `position` looks for it
 not_twice : (test : Bool) → not (not test) ≡ test

@@ -1,14 +1,16 @@
 -- Texts and their spellings.
-use Rattle.std.proofs.Common.{◌≡◌, ℕ, zero, suc, ◌-◌, ◌/◌, ◌%◌, ◌<◌, ◌≤◌, ◌≢◌, true, false, ne_eqb, leb-true, get_or, nat_eq, inl, inr, List, [], ◌∷◌, ◌++◌, length, take, drop, refl, sym, ◌∙◌, ap, subst, Option, Some, None, option_map, arith, length-append, take-append-drop, append_assoc, append-nil, take_at, drop_at, zero-le}
+use Rattle.std.proofs.Common.{◌≡◌, ℕ, zero, suc, ◌-◌, ◌/◌, ◌%◌, ◌<◌, ◌≤◌, ◌≢◌, Bool, true, false, not, eqb, ne_eqb, leb-true, get_or, nat_eq, inl, inr, List, [], ◌∷◌, ◌++◌, length, take, drop, refl, sym, ◌∙◌, ap, subst, Option, Some, None, option_map, arith, length-append, take-append-drop, append_assoc, append-nil, take_at, drop_at, zero-le}
 use Rattle.std.specs.Fmt.{digit_glyph}
-use Rattle.std.specs.List.{AllByRecursion, starts_with}
+use Rattle.std.specs.List.{AllByRecursion, starts_with, list_all}
 use Rattle.std.specs.Cmp.Lexicographic.{bytes_decides}
 use Rattle.std.proofs.lemmas.Bool.{cases_Bool, cases_lt, and_parts}
 use Rattle.std.proofs.lemmas.Bool.Decides.{eqb_tells, nat_tests}
 use Rattle.std.proofs.lemmas.List.{nil_from_length, take_all}
 use Rattle.std.proofs.lemmas.Option.{cond_some, same_Some, none-some, option_and_then_some}
+use Rattle.rd_base.specs.declared.spelling.TheConstants.{STANDING}
+use Rattle.rd_base.proofs.TableLemmas.{agree, flag_of_byte}
 use Rattle.rd_base.specs.Spelling.{is_plain, byte_spelling, bytes_spelling}
-use Rattle.rd_base.specs.ReadingValues.{hex_value, first_byte, next_of, inside_of}
+use Rattle.rd_base.specs.ReadingValues.{hex_value, first_byte, stands, next_of, inside_of}
 
 -- a hexadecimal digit gives its value back
 hex_back : (digit : ℕ) → digit < 16 → hex_value (digit_glyph false digit) ≡ digit
@@ -88,14 +90,35 @@ plain_spelling : (byte : ℕ) → is_plain byte ≡ true → byte ≢ 34 → byt
 unfolding byte_spelling
 plain_spelling byte plain no_quote no_slash = rw (ne_eqb byte 34 no_quote, ne_eqb byte 92 no_slash, plain) refl
 
-pub next_standing : (bytes : List ℕ) → 1 ≤ length bytes → is_plain (get_or bytes 0 0) ≡ true → get_or bytes 0 0 ≢ 34
-    → get_or bytes 0 0 ≢ 92 → next_of bytes ≡ Some (get_or bytes 0 0, take (length bytes - 1) (drop 1 bytes))
-next_standing [] some plain no_quote no_slash = absurd (omega arith)
-next_standing (byte ∷ after) some plain no_quote no_slash =
-    let small : byte < 256 = omega (arith, leb-true byte 126 (and_parts _ _ plain).1) in
+plain_is_small : (byte : ℕ) → is_plain byte ≡ true → byte < 256
+plain_is_small byte plain = omega (arith, leb-true byte 126 (and_parts _ _ plain).1)
+
+not_this : (byte other : ℕ) → not (eqb byte other) ≡ true → byte ≢ other
+not_this byte other apart = λ same. grind (arith, nat_tests)
+
+-- the table tells which bytes stand
+standing_agrees : agree stands 0 STANDING ≡ true
+unfolding agree
+standing_agrees = refl
+
+pub standing_at : (byte : ℕ) (default : Bool) → byte < 256 → get_or STANDING byte default ≡ stands byte
+standing_at = flag_of_byte stands STANDING standing_agrees
+
+-- a byte that stands is read in one step
+next_standing : (byte : ℕ) (after : List ℕ) → stands byte ≡ true → next_of (byte ∷ after) ≡ Some (byte, after)
+next_standing byte after standing =
+    let parts = and_parts _ _ standing in
+    let others = and_parts _ _ parts.1 in
+    ap (λ spelled. next_of (spelled ++ after)) (sym (plain_spelling byte parts.0 (not_this byte 34 others.0) (not_this byte 92 others.1)))
+    ∙ next_found byte after (plain_is_small byte parts.0)
+
+-- the same of a list that begins so
+pub next_of_standing : (bytes : List ℕ) → 1 ≤ length bytes → stands (get_or bytes 0 0) ≡ true
+    → next_of bytes ≡ Some (get_or bytes 0 0, take (length bytes - 1) (drop 1 bytes))
+next_of_standing [] some standing = absurd (omega arith)
+next_of_standing (byte ∷ after) some standing =
     let rest : take (suc (length after) - 1) after ≡ after = take_all (suc (length after) - 1) after (omega arith) in
-    ap (λ spelled. next_of (spelled ++ after)) (sym (plain_spelling byte plain no_quote no_slash))
-    ∙ next_found byte after small ∙ ap (λ others. Some (byte, others)) (sym rest)
+    next_standing byte after standing ∙ ap (λ others. Some (byte, others)) (sym rest)
 
 -- one more byte of a text
 next_inside : (room : ℕ) (bytes : List ℕ) (byte : ℕ) (after : List ℕ) → 0 < length bytes → next_of bytes ≡ Some (byte, after)
@@ -103,6 +126,19 @@ next_inside : (room : ℕ) (bytes : List ℕ) (byte : ℕ) (after : List ℕ) �
 unfolding inside_of
 next_inside room [] byte after some next = absurd (omega arith)
 next_inside room (b ∷ bytes) byte after some next = rw next refl
+
+-- bytes that all stand for themselves are a text
+standing_inside : (bytes : List ℕ) (room : ℕ) → length bytes ≤ room → list_all stands bytes ≡ true → inside_of room bytes ≡ Some bytes
+unfolding inside_of
+standing_inside [] room few all = refl
+standing_inside (byte ∷ bytes) zero few all = absurd (omega arith)
+standing_inside (byte ∷ bytes) (suc room) few all =
+    let parts = and_parts _ _ all in
+    next_inside room (byte ∷ bytes) byte bytes (omega arith) (next_standing byte bytes parts.0)
+    ∙ ap (option_map (λ text. byte ∷ text)) (standing_inside bytes room (omega arith) parts.1)
+
+pub inside_standing : (bytes : List ℕ) → length bytes ≤ 255 → list_all stands bytes ≡ true → inside_of 255 bytes ≡ Some bytes
+inside_standing bytes few all = standing_inside bytes 255 few all
 
 -- a text is found in its spelling
 pub inside_found : (text : List ℕ) (room : ℕ) → length text ≤ room → AllByRecursion (λ b. b < 256) text

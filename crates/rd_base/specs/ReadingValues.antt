@@ -1,5 +1,5 @@
 -- The value that bytes spell, computed: this project's profile.
-use Rattle.std.specs.Prelude.{ℕ, zero, suc, ◌+◌, ◌-◌, ◌*◌, ◌^◌, ◌==◌, ◌&&◌, Bool, true, false, nat_eq, nat_lt, nat_le, if◌then◌else◌, List, [], ◌∷◌, length, drop, slice_index, slice_range, codes, ℤ, pos, negsuc, Option, Some, None}
+use Rattle.std.specs.Prelude.{ℕ, zero, suc, ◌+◌, ◌-◌, ◌*◌, ◌^◌, ◌==◌, ◌&&◌, Bool, true, false, not, nat_eq, nat_lt, nat_le, if◌then◌else◌, List, [], ◌∷◌, length, drop, slice_index, slice_range, codes, ℤ, pos, negsuc, Option, Some, None}
 use Rattle.std.specs.Fmt.{signed_decimal}
 use Rattle.std.specs.List.{starts_with}
 use Rattle.std.specs.Option.{option_map, option_and_then}
@@ -7,7 +7,7 @@ use Rattle.std.specs.Str.{bytes_eq}
 use Rattle.std.specs.Str.Parse.{signed_digits_value}
 use Rattle.rd_base.specs.declared.values.Value.{Value}
 use Rattle.rd_base.specs.declared.values.Value.TheVariants.{Nil, Bool as Truth, Int, Text}
-use Rattle.rd_base.specs.Spelling.{byte_spelling}
+use Rattle.rd_base.specs.Spelling.{is_plain, byte_spelling}
 use Rattle.rd_base.specs.Bytes.{quote, backslash, letter_x}
 
 -- a number of 64 bits with a sign
@@ -37,6 +37,10 @@ byte_behind_slash bytes =
 -- if the bytes begin with the spelling of a byte, that byte
 unfoldable pub first_byte : List ℕ → ℕ
 first_byte bytes = if slice_index bytes 0 == backslash then byte_behind_slash bytes else slice_index bytes 0
+
+-- a plain byte but `"` and `\`, which stands in a text as it is
+abbrev pub stands : ℕ → Bool
+stands b = is_plain b && (not (b == quote) && not (b == backslash))
 
 -- the byte whose spelling the bytes begin with, and the bytes behind it
 unfoldable pub next_of : List ℕ → Option (ℕ × List ℕ)

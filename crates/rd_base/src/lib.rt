@@ -2,6 +2,7 @@
 #![tactic(auto)]
 
 mod byte_lists;
+mod byte_order;
 mod counter;
 mod limits;
 mod memory;

@@ -1,12 +1,12 @@
 //! The spelling of values.
 ghost use Rattle.std.specs.Prelude.{◌≡◌, ◌≢◌, ◌<◌, ◌≤◌, ◌^◌, ◌++◌, ◌↔◌, [], ◌∷◌, ℕ, List, true, false, Option, Some, None, OnOk, OnErr, IfOk, IfErr, IfSome, IfNone, IsTrue, is_some, length, slice_index, nat_eq};
-ghost use Rattle.std.specs.List.{starts_with};
+ghost use Rattle.std.specs.List.{starts_with, list_all};
 ghost use Rattle.std.specs.Str.{bytes_eq};
 ghost use Rattle.std.specs.Fmt.{digit_glyph, decimal, signed_decimal};
 ghost use Rattle.std.specs.Option.{option_map};
 ghost use Rattle.rd_base.specs.declared.values.Value.{Value};
 ghost use Rattle.rd_base.specs.Spelling.{is_plain, byte_spelling, bytes_spelling, value_spelling, IsValue};
-ghost use Rattle.rd_base.specs.ReadingValues.{hex_value, first_byte, next_of, inside_of, integer_of, is_quoted, text_of, value_of};
+ghost use Rattle.rd_base.specs.ReadingValues.{hex_value, first_byte, stands, next_of, inside_of, integer_of, is_quoted, text_of, value_of};
 
 use crate::byte_lists::Bytes;
 use crate::memory::NoMemory;
@@ -172,12 +172,55 @@ fn first_byte(bytes: &[u8]) -> u8
     hex_value(at(bytes, 2)) * 16 + hex_value(at(bytes, 3))
 }
 
+// Which bytes stand in a text as they are.
+const STANDING: [bool; 256] = [
+    false, false, false, false, false, false, false, false, false, false, false, false, false,
+    false, false, false, false, false, false, false, false, false, false, false, false, false,
+    false, false, false, false, false, false, true, true, false, true, true, true, true, true,
+    true, true, true, true, true, true, true, true, true, true, true, true, true, true, true, true,
+    true, true, true, true, true, true, true, true, true, true, true, true, true, true, true, true,
+    true, true, true, true, true, true, true, true, true, true, true, true, true, true, true, true,
+    true, true, true, true, false, true, true, true, true, true, true, true, true, true, true,
+    true, true, true, true, true, true, true, true, true, true, true, true, true, true, true, true,
+    true, true, true, true, true, true, true, true, false, false, false, false, false, false,
+    false, false, false, false, false, false, false, false, false, false, false, false, false,
+    false, false, false, false, false, false, false, false, false, false, false, false, false,
+    false, false, false, false, false, false, false, false, false, false, false, false, false,
+    false, false, false, false, false, false, false, false, false, false, false, false, false,
+    false, false, false, false, false, false, false, false, false, false, false, false, false,
+    false, false, false, false, false, false, false, false, false, false, false, false, false,
+    false, false, false, false, false, false, false, false, false, false, false, false, false,
+    false, false, false, false, false, false, false, false, false, false, false, false, false,
+    false, false, false, false, false, false, false, false, false, false, false, false, false,
+    false, false, false, false, false, false,
+];
+
 // Does the byte stand in a text as it is?
 fn stands(byte: u8) -> bool
-    ensures plain { IsTrue result → is_plain byte ≡ true }
-    ensures other { IsTrue result → (byte ≢ 34) × (byte ≢ 92) }
+    ensures { result ≡ stands byte }
 {
-    is_plain(byte) && byte != b'"' && byte != b'\\'
+    STANDING[byte as usize]
+}
+
+// Does each of the bytes? With no way out before the end, several are looked up at a time.
+#[tactic(auto, using(std::proofs::lemmas::List::Folds::list_all_more, std::proofs::Common::take_all))]
+fn all_stand(bytes: &[u8]) -> bool
+    ensures { result ≡ list_all stands bytes.now }
+{
+    let mut all = true;
+    for byte in bytes {
+        all &= stands(*byte);
+    }
+    all
+}
+
+// Are the bytes, 255 at most, a text that is spelled as it is? Most texts are.
+#[tactic(auto, using(crate::proofs::TextLemmas::inside_standing))]
+fn are_own_spelling(bytes: &[u8]) -> bool
+    ensures text { IsTrue result → inside_of 255 bytes.now ≡ Some bytes.now }
+    ensures few { IsTrue result → length bytes.now ≤ 255 }
+{
+    bytes.len() <= LONGEST && all_stand(bytes)
 }
 
 // The byte whose spelling the bytes begin with, and the bytes behind it.
@@ -233,6 +276,33 @@ fn is_quoted(bytes: &[u8]) -> bool
     bytes.len() >= 2 && bytes[0] == b'"' && bytes[bytes.len() - 1] == b'"'
 }
 
+// The text of these bytes.
+fn text_with(alloc: Global, bytes: &[u8]) -> Result<Value, ValueRefused>
+    requires { length bytes.now ≤ 255 }
+    ensures ok { IfOk result (λ value. value ≡ Value.Text bytes.now) }
+    ensures err { IfErr result (λ e. e ≡ ValueRefused.NoMemory) }
+{
+    let Ok(text) = Text::from_bytes(alloc, bytes) else {
+        return Err(ValueRefused::NoMemory);
+    };
+    Ok(Value::Text(text))
+}
+
+// The text that the bytes between the quotes spell, byte by byte. It is apart since its list of 255 bytes is cleared at entry.
+#[inline(never)]
+fn escaped_text(alloc: Global, bytes: &[u8]) -> Result<Value, ValueRefused>
+    ensures found { IfOk result
+        (λ value. option_map (λ text. Value.Text text) (inside_of 255 bytes.now) ≡ Some value) }
+    ensures none { IfErr result (λ e. e ≡ ValueRefused.NotAValue → inside_of 255 bytes.now ≡ None) }
+    ensures memory { IfErr result
+        (λ e. e ≡ ValueRefused.NoMemory → (text : List ℕ) × (inside_of 255 bytes.now ≡ Some text)) }
+{
+    let Some(inside) = read_inside(bytes) else {
+        return Err(ValueRefused::NotAValue);
+    };
+    text_with(alloc, inside.as_slice())
+}
+
 // The text that the bytes spell, which begin and end with `"`.
 #[inline(never)]
 #[tactic(auto, unfolding(crate::specs::ReadingValues::value_of))]
@@ -244,13 +314,19 @@ fn text_value(alloc: Global, bytes: &[u8]) -> Result<Value, ValueRefused>
         (λ e. e ≡ ValueRefused.NoMemory → (text : List ℕ)
         × (text_of bytes.now ≡ Some (Value.Text text))) }
 {
-    let Some(inside) = read_inside(&bytes[1..bytes.len() - 1]) else {
-        return Err(ValueRefused::NotAValue);
-    };
-    let Ok(text) = Text::from_bytes(alloc, inside.as_slice()) else {
-        return Err(ValueRefused::NoMemory);
-    };
-    Ok(Value::Text(text))
+    let inside = &bytes[1..bytes.len() - 1];
+    if are_own_spelling(inside) {
+        return text_with(alloc, inside);
+    }
+    escaped_text(alloc, inside)
+}
+
+// Do the bytes between the quotes spell one? It is apart for the same reason.
+#[inline(never)]
+fn spell_inside(bytes: &[u8]) -> bool
+    ensures { result ≡ is_some (inside_of 255 bytes.now) }
+{
+    read_inside(bytes).is_some()
 }
 
 // Do the bytes, which begin and end with `"`, spell a text?
@@ -259,7 +335,8 @@ fn is_text(bytes: &[u8]) -> bool
     requires long { 2 ≤ length bytes.now }
     ensures { result ≡ is_some (text_of bytes.now) }
 {
-    read_inside(&bytes[1..bytes.len() - 1]).is_some()
+    let inside = &bytes[1..bytes.len() - 1];
+    are_own_spelling(inside) || spell_inside(inside)
 }
 
 /// Do the bytes spell a value? It takes no memory.

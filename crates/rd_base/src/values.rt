@@ -5,6 +5,7 @@ ghost use Rattle.rd_base.specs.declared.values.Value.{Value};
 ghost use Rattle.rd_base.specs.Order.{bytes_cmp, value_cmp};
 ghost use Rattle.rd_base.specs.Spelling.{IsText};
 
+use crate::byte_order::order;
 use crate::memory::{NoMemory, list_of_bytes};
 use crate::names::Name;
 use std::alloc::{AllocError, Global};
@@ -142,7 +143,7 @@ impl Ord for Text {
     ghost matches_eq = { texts_ties };
 
     fn cmp(&self, other: &Text) -> Ordering {
-        self.bytes.as_slice().cmp(&other.bytes.as_slice())
+        order(self.bytes.as_slice(), other.bytes.as_slice())
     }
 }
 

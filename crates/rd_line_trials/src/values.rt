@@ -148,24 +148,29 @@ fn refuses_what_spells_no_value(rt: HostRuntime) {
     assert!(rt; is_refused(rt.alloc(), b"\xff"));
 }
 
-// The spelling of a text of 255 bytes, each 255, with what stands behind them.
-fn long_spelling(rt: &impl Abort, alloc: Global, last: &[u8]) -> Bytes {
+// The spelling of a text of 255 bytes, of which each has this one, with what stands behind them.
+fn long_spelling(rt: &impl Abort, alloc: Global, each: &[u8], last: &[u8]) -> Bytes {
     let mut bytes = Bytes::new(alloc);
     bytes.append(b"\"").expect(rt, "memory");
     for _ in 0..255 {
-        bytes.append(b"\\xff").expect(rt, "memory");
+        bytes.append(each).expect(rt, "memory");
     }
     bytes.append(last).expect(rt, "memory");
     bytes
 }
 
+// Is a text of 255 such bytes read, and one of a byte more refused?
+fn at_most_255(rt: &impl Abort, alloc: Global, each: &[u8], wanted: &[u8]) -> bool {
+    let longest = long_spelling(rt, alloc, each, b"\"");
+    let longer = long_spelling(rt, alloc, each, b"a\"");
+    has_spelling(rt, alloc, longest.items(), Wanted::Text(wanted))
+        && is_refused(alloc, longer.items())
+}
+
 #[test]
 fn reads_texts_of_at_most_255_bytes(rt: HostRuntime) {
-    let longest = long_spelling(&rt, rt.alloc(), b"\"");
-    let wanted = Wanted::Text(&[255; 255]);
-    assert!(rt; has_spelling(&rt, rt.alloc(), longest.items(), wanted));
-    let longer = long_spelling(&rt, rt.alloc(), b"a\"");
-    assert!(rt; is_refused(rt.alloc(), longer.items()));
+    assert!(rt; at_most_255(&rt, rt.alloc(), b"\\xff", &[255; 255]));
+    assert!(rt; at_most_255(&rt, rt.alloc(), b"b", &[b'b'; 255]));
 }
 
 // Is the one value below the other?
@@ -187,6 +192,20 @@ fn orders_values(rt: HostRuntime) {
         Wanted::Text(b"a"),
         Wanted::Text(b"aa"),
         Wanted::Text(b"b"),
+        Wanted::Text(b"key"),
+        Wanted::Text(b"key-"),
+        Wanted::Text(b"key-123"),
+        Wanted::Text(b"key-1234"),
+        Wanted::Text(b"key-12345"),
+        Wanted::Text(b"key-1234567890abcd"),
+        Wanted::Text(b"key-1234567890abcde"),
+        Wanted::Text(b"key-1234567890abcdef"),
+        Wanted::Text(b"key-1234567890abcdf"),
+        Wanted::Text(b"key-1235"),
+        Wanted::Text(b"key-124"),
+        Wanted::Text(b"key-\xff"),
+        Wanted::Text(b"kez"),
+        Wanted::Text(b"\xff"),
     ];
     for pair in rising.windows(2) {
         assert!(rt; is_below(&rt, rt.alloc(), pair[0], pair[1]));
