@@ -1,5 +1,4 @@
 pub mod CounterLemmas
-pub mod EntryLemmas
 pub mod KindLemmas
 pub mod NameLemmas
 pub mod ObjectKinds

@@ -1,8 +1,7 @@
 -- What the objects of the kinds that are built in find, and which calls they are asked for.
-use Rattle.std.proofs.Common.{◌≡◌, ◌≢◌, ◌<◌, ◌≤◌, ℕ, zero, suc, pos, List, [], ◌∷◌, length, get_or, Option, Some, is_some, unwrap_or, refl, sym, ap, subst, ◌∙◌, Ordering, arith, rules}
-use Rattle.std.specs.BTreeMap.{is_at, insert_entry}
-use Rattle.std.specs.List.Sorted.{IsStrictlySortedBy}
-use Rattle.std.specs.Map.{keys_of, lookup, set_value}
+use Rattle.std.proofs.Common.{◌≡◌, ◌≢◌, ◌<◌, ◌≤◌, ℕ, zero, suc, pos, List, [], ◌∷◌, length, get_or, Option, unwrap_or, refl, sym, ap, ◌∙◌, Ordering, arith, rules}
+use Rattle.std.specs.BTreeMap.{is_at}
+use Rattle.std.specs.Map.{lookup}
 use Rattle.rd_base.specs.declared.values.Value.{Value}
 use Rattle.rd_base.specs.declared.values.Value.TheVariants.{Nil, Bool as Boolean, Int}
 use Rattle.rd_base.specs.contracts.values.ValueOrd.TheImpl.{cmp-value}
@@ -10,8 +9,6 @@ use Rattle.rd_base.specs.Order.{value_cmp}
 use Rattle.rd_object.specs.declared.shapes.Shape.TheVariants.{Items, Map}
 use Rattle.rd_object.specs.Machines.{IsTaken}
 use Rattle.rd_object.specs.Machines.Step.{goes}
-use Rattle.rd_kinds.specs.laws.EntryLists.{find}
-use Rattle.rd_kinds.proofs.EntryLemmas.{written_over}
 use Rattle.rd_kinds.specs.Shipped.{dictionary_kind, set_kind}
 use Rattle.rd_kinds.specs.Machines.{Entries, dictionary_machine, dictionary_row, has, put_at, set_machine, set_row, value_at}
 
@@ -26,14 +23,6 @@ pub value_found : (found : Option Value) (key : Value) (entries : Entries) → f
     → unwrap_or found Nil ≡ value_at key entries
 value_found found key entries is =
     ap (λ option. unwrap_or option Nil) is ∙ ap (λ (order : Value → Value → Ordering). unwrap_or (lookup (is_at (order key)) entries) Nil) same_orders
-
-pub put_over : (written entries : Entries) (key value held : Value) → written ≡ set_value (is_at (cmp-value.it key)) entries value
-    → IsStrictlySortedBy cmp-value.it (keys_of entries) → Some held ≡ lookup (is_at (cmp-value.it key)) entries
-    → written ≡ insert_entry value_cmp entries key value
-put_over written entries key value held wrote ordered found =
-    let there : Some held ≡ find key entries = found ∙ ap (λ (order : Value → Value → Ordering). lookup (is_at (order key)) entries) same_orders in
-    wrote ∙ ap (λ (order : Value → Value → Ordering). set_value (is_at (order key)) entries value) same_orders
-    ∙ written_over key value entries (subst (λ order. IsStrictlySortedBy order (keys_of entries)) same_orders ordered) (sym (ap is_some there))
 
 -- ---- the calls, by the number of the arguments
 

@@ -10,7 +10,6 @@ use rd_object::{ApplyRefused, RefObject, Shape, ValuePairs};
 use std::alloc::Global;
 use std::collections::BTreeMap;
 use std::marker::Model;
-use std::mem;
 
 /// A dictionary. Contracts see it as the list of its keys with their values, of which the keys rise by value.
 #[derive(Debug, Drop)]
@@ -40,11 +39,8 @@ fn insert(
         (λ old. entries.new.entries ≡ insert_entry value_cmp entries.old.entries key.now value.now) }
     ensures err { OnErr result (entries.new.entries ≡ entries.old.entries) }
 {
-    let value = value.copy(alloc)?;
-    if let Some(held) = entries.get_mut(key) {
-        return Ok(mem::replace(held, value));
-    }
     let key = key.copy(alloc)?;
+    let value = value.copy(alloc)?;
     Ok(entries.insert(key, value)?.unwrap_or(Value::Nil))
 }
 

@@ -1,12 +1,9 @@
-use Rattle.std.proofs.Common.{ap, sym, ◌∙◌}
-use Rattle.std.specs.Option.{option_copied_mut}
-use Rattle.std.specs.BTreeMap.{insert_entry}
-use Rattle.rd_base.specs.Order.{value_cmp}
-use Rattle.rd_kinds.proofs.ObjectLemmas.{put_over}
+use Rattle.std.proofs.Common.{ap, ◌∙◌}
+use Rattle.rd_kinds.specs.Machines.{value_at}
+use Rattle.rd_kinds.proofs.ObjectLemmas.{value_found}
 use Rattle.rd_kinds.proofs.objects.dictionary.insert.Goals as goal
 
-pub returns-in-Some-clause-entries : goal.returns-in-Some-clause-entries
-returns-in-Some-clause-entries c =
-    put_over (c.get_mut.follows.lender c.replace.new.dest).entries c.args.entries.now.entries c.args.key.now c.replace.new.dest c.in-Some.held.now
-    (c.get_mut.follows.holds c.replace.new.dest).0 c.get_mut.ensures.ordered (ap option_copied_mut (sym c.in-Some.is) ∙ c.get_mut.ensures.value)
-    ∙ ap (insert_entry value_cmp c.args.entries.now.entries c.args.key.now) (c.replace.ensures.after ∙ c.in_ok-value.ensures.value)
+pub returns-clause-value : goal.returns-clause-value
+returns-clause-value c =
+    c.unwrap_or.ensures ∙ value_found c.in_ok-insert.field-0 c.in_ok-key.key c.args.entries.now.entries c.in_ok-insert.ensures.old
+    ∙ ap (λ key. value_at key c.args.entries.now.entries) c.in_ok-key.ensures.value
