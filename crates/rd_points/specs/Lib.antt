@@ -4,3 +4,4 @@ pub mod Compiled
 pub mod PointLists
 pub mod Points
 pub mod Tables
+pub mod laws

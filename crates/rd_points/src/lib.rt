@@ -13,6 +13,6 @@ mod touches;
 
 pub use classes::Class;
 pub use laws::{law_of_equal_points, law_of_points, law_of_tables};
-pub use points::{Point, Points};
+pub use points::{Point, Points, hash_point};
 pub use tables::Table;
 pub use touches::Touch;

@@ -1,12 +1,14 @@
 //! Access points by themselves.
-ghost use Rattle.std.specs.Prelude.{◌≡◌, ◌++◌, ◌∷◌, [], List, IfOk, OnOk, OnErr};
+ghost use Rattle.std.specs.Prelude.{◌≡◌, ◌++◌, ◌∷◌, [], List, IfOk, OnOk, OnErr, fold, option_map};
+ghost use Rattle.rd_points.specs.PointLists.{point_input};
 
 use rd_base::{NoMemory, Value};
 use std::alloc::Global;
+use std::hash::{Hash, Hasher};
 use std::marker::Model;
 
 /// What a call touches: an object, a class of its kind, and the value that the class has a slot for, or none where the class is plain.
-#[derive(Debug, Drop, PartialEq, Eq, Hash)]
+#[derive(Debug, Drop, PartialEq, Eq)]
 pub struct Point {
     pub object: u32,
     pub class: u32,
@@ -27,6 +29,32 @@ impl Point {
             class: self.class,
             value,
         })
+    }
+}
+
+/// Hashes a point by its parts, in at most two writes.
+pub fn hash_point<H: Hasher>(object: u32, class: u32, value: Option<&Value>, state: &mut H)
+    ensures { state.new ≡ fold H.write state.old
+        (point_input object class (option_map (λ value. value.now) value.entry)) }
+{
+    state.write_u64(u64::from(object) * 4294967296 + u64::from(class));
+    match value {
+        Some(Value::Int(number)) => state.write_i64(*number),
+        Some(Value::Text(text)) => state.write(text.items()),
+        _ => {}
+    }
+}
+
+impl Hash for Point {
+    ghost use Rattle.rd_points.specs.PointLists.{point_input};
+    ghost use Rattle.rd_points.specs.laws.PointLaws.{hashed_alike};
+
+    ghost hash_input = { λ point. point_input point.object point.class point.value };
+
+    ghost respects_eq = { hashed_alike };
+
+    fn hash<H: Hasher>(&self, state: &mut H) {
+        hash_point(self.object, self.class, self.value.as_ref(), state)
     }
 }
 

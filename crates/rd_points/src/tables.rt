@@ -1,6 +1,6 @@
 //! Tables of access points: what a detector asks.
 ghost use Rattle.std.specs.Prelude.{◌≡◌, ◌+◌, ◌*◌, ◌^◌, ◌<◌, ◌≤◌, All, length, [], ◌++◌, map, filter_map, slice_index_or, vec_len, Option, None};
-ghost use Rattle.std.specs.Option.{option_to_list};
+ghost use Rattle.std.specs.Option.{option_map_or, option_to_list};
 ghost use Rattle.rd_base.specs.declared.limits.TheConstants.{MOST_PREDICATES};
 ghost use Rattle.rd_points.specs.Classes.{bits_of};
 ghost use Rattle.rd_points.specs.Tables.{PointTable, class_count, conflicts_at, is_plain, predicates_of_method, renamed_touch, renamed_touches, touched, touches_at};
@@ -78,16 +78,6 @@ fn copied(row: &ArrayVec<Touch, 8>) -> ArrayVec<Touch, 8>
     let mut copy = ArrayVec::new();
     copy.try_extend_from_slice(row.as_slice()).unwrap();
     copy
-}
-
-// What a call touches where the predicates have these truth values.
-fn row_at(rows: &[ArrayVec<Touch, 8>], v: Valuation) -> ArrayVec<Touch, 8>
-    ensures { result.items ≡ slice_index_or (map (λ row. row.items) rows.now) v.bits [] }
-{
-    match rows.get(usize::from(v.bits)) {
-        Some(row) => copied(row),
-        None => ArrayVec::new(),
-    }
 }
 
 // Puts a touch last, if there is one.
@@ -171,13 +161,24 @@ impl Table {
         }
     }
 
+    // What a call of a method touches where its predicates have these truth values, if there are such a method and valuation.
+    fn row_at(&self, method: u8, v: Valuation) -> Option<&ArrayVec<Touch, 8>>
+        ensures { option_map_or (λ row. row.now.items) result []
+            ≡ touches_at self.now method v.bits }
+    {
+        match self.touches.get(usize::from(method)) {
+            Some(rows) => rows.get(usize::from(v.bits)),
+            None => None,
+        }
+    }
+
     /// What a call of a method touches where its predicates have these truth values; nothing where there
     /// is no such method or valuation. It takes no memory.
     pub fn touches(&self, method: u8, v: Valuation) -> ArrayVec<Touch, 8>
         ensures { result.items ≡ touches_at self.now method v.bits }
     {
-        match self.touches.get(usize::from(method)) {
-            Some(rows) => row_at(rows, v),
+        match self.row_at(method, v) {
+            Some(row) => copied(row),
             None => ArrayVec::new(),
         }
     }
@@ -188,6 +189,17 @@ impl Table {
         ensures { result.items ≡ touched self.now method slots.now }
     {
         self.touches(method, valuation(self.predicates(method), slots))
+    }
+
+    /// The same as `touched`, lent: at most 8 touches.
+    pub fn row(&self, method: u8, slots: &[Value]) -> &[Touch]
+        ensures value { result.now ≡ touched self.now method slots.now }
+        ensures few { length result.now ≤ 8 }
+    {
+        match self.row_at(method, valuation(self.predicates(method), slots)) {
+            Some(row) => row.as_slice(),
+            None => &[],
+        }
     }
 
     /// The classes that conflict with this one; none where there is no such class. It takes no
