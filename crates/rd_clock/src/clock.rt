@@ -1,6 +1,7 @@
 //! Vector clocks.
-ghost use Rattle.std.specs.Prelude.{◌≡◌, ◌≢◌, ℕ, ◌+◌, ◌*◌, ◌<◌, ◌≤◌, ◌↔◌, max, length, IfOk, OnOk, OnErr, IsTrue, [], vec_capacity};
+ghost use Rattle.std.specs.Prelude.{◌≡◌, ◌≢◌, false, ℕ, ◌+◌, ◌*◌, ◌<◌, ◌≤◌, ◌↔◌, max, length, IfOk, OnOk, OnErr, IsTrue, [], vec_capacity};
 ghost use Rattle.rd_clock.specs.Clock.{component, IsTick, IsRaise, IsJoin, IsMeet};
+ghost use Rattle.rd_clock.specs.Stamps.{lent_stamp};
 
 use rd_base::{NoMemory, Steps};
 use std::alloc::Global;
@@ -91,6 +92,19 @@ impl Clock {
             .extend_from_slice(self.components.as_slice())
             .unwrap();
         Clock { components }
+    }
+
+    /// Makes it the other clock, if they have the same room, and says whether it did. It takes no memory, and counts no steps.
+    pub fn overwrite(&mut self, other: &Clock) -> bool
+        ensures value { IsTrue result ↔ (length self.old ≡ length other.now) }
+        ensures ok { IsTrue result → self.new ≡ other.now }
+        ensures kept { result ≡ false → self.new ≡ self.old }
+    {
+        if self.components.len() != other.components.len() {
+            return false;
+        }
+        self.components.copy_from_slice(other.components.as_slice());
+        true
     }
 
     /// The component of a thread. It takes no memory and one step.
@@ -190,4 +204,36 @@ pub struct Stamp {
     pub thread: u32,
     pub number: u32,
     pub clock: Clock,
+}
+
+/// A stamp whose clock is lent.
+#[derive(Clone, Copy, Debug)]
+pub struct StampRef<'a> {
+    pub thread: u32,
+    pub number: u32,
+    pub clock: &'a Clock,
+}
+
+impl<'a> StampRef<'a> {
+    /// The stamp, lent.
+    pub fn new(stamp: &'a Stamp) -> StampRef<'a>
+        ensures { lent_stamp result ≡ stamp.now }
+    {
+        StampRef {
+            thread: stamp.thread,
+            number: stamp.number,
+            clock: &stamp.clock,
+        }
+    }
+
+    /// The stamp with a copy of the clock.
+    pub fn copy(self, alloc: Global) -> Result<Stamp, NoMemory>
+        ensures { IfOk result (λ stamp. stamp ≡ lent_stamp self.entry) }
+    {
+        Ok(Stamp {
+            thread: self.thread,
+            number: self.number,
+            clock: self.clock.copy(alloc)?,
+        })
+    }
 }

@@ -3,4 +3,4 @@
 
 mod clock;
 
-pub use clock::{Clock, Stamp};
+pub use clock::{Clock, Stamp, StampRef};

@@ -185,13 +185,7 @@ kept_learn threads clocks new_clocks releases i old x kept inside is room own ev
     others
     (λ shared at. absurd (none-some shared (sym none ∙ at)))
 
--- where it shared none, or no more
-pub none_past : (clocks : List (Option (List ℕ))) (i : ℕ) → length clocks ≤ i → slice_index_or clocks i None ≡ None
-none_past clocks i past = get_or_past clocks i None past
-
-pub none_set : (clocks : List (Option (List ℕ))) (i : ℕ) → i < length clocks → slice_index_or (slice_set clocks i None) i None ≡ None
-none_set clocks i inside = get_or-set_at clocks i i None None refl inside
-
+-- the others' clocks
 pub others_set : (clocks : List (Option (List ℕ))) (i : ℕ) (x : Option (List ℕ)) (t : ℕ) → t ≢ i → slice_index_or (slice_set clocks i x) t None ≡ slice_index_or clocks t None
 others_set clocks i x t other = get_or-set_other clocks i t x None other
 

@@ -5,6 +5,7 @@ ghost use Rattle.rd_event.specs.declared.events.Event.TheVariants as event;
 ghost use Rattle.rd_order.specs.EventLists.{threads_after};
 ghost use Rattle.rd_order.specs.Order.{thread_of};
 ghost use Rattle.rd_clock.specs.Clock.{component, IsJoin, IsTick};
+ghost use Rattle.rd_clock.specs.Stamps.{lent_stamp};
 ghost use Rattle.rd_hb.specs.Tracker.{IsNextEvent, IsStamp, MayGrow, TrackerStandsFor, clock_of, event_bound, handed_by, known_to, last_stamp, last_release, tracked_thread};
 ghost use Rattle.rd_hb.specs.TrackerParts.{IsBegun, IsCounted, IsHeard, IsLearnt, IsReleased, IsShared};
 ghost use Rattle.rd_hb.specs.declared.tracker.Tracked.{Tracked as TrackedOf};
@@ -14,7 +15,7 @@ mod locks;
 
 use locks::{Release, SharedClock};
 use rd_base::{NoMemory, Steps};
-use rd_clock::{Clock, Stamp};
+use rd_clock::{Clock, Stamp, StampRef};
 use rd_event::Event;
 use std::alloc::Global;
 use std::marker::Model;
@@ -38,6 +39,8 @@ pub struct Tracker {
     // the clock that a thread shares with the locks that it gave back since it learnt something, if it gave back one
     shared: Vec<Option<SharedClock>>,
     locks: Vec<Option<Release>>,
+    // a clock that no thread shares and no lock has any more, kept for its memory
+    spare: Option<SharedClock>,
 }
 
 impl Model for Tracker {
@@ -63,6 +66,7 @@ impl Tracker {
             threads: Vec::new(alloc),
             shared: Vec::new(alloc),
             locks: Vec::new(alloc),
+            spare: None,
         }
     }
 
@@ -160,12 +164,18 @@ impl Tracker {
         }
     }
 
-    /// A copy of a thread's clock.
-    fn clock(&self, thread: u32) -> Result<Clock, NoMemory>
+    /// Where the last event of a thread stands, with its clock lent, where the thread learnt nothing since: as after `pass` with an event of
+    /// its own. It takes no memory.
+    pub fn last_stamp(&self, thread: u32) -> StampRef
         requires { thread < length self.now.threads }
-        ensures { IfOk result (λ clock. clock ≡ (tracked_thread self.now.threads thread).clock) }
+        ensures { lent_stamp result ≡ last_stamp self.now.threads thread }
     {
-        self.threads[thread as usize].clock.copy(self.alloc)
+        let held = &self.threads[thread as usize];
+        StampRef {
+            thread,
+            number: held.events,
+            clock: &held.clock,
+        }
     }
 
     /// A thread counts its next event, and that is its own number.
@@ -297,7 +307,7 @@ impl Tracker {
         let mut own = mem::replace(&mut self.threads[place].clock, Clock::new(self.alloc));
         own.join_reserved(&self.threads[child as usize].clock, steps);
         self.threads[place].clock = own;
-        forget(&mut self.shared, place);
+        forget(&mut self.shared, place, &mut self.spare);
         Ok(())
     }
 
@@ -316,18 +326,17 @@ impl Tracker {
     }
 
     /// The clock that a thread shares with the locks that it gave back since it learnt something, if it gave back one.
-    fn shared_by(&self, thread: u32) -> Result<Option<SharedClock>, NoMemory>
-        ensures ok { IfOk result (λ held. IfSome held (IsShared self.now.threads thread)) }
-        ensures room { IfOk result
-            (λ held. IfSome held (λ shared. length shared ≤ length self.now.threads)) }
+    fn shared_by(&self, thread: u32) -> Option<&SharedClock>
+        ensures ok { IfSome result (λ shared. IsShared self.now.threads thread shared.now) }
+        ensures room { IfSome result (λ shared. length shared.now ≤ length self.now.threads) }
     {
         match self.shared.get(thread as usize) {
-            Some(Some(shared)) => Ok(Some(shared.copy()?)),
-            _ => Ok(None),
+            Some(Some(shared)) => Some(shared),
+            _ => None,
         }
     }
 
-    /// A thread begins to share its clock, as it is now.
+    /// A thread begins to share its clock, as it is now, in memory that was taken before where that may be.
     #[inline(never)]
     fn share_anew(&mut self, thread: u32) -> Result<SharedClock, NoMemory>
         requires { thread < length self.old.threads }
@@ -335,7 +344,8 @@ impl Tracker {
         ensures room { IfOk result (λ shared. length shared ≤ length self.old.threads) }
         ensures same { self.new ≡ self.old }
     {
-        let shared = SharedClock::new(self.alloc, self.clock(thread)?)?;
+        let own = &self.threads[thread as usize].clock;
+        let shared = SharedClock::new(self.alloc, self.spare.take(), own)?;
         let copy = shared.copy()?;
         grow(&mut self.shared, thread as usize + 1)?;
         self.shared[thread as usize] = Some(shared);
@@ -349,8 +359,8 @@ impl Tracker {
         ensures room { IfOk result (λ shared. length shared ≤ length self.old.threads) }
         ensures same { self.new ≡ self.old }
     {
-        match self.shared_by(thread)? {
-            Some(shared) => Ok(shared),
+        match self.shared_by(thread) {
+            Some(shared) => shared.copy(),
             None => self.share_anew(thread),
         }
     }
@@ -369,7 +379,8 @@ impl Tracker {
         grow(&mut self.locks, room)
     }
 
-    /// An event of a thread gave a lock back: its clock is the shared one, with its own number at the thread.
+    /// An event of a thread gave a lock back: its clock is the shared one, with its own number at the thread. The clock that the
+    /// lock had is spare if nothing else has it.
     fn hand(&mut self, lock: u32, shared: SharedClock, thread: u32, number: u32)
         requires held { lock < length self.old.locks }
         requires inside { thread < length shared }
@@ -383,7 +394,10 @@ impl Tracker {
         ensures others { (l : ℕ) → l ≢ lock →
             last_release self.new.locks l ≡ last_release self.old.locks l }
     {
-        self.locks[lock as usize] = Some(Release::new(shared, thread, number));
+        let last = Release::new(shared, thread, number);
+        if let Some(old) = mem::replace(&mut self.locks[lock as usize], Some(last)) {
+            keep(&mut self.spare, old.shared());
+        }
     }
 
     /// A thread forks the next one, which begins with the clock of the fork.
@@ -485,7 +499,7 @@ impl Tracker {
         }
         own.reserve(room)?;
         last.join_into(own, steps);
-        forget(&mut self.shared, thread as usize);
+        forget(&mut self.shared, thread as usize, &mut self.spare);
         Ok(())
     }
 
@@ -624,13 +638,22 @@ fn grow<T: Drop>(list: &mut Vec<Option<T>>, room: usize) -> Result<(), NoMemory>
     Ok(())
 }
 
-/// Drops what stands at a place of a list, if something does.
-fn forget<T: Drop>(list: &mut Vec<Option<T>>, place: usize)
+/// A thread shares its clock no longer, if it did. The clock is spare if nothing else has it.
+fn forget(list: &mut Vec<Option<SharedClock>>, place: usize, spare: &mut Option<SharedClock>)
     ensures gone { slice_index_or list.new.items place None ≡ None }
     ensures others { (i : ℕ) → i ≢ place →
         slice_index_or list.new.items i None ≡ slice_index_or list.old.items i None }
 {
     if place < list.len() {
-        list[place] = None;
+        if let Some(old) = mem::replace(&mut list[place], None) {
+            keep(spare, old);
+        }
+    }
+}
+
+/// A clock is spare from here on, if it has no other owner.
+fn keep(spare: &mut Option<SharedClock>, old: SharedClock) {
+    if old.is_alone() {
+        *spare = Some(old);
     }
 }

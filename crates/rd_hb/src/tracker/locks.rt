@@ -1,5 +1,5 @@
 //! What is held of a lock.
-ghost use Rattle.std.specs.Prelude.{◌≡◌, ℕ, ◌+◌, ◌*◌, ◌<◌, ◌≤◌, ◌↔◌, length, slice_set, IfOk, IsTrue};
+ghost use Rattle.std.specs.Prelude.{◌≡◌, ℕ, ◌+◌, ◌*◌, ◌<◌, ◌≤◌, ◌↔◌, length, slice_set, IfSome, IfOk, IsTrue};
 ghost use Rattle.rd_clock.specs.Clock.{component, IsJoin};
 
 use rd_base::{NoMemory, Steps};
@@ -24,12 +24,19 @@ impl Model for SharedClock {
 }
 
 impl SharedClock {
-    /// The clock, with one owner.
-    pub(crate) fn new(alloc: Global, clock: Clock) -> Result<SharedClock, NoMemory>
-        ensures { IfOk result (λ shared. shared ≡ clock) }
+    /// That clock, with one owner. It takes no memory where the old one has no other owner and the same room.
+    pub(crate) fn new(
+        alloc: Global,
+        old: Option<SharedClock>,
+        clock: &Clock,
+    ) -> Result<SharedClock, NoMemory>
+        ensures { IfOk result (λ shared. shared ≡ clock.now) }
     {
+        if let Some(shared) = reused(old, clock) {
+            return Ok(shared);
+        }
         Ok(SharedClock {
-            clock: Rc::new(alloc, clock)?,
+            clock: Rc::new(alloc, clock.copy(alloc)?)?,
         })
     }
 
@@ -41,6 +48,29 @@ impl SharedClock {
             clock: self.clock.clone()?,
         })
     }
+
+    /// Whether it has no other owner.
+    pub(crate) fn is_alone(&self) -> bool {
+        Rc::strong_count(&self.clock) == 1
+    }
+
+    /// Makes it that clock, if it has no other owner and the same room, and says whether it did. It takes no memory.
+    fn set(&mut self, clock: &Clock) -> bool
+        ensures { IsTrue result → self.new ≡ clock.now }
+    {
+        match Rc::get_mut(&mut self.clock) {
+            Some(own) => own.overwrite(clock),
+            None => false,
+        }
+    }
+}
+
+/// That clock, in the memory of the old one where that may be. It takes no memory.
+fn reused(old: Option<SharedClock>, clock: &Clock) -> Option<SharedClock>
+    ensures { IfSome result (λ shared. shared ≡ clock.now) }
+{
+    let mut old = old?;
+    if old.set(clock) { Some(old) } else { None }
 }
 
 /// The last event that gave back a lock: its thread and own number, and the clock that the thread shares. The event's clock
@@ -78,6 +108,11 @@ impl Release {
             thread,
             number,
         }
+    }
+
+    /// The clock that the thread shared.
+    pub(crate) fn shared(self) -> SharedClock {
+        self.shared
     }
 
     /// Whether a clock covers the event. One step.

@@ -1,4 +1,4 @@
-use Rattle.std.proofs.Common.{◌≤◌, length, take}
+use Rattle.std.proofs.Common.{take}
 use Rattle.rd_hb.specs.TrackerParts.{IsFloorSoFar}
 use Rattle.rd_hb.proofs.tracker.Tracker.floor.Given as goal
 

@@ -1,13 +1,12 @@
 use Rattle.std.proofs.Common.{◌<◌, length, ap, subst, sym, ◌∙◌, arith}
-use Rattle.rd_hb.specs.Tracker.{tracked_thread}
-use Rattle.rd_hb.proofs.KeptLemmas.{kept_share, shared_copy}
+use Rattle.rd_hb.proofs.KeptLemmas.{kept_share, read_at, shared_copy}
 use Rattle.rd_hb.proofs.tracker.Tracker.share_anew.Goals as goal
 
 pub invariant_of-self-2 : goal.invariant_of-self-2
 invariant_of-self-2 c =
     let threads = c.self.inside.threads.items in
-    let inside = subst (λ v. c.args.thread < length v.threads) (sym c.self.view_is) c.requires in
+    let inside : c.args.thread < length threads = subst (λ v. c.args.thread < length v.threads) (sym c.self.view_is) c.requires in
     kept_share threads c.self.inside.shared.items c.grow.new.list.items c.self.inside.locks.items c.args.thread c.in_ok-shared.shared c.self.invariant
     (omega (arith, c.in_ok-grow.ensures.room)) c.grow.ensures.kept
     (shared_copy threads c.args.thread c.in_ok-shared.shared (c.self.invariant.tracked.each c.args.thread inside)
-    (c.in_ok-shared.ensures ∙ c.in_ok-clock.ensures ∙ ap (λ v. (tracked_thread v.threads c.args.thread).clock) (sym c.self.view_is)))
+    (c.in_ok-shared.ensures ∙ ap (λ x. x.clock) (read_at threads c.args.thread c.index.result.now inside c.index.ensures)))
