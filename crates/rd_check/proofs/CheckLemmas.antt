@@ -15,8 +15,8 @@ use Rattle.rd_event.specs.declared.items.LineEvent.{LineEvent}
 use Rattle.rd_event.specs.declared.items.LineEvent.TheVariants.{Fork, Join, Acquire, Release, Call}
 use Rattle.rd_order.specs.EventLists.{WellFormed, WellFormedWith, threads_after}
 use Rattle.rd_order.specs.Order.{forked_thread}
-use Rattle.rd_hb.specs.Tracker.{IsNextEvent, IsStamp, TrackerStandsFor, Tracking, event_bound}
-use Rattle.rd_clock.specs.declared.clock.Stamp.{Stamp}
+use Rattle.rd_order.specs.Order.{thread_of}
+use Rattle.rd_hb.specs.Tracker.{IsNextEvent, IsStamp, TrackerStandsFor, Tracking, event_bound, last_stamp}
 use Rattle.rd_detect.proofs.CellLemmas.{stands_quiet, stands_unbegun}
 use Rattle.rd_wf.proofs.EventsLemmas.{all_roots, events_more, no_events, roots_more, threads_more, told_formed, told_more}
 use Rattle.rd_detect.proofs.RaceLemmas.{not_reported}
@@ -410,14 +410,14 @@ module _ (start now : Check) (before : List Entry) (entry : Entry) (e : Numbered
       (subst (WellFormedWith known (roots_of (items before ++ entry.item ∷ []))) events_now (told_formed known (items before ++ entry.item ∷ []) told_now))
 
   -- the call is the next one for the detector, where the tracker has taken it
-  pub call_next : (stamp : Stamp) → ((roots : ℕ → Bool) (es : List Numbered) → IsNextEvent now.tracker roots es e → IsStamp (es ++ e ∷ []) (length es) stamp)
-      → (tracker : Tracking) → ((roots : ℕ → Bool) (es : List Numbered) → IsNextEvent now.tracker roots es e → TrackerStandsFor tracker roots (es ++ e ∷ []))
-      → IsNextCall asked now.detector tracker (roots_of (items before)) (event_numbers before) es place call stamp
-  call_next stamp stamped tracker stood =
+  pub call_next : (tracker : Tracking) → ((roots : ℕ → Bool) (es : List Numbered) → IsNextEvent now.tracker roots es e → IsStamp (es ++ e ∷ []) (length es) (last_stamp tracker.threads (thread_of e)))
+      → ((roots : ℕ → Bool) (es : List Numbered) → IsNextEvent now.tracker roots es e → TrackerStandsFor tracker roots (es ++ e ∷ []))
+      → IsNextCall asked now.detector tracker (roots_of (items before)) (event_numbers before) es place call (last_stamp tracker.threads call.thread)
+  call_next tracker stamped stood =
       let ahead = event_next known now.tracker (items before) entry.item e ready.next in record {
         stands = checks.detects;
         at_end = ready.at_end;
-        stamped = subst (λ x. IsStamp (es ++ x ∷ []) (length es) stamp) called (stamped (roots_of (items before)) es ahead);
+        stamped = subst (λ x. IsStamp (es ++ x ∷ []) (length es) (last_stamp tracker.threads (thread_of x))) called (stamped (roots_of (items before)) es ahead);
         formed = formed_then;
         tracked = subst (λ x. TrackerStandsFor tracker (roots_of (items before)) (es ++ x ∷ [])) called (stood (roots_of (items before)) es ahead);
       }

@@ -2,7 +2,6 @@
 ghost use Rattle.std.specs.Prelude.{◌≡◌, ◌+◌, ◌≤◌, List, ◌∷◌, [], ◌++◌};
 
 use rd_base::{Bytes, NoMemory, Steps};
-use rd_clock::Stamp;
 use rd_detect::Detector;
 use rd_ecl::Spec;
 use rd_event::{Call, Event, Line};
@@ -37,6 +36,7 @@ impl<'a> Check<'a> {
     ghost use Rattle.rd_event.specs.declared.events.Event.TheVariants as event;
     ghost use Rattle.rd_event.specs.declared.items.Line.{Line as LineOf};
     ghost use Rattle.rd_detect.specs.Detect.{IsAnswer, IsNextCall, DetectorStandsFor, detection_bound};
+    ghost use Rattle.rd_hb.specs.Tracker.{last_stamp};
     ghost use Rattle.rd_report.specs.Races.{IsKnownRace, race_text, told_by};
     ghost use Rattle.rd_report.specs.Texts.{naming_in};
     ghost use Rattle.rd_walk.specs.Analysis.{TellsFault, WritesBetween, WritesFront};
@@ -63,17 +63,17 @@ impl<'a> Check<'a> {
         })
     }
 
-    /// Hands the call at this place, which is the next event, to the detector, and counts the race that it tells of.
+    /// Hands the call at this place, which is the next event and which the tracker passed, to the detector, and counts the race that it tells
+    /// of.
     fn detect<L: Ledger>(
         &mut self,
         line: u64,
         place: u32,
         call: &Call,
-        stamp: Stamp,
         steps: &mut Steps<L>,
     ) -> Result<Option<Race>, Halt>
         requires next { (kinds : List SpecifiedKind) × (roots : ℕ → Bool) × (numbers : List ℕ) × (es : List EventOf)
-            × IsNextCall kinds self.old.detector self.old.tracker roots numbers es place call.now stamp }
+            × IsNextCall kinds self.old.detector self.old.tracker roots numbers es place call.now (last_stamp self.old.tracker.threads call.now.thread) }
         requires few { self.old.races + 1 < 2 ^ 64 }
 
         // the call is judged and kept, and other parts stay
@@ -81,10 +81,10 @@ impl<'a> Check<'a> {
             × (self.new.tracker ≡ self.old.tracker)
             × (self.new.formulas ≡ self.old.formulas) }
         ensures answer { IfOk result (λ answer. (kinds : List SpecifiedKind) (roots : ℕ → Bool) (numbers : List ℕ) (es : List EventOf)
-            → IsNextCall kinds self.old.detector self.old.tracker roots numbers es place call.now stamp
+            → IsNextCall kinds self.old.detector self.old.tracker roots numbers es place call.now (last_stamp self.old.tracker.threads call.now.thread)
             → IsAnswer kinds (numbers ++ line ∷ []) (es ++ event.Call call.now ∷ []) place answer) }
         ensures stands { OnOk result ((kinds : List SpecifiedKind) (roots : ℕ → Bool) (numbers : List ℕ) (es : List EventOf)
-            → IsNextCall kinds self.old.detector self.old.tracker roots numbers es place call.now stamp
+            → IsNextCall kinds self.old.detector self.old.tracker roots numbers es place call.now (last_stamp self.old.tracker.threads call.now.thread)
             → DetectorStandsFor kinds self.new.detector roots (numbers ++ line ∷ [])
             (es ++ event.Call call.now ∷ [])) }
 
@@ -95,10 +95,7 @@ impl<'a> Check<'a> {
         ensures cost { steps.new ≤ steps.old
             + detection_bound self.old.detector.tables (length self.old.tracker.threads) call.now }
     {
-        let Ok(answer) = self
-            .detector
-            .take(line, place, call, stamp, &self.tracker, steps)
-        else {
+        let Ok(answer) = self.detector.take(line, place, call, &self.tracker, steps) else {
             return Err(Halt::NoMemory);
         };
         self.races += u64::from(answer.is_some());
@@ -194,16 +191,13 @@ impl<'a> Check<'a> {
         ensures fault { TellsFault (S.faults out.old) (S.faults out.new) (S.at_fault out.new)
             (S.written out.new) result }
     {
-        let Event::Call(call) = event else {
-            return match self.tracker.pass(event, steps) {
-                Ok(()) => Ok(()),
-                Err(_) => Err(Halt::NoMemory),
-            };
-        };
-        let Ok(stamp) = self.tracker.event(event, steps) else {
+        let Ok(()) = self.tracker.pass(event, steps) else {
             return Err(Halt::NoMemory);
         };
-        match self.detect(number, place, call, stamp, steps) {
+        let Event::Call(call) = event else {
+            return Ok(());
+        };
+        match self.detect(number, place, call, steps) {
             Ok(None) => Ok(()),
             Ok(Some(race)) => self.report(&race, names, out),
             Err(halt) => Err(halt),

@@ -1,5 +1,6 @@
 -- The parts of a call.
 use Rattle.std.proofs.Common.{◌≡◌, inl, inr, ℕ, ◌+◌, ◌*◌, ◌<◌, ◌≤◌, Bool, false, List, [], ◌∷◌, ◌++◌, length, Option, Some, None, sym, ap, subst, ◌∙◌, arith}
+use Rattle.std.proofs.Math.Nat.{mul-le-mul_left}
 use Rattle.std.specs.Prelude.{Contains, IfNone, IfSome, MatchOption, slice_get, slice_index_or}
 use Rattle.std.specs.List.{sum_by}
 use Rattle.std.proofs.lemmas.List.{get_or_default}
@@ -85,7 +86,9 @@ module _ (tables : List PointTable) (threads : ℕ) (call : CallOf) (start asked
   pub asked_bound : asked ≤ start + detection_bound tables threads call
   asked_bound = omega (arith, cost)
 
-  pub all_bound : (seats : List ℕ) (after : ℕ) → length seats ≡ length (touched_points tables call) → after ≤ asked + length seats * (threads + 1) → after ≤ start + detection_bound tables threads call
-  all_bound seats after long more =
-      let same : length seats * (threads + 1) ≡ length (touched_points tables call) * (threads + 1) = ap (λ n. n * (threads + 1)) long in
-      omega (arith, cost, more, same)
+  -- each seat is tried once, and then set once
+  pub tried_bound : (seats tried : ℕ) → 1 ≤ threads → seats ≡ length (touched_points tables call) → tried ≤ asked + (seats + seats) → tried ≤ start + detection_bound tables threads call
+  tried_bound seats tried some long more =
+      let twice : seats * 2 ≤ seats * (threads + 1) = mul-le-mul_left seats (omega (arith, some)) in
+      let same : seats * (threads + 1) ≡ length (touched_points tables call) * (threads + 1) = ap (λ n. n * (threads + 1)) long in
+      omega (arith, cost, more, same, twice)

@@ -1,12 +1,12 @@
 -- What stays where a store gets room for cells.
 use Rattle.std.proofs.Common.{◌≡◌, inl, inr, ℕ, ◌+◌, ◌<◌, List, [], ◌∷◌, ◌++◌, length, Option, Some, None, sym, ap, subst, ◌∙◌, arith}
-use Rattle.std.specs.Prelude.{Contains, IsSome, slice_get, slice_index_or, take}
+use Rattle.std.specs.Prelude.{IsSome, slice_get, slice_index_or, take}
 use Rattle.std.proofs.lemmas.List.{take_more}
-use Rattle.std.proofs.lemmas.List.Elements.{Contains-get_or, Contains-push_cases}
 use Rattle.std.proofs.lemmas.Option.{get_or_from_slice_get, slice_get-get_or, slice_get_within}
 use Rattle.rd_order.proofs.OrderLemmas.{at_end, at_front, length_more}
 use Rattle.rd_points.specs.declared.points.Point.{Point}
-use Rattle.rd_store.specs.Stores.{HasRoom, IsSameStore, PointCells, cell_at, cell_of, point_at}
+use Rattle.rd_store.specs.Stores.{HasRoom, IsSameStore, IsSeat, PointCells, cell_at, cell_of, place_of, point_at}
+use Rattle.rd_store.specs.declared.Seat.{Seat}
 use Rattle.rd_store.specs.declared.Witness.{Witness}
 use Rattle.rd_detect.specs.Detect.{AreBelow, IsLatestOf, IsUncovered}
 use Rattle.rd_detect.specs.Seats.{AreSeats}
@@ -54,41 +54,45 @@ room_same old new thread point same room = elim room [
   | inr spare ↦ let more = same.spare point in inr (omega arith)
 ]
 
--- the index of one point more
-pub seats_more : (old new : List PointCells) (thread : ℕ) (points : List Point) (seats : List ℕ) (point : Point) (index : ℕ) → IsSameStore old new
-    → ((i : ℕ) (other : Point) → point_at old i ≡ Some other → point_at new i ≡ Some other) → point_at new index ≡ Some point → HasRoom new thread point
-    → AreSeats old thread points seats → AreSeats new thread (points ++ point ∷ []) (seats ++ index ∷ [])
-seats_more old new thread points seats point index same stay entered room was = record {
-  long = omega (arith, was.long, length_more points point, length_more seats index);
-  each = λ i other at. elim (at_more points point other i at) [
+seat_same : (old new : List PointCells) (thread : ℕ) (point : Point) (seat : Seat) → IsSameStore old new
+    → ((i : ℕ) (other : Point) → point_at old i ≡ Some other → point_at new i ≡ Some other) → IsSeat old thread point seat → IsSeat new thread point seat
+seat_same old new thread point seat same stay was = record {
+  at = stay seat.index point was.at;
+  place = was.place ∙ ap (λ cells. place_of cells thread) (sym (same.cells point));
+  room = room_same old new thread point same was.room;
+}
+
+-- the seat at one point more
+pub seats_more : (old new : List PointCells) (thread : ℕ) (points : List Point) (seats : List Seat) (point : Point) (seat : Seat) → IsSameStore old new
+    → ((i : ℕ) (other : Point) → point_at old i ≡ Some other → point_at new i ≡ Some other) → IsSeat new thread point seat
+    → AreSeats old thread points seats → AreSeats new thread (points ++ point ∷ []) (seats ++ seat ∷ [])
+seats_more old new thread points seats point seat same stay entered was = record {
+  long = omega (arith, was.long, length_more points point, length_more seats seat);
+  each = λ i other at. elim (at_more points point other i at) as (λ _. (one : Seat) × (slice_get (seats ++ seat ∷ []) i ≡ Some one) × IsSeat new thread other one) [
     | inl before ↦
-        let seat = was.each i other before.1 in
-        (seat.0, at_front seats (index ∷ []) i (slice_get_within seats i seat.0 seat.1) ∙ seat.1, stay seat.0 other seat.2)
+        let one = was.each i other before.1 in
+        (one.0, at_front seats (seat ∷ []) i (slice_get_within seats i one.0 one.1) ∙ one.1, seat_same old new thread other one.0 same stay one.2)
     | inr last ↦ (
-      index,
-      ap (slice_get (seats ++ index ∷ [])) (last.0 ∙ sym was.long) ∙ at_end seats index,
-      entered ∙ ap Some (sym last.1),
+      seat,
+      ap (slice_get (seats ++ seat ∷ [])) (last.0 ∙ sym was.long) ∙ at_end seats seat,
+      subst (λ p. IsSeat new thread p seat) (sym last.1) entered,
     )
-  ];
-  room = λ other has. elim (Contains-push_cases points point other has) [
-    | inl before ↦ room_same old new thread other same (was.room other before)
-    | inr last ↦ subst (HasRoom new thread) last room
   ];
 }
 
--- ---- the index of a point
+-- ---- the seat at a point
 
 abbrev no_point : Point
 no_point = record { object = 0; class = 0; value = None }
 
--- the point whose index stands at a place
-pub seat_of : (store : List PointCells) (thread : ℕ) (points : List Point) (seats : List ℕ) (i : ℕ) → AreSeats store thread points seats → i < length seats
-    → (point : Point) × (slice_get points i ≡ Some point) × Contains points point × (point_at store (slice_index_or seats i 0) ≡ Some point)
-seat_of store thread points seats i are inside =
+-- the point whose seat stands at a place
+pub seat_of : (store : List PointCells) (thread : ℕ) (points : List Point) (seats : List Seat) (i : ℕ) (d : Seat) → AreSeats store thread points seats → i < length seats
+    → (point : Point) × (slice_get points i ≡ Some point) × IsSeat store thread point (slice_index_or seats i d)
+seat_of store thread points seats i d are inside =
     let within : i < length points = omega (arith, inside, are.long) in
     let at : slice_get points i ≡ Some (slice_index_or points i no_point) = slice_get-get_or points i no_point within in
     let seat = are.each i (slice_index_or points i no_point) at in
-    (slice_index_or points i no_point, at, Contains-get_or points i no_point within, ap (point_at store) (get_or_from_slice_get seats i seat.0 0 seat.1) ∙ seat.2)
+    (slice_index_or points i no_point, at, subst (IsSeat store thread (slice_index_or points i no_point)) (sym (get_or_from_slice_get seats i seat.0 d seat.1)) seat.2)
 
 -- as far as the next point
 pub done_more : (points : List Point) (i : ℕ) (point : Point) → slice_get points i ≡ Some point → take i points ++ point ∷ [] ≡ take (i + 1) points

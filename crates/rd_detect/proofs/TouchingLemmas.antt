@@ -1,12 +1,12 @@
 -- What is kept step by step at the points that a call touches.
-use Rattle.std.proofs.Common.{◌≡◌, ◌≢◌, ◌↔◌, ◌⊎◌, inl, inr, ℕ, ◌+◌, ◌-◌, ◌*◌, ◌<◌, ◌≤◌, Bool, true, false, if◌then◌else◌, IsTrue, List, [], ◌∷◌, ◌++◌, refl, sym, ap, subst, ◌∙◌, arith, true≢false}
-use Rattle.std.specs.Prelude.{Contains, IsSome, is_some}
+use Rattle.std.proofs.Common.{◌≡◌, ◌≢◌, ◌↔◌, ◌⊎◌, inl, inr, ℕ, ◌+◌, ◌-◌, ◌<◌, ◌≤◌, Bool, true, false, if◌then◌else◌, IsTrue, List, [], ◌∷◌, ◌++◌, sym, ap, subst, ◌∙◌, arith, true≢false}
+use Rattle.std.specs.Prelude.{Contains, is_some}
 use Rattle.std.proofs.lemmas.Bool.{cases_Bool, cases_eq}
 use Rattle.rd_order.proofs.OrderLemmas.{length_more}
 use Rattle.std.proofs.lemmas.List.Elements.{Contains-append_left, Contains-push, Contains-push_cases}
 use Rattle.rd_points.specs.PointLists.{same_point}
 use Rattle.rd_points.specs.declared.points.Point.{Point}
-use Rattle.rd_store.specs.Stores.{HasRoom, IsTouched, PointCells, cell_at, cell_of}
+use Rattle.rd_store.specs.Stores.{IsTouched, PointCells, cell_at, cell_of}
 use Rattle.rd_store.specs.declared.Witness.{Witness}
 use Rattle.rd_detect.specs.Detect.{AreBelow, AreTouched}
 
@@ -51,16 +51,6 @@ module _ (told : PointsTold) (old middle new : List PointCells) (point : Point) 
     count = omega (arith, touched.count, before.count, few_new (is_some (cell_at middle point thread)), length_more done point);
   }
 
-  -- where there was room there is
-  pub room_more : (other : Point) → HasRoom middle thread other → HasRoom new thread other
-  room_more other room = elim (same_or_other told other point) [
-    | inl same ↦ inl (subst (λ o. IsSome o) (sym (ap (λ p. cell_at new p thread) same ∙ touched.own)) refl)
-    | inr differ ↦ elim room [
-      | inl some ↦ inl (subst (λ o. IsSome o) (sym (elsewhere other thread differ)) some)
-      | inr spare ↦ inr (omega (arith, spare, touched.spares other differ))
-    ]
-  ]
-
 -- the cells of a thread below a number, and of those that were there
 pub below_touched : (old new : List PointCells) (points : List Point) (thread threads : ℕ) (witness : Witness) → AreTouched old new points thread witness → thread < threads → AreBelow threads old → AreBelow threads new
 below_touched old new points thread threads witness touched own below point one seen cell = elim (cases_eq one thread) [
@@ -73,11 +63,3 @@ below_touched old new points thread threads witness touched own below point one 
 -- the number of those before the last
 pub before_last : (count : ℕ) → ¬ (count ≡ 0) → (count - 1) + 1 ≡ count
 before_last count some = omega (arith, some)
-
-pub cost_last : (start middle after count others threads : ℕ) → ¬ (count ≡ 0) → middle ≤ start + (count - 1) * (threads + 1) → after ≤ middle + 2 + others → others + 1 ≤ threads
-    → after ≤ start + count * (threads + 1)
-cost_last start middle after count others threads some below more few =
-    subst (λ m. after ≤ start + m * (threads + 1)) (before_last count some) (omega (arith, below, more, few))
-
-pub cost_less : (start middle count threads : ℕ) → ¬ (count ≡ 0) → middle ≤ start + (count - 1) * (threads + 1) → middle ≤ start + count * (threads + 1)
-cost_less start middle count threads some below = subst (λ m. middle ≤ start + m * (threads + 1)) (before_last count some) (omega (arith, below))

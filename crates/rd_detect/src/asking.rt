@@ -1,14 +1,14 @@
 //! What is asked of the store for a call.
-ghost use Rattle.std.specs.Prelude.{◌≡◌, ℕ, ◌+◌, ◌*◌, ◌≤◌, List, ◌++◌, length, map, IfOk, OnOk, Some, option_map};
+ghost use Rattle.std.specs.Prelude.{◌≡◌, ℕ, ◌+◌, ◌*◌, ◌≤◌, List, ◌++◌, length, map, IfOk, Some, option_map};
 ghost use Rattle.rd_detect.specs.Detect.{AreBelow, IsLatestOf, in_class, later_of};
 ghost use Rattle.rd_detect.specs.Seats.{other_classes};
 ghost use Rattle.rd_points.specs.declared.points.Point.{Point as PointOf};
+ghost use Rattle.rd_store.specs.Lent.{lent_point};
 ghost use Rattle.rd_store.specs.Stores.{point_at};
 
 use rd_base::{NoMemory, Steps};
 use rd_clock::Clock;
-use rd_points::Point;
-use rd_store::{Store, Witness, law_of_stores};
+use rd_store::{PointRef, Store, Witness, law_of_stores};
 use std::rc::Rc;
 use std::sync::ledger::Ledger;
 
@@ -32,10 +32,10 @@ fn later(
 }
 
 /// The latest call that the clock doesn't cover of the cells of a point in these classes but its own, or the one that was found before, where it is
-/// later. The point is as before then.
+/// later.
 pub fn ask_others<L: Ledger>(
     store: &Store,
-    point: &mut Point,
+    point: PointRef,
     classes: &[u32],
     clock: &Clock,
     found: Option<Rc<Witness>>,
@@ -43,23 +43,24 @@ pub fn ask_others<L: Ledger>(
 ) -> Result<Option<Rc<Witness>>, NoMemory>
     ensures latest { IfOk result (λ latest. (points : List PointOf)
         → IsLatestOf store.now points clock.now (option_map (λ held. held.value) found)
-        → IsLatestOf store.now (points ++ map (in_class point.old) (other_classes point.old.class classes.now)) clock.now
+        → IsLatestOf store.now (points ++ map (in_class (lent_point point.entry)) (other_classes point.entry.class classes.now)) clock.now
         (option_map (λ held. held.value) latest)) }
-    ensures point { OnOk result (point.new ≡ point.old) }
     ensures cost { (threads : ℕ) → AreBelow threads store.now
-        → steps.new ≤ steps.old + length (other_classes point.old.class classes.now) * (threads + 1) }
+        → steps.new ≤ steps.old + length (other_classes point.entry.class classes.now) * (threads + 1) }
 {
     law_of_stores();
-    let own = point.class;
     let mut found = found;
     for class in classes {
-        if *class == own {
+        if *class == point.class {
             continue;
         }
-        point.class = *class;
-        found = later(found, store.latest_uncovered(point, clock, steps))?;
+        let asked = PointRef {
+            object: point.object,
+            class: *class,
+            value: point.value,
+        };
+        found = later(found, store.latest_of(asked, clock, steps))?;
     }
-    point.class = own;
     Ok(found)
 }
 

@@ -1,33 +1,36 @@
 //! The detector.
-ghost use Rattle.std.specs.Prelude.{◌≡◌, ℕ, ◌+◌, ◌*◌, ◌<◌, ◌≤◌, Bool, List, [], ◌∷◌, ◌++◌, All, Contains, flat_map, length, map, IfOk, OnOk, OnErr, IfNone, IfSome, MatchOption, false, option_map};
+ghost use Rattle.std.specs.Prelude.{◌≡◌, ℕ, ◌+◌, ◌*◌, ◌<◌, ◌≤◌, Bool, List, [], ◌∷◌, ◌++◌, All, Contains, flat_map, length, map, IfOk, OnOk, OnErr, IfNone, IfSome, MatchOption, IsTrue, false, option_map};
 ghost use Rattle.std.specs.List.{sum_by};
 ghost use Rattle.rd_classes.specs.Merged.{merged};
 ghost use Rattle.rd_detect.specs.Detect.{Answers, AreBelow, IsAnswer, IsLatestOf, IsNextCall, IsRaceOf, IsSweptWhere, IsTaken, IsUntaken, DetectorStandsFor, asked_points, asking_bound, conflicting_points, detection_bound, in_class, is_due, later_of, point_of, table_at, tables_of, touched_points};
 ghost use Rattle.rd_detect.specs.Seats.{AreSeats};
+ghost use Rattle.rd_clock.specs.Stamps.{lent_stamp};
 ghost use Rattle.rd_ecl.specs.Kinds.{kinds_of};
 ghost use Rattle.rd_ecl.specs.Specified.{SpecifiedKind};
 ghost use Rattle.rd_event.specs.declared.events.Event.{Event as EventOf};
 ghost use Rattle.rd_event.specs.declared.events.Event.TheVariants as event;
-ghost use Rattle.rd_hb.specs.Tracker.{IsFloor};
+ghost use Rattle.rd_hb.specs.Tracker.{IsFloor, last_stamp};
 ghost use Rattle.rd_hb.specs.declared.tracker.Tracked.{Tracked as TrackedOf};
 ghost use Rattle.rd_order.specs.EventLists.{WellFormedWith};
 ghost use Rattle.rd_points.specs.Compiled.{compiled};
 ghost use Rattle.rd_points.specs.declared.points.Point.{Point as PointOf};
+ghost use Rattle.rd_store.specs.Lent.{lent_witness};
 ghost use Rattle.rd_store.specs.Stores.{cell_count};
 ghost use Rattle.rd_store.specs.declared.Witness.{Witness as WitnessOf};
 
 #[cfg(test)]
 mod tests;
 
-use crate::touching::{Found, look, touch};
+use crate::touching::{look, touch};
+use arrayvec::ArrayVec;
 use rd_base::{NoMemory, Steps};
 use rd_classes::{law_of_merging, merge};
-use rd_clock::{Clock, Stamp};
+use rd_clock::{Clock, Stamp, StampRef};
 use rd_ecl::{KindSpec, Spec};
 use rd_event::Call;
 use rd_hb::Tracker;
-use rd_points::Table;
-use rd_store::{Race, Store, Witness};
+use rd_points::{Table, law_of_equal_points};
+use rd_store::{Race, Seat, Store, Witness, WitnessRef};
 use std::alloc::Global;
 use std::marker::Model;
 use std::rc::Rc;
@@ -93,28 +96,30 @@ impl Detector {
         })
     }
 
-    // What is found for a call with this clock. The points that it touches are entered then.
+    // The latest call that is found for a call with this clock. The points that it touches are entered then, and where their cells stand
+    // is put in the list.
     fn look<L: Ledger>(
         &mut self,
         call: &Call,
         clock: &Clock,
+        seats: &mut ArrayVec<Seat, 8>,
         steps: &mut Steps<L>,
-    ) -> Result<Found, NoMemory>
-        requires { call.now.kind < length self.old.tables }
-        ensures latest { IfOk result (λ found. IsLatestOf self.old.store
+    ) -> Result<Option<Rc<Witness>>, NoMemory>
+        requires kind { call.now.kind < length self.old.tables }
+        requires none { seats.old.items ≡ [] }
+        ensures latest { IfOk result (λ latest. IsLatestOf self.old.store
             (flat_map (conflicting_points (table_at self.old.tables call.now.kind))
             (touched_points self.old.tables call.now)) clock.now
-            (option_map (λ held. held.value) found.latest)) }
-        ensures seats { IfOk result (λ found. AreSeats self.new.store call.now.thread
-            (touched_points self.old.tables call.now) found.seats.items) }
+            (option_map (λ held. held.value) latest)) }
+        ensures seats { OnOk result (AreSeats self.new.store call.now.thread
+            (touched_points self.old.tables call.now) seats.new.items) }
         ensures same { IsUntaken self.old self.new }
         ensures cost { (threads : ℕ) → AreBelow threads self.old.store → steps.new ≤ steps.old
             + sum_by (asking_bound (table_at self.old.tables call.now.kind) threads)
             (touched_points self.old.tables call.now) }
     {
         let table = &self.tables[call.kind as usize];
-        let found = look(self.alloc, &mut self.store, table, call, clock, steps)?;
-        Ok(found)
+        look(&mut self.store, table, call, clock, seats, steps)
     }
 
     // The floor of the threads, where with so many cells more a sweep may be due.
@@ -147,10 +152,39 @@ impl Detector {
         }
     }
 
-    // Keeps a call in the cells of the points that it touches, whose indices these are. Then a sweep comes where it is due.
+    // Keeps a call for which nothing was found, and which touches one point, in the memory of the cell there, where nothing else has that. It answers
+    // whether it did. Not where a sweep is due.
+    fn keep_over<L: Ledger>(
+        &mut self,
+        found: bool,
+        seats: &[Seat],
+        seen: WitnessRef,
+        steps: &mut Steps<L>,
+    ) -> Result<bool, NoMemory>
+        requires { AreSeats self.old.store seen.call.now.thread
+            (touched_points self.old.tables seen.call.now) seats.now }
+        ensures none { IfOk result (λ done. IsTrue done → found ≡ false) }
+        ensures taken { IfOk result (λ done. IsTrue done → (threads : List TrackedOf)
+            → IsTaken threads self.old self.new seen.entry.call.now (lent_witness seen.entry)) }
+        ensures kept { IfOk result (λ done. done ≡ false → self.new ≡ self.old) }
+        ensures err { OnErr result (self.new ≡ self.old) }
+        ensures cost { steps.new ≤ steps.old + length seats.now }
+    {
+        law_of_equal_points();
+        let [seat] = seats else {
+            return Ok(false);
+        };
+        if found || is_due(self.store.cells(), self.kept) {
+            return Ok(false);
+        }
+        let done = self.store.touch_over(*seat, seen, steps)?;
+        Ok(done)
+    }
+
+    // Keeps a call in the cells of the points that it touches, which stand at these seats. Then a sweep comes where it is due.
     fn keep<L: Ledger>(
         &mut self,
-        seats: &[usize],
+        seats: &[Seat],
         witness: &Rc<Witness>,
         tracker: &Tracker,
         steps: &mut Steps<L>,
@@ -160,9 +194,7 @@ impl Detector {
         ensures taken { OnOk result (IsTaken tracker.now.threads self.old self.new
             witness.now.value.call witness.now.value) }
         ensures err { OnErr result (IsUntaken self.old self.new) }
-        ensures cost { (threads : ℕ) → witness.now.value.call.thread < threads
-            → AreBelow threads self.old.store
-            → steps.new ≤ steps.old + length seats.now * (threads + 1) }
+        ensures cost { steps.new ≤ steps.old + length seats.now }
     {
         let count = seats.len();
         let floor = self.floor(count, tracker)?;
@@ -178,48 +210,72 @@ impl Detector {
         Ok(())
     }
 
+    // Keeps a call in memory of its own, and answers its race with the latest call that was found, if one was.
+    // kept out of line, so that a call that needs no memory doesn't pay for its locals
+    #[inline(never)]
+    fn keep_new<L: Ledger>(
+        &mut self,
+        latest: Option<Rc<Witness>>,
+        seats: &[Seat],
+        seen: WitnessRef,
+        tracker: &Tracker,
+        steps: &mut Steps<L>,
+    ) -> Result<Option<Race>, NoMemory>
+        requires { AreSeats self.old.store seen.call.now.thread
+            (touched_points self.old.tables seen.call.now) seats.now }
+        ensures answer { IfOk result
+            (Answers (lent_witness seen.entry) (option_map (λ held. held.value) latest)) }
+        ensures taken { OnOk result (IsTaken tracker.now.threads self.old self.new
+            seen.entry.call.now (lent_witness seen.entry)) }
+        ensures err { OnErr result (IsUntaken self.old self.new) }
+        ensures cost { steps.new ≤ steps.old + length seats.now }
+    {
+        let witness = Rc::new(self.alloc, seen.copy(self.alloc)?)?;
+        let answer = answer(&witness, latest)?;
+        self.keep(seats, &witness, tracker, steps)?;
+        Ok(answer)
+    }
+
+    // Takes a call as `call` does, with what is known of it lent.
+    // kept out of line, so that a walk over other lines doesn't pay for its locals
+    #[inline(never)]
+    fn judge<L: Ledger>(
+        &mut self,
+        seen: WitnessRef,
+        tracker: &Tracker,
+        steps: &mut Steps<L>,
+    ) -> Result<Option<Race>, NoMemory>
+        requires next { (kinds : List SpecifiedKind) × (roots : ℕ → Bool) × (lines : List ℕ) × (es : List EventOf)
+            × IsNextCall kinds self.old tracker.now roots lines es seen.place seen.call.now (lent_stamp seen.stamp) }
+
+        // the call is judged and kept
+        ensures answer { IfOk result (λ answer. (kinds : List SpecifiedKind) (roots : ℕ → Bool) (lines : List ℕ) (es : List EventOf)
+            → IsNextCall kinds self.old tracker.now roots lines es seen.entry.place seen.entry.call.now (lent_stamp seen.entry.stamp)
+            → IsAnswer kinds (lines ++ seen.entry.line ∷ []) (es ++ event.Call seen.entry.call.now ∷ []) seen.entry.place answer) }
+        ensures stands { OnOk result ((kinds : List SpecifiedKind) (roots : ℕ → Bool) (lines : List ℕ) (es : List EventOf)
+            → IsNextCall kinds self.old tracker.now roots lines es seen.entry.place seen.entry.call.now (lent_stamp seen.entry.stamp)
+            → DetectorStandsFor kinds self.new roots (lines ++ seen.entry.line ∷ []) (es ++ event.Call seen.entry.call.now ∷ [])) }
+
+        // what it leaves, and a bound of the steps
+        ensures taken { OnOk result (IsTaken tracker.now.threads self.old self.new seen.entry.call.now (lent_witness seen.entry)) }
+        ensures err { OnErr result (IsUntaken self.old self.new) }
+        ensures cost { steps.new ≤ steps.old + detection_bound self.old.tables (length tracker.now.threads) seen.entry.call.now }
+    {
+        law_of_merging();
+        let mut seats = ArrayVec::new();
+        let latest = self.look(seen.call, seen.stamp.clock, &mut seats, steps)?;
+        if self.keep_over(latest.is_some(), seats.as_slice(), seen, steps)? {
+            return Ok(None);
+        }
+        let answer = self.keep_new(latest, seats.as_slice(), seen, tracker, steps)?;
+        Ok(answer)
+    }
+
     /// Takes the call at the next place of a trace that is well-formed with the specification, on the line of that number, with the
     /// stamp that the tracker gave for it; the tracker stands for the trace with the call. It answers the race with the latest earlier call
     /// that races with it: on the same object, tied to it by no order, and not commuting. Then it keeps the call in the cells of the points
     /// that it touches; and where there are at least 64 cells and twice as many as the last sweep left, it drops those that each thread
     /// knows which wasn't joined. After want of memory all is as before, but for room.
-    // kept out of line, so that a walk over other lines doesn't pay for its locals
-    #[inline(never)]
-    pub fn take<L: Ledger>(
-        &mut self,
-        line: u64,
-        place: u32,
-        call: &Call,
-        stamp: Stamp,
-        tracker: &Tracker,
-        steps: &mut Steps<L>,
-    ) -> Result<Option<Race>, NoMemory>
-        requires next { (kinds : List SpecifiedKind) × (roots : ℕ → Bool) × (lines : List ℕ) × (es : List EventOf)
-            × IsNextCall kinds self.old tracker.now roots lines es place call.now stamp }
-
-        // the call is judged and kept
-        ensures answer { IfOk result (λ answer. (kinds : List SpecifiedKind) (roots : ℕ → Bool) (lines : List ℕ) (es : List EventOf)
-            → IsNextCall kinds self.old tracker.now roots lines es place call.now stamp
-            → IsAnswer kinds (lines ++ line ∷ []) (es ++ event.Call call.now ∷ []) place answer) }
-        ensures stands { OnOk result ((kinds : List SpecifiedKind) (roots : ℕ → Bool) (lines : List ℕ) (es : List EventOf)
-            → IsNextCall kinds self.old tracker.now roots lines es place call.now stamp
-            → DetectorStandsFor kinds self.new roots (lines ++ line ∷ []) (es ++ event.Call call.now ∷ [])) }
-
-        // what it leaves, and a bound of the steps
-        ensures taken { OnOk result (IsTaken tracker.now.threads self.old self.new call.now
-            (record { line = line; place = place; call = call.now; stamp = stamp })) }
-        ensures err { OnErr result (IsUntaken self.old self.new) }
-        ensures cost { steps.new ≤ steps.old + detection_bound self.old.tables (length tracker.now.threads) call.now }
-    {
-        law_of_merging();
-        let Found { latest, seats } = self.look(call, &stamp.clock, steps)?;
-        let witness = witness(self.alloc, line, place, call, stamp)?;
-        let answer = answer(&witness, latest)?;
-        self.keep(seats.as_slice(), &witness, tracker, steps)?;
-        Ok(answer)
-    }
-
-    /// Takes a call as `take` does, where the stamp is only lent, and so copied.
     pub fn call<L: Ledger>(
         &mut self,
         line: u64,
@@ -246,9 +302,48 @@ impl Detector {
         ensures err { OnErr result (IsUntaken self.old self.new) }
         ensures cost { steps.new ≤ steps.old + detection_bound self.old.tables (length tracker.now.threads) call.now }
     {
-        let stamp = copied(self.alloc, stamp)?;
-        let answer = self.take(line, place, call, stamp, tracker, steps)?;
-        Ok(answer)
+        let seen = WitnessRef {
+            line,
+            place,
+            call,
+            stamp: StampRef::new(stamp),
+        };
+        self.judge(seen, tracker, steps)
+    }
+
+    /// Takes a call as `call` does, where the tracker passed it last, and so has its stamp.
+    pub fn take<L: Ledger>(
+        &mut self,
+        line: u64,
+        place: u32,
+        call: &Call,
+        tracker: &Tracker,
+        steps: &mut Steps<L>,
+    ) -> Result<Option<Race>, NoMemory>
+        requires next { (kinds : List SpecifiedKind) × (roots : ℕ → Bool) × (lines : List ℕ) × (es : List EventOf)
+            × IsNextCall kinds self.old tracker.now roots lines es place call.now (last_stamp tracker.now.threads call.now.thread) }
+
+        // the call is judged and kept
+        ensures answer { IfOk result (λ answer. (kinds : List SpecifiedKind) (roots : ℕ → Bool) (lines : List ℕ) (es : List EventOf)
+            → IsNextCall kinds self.old tracker.now roots lines es place call.now (last_stamp tracker.now.threads call.now.thread)
+            → IsAnswer kinds (lines ++ line ∷ []) (es ++ event.Call call.now ∷ []) place answer) }
+        ensures stands { OnOk result ((kinds : List SpecifiedKind) (roots : ℕ → Bool) (lines : List ℕ) (es : List EventOf)
+            → IsNextCall kinds self.old tracker.now roots lines es place call.now (last_stamp tracker.now.threads call.now.thread)
+            → DetectorStandsFor kinds self.new roots (lines ++ line ∷ []) (es ++ event.Call call.now ∷ [])) }
+
+        // what it leaves, and a bound of the steps
+        ensures taken { OnOk result (IsTaken tracker.now.threads self.old self.new call.now
+            (record { line = line; place = place; call = call.now; stamp = last_stamp tracker.now.threads call.now.thread })) }
+        ensures err { OnErr result (IsUntaken self.old self.new) }
+        ensures cost { steps.new ≤ steps.old + detection_bound self.old.tables (length tracker.now.threads) call.now }
+    {
+        let seen = WitnessRef {
+            line,
+            place,
+            call,
+            stamp: tracker.last_stamp(call.thread),
+        };
+        self.judge(seen, tracker, steps)
     }
 
     /// How many cells there are: one for each point and each thread that touched it, but for those that were swept. It takes no memory.
@@ -273,38 +368,6 @@ fn may_be_due(cells: u128, more: u64, kept: u128) -> bool
 {
     let more = u128::from(more);
     64 <= cells.saturating_add(more) && kept <= cells / 2 + more
-}
-
-// An equal stamp.
-fn copied(alloc: Global, stamp: &Stamp) -> Result<Stamp, NoMemory>
-    ensures { IfOk result (λ copy. copy ≡ stamp.now) }
-{
-    Ok(Stamp {
-        thread: stamp.thread,
-        number: stamp.number,
-        clock: stamp.clock.copy(alloc)?,
-    })
-}
-
-// What is kept of a call.
-fn witness(
-    alloc: Global,
-    line: u64,
-    place: u32,
-    call: &Call,
-    stamp: Stamp,
-) -> Result<Rc<Witness>, NoMemory>
-    ensures { IfOk result
-        (λ held. held.value ≡ record { line = line; place = place; call = call.now; stamp = stamp }) }
-{
-    let call = call.copy(alloc)?;
-    let seen = Witness {
-        line,
-        place,
-        call,
-        stamp,
-    };
-    Ok(Rc::new(alloc, seen)?)
 }
 
 // The race of two calls of one kind.

@@ -1,53 +1,22 @@
 -- Cells of one point.
 use Rattle.std.proofs.Common.{◌≡◌, ◌≢◌, ℕ, zero, suc, ◌+◌, ◌<◌, ◌≤◌, ◌==◌, ◌⊎◌, inl, inr, not, nat_le, Bool, true, false, cond, List, [], ◌∷◌, ◌++◌, length, map, take, set, get_or, fold, filter, Option, None, Some, is_some, refl, sym, ap, ◌∙◌, subst, arith}
 use Rattle.std.proofs.lemmas.Bool.{eqb-true, eqb-false, eq-eqb, leb-false, leb-true, ne_eqb}
-use Rattle.std.proofs.lemmas.List.{get_or-map, length-map, map_more, take-map}
-use Rattle.std.proofs.lemmas.List.Sums.{count_by-le-length, length-filter, sum_by-cons}
+use Rattle.std.specs.Global.{Global}
+use Rattle.std.specs.declared.rc.Rc.{Rc}
+use Rattle.std.proofs.Math.Seq.{map-set_same}
+use Rattle.std.proofs.lemmas.List.{get_or-map, length-map, map-set, map_more}
+use Rattle.std.proofs.lemmas.List.Sums.{count_by-le-length, length-filter}
 use Rattle.rd_points.specs.declared.points.Point.{Point}
 use Rattle.rd_store.specs.declared.Witness.{Witness}
-use Rattle.rd_store.specs.Stores.{Cell, HasOneEach, IsCovered, IsLatestUncovered, PointCells, cell_at, cell_of, cells_at, is_covered, others_of, uncovered}
-use Rattle.rd_store.specs.StoreParts.{Held, IsFirstOf, cell, later, latest_of, live, with_cell}
+use Rattle.rd_store.specs.Stores.{Cell, HasOneEach, IsCovered, IsLatestUncovered, PointCells, cell_at, cell_of, cells_at, is_covered, place_of, uncovered}
+use Rattle.rd_store.specs.StoreParts.{Held, cell, later, latest_of, live, with_cell}
 
 abbrev pub own_cell : ℕ → Witness → Cell
 own_cell thread witness = record { thread = thread; witness = witness }
 
--- ---- the first cell of a thread
+-- ---- the place of a thread's cell
 
 module _ (t : ℕ) where
-  head_is : (c : Cell) (cells : List Cell) (i : ℕ) → cell_of (take (suc i) (c ∷ cells)) t ≡ None → ((c.thread == t) ≡ false) × (cell_of (take i cells) t ≡ None)
-  head_is c cells i none = by (c.thread == t) refl none
-    where
-      by : (b : Bool) → (c.thread == t) ≡ b → cond b (Some c.witness) (cell_of (take i cells) t) ≡ None → ((c.thread == t) ≡ false) × (cell_of (take i cells) t ≡ None)
-      by true e h = cc
-      by false e h = (e, h)
-
-  rest_is : (c : Cell) (cells : List Cell) (i : ℕ) → IsFirstOf (c ∷ cells) t (suc i) → IsFirstOf cells t i
-  rest_is c cells i first = record {
-    within = omega (arith, first.within);
-    none_before = (head_is c cells i first.none_before).1;
-    own = first.own;
-  }
-
-  pub first-set : (cells : List Cell) (w : Witness) (i : ℕ) → IsFirstOf cells t i → set cells i (own_cell t w) ≡ with_cell cells t w
-  first-set [] w i first = absurd (omega (arith, first.within))
-  first-set (c ∷ cells) w zero first = rw (eq-eqb c.thread t (first.own c)) refl
-  first-set (c ∷ cells) w (suc i) first =
-      rw ((head_is c cells i first.none_before).0) (ap (λ l. c ∷ l) (first-set cells w i (rest_is c cells i first)))
-
-  pub first-some : (cells : List Cell) (i : ℕ) → IsFirstOf cells t i → is_some (cell_of cells t) ≡ true
-  first-some [] i first = absurd (omega (arith, first.within))
-  first-some (c ∷ cells) zero first = rw (eq-eqb c.thread t (first.own c)) refl
-  first-some (c ∷ cells) (suc i) first = rw ((head_is c cells i first.none_before).0) (first-some cells i (rest_is c cells i first))
-
-  others-cons : (c : Cell) (cells : List Cell) → others_of (c ∷ cells) t ≡ cond (not (c.thread == t)) 1 0 + others_of cells t
-  others-cons c cells = sum_by-cons (λ (c : Cell). cond (not (c.thread == t)) 1 0) c cells
-
-  pub first-cost : (cells : List Cell) (i : ℕ) → IsFirstOf cells t i → i ≤ others_of cells t
-  first-cost [] i first = absurd (omega (arith, first.within))
-  first-cost (c ∷ cells) zero first = omega arith
-  first-cost (c ∷ cells) (suc i) first =
-      rw (others-cons c cells, (head_is c cells i first.none_before).0) (omega (arith, first-cost cells i (rest_is c cells i first)))
-
   none_cons : (c : Cell) (cells : List Cell) → cell_of (c ∷ cells) t ≡ None → ((c.thread == t) ≡ false) × (cell_of cells t ≡ None)
   none_cons c cells none = by (c.thread == t) refl none
     where
@@ -55,15 +24,61 @@ module _ (t : ℕ) where
       by true e h = cc
       by false e h = (e, h)
 
-  pub none-cost : (cells : List Cell) → cell_of cells t ≡ None → others_of cells t ≡ length cells
-  none-cost [] none = refl
-  none-cost (c ∷ cells) none =
-      let rest = none-cost cells (none_cons c cells none).1 in
-      rw (others-cons c cells, (none_cons c cells none).0) (omega (arith, rest))
+  pub place_none : (cells : List Cell) → cell_of cells t ≡ None → place_of cells t ≡ length cells
+  place_none [] none = refl
+  place_none (c ∷ cells) none = rw ((none_cons c cells none).0) (ap suc (place_none cells (none_cons c cells none).1))
+
+  -- a place among the cells is that of a cell of the thread
+  pub place_some : (cells : List Cell) → place_of cells t < length cells → is_some (cell_of cells t) ≡ true
+  place_some [] within = absurd (omega (arith, within))
+  place_some (c ∷ cells) within = by (c.thread == t) within (place_some cells)
+    where
+      by : (b : Bool) → cond b 0 (suc (place_of cells t)) < suc (length cells) → (place_of cells t < length cells → is_some (cell_of cells t) ≡ true)
+          → is_some (cond b (Some c.witness) (cell_of cells t)) ≡ true
+      by true h rest = refl
+      by false h rest = rest (omega (arith, h))
+
+  -- a place behind the cells is that of no cell
+  pub place_behind : (cells : List Cell) → length cells ≤ place_of cells t → cell_of cells t ≡ None
+  place_behind [] behind = refl
+  place_behind (c ∷ cells) behind = by (c.thread == t) behind (place_behind cells)
+    where
+      by : (b : Bool) → suc (length cells) ≤ cond b 0 (suc (place_of cells t)) → (length cells ≤ place_of cells t → cell_of cells t ≡ None)
+          → cond b (Some c.witness) (cell_of cells t) ≡ None
+      by true h rest = absurd (omega (arith, h))
+      by false h rest = rest (omega (arith, h))
+
+  pub place_set : (cells : List Cell) (w : Witness) → place_of cells t < length cells → set cells (place_of cells t) (own_cell t w) ≡ with_cell cells t w
+  place_set [] w within = absurd (omega (arith, within))
+  place_set (c ∷ cells) w within = by (c.thread == t) within (place_set cells w)
+    where
+      by : (b : Bool) → cond b 0 (suc (place_of cells t)) < suc (length cells) → (place_of cells t < length cells → set cells (place_of cells t) (own_cell t w) ≡ with_cell cells t w)
+          → set (c ∷ cells) (cond b 0 (suc (place_of cells t))) (own_cell t w) ≡ cond b (own_cell t w ∷ cells) (c ∷ with_cell cells t w)
+      by true h rest = refl
+      by false h rest = ap (λ l. c ∷ l) (rest (omega (arith, h)))
+
+  place_own : (cells : List Cell) (d : Cell) → place_of cells t < length cells → (get_or cells (place_of cells t) d).thread ≡ t
+  place_own [] d within = absurd (omega (arith, within))
+  place_own (c ∷ cells) d within = by (c.thread == t) refl within (place_own cells d)
+    where
+      by : (b : Bool) → (c.thread == t) ≡ b → cond b 0 (suc (place_of cells t)) < suc (length cells) → (place_of cells t < length cells → (get_or cells (place_of cells t) d).thread ≡ t)
+          → (get_or (c ∷ cells) (cond b 0 (suc (place_of cells t))) d).thread ≡ t
+      by true e h rest = eqb-true c.thread t e
+      by false e h rest = rest (omega (arith, h))
 
   pub none-push : (cells : List Cell) (w : Witness) → cell_of cells t ≡ None → cells ++ own_cell t w ∷ [] ≡ with_cell cells t w
   none-push [] w none = refl
   none-push (c ∷ cells) w none = rw ((none_cons c cells none).0) (ap (λ l. c ∷ l) (none-push cells w (none_cons c cells none).1))
+
+  -- a cell that is put stays in its place
+  pub place_stays : (cells : List Cell) (w : Witness) → place_of (with_cell cells t w) t ≡ place_of cells t
+  place_stays [] w = rw (eq-eqb t t refl) refl
+  place_stays (c ∷ cells) w = by (c.thread == t) refl (place_stays cells w)
+    where
+      by : (b : Bool) → (c.thread == t) ≡ b → place_of (with_cell cells t w) t ≡ place_of cells t
+          → place_of (cond b (own_cell t w ∷ cells) (c ∷ with_cell cells t w)) t ≡ cond b 0 (suc (place_of cells t))
+      by true e rest = rw (eq-eqb t t refl) refl
+      by false e rest = rw e (ap suc rest)
 
   -- ---- after a cell is put
 
@@ -110,13 +125,28 @@ module _ (t : ℕ) where
   none_more held i one within read none apart =
       rw (map_more cell held i one within, ← read) (none-push_none (map cell (take i held)) (cell one) none (ne_eqb one.0 t apart))
 
-  pub first_here : (held : List Held) (i : ℕ) (one : Held) → i < length held → one ≡ get_or held i one → cell_of (map cell (take i held)) t ≡ None → one.0 ≡ t
-      → IsFirstOf (map cell held) t i
-  first_here held i one within read none own = record {
-    within = rw (length-map held cell) within;
-    none_before = rw (take-map cell i held) none;
-    own = λ default. ap (λ (c : Cell). c.thread) (get_or-map cell held i one default within ∙ ap cell (sym read)) ∙ own;
-  }
+  pub place_here : (held : List Held) (i : ℕ) (one : Held) → i < length held → one ≡ get_or held i one → cell_of (map cell (take i held)) t ≡ None → one.0 ≡ t
+      → i ≡ place_of (map cell held) t
+  place_here [] i one within read none own = absurd (omega (arith, within))
+  place_here (h ∷ held) zero one within read none own = rw (eq-eqb h.0 t (ap (λ (x : Held). x.0) (sym read) ∙ own)) refl
+  place_here (h ∷ held) (suc i) one within read none own =
+      let parts = none_cons (cell h) (map cell (take i held)) none in
+      rw (parts.0) (ap suc (place_here held i one (omega (arith, within)) read parts.1 own))
+
+  -- a cell in the memory of the one at the thread's place
+  pub renewed : (held : List Held) (i : ℕ) (one : Held) (new : Rc Witness Global) (w : Witness) → i ≡ place_of (map cell held) t → i < length held → one ≡ get_or held i one → new.value ≡ w
+      → map cell (set held i (one.0, new)) ≡ with_cell (map cell held) t w
+  renewed held i one new w is within read same =
+      let inside : place_of (map cell held) t < length (map cell held) = omega (arith, within, is, length-map held cell) in
+      let own : one.0 ≡ t =
+      ap (λ (h : Held). h.0) read ∙ ap (λ (c : Cell). c.thread) (sym (get_or-map cell held i one (cell one) within))
+      ∙ subst (λ n. (get_or (map cell held) n (cell one)).thread ≡ t) (sym is) (place_own (map cell held) (cell one) inside) in
+      let cell_is : cell (one.0, new) ≡ own_cell t w = rw (own, same) refl in
+      map-set cell held i (one.0, new) ∙ ap (λ c. set (map cell held) i c) cell_is
+      ∙ subst (λ n. set (map cell held) n (own_cell t w) ≡ with_cell (map cell held) t w) (sym is) (place_set (map cell held) w inside)
+
+pub same_renewed : (held : List Held) (i : ℕ) (one : Held) (new : Rc Witness Global) → one ≡ get_or held i one → new.value ≡ one.1.value → map cell (set held i (one.0, new)) ≡ map cell held
+same_renewed held i one new read same = map-set_same cell held i (one.0, new) one (rw (same, ← read) refl)
 
 -- ---- the cells that a clock doesn't cover
 

@@ -1,5 +1,5 @@
 -- A store as the list of its entries.
-use Rattle.std.proofs.Common.{◌≡◌, ◌≢◌, ℕ, zero, suc, ◌+◌, ◌-◌, ◌*◌, ◌<◌, ◌≤◌, Bool, true, false, cond, ◌⊎◌, inl, inr, List, [], ◌∷◌, ◌++◌, length, map, Option, None, Some, is_some, IsSome, IsTrue, ◌↔◌, refl, sym, ap, ◌∙◌, subst, arith}
+use Rattle.std.proofs.Common.{◌≡◌, ◌≢◌, ℕ, zero, suc, ◌+◌, ◌-◌, ◌*◌, ◌<◌, ◌≤◌, Bool, true, false, cond, ◌⊎◌, inl, inr, List, [], ◌∷◌, ◌++◌, length, map, Option, None, Some, is_some, IsSome, IsTrue, Result, Ok, Err, IfOk, OnErr, ◌↔◌, refl, sym, ap, ◌∙◌, subst, arith, true≢false}
 use Rattle.std.specs.Prelude.{slice_get}
 use Rattle.std.specs.Option.{option_map_or}
 use Rattle.std.specs.Map.{values_of, lookup}
@@ -7,12 +7,14 @@ use Rattle.std.proofs.lemmas.Bool.{false_from_ne_true}
 use Rattle.std.proofs.lemmas.List.{length-map}
 use Rattle.std.proofs.lemmas.List.Sums.{sum_by-cons}
 use Rattle.indexmap.specs.Layout.{set_value_at}
+use Rattle.rd_base.specs.declared.memory.NoMemory.{NoMemory}
 use Rattle.rd_points.specs.PointLists.{same_point}
 use Rattle.rd_points.specs.declared.points.Point.{Point}
+use Rattle.rd_store.specs.declared.Seat.{Seat}
 use Rattle.rd_store.specs.declared.Witness.{Witness}
-use Rattle.rd_store.specs.Stores.{Cell, HasOneEach, HasRoom, IsSameStore, IsSwept, IsTouched, PointCells, cell_at, cell_count, cell_of, cells_at, held_of, spare_at}
+use Rattle.rd_store.specs.Stores.{Cell, HasOneEach, HasRoom, IsSameStore, IsSeat, IsSwept, IsTouched, PointCells, cell_at, cell_count, cell_of, cells_at, held_of, place_of, point_at, spare_at}
 use Rattle.rd_store.specs.StoreParts.{Cells, cell, HaveOneEach, IsKept, cells_of, held_entries, live, room_of, swept, swept_at, swept_below, with_cell}
-use Rattle.rd_store.proofs.CellLemmas.{live-cell_of, live-one_each, with-length, with-one_each, with-others, with-own}
+use Rattle.rd_store.proofs.CellLemmas.{live-cell_of, live-one_each, place_stays, with-length, with-one_each, with-others, with-own}
 
 abbrev pub Entries : Type 0
 Entries = List (Point × Cells)
@@ -180,6 +182,89 @@ module _ (same : (a b : Point) → IsTrue (same_point a b) ↔ (a ≡ b)) where
 
         cells_new : cells_at (held_entries (set_value_at es i new)) p ≡ with_cell (cells_of v) t witness
         cells_new = found_cells (set_value_at es i new) p new set_found ∙ put
+
+    pub touched_renewed : (t : ℕ) (w : Witness) → IsSome (cell_of (cells_of v) t) → cells_of new ≡ with_cell (cells_of v) t w → room_of new ≡ room_of v
+        → IsTouched (held_entries es) (held_entries (set_value_at es i new)) p t w
+    touched_renewed t w some put room =
+        let is : is_some (cell_of (cells_of v) t) ≡ true = some in
+        touched t w put (rw is (omega (arith, room)))
+
+    -- a seat of the thread stays one
+    pub seat_stays : (t : ℕ) (witness : Witness) → cells_of new ≡ with_cell (cells_of v) t witness → IsTouched (held_entries es) (held_entries (set_value_at es i new)) p t witness
+        → (q : Point) (s : Seat) → point_at (held_entries (set_value_at es i new)) s.index ≡ point_at (held_entries es) s.index
+        → IsSeat (held_entries es) t q s → IsSeat (held_entries (set_value_at es i new)) t q s
+    seat_stays t witness put done q s stay seat = by (same_point q p) refl
+      where
+        before : List PointCells
+        before = held_entries es
+
+        after : List PointCells
+        after = held_entries (set_value_at es i new)
+
+        own_place : place_of (cells_at before p) t ≡ place_of (cells_at after p) t
+        own_place = ap (λ l. place_of l t) (found_cells es p v f.found) ∙ sym (place_stays t (cells_of v) witness)
+            ∙ ap (λ l. place_of l t) (sym (found_cells (set_value_at es i new) p new set_found ∙ put))
+
+        by : (b : Bool) → same_point q p ≡ b → IsSeat after t q s
+        by true e =
+            let is : q ≡ p = (same q p).0 e in
+            record {
+              at = stay ∙ seat.at;
+              place = seat.place ∙ subst (λ k. place_of (cells_at before k) t ≡ place_of (cells_at after k) t) (sym is) own_place;
+              room = subst (HasRoom after t) (sym is) (inl (subst (λ o. IsSome o) (sym done.own) refl));
+            }
+        by false e =
+            let differ : q ≢ p = λ is. true≢false (sym ((same q p).1 is) ∙ e) in
+            record {
+              at = stay ∙ seat.at;
+              place = seat.place ∙ ap (λ l. place_of l t) (sym (other_cells q differ));
+              room = elim seat.room as (λ _. HasRoom after t q) [
+                | inl some ↦ inl (subst (λ l. IsSome (cell_of l t)) (sym (other_cells q differ)) some)
+                | inr room ↦ inr (subst (λ n. 1 ≤ n) (sym (other_spare q differ)) room)
+              ];
+            }
+
+-- ---- a cell in the memory of another
+
+-- how it ends where a cell may be made another's
+pub renewed_or_not : {A B C : Type 0} (r : Result Bool NoMemory) → IfOk r (λ done. IsTrue done → A) → IfOk r (λ done. IsTrue done → B) → IfOk r (λ done. done ≡ false → C) → OnErr r C → C ⊎ (A × B)
+renewed_or_not (Ok true) a b c e = inr (a refl, b refl)
+renewed_or_not (Ok false) a b c e = inl (c refl)
+renewed_or_not (Err x) a b c e = inl e
+
+pub both_ok : (A B : Type 0) (r : Result Bool NoMemory) → IfOk r (λ done. IsTrue done → A) → IfOk r (λ done. IsTrue done → B) → IfOk r (λ done. IsTrue done → A × B)
+both_ok A B (Ok done) a b = λ is. (a is, b is)
+both_ok A B (Err e) a b = tt
+
+module _ (es : Entries) (i : ℕ) (v new : Cells) where
+  pub count_renewed : (t : ℕ) (w : Witness) → slice_get (values_of es) i ≡ Some v
+      → (cells_of new ≡ cells_of v) ⊎ (IsSome (cell_of (cells_of v) t) × (cells_of new ≡ with_cell (cells_of v) t w))
+      → cell_count (held_entries (set_value_at es i new)) ≡ cell_count (held_entries es)
+  count_renewed t w at (inl same) = omega (arith, count-set es i v new at, ap length same)
+  count_renewed t w at (inr both) =
+      let some : is_some (cell_of (cells_of v) t) ≡ true = both.0 in
+      let more : length (with_cell (cells_of v) t w) ≡ length (cells_of v) + 0 = with-length t (cells_of v) w ∙ ap (λ b. length (cells_of v) + cond b 0 1) some in
+      omega (arith, count-set es i v new at, ap length both.1, more)
+
+  pub kept_renewed : (count t : ℕ) (w : Witness) → slice_get (values_of es) i ≡ Some v → IsKept es count
+      → (cells_of new ≡ cells_of v) ⊎ (IsSome (cell_of (cells_of v) t) × (cells_of new ≡ with_cell (cells_of v) t w))
+      → IsKept (set_value_at es i new) count
+  kept_renewed count t w at kept how = record {
+    one_each = one_each_set es i new kept.one_each (elim how as (λ _. HasOneEach (cells_of new)) [
+      | inl same ↦ subst HasOneEach (sym same) (one_each_place es i v kept.one_each at)
+      | inr both ↦ subst HasOneEach (sym both.1) (with-one_each t (cells_of v) w (one_each_place es i v kept.one_each at))
+    ]);
+    counted = kept.counted ∙ sym (count_renewed t w at how);
+  }
+
+-- where the cells and the room of a point are as before, so is the store
+pub same_entries : (v new : Cells) → cells_of new ≡ cells_of v → room_of new ≡ room_of v → (es : Entries) (i : ℕ) → slice_get (values_of es) i ≡ Some v
+    → held_entries (set_value_at es i new) ≡ held_entries es
+same_entries v new cells room [] i at = refl
+same_entries v new cells room (e ∷ es) zero at =
+    let is : e.1 ≡ v = cc in
+    ap (λ h. h ∷ held_entries es) (rw (cells, room) (ap (λ (c : Cells). held_entry (e.0, c)) (sym is)))
+same_entries v new cells room (e ∷ es) (suc i) at = ap (λ l. held_entry e ∷ l) (same_entries v new cells room es i at)
 
 -- ---- where only room changes
 

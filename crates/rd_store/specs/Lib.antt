@@ -1,2 +1,4 @@
 pub mod Stores
+pub mod Lent
 pub mod StoreParts
+pub mod laws

@@ -1,11 +1,11 @@
 -- A store as the code holds it.
-use Rattle.std.specs.Prelude.{◌≡◌, ℕ, zero, suc, ◌+◌, ◌-◌, ◌<◌, ◌==◌, List, [], ◌∷◌, map, take, slice_index_or, fold, filter, length, not, nat_le, Option, Some, None, if◌then◌else◌, vec_len, vec_capacity}
+use Rattle.std.specs.Prelude.{◌≡◌, ℕ, zero, suc, ◌+◌, ◌-◌, ◌==◌, List, [], ◌∷◌, map, fold, filter, length, not, nat_le, Option, Some, None, if◌then◌else◌, vec_len, vec_capacity}
 use Rattle.std.specs.Global.{Global}
 use Rattle.std.specs.declared.rc.Rc.{Rc}
 use Rattle.std.specs.declared.vec.Vec.{Vec}
 use Rattle.rd_points.specs.declared.points.Point.{Point}
 use Rattle.rd_store.specs.declared.Witness.{Witness}
-use Rattle.rd_store.specs.Stores.{Cell, PointCells, HasOneEach, cell_count, cell_of, is_covered}
+use Rattle.rd_store.specs.Stores.{Cell, PointCells, HasOneEach, cell_count, is_covered}
 
 -- a cell as the code holds it
 abbrev pub Held : Type 0
@@ -46,12 +46,6 @@ abbrev pub with_cell : List Cell → ℕ → Witness → List Cell
 with_cell [] thread witness = record { thread = thread; witness = witness } ∷ []
 with_cell (cell ∷ cells) thread witness =
     if cell.thread == thread then record { thread = thread; witness = witness } ∷ cells else cell ∷ with_cell cells thread witness
-
--- the first cell of a thread is at this place
-pub record IsFirstOf (cells : List Cell) (thread place : ℕ) : Type 0 where
-  pub within : place < length cells
-  pub none_before : cell_of (take place cells) thread ≡ None
-  pub own : (default : Cell) → (slice_index_or cells place default).thread ≡ thread
 
 -- the later of what was found before and a cell, where the clock doesn't cover it
 abbrev pub later : List ℕ → Option Witness → Cell → Option Witness

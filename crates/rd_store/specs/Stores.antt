@@ -1,10 +1,11 @@
 -- What a store holds: cells, one for each access point and each thread that touched it. This project's profile, after Dimitrov,
 -- Raychev, Vechev and Koskinen 2014.
-use Rattle.std.specs.Prelude.{◌≡◌, ◌≢◌, ◌⊎◌, ℕ, ◌+◌, ◌≤◌, ◌==◌, not, nat_le, Bool, List, [], ◌∷◌, length, map, sum, count_by, Option, Some, None, is_some, option_map, slice_get, IsSome, if◌then◌else◌}
+use Rattle.std.specs.Prelude.{◌≡◌, ◌≢◌, ◌⊎◌, ℕ, suc, ◌+◌, ◌≤◌, ◌==◌, not, nat_le, Bool, List, [], ◌∷◌, length, map, sum, count_by, Option, Some, None, is_some, option_map, slice_get, IsSome, if◌then◌else◌}
 use Rattle.std.specs.Option.{option_map_or}
 use Rattle.rd_clock.specs.Clock.{component}
 use Rattle.rd_points.specs.PointLists.{same_point}
 use Rattle.rd_points.specs.declared.points.Point.{Point}
+use Rattle.rd_store.specs.declared.Seat.{Seat}
 use Rattle.rd_store.specs.declared.Witness.{Witness}
 
 -- ---- the state
@@ -50,6 +51,11 @@ cell_at store point thread = cell_of (cells_at store point) thread
 abbrev pub cell_count : List PointCells → ℕ
 cell_count store = sum (map (λ held. length held.cells) store)
 
+-- the place of the first cell of a thread, or how many cells there are where it has none
+abbrev pub place_of : List Cell → ℕ → ℕ
+place_of [] thread = 0
+place_of (cell ∷ cells) thread = if cell.thread == thread then 0 else suc (place_of cells thread)
+
 -- no two cells are of one thread
 abbrev pub HasOneEach : List Cell → Type 0
 HasOneEach [] = Unit {0}
@@ -86,6 +92,12 @@ pub record IsSameStore (old new : List PointCells) : Type 0 where
 -- the thread has a cell at the point, or there is room for one
 abbrev pub HasRoom : List PointCells → ℕ → Point → Type 0
 HasRoom store thread point = IsSome (cell_at store point thread) ⊎ (1 ≤ spare_at store point)
+
+-- where a thread's cell of a point stands, or will stand: at the index of the point, and at this place among its cells
+pub record IsSeat (store : List PointCells) (thread : ℕ) (point : Point) (seat : Seat) : Type 0 where
+  pub at : point_at store seat.index ≡ Some point
+  pub place : seat.place ≡ place_of (cells_at store point) thread
+  pub room : HasRoom store thread point
 
 -- one where the thread has no cell at the point
 abbrev pub new_cells : List PointCells → Point → ℕ → ℕ

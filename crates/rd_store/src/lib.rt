@@ -2,9 +2,11 @@
 #![tactic(auto)]
 
 mod laws;
+mod lent;
 mod store;
 
 pub use laws::law_of_stores;
+pub use lent::{PointRef, WitnessRef};
 use rd_clock::Stamp;
 use rd_event::Call;
 use std::rc::Rc;
@@ -17,6 +19,14 @@ pub struct Witness {
     pub place: u32,
     pub call: Call,
     pub stamp: Stamp,
+}
+
+/// Where a thread's cell of a point stands in a store, or will stand: the index at which the point was entered, and the place among
+/// the cells of the point, behind all where the thread has none.
+#[derive(Clone, Copy, Debug, Default)]
+pub struct Seat {
+    pub index: usize,
+    pub place: usize,
 }
 
 /// Two calls on one object that no order ties and that don't commute (Dimitrov, Raychev, Vechev and Koskinen 2014), and the

@@ -1,12 +1,13 @@
 //! The cells of access points.
-ghost use Rattle.std.specs.Prelude.{◌≡◌, ◌+◌, ◌<◌, ◌≤◌, ◌⊎◌, not, [], Contains, length, map, option_map, is_some, OnOk, IsSome, MatchOption, None, if◌then◌else◌};
+ghost use Rattle.std.specs.Prelude.{◌≡◌, false, ◌+◌, ◌<◌, ◌≤◌, ◌⊎◌, not, [], Contains, length, map, option_map, is_some, OnOk, OnErr, IfOk, IsSome, IsTrue, if◌then◌else◌};
 ghost use Rattle.rd_points.specs.declared.points.Point.{Point as PointOf};
-ghost use Rattle.rd_store.specs.StoreParts.{IsFirstOf, cell, cells_of, room_of, later as later_of, latest_of, live, swept_at, with_cell};
-ghost use Rattle.rd_store.specs.Stores.{HasOneEach, HasRoom, IsLatestUncovered, IsSameStore, IsSwept, IsTouched, cell_count, cell_of, cells_at, is_covered, others_of};
+ghost use Rattle.rd_store.specs.StoreParts.{cell, cells_of, room_of, later as later_of, latest_of, live, swept_at, with_cell};
+ghost use Rattle.rd_store.specs.Lent.{lent_witness};
+ghost use Rattle.rd_store.specs.Stores.{HasOneEach, HasRoom, IsLatestUncovered, IsSameStore, IsSwept, IsTouched, cell_count, cell_of, cells_at, is_covered, others_of, place_of};
 
 mod indexed;
 
-use crate::Witness;
+use crate::{PointRef, Witness, WitnessRef};
 use indexmap::IndexMap;
 use rd_base::{NoMemory, Steps};
 use rd_clock::Clock;
@@ -16,36 +17,16 @@ use std::marker::Model;
 use std::rc::Rc;
 use std::sync::ledger::Ledger;
 
-// The place of the first cell of a thread. It takes a step for each cell up to it.
-fn place_of<L: Ledger>(
-    cells: &[(u32, Rc<Witness>)],
-    thread: u32,
-    steps: &mut Steps<L>,
-) -> Option<usize>
-    ensures place { MatchOption result (cell_of (map cell cells.now) thread ≡ None)
-        (λ place. IsFirstOf (map cell cells.now) thread place) }
-    ensures some_cost { steps.old ≤ steps.new }
-    ensures cost { steps.new ≤ steps.old + 1 + others_of (map cell cells.now) thread }
+// The place of the first cell of a thread, or how many cells there are where it has none.
+fn place_of(cells: &[(u32, Rc<Witness>)], thread: u32) -> usize
+    ensures { result ≡ place_of (map cell cells.now) thread }
 {
     for (place, held) in cells.iter().enumerate() {
-        steps.tick();
         if held.0 == thread {
-            return Some(place);
+            return place;
         }
     }
-    None
-}
-
-// Whether a thread has a cell.
-fn has_cell(cells: &[(u32, Rc<Witness>)], thread: u32) -> bool
-    ensures { result ≡ is_some (cell_of (map cell cells.now) thread) }
-{
-    for held in cells {
-        if thread == held.0 {
-            return true;
-        }
-    }
-    false
+    cells.len()
 }
 
 // The later of what was found before and a cell that the clock doesn't cover.
@@ -91,42 +72,34 @@ fn latest_of<'a, L: Ledger>(
     latest
 }
 
-// Puts a cell in the place of the first of its thread, or last, and answers how many more there are.
-fn put<L: Ledger>(
-    cells: &mut Vec<(u32, Rc<Witness>)>,
-    thread: u32,
-    witness: Rc<Witness>,
-    steps: &mut Steps<L>,
-) -> u128
-    requires { IsSome (cell_of (cells_of cells.old) thread) ⊎ (1 ≤ room_of cells.old) }
+// Puts a cell in the place of its thread, and answers how many more there are.
+fn put(cells: &mut Vec<(u32, Rc<Witness>)>, place: usize, thread: u32, witness: Rc<Witness>) -> u128
+    requires place { place ≡ place_of (cells_of cells.old) thread }
+    requires room { IsSome (cell_of (cells_of cells.old) thread) ⊎ (1 ≤ room_of cells.old) }
     ensures cells { cells_of cells.new ≡ with_cell (cells_of cells.old) thread witness.value }
     ensures new { result
         ≡ (if is_some (cell_of (cells_of cells.old) thread) then 0 else 1) }
     ensures room { room_of cells.new + result ≡ room_of cells.old }
-    ensures some_cost { steps.old ≤ steps.new }
-    ensures cost { steps.new ≤ steps.old + 1 + others_of (cells_of cells.old) thread }
 {
-    match place_of(cells.as_slice(), thread, steps) {
-        Some(place) => {
-            cells[place] = (thread, witness);
-            0
-        }
-        None => {
-            cells.push_reserved((thread, witness));
-            1
-        }
+    if place < cells.len() {
+        cells[place] = (thread, witness);
+        return 0;
     }
+    cells.push_reserved((thread, witness));
+    1
 }
 
-// Makes room for a cell of a thread that has none.
-fn reserve_cell(cells: &mut Vec<(u32, Rc<Witness>)>, thread: u32) -> Result<(), NoMemory>
+// Makes room for a cell of a thread that has none, and answers the place of its cell.
+fn reserve_cell(cells: &mut Vec<(u32, Rc<Witness>)>, thread: u32) -> Result<usize, NoMemory>
+    ensures place { IfOk result (λ place. place ≡ place_of (cells_of cells.old) thread) }
     ensures room { OnOk result
         (IsSome (cell_of (cells_of cells.new) thread) ⊎ (1 ≤ room_of cells.new)) }
     ensures same { cells_of cells.new ≡ cells_of cells.old }
     ensures more { room_of cells.old ≤ room_of cells.new }
 {
-    if has_cell(cells.as_slice(), thread) {
-        return Ok(());
+    let place = place_of(cells.as_slice(), thread);
+    if place < cells.len() {
+        return Ok(place);
     }
     // Most points have few cells, and these take no more room than they need.
     if cells.len() < 4 {
@@ -134,7 +107,60 @@ fn reserve_cell(cells: &mut Vec<(u32, Rc<Witness>)>, thread: u32) -> Result<(), 
     } else {
         cells.reserve(1)?;
     }
-    Ok(())
+    Ok(place)
+}
+
+// Makes what is kept of a call that of another, where the clocks have the same room, and answers whether they have.
+fn renew(alloc: Global, held: &mut Witness, seen: WitnessRef) -> Result<bool, NoMemory>
+    ensures renewed { IfOk result (λ done. IsTrue done → held.new ≡ lent_witness seen.entry) }
+    ensures kept { IfOk result (λ done. done ≡ false → held.new ≡ held.old) }
+    ensures err { OnErr result (held.new ≡ held.old) }
+{
+    let call = seen.call.copy(alloc)?;
+    if !held.stamp.clock.overwrite(seen.stamp.clock) {
+        return Ok(false);
+    }
+    held.stamp.thread = seen.stamp.thread;
+    held.stamp.number = seen.stamp.number;
+    held.line = seen.line;
+    held.place = seen.place;
+    held.call = call;
+    Ok(true)
+}
+
+// The same in memory that nothing else has.
+fn renew_held(alloc: Global, held: &mut Rc<Witness>, seen: WitnessRef) -> Result<bool, NoMemory>
+    ensures renewed { IfOk result (λ done. IsTrue done → held.new.value ≡ lent_witness seen.entry) }
+    ensures kept { IfOk result (λ done. done ≡ false → held.new.value ≡ held.old.value) }
+    ensures err { OnErr result (held.new.value ≡ held.old.value) }
+{
+    match Rc::get_mut(held) {
+        Some(held) => renew(alloc, held, seen),
+        None => Ok(false),
+    }
+}
+
+// The same in the cell at a place, where there is one.
+fn renew_cell(
+    alloc: Global,
+    cells: &mut Vec<(u32, Rc<Witness>)>,
+    place: usize,
+    seen: WitnessRef,
+) -> Result<bool, NoMemory>
+    requires { place ≡ place_of (cells_of cells.old) seen.call.now.thread }
+    ensures there { IfOk result (λ done. IsTrue done
+        → IsSome (cell_of (cells_of cells.old) seen.entry.call.now.thread)) }
+    ensures renewed { IfOk result (λ done. IsTrue done → cells_of cells.new
+        ≡ with_cell (cells_of cells.old) seen.entry.call.now.thread (lent_witness seen.entry)) }
+    ensures kept { IfOk result (λ done. done ≡ false → cells_of cells.new ≡ cells_of cells.old) }
+    ensures err { OnErr result (cells_of cells.new ≡ cells_of cells.old) }
+    ensures room { room_of cells.new ≡ room_of cells.old }
+{
+    if place >= cells.len() {
+        return Ok(false);
+    }
+    let held = &mut cells[place];
+    renew_held(alloc, &mut held.1, seen)
 }
 
 // Whether the clock doesn't cover a cell.
@@ -203,13 +229,7 @@ impl Store {
         ensures one_each { HasOneEach (cells_at self.now point.now) }
         ensures cost { steps.new ≡ steps.old + 1 + length (cells_at self.now point.now) }
     {
-        match self.index_of(point) {
-            Some(index) => self.latest_at(index, clock, steps),
-            None => {
-                steps.tick();
-                None
-            }
-        }
+        self.latest_of(PointRef::new(point), clock, steps)
     }
 
     // Makes room for a cell of this thread at a point.
@@ -217,13 +237,8 @@ impl Store {
         ensures room { OnOk result (HasRoom self.new thread point.now) }
         ensures same { IsSameStore self.old self.new }
     {
-        match self.index_of(point) {
-            Some(index) => self.reserve_at(index, thread),
-            None => {
-                self.enter_new(point.copy(self.alloc)?)?;
-                Ok(())
-            }
-        }
+        self.enter(PointRef::new(point), thread)?;
+        Ok(())
     }
 
     /// Makes room for a cell of this thread at each of these points. The cells are as before, also after want of memory.
@@ -253,8 +268,9 @@ impl Store {
         ensures some_cost { steps.old + 1 ≤ steps.new }
         ensures cost { steps.new ≤ steps.old + 2 + others_of (cells_at self.old point) thread }
     {
-        let index = self.index_of(&point).unwrap();
-        self.touch_at(index, thread, witness, steps);
+        let index = self.index_of(PointRef::new(&point)).unwrap();
+        let seat = self.seat_at(index, thread);
+        self.touch_at(seat, thread, witness, steps);
     }
 
     // How many points were entered.

@@ -1,10 +1,11 @@
 //! The cells of a point by the index at which it was entered, so that a caller who keeps the index looks the point up once.
-ghost use Rattle.std.specs.Prelude.{◌≡◌, ◌+◌, ◌<◌, ◌≤◌, ℕ, length, option_map, IfOk, OnOk, MatchOption, None, Some};
+ghost use Rattle.std.specs.Prelude.{◌≡◌, false, IsTrue, OnErr, ◌+◌, ◌<◌, ◌≤◌, ℕ, length, option_map, IfOk, OnOk, MatchOption, None, Some};
 ghost use Rattle.rd_points.specs.declared.points.Point.{Point as PointOf};
-ghost use Rattle.rd_store.specs.Stores.{HasOneEach, HasRoom, IsLatestUncovered, IsSameStore, IsTouched, cells_at, held_of, others_of, point_at};
+ghost use Rattle.rd_store.specs.Lent.{lent_point, lent_witness};
+ghost use Rattle.rd_store.specs.Stores.{HasOneEach, HasRoom, IsLatestUncovered, IsSameStore, IsSeat, IsTouched, cell_count, cells_at, held_of, place_of, point_at};
 
-use super::{Store, latest_of, put, reserve_cell};
-use crate::Witness;
+use super::{Store, latest_of, place_of, put, renew_cell, reserve_cell};
+use crate::{PointRef, Seat, Witness, WitnessRef};
 use rd_base::{NoMemory, Steps};
 use rd_clock::Clock;
 use rd_points::{Point, law_of_equal_points};
@@ -13,17 +14,19 @@ use std::sync::ledger::Ledger;
 
 impl Store {
     // The index of a point that was entered.
-    pub(super) fn index_of(&self, point: &Point) -> Option<usize>
-        ensures { MatchOption result (held_of self.now point.now ≡ None)
-            (λ index. point_at self.now index ≡ Some point.now) }
+    pub(super) fn index_of(&self, point: PointRef) -> Option<usize>
+        ensures { MatchOption result (held_of self.now (lent_point point.entry) ≡ None)
+            (λ index. point_at self.now index ≡ Some (lent_point point.entry)) }
     {
         law_of_equal_points();
         self.points.get_index_of(point)
     }
 
-    // Makes room for a cell of this thread at the point at an index.
-    pub(super) fn reserve_at(&mut self, index: usize, thread: u32) -> Result<(), NoMemory>
+    // Makes room for a cell of this thread at the point at an index, and answers the place of the cell.
+    pub(super) fn reserve_at(&mut self, index: usize, thread: u32) -> Result<usize, NoMemory>
         requires { index < length self.old }
+        ensures place { IfOk result (λ place. (point : PointOf) → point_at self.old index ≡ Some point
+            → place ≡ place_of (cells_at self.old point) thread) }
         ensures room { OnOk result
             ((point : PointOf) → point_at self.old index ≡ Some point → HasRoom self.new thread point) }
         ensures stay { (other : ℕ) → point_at self.new other ≡ point_at self.old other }
@@ -51,21 +54,45 @@ impl Store {
         }
     }
 
-    /// Enters a point, if it isn't there, and makes room for a cell of this thread there. It answers the index of the point,
-    /// which stays. The cells are as before, also after want of memory.
-    pub fn enter(&mut self, point: Point, thread: u32) -> Result<usize, NoMemory>
-        ensures entered { IfOk result (λ index. point_at self.new index ≡ Some point) }
-        ensures room { OnOk result (HasRoom self.new thread point) }
+    /// Enters a point, if it isn't there, and makes room for a cell of this thread there. It answers where the cell stands, or will
+    /// stand. The cells are as before, also after want of memory. Only a point that isn't there is copied.
+    pub fn enter(&mut self, point: PointRef, thread: u32) -> Result<Seat, NoMemory>
+        ensures entered { IfOk result (IsSeat self.new thread (lent_point point.entry)) }
         ensures stay { (index : ℕ) (other : PointOf) → point_at self.old index ≡ Some other
             → point_at self.new index ≡ Some other }
         ensures same { IsSameStore self.old self.new }
     {
-        match self.index_of(&point) {
+        match self.index_of(point) {
             Some(index) => {
-                self.reserve_at(index, thread)?;
-                Ok(index)
+                let place = self.reserve_at(index, thread)?;
+                Ok(Seat { index, place })
             }
-            None => self.enter_new(point),
+            None => {
+                let index = self.enter_new(point.copy(self.alloc)?)?;
+                Ok(Seat { index, place: 0 })
+            }
+        }
+    }
+
+    /// The same as `latest_uncovered`, for a point whose value is lent.
+    pub fn latest_of<L: Ledger>(
+        &self,
+        point: PointRef,
+        clock: &Clock,
+        steps: &mut Steps<L>,
+    ) -> Option<&Rc<Witness>>
+        ensures latest { IsLatestUncovered self.now (lent_point point.entry) clock.now
+            (option_map (λ held. held.now.value) result) }
+        ensures one_each { HasOneEach (cells_at self.now (lent_point point.entry)) }
+        ensures cost { steps.new
+            ≡ steps.old + 1 + length (cells_at self.now (lent_point point.entry)) }
+    {
+        match self.index_of(point) {
+            Some(index) => self.latest_at(index, clock, steps),
+            None => {
+                steps.tick();
+                None
+            }
         }
     }
 
@@ -90,35 +117,67 @@ impl Store {
         latest_of(cells.as_slice(), clock, steps)
     }
 
-    /// Sets the cell of a thread at the point at an index, where the thread has one or there is room for it. It takes no memory, at
-    /// least one step, and at most two more than the point has cells of other threads.
+    // The seat of a thread's cell of the point at an index.
+    pub(super) fn seat_at(&self, index: usize, thread: u32) -> Seat
+        requires { index < length self.now }
+        ensures { (point : PointOf) → point_at self.now index ≡ Some point
+            → (result.index ≡ index) × (result.place ≡ place_of (cells_at self.now point) thread) }
+    {
+        let (_point, cells) = self.points.get_index(index).unwrap();
+        Seat {
+            index,
+            place: place_of(cells.as_slice(), thread),
+        }
+    }
+
+    /// Sets the cell of a thread that has this seat. It takes no memory, and one step.
     pub fn touch_at<L: Ledger>(
         &mut self,
-        index: usize,
+        seat: Seat,
         thread: u32,
         witness: Rc<Witness>,
         steps: &mut Steps<L>,
     )
-        requires { (point : PointOf) × (point_at self.old index ≡ Some point) × HasRoom self.old thread point }
-        ensures touched { (point : PointOf) → point_at self.old index ≡ Some point
+        requires { (point : PointOf) × IsSeat self.old thread point seat }
+        ensures touched { (point : PointOf) → IsSeat self.old thread point seat
             → IsTouched self.old self.new point thread witness.value }
-        ensures one_each { (point : PointOf) → point_at self.old index ≡ Some point
-            → HasOneEach (cells_at self.old point) }
-        ensures stay { (other : ℕ) → point_at self.new other ≡ point_at self.old other }
-        ensures some_cost { steps.old + 1 ≤ steps.new }
-        ensures cost { (point : PointOf) → point_at self.old index ≡ Some point
-            → steps.new ≤ steps.old + 2 + others_of (cells_at self.old point) thread }
+        ensures one_each { (point : PointOf) → HasOneEach (cells_at self.old point) }
+        ensures seats { (point : PointOf) (other : Seat) → IsSeat self.old thread point other → IsSeat self.new thread point other }
+        ensures cost { steps.new ≡ steps.old + 1 }
     {
         law_of_equal_points();
         steps.tick();
         // `len` is called for its clause that there are fewer than 2 ^ 63 points, so that the count fits.
         let _entered = self.points.len();
         let new = put(
-            self.points.get_index_mut(index).unwrap(),
+            self.points.get_index_mut(seat.index).unwrap(),
+            seat.place,
             thread,
             witness,
-            steps,
         );
         self.count += new;
+    }
+
+    /// Sets the cell of a call's thread that has this seat in the memory of the cell that is there, where nothing else has that and the
+    /// clocks have the same room, and answers whether it did; else the cells are as before. It takes one step.
+    pub fn touch_over<L: Ledger>(
+        &mut self,
+        seat: Seat,
+        seen: WitnessRef,
+        steps: &mut Steps<L>,
+    ) -> Result<bool, NoMemory>
+        requires { (point : PointOf) × IsSeat self.old seen.call.now.thread point seat }
+        ensures touched { IfOk result (λ done. IsTrue done
+            → (point : PointOf) → IsSeat self.old seen.entry.call.now.thread point seat
+            → IsTouched self.old self.new point seen.entry.call.now.thread (lent_witness seen.entry)) }
+        ensures kept { IfOk result (λ done. done ≡ false → self.new ≡ self.old) }
+        ensures count { cell_count self.new ≡ cell_count self.old }
+        ensures err { OnErr result (self.new ≡ self.old) }
+        ensures cost { steps.new ≡ steps.old + 1 }
+    {
+        law_of_equal_points();
+        steps.tick();
+        let cells = self.points.get_index_mut(seat.index).unwrap();
+        renew_cell(self.alloc, cells, seat.place, seen)
     }
 }

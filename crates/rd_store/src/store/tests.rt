@@ -2,10 +2,10 @@
 ghost use Rattle.std.specs.Prelude.{◌≡◌, ◌<◌, length};
 
 use super::Store;
-use crate::Witness;
+use crate::{PointRef, Witness, WitnessRef};
 use indexmap::IndexMap;
 use rd_base::{NoMemory, Slots, Steps};
-use rd_clock::{Clock, Stamp};
+use rd_clock::{Clock, Stamp, StampRef};
 use rd_event::Call;
 use rd_points::{Point, Points};
 use std::alloc::Global;
@@ -129,7 +129,7 @@ fn place_at<L: Ledger>(
     }
 }
 
-fn two_points_by_index<L: Ledger>(rt: &impl Abort, alloc: Global, blank: Blank)
+fn two_points_by_seat<L: Ledger>(rt: &impl Abort, alloc: Global, blank: Blank)
     requires name { blank.name ≡ L.name }
     requires parts { blank.parts ≡ L.parts }
     requires some { 0 < blank.parts }
@@ -148,21 +148,73 @@ fn two_points_by_index<L: Ledger>(rt: &impl Abort, alloc: Global, blank: Blank)
     let again = point.copy(alloc).expect(rt, "memory");
     let empty = Clock::new(alloc);
     let mut store = Store::new(alloc);
-    let early = store.enter(point, 1).expect(rt, "memory");
-    let late = store.enter(other, 1).expect(rt, "memory");
-    let index = store.enter(again, 1).expect(rt, "memory");
-    assert!(rt; index == early);
-    assert!(rt; index != late);
+    let early = store.enter(PointRef::new(&point), 1).expect(rt, "memory");
+    let late = store.enter(PointRef::new(&other), 1).expect(rt, "memory");
+    let seat = store.enter(PointRef::new(&again), 1).expect(rt, "memory");
+    assert!(rt; seat.index == early.index);
+    assert!(rt; seat.index != late.index);
     let witness = seen(alloc, 1, 11, 4).expect(rt, "memory");
-    store.touch_at(index, 1, witness, &mut steps);
+    store.touch_at(seat, 1, witness, &mut steps);
     assert!(rt; store.cells() == 1);
-    assert!(rt; place_at(&store, index, &empty, &mut steps) == Some(11));
-    assert!(rt; place_at(&store, late, &empty, &mut steps).is_none());
+    assert!(rt; place_at(&store, seat.index, &empty, &mut steps) == Some(11));
+    assert!(rt; latest(&store, &other, &empty, &mut steps).is_none());
+}
+
+fn calls_in_the_same_memory<L: Ledger>(rt: &impl Abort, alloc: Global, blank: Blank)
+    requires name { blank.name ≡ L.name }
+    requires parts { blank.parts ≡ L.parts }
+    requires some { 0 < blank.parts }
+{
+    let mut steps = Steps::<L>::new(blank);
+    let point = Point {
+        object: 7,
+        class: 3,
+        value: None,
+    };
+    let empty = Clock::new(alloc);
+    let later = seen(alloc, 1, 12, 5).expect(rt, "memory");
+    let call = &later.call;
+    let thread = call.thread;
+    let stamp = StampRef {
+        thread,
+        number: 5,
+        clock: &empty,
+    };
+    let over = WitnessRef {
+        line: 13,
+        place: 12,
+        call,
+        stamp,
+    };
+    let mut store = Store::new(alloc);
+    let seat = store
+        .enter(PointRef::new(&point), thread)
+        .expect(rt, "memory");
+    let witness = seen(alloc, 1, 11, 4).expect(rt, "memory");
+    let shared = witness.clone().expect(rt, "memory");
+    store.touch_at(seat, thread, witness, &mut steps);
+    let done = store
+        .touch_over(seat, over, &mut steps)
+        .expect(rt, "memory");
+    assert!(rt; !done);
+    assert!(rt; latest(&store, &point, &empty, &mut steps) == Some(11));
+    drop(shared);
+    let done = store
+        .touch_over(seat, over, &mut steps)
+        .expect(rt, "memory");
+    assert!(rt; done);
+    assert!(rt; latest(&store, &point, &empty, &mut steps) == Some(12));
+    assert!(rt; store.cells() == 1);
 }
 
 #[test]
-fn keeps_a_call_by_the_index_of_its_point(rt: HostRuntime) {
-    two_points_by_index::<Brand>(&rt, rt.alloc(), Blank::new(1));
+fn writes_over_what_nothing_else_has(rt: HostRuntime) {
+    calls_in_the_same_memory::<Brand>(&rt, rt.alloc(), Blank::new(1));
+}
+
+#[test]
+fn keeps_a_call_by_its_seat(rt: HostRuntime) {
+    two_points_by_seat::<Brand>(&rt, rt.alloc(), Blank::new(1));
 }
 
 #[test]

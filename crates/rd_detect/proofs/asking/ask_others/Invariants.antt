@@ -1,13 +1,13 @@
-use Rattle.std.proofs.Common.{◌≡◌, ℕ, ◌+◌, ◌*◌, ◌≤◌, List, ◌++◌, length, map, take}
+use Rattle.std.proofs.Common.{ℕ, ◌+◌, ◌*◌, ◌≤◌, List, ◌++◌, length, map, take}
 use Rattle.std.specs.Prelude.{option_map}
 use Rattle.rd_points.specs.declared.points.Point.{Point}
+use Rattle.rd_store.specs.Lent.{lent_point}
 use Rattle.rd_detect.specs.Detect.{AreBelow, IsLatestOf, in_class}
 use Rattle.rd_detect.specs.Seats.{other_classes}
 use Rattle.rd_detect.proofs.asking.ask_others.Given as goal
 
 abbrev pub invariant-loop-class : goal.invariant-loop-class
 invariant-loop-class g l =
-    (l.point.object ≡ l.fn.point.object) × (l.point.value ≡ l.fn.point.value)
-    × ((points : List Point) → IsLatestOf l.store points l.clock (option_map (λ held. held.value) l.fn.found)
-    → IsLatestOf l.store (points ++ map (in_class l.fn.point) (other_classes l.fn.point.class (take l.class-index l.classes))) l.clock (option_map (λ held. held.value) l.found))
-    × ((threads : ℕ) → AreBelow threads l.store → l.steps ≤ l.fn.steps + length (other_classes l.fn.point.class (take l.class-index l.classes)) * (threads + 1))
+    ((points : List Point) → IsLatestOf l.store points l.clock (option_map (λ held. held.value) l.fn.found)
+    → IsLatestOf l.store (points ++ map (in_class (lent_point l.point)) (other_classes l.point.class (take l.class-index l.classes))) l.clock (option_map (λ held. held.value) l.found))
+    × ((threads : ℕ) → AreBelow threads l.store → l.steps ≤ l.fn.steps + length (other_classes l.point.class (take l.class-index l.classes)) * (threads + 1))

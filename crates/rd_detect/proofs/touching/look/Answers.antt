@@ -3,11 +3,12 @@ use Rattle.std.specs.List.{sum_by}
 use Rattle.std.specs.Prelude.{flat_map, option_map}
 use Rattle.rd_points.specs.Tables.{conflicts_at, touched}
 use Rattle.rd_points.specs.declared.points.Point.{Point}
-use Rattle.rd_store.specs.Stores.{HasRoom, IsSameStore, point_at}
+use Rattle.rd_store.specs.Lent.{lent_point}
+use Rattle.rd_store.specs.Stores.{IsSameStore, point_at}
 use Rattle.std.proofs.lemmas.List.{map_more}
 use Rattle.rd_detect.specs.Detect.{IsLatestOf, asking_bound, conflicting_points, in_class, point_of}
 use Rattle.rd_detect.specs.Seats.{AreSeats, other_classes}
-use Rattle.rd_detect.proofs.AskingLemmas.{asked_less, asking_less, asking_more, cost_within, points_more}
+use Rattle.rd_detect.proofs.AskingLemmas.{asked_less, asking_more, cost_within, points_more}
 use Rattle.rd_detect.proofs.LookLemmas.{below_same, latest_same, same_cell, same_joined, seats_more}
 use Rattle.rd_detect.proofs.OwnLemmas.{fewer}
 use Rattle.rd_detect.proofs.touching.look.Goals as goal
@@ -16,29 +17,29 @@ pub loop-touch-preserved : goal.loop-touch-preserved
 loop-touch-preserved g c = (
   subst (λ points. IsLatestOf c.args.store.now (flat_map (conflicting_points c.args.table.now) points) c.args.clock.now (option_map (λ held. held.value) c.in_ok-latest-2.latest)) (sym more)
       (subst (λ points. IsLatestOf c.args.store.now points c.args.clock.now (option_map (λ held. held.value) c.in_ok-latest-2.latest))
-      (points_more c.args.table.now before c.in_ok-point.point c.conflicts-classes.result.now c.conflicts-classes.ensures)
-      (latest_same c.enter.new.self c.args.store.now (found ++ map (in_class c.in_ok-point.point) c.conflicts-classes.result.now) c.args.clock.now (option_map (λ held. held.value) c.in_ok-latest-2.latest)
+      (points_more c.args.table.now before (lent_point c.point-point.result) c.conflicts-classes.result.now c.conflicts-classes.ensures)
+      (latest_same c.enter.new.self c.args.store.now (found ++ map (in_class (lent_point c.point-point.result)) c.conflicts-classes.result.now) c.args.clock.now (option_map (λ held. held.value) c.in_ok-latest-2.latest)
       (λ p t. sym (same_cell c.args.store.now c.enter.new.self joined p t))
-      (c.in_ok-latest-2.ensures.latest found c.in_ok-point.point at refl
-      (latest_same c.loop-touch.store c.enter.new.self (found ++ map (in_class c.in_ok-point.point) (other_classes c.in_ok-point.point.class c.conflicts-classes.result.now)) c.args.clock.now
+      (c.in_ok-latest-2.ensures.latest found (lent_point c.point-point.result) at refl
+      (latest_same c.loop-touch.store c.enter.new.self (found ++ map (in_class (lent_point c.point-point.result)) (other_classes c.point-point.result.class c.conflicts-classes.result.now)) c.args.clock.now
       (option_map (λ held. held.value) c.in_ok-latest.latest) (same_cell c.loop-touch.store c.enter.new.self c.enter.ensures.same)
       (c.in_ok-latest.ensures.latest found
       (latest_same c.args.store.now c.loop-touch.store found c.args.clock.now (option_map (λ held. held.value) c.loop-touch.latest)
       (same_cell c.args.store.now c.loop-touch.store c.loop-touch.invariant.2) c.loop-touch.invariant.0)))))),
   subst (λ points. AreSeats c.enter.new.self c.args.call.now.thread points c.push.new.self.items) (sym more)
-      (subst (AreSeats c.enter.new.self c.args.call.now.thread (before ++ c.in_ok-point.point ∷ [])) (sym c.push.ensures.items)
-      (seats_more c.loop-touch.store c.enter.new.self c.args.call.now.thread before c.loop-touch.seats.items c.in_ok-point.point c.in_ok-seat.seat c.enter.ensures.same c.enter.ensures.stay
-      at (subst (HasRoom c.enter.new.self c.args.call.now.thread) c.in_ok-latest.ensures.point c.in_ok-seat.ensures.room) c.loop-touch.invariant.1)),
+      (subst (AreSeats c.enter.new.self c.args.call.now.thread (before ++ (lent_point c.point-point.result) ∷ [])) (sym c.push.ensures.items)
+      (seats_more c.loop-touch.store c.enter.new.self c.args.call.now.thread before c.loop-touch.seats.items (lent_point c.point-point.result) c.in_ok-seat.seat c.enter.ensures.same c.enter.ensures.stay
+      c.in_ok-seat.ensures.entered c.loop-touch.invariant.1)),
   joined,
   λ threads below.
       subst (λ points. c.ask_own.new.steps ≤ c.args.steps.now + sum_by (asking_bound c.args.table.now threads) points) (sym more)
-      (asking_more c.args.table.now before c.in_ok-point.point c.conflicts-classes.result.now c.conflicts-classes.ensures threads c.args.steps.now _ _ (c.loop-touch.invariant.3 threads below)
+      (asking_more c.args.table.now before (lent_point c.point-point.result) c.conflicts-classes.result.now c.conflicts-classes.ensures threads c.args.steps.now _ _ (c.loop-touch.invariant.3 threads below)
       (c.ask_own.ensures.cost threads c.loop-touch.steps (below_same c.args.store.now c.enter.new.self threads (same_cell c.args.store.now c.enter.new.self joined) below)
       (c.ask_others.ensures.cost threads (below_same c.args.store.now c.loop-touch.store threads (same_cell c.args.store.now c.loop-touch.store c.loop-touch.invariant.2) below)))),
 )
   where
     before : List Point
-    before = map (point_of c.args.call.now) (take c.loop-touch.touch-index c.as_slice-touches.result.now)
+    before = map (point_of c.args.call.now) (take c.loop-touch.touch-index c.row-touches.result.now)
 
     found : List Point
     found = flat_map (conflicting_points c.args.table.now) before
@@ -46,45 +47,39 @@ loop-touch-preserved g c = (
     joined : IsSameStore c.args.store.now c.enter.new.self
     joined = same_joined c.args.store.now c.loop-touch.store c.enter.new.self c.loop-touch.invariant.2 c.enter.ensures.same
 
-    at : point_at c.enter.new.self c.in_ok-seat.seat ≡ Some c.in_ok-point.point
-    at = c.in_ok-seat.ensures.entered ∙ ap Some c.in_ok-latest.ensures.point
+    at : point_at c.enter.new.self c.in_ok-seat.seat.index ≡ Some (lent_point c.point-point.result)
+    at = c.in_ok-seat.ensures.entered.at
 
-    more : map (point_of c.args.call.now) (take (c.loop-touch.touch-index + 1) c.as_slice-touches.result.now) ≡ before ++ c.in_ok-point.point ∷ []
-    more = map_more (point_of c.args.call.now) c.as_slice-touches.result.now c.loop-touch.touch-index (record { class = 0; slot = None }) c.loop-touch-test.true
-        ∙ ap (λ p. before ++ p ∷ []) (sym c.in_ok-point.ensures)
-
-pub returns-in_err-point-clause-cost : goal.returns-in_err-point-clause-cost
-returns-in_err-point-clause-cost g c = λ threads below.
-    subst (λ touches. c.loop-touch.steps ≤ c.args.steps.now + sum_by (asking_bound c.args.table.now threads) (map (point_of c.args.call.now) touches))
-    (c.as_slice-touches.ensures.value ∙ c.touched-touches.ensures ∙ ap (touched c.args.table.now c.args.call.now.method) c.items.ensures)
-    (asking_less c.args.table.now threads c.args.call.now c.as_slice-touches.result.now c.loop-touch.touch-index c.args.steps.now _ (c.loop-touch.invariant.3 threads below))
+    more : map (point_of c.args.call.now) (take (c.loop-touch.touch-index + 1) c.row-touches.result.now) ≡ before ++ (lent_point c.point-point.result) ∷ []
+    more = map_more (point_of c.args.call.now) c.row-touches.result.now c.loop-touch.touch-index (record { class = 0; slot = None }) c.loop-touch-test.true
+        ∙ ap (λ p. before ++ p ∷ []) (sym c.point-point.ensures)
 
 pub returns-in_err-latest-clause-cost : goal.returns-in_err-latest-clause-cost
 returns-in_err-latest-clause-cost g c = λ threads below.
-    asked_less c.args.table.now threads c.args.call.now c.as_slice-touches.result.now _ c.loop-touch.touch-index c.args.steps.now _ _ c.conflicts-classes.result.now c.loop-touch-test.true
-    (c.conflicts-classes.ensures ∙ ap (λ (p : Point). conflicts_at c.args.table.now p.class) c.in_ok-point.ensures)
-    (c.as_slice-touches.ensures.value ∙ c.touched-touches.ensures ∙ ap (touched c.args.table.now c.args.call.now.method) c.items.ensures)
+    asked_less c.args.table.now threads c.args.call.now c.row-touches.result.now _ c.loop-touch.touch-index c.args.steps.now _ _ c.conflicts-classes.result.now c.loop-touch-test.true
+    (c.conflicts-classes.ensures ∙ ap (λ (p : Point). conflicts_at c.args.table.now p.class) c.point-point.ensures)
+    (c.row-touches.ensures.value ∙ ap (touched c.args.table.now c.args.call.now.method) c.items.ensures)
     (c.loop-touch.invariant.3 threads below)
-    (cost_within c.loop-touch.steps _ (length c.conflicts-classes.result.now) (threads + 1) (length (other_classes c.in_ok-point.point.class c.conflicts-classes.result.now))
-    (fewer c.in_ok-point.point.class c.conflicts-classes.result.now)
+    (cost_within c.loop-touch.steps _ (length c.conflicts-classes.result.now) (threads + 1) (length (other_classes c.point-point.result.class c.conflicts-classes.result.now))
+    (fewer c.point-point.result.class c.conflicts-classes.result.now)
     (c.ask_others.ensures.cost threads (below_same c.args.store.now c.loop-touch.store threads (same_cell c.args.store.now c.loop-touch.store c.loop-touch.invariant.2) below)))
 
 pub returns-in_err-seat-clause-cost : goal.returns-in_err-seat-clause-cost
 returns-in_err-seat-clause-cost g c = λ threads below.
-    asked_less c.args.table.now threads c.args.call.now c.as_slice-touches.result.now _ c.loop-touch.touch-index c.args.steps.now _ _ c.conflicts-classes.result.now c.loop-touch-test.true
-    (c.conflicts-classes.ensures ∙ ap (λ (p : Point). conflicts_at c.args.table.now p.class) c.in_ok-point.ensures)
-    (c.as_slice-touches.ensures.value ∙ c.touched-touches.ensures ∙ ap (touched c.args.table.now c.args.call.now.method) c.items.ensures)
+    asked_less c.args.table.now threads c.args.call.now c.row-touches.result.now _ c.loop-touch.touch-index c.args.steps.now _ _ c.conflicts-classes.result.now c.loop-touch-test.true
+    (c.conflicts-classes.ensures ∙ ap (λ (p : Point). conflicts_at c.args.table.now p.class) c.point-point.ensures)
+    (c.row-touches.ensures.value ∙ ap (touched c.args.table.now c.args.call.now.method) c.items.ensures)
     (c.loop-touch.invariant.3 threads below)
-    (cost_within c.loop-touch.steps _ (length c.conflicts-classes.result.now) (threads + 1) (length (other_classes c.in_ok-point.point.class c.conflicts-classes.result.now))
-    (fewer c.in_ok-point.point.class c.conflicts-classes.result.now)
+    (cost_within c.loop-touch.steps _ (length c.conflicts-classes.result.now) (threads + 1) (length (other_classes c.point-point.result.class c.conflicts-classes.result.now))
+    (fewer c.point-point.result.class c.conflicts-classes.result.now)
     (c.ask_others.ensures.cost threads (below_same c.args.store.now c.loop-touch.store threads (same_cell c.args.store.now c.loop-touch.store c.loop-touch.invariant.2) below)))
 
 pub returns-in_err-latest-2-clause-cost : goal.returns-in_err-latest-2-clause-cost
 returns-in_err-latest-2-clause-cost g c = λ threads below.
     let joined = same_joined c.args.store.now c.loop-touch.store c.enter.new.self c.loop-touch.invariant.2 c.enter.ensures.same in
-    asked_less c.args.table.now threads c.args.call.now c.as_slice-touches.result.now _ c.loop-touch.touch-index c.args.steps.now _ _ c.conflicts-classes.result.now c.loop-touch-test.true
-    (c.conflicts-classes.ensures ∙ ap (λ (p : Point). conflicts_at c.args.table.now p.class) c.in_ok-point.ensures)
-    (c.as_slice-touches.ensures.value ∙ c.touched-touches.ensures ∙ ap (touched c.args.table.now c.args.call.now.method) c.items.ensures)
+    asked_less c.args.table.now threads c.args.call.now c.row-touches.result.now _ c.loop-touch.touch-index c.args.steps.now _ _ c.conflicts-classes.result.now c.loop-touch-test.true
+    (c.conflicts-classes.ensures ∙ ap (λ (p : Point). conflicts_at c.args.table.now p.class) c.point-point.ensures)
+    (c.row-touches.ensures.value ∙ ap (touched c.args.table.now c.args.call.now.method) c.items.ensures)
     (c.loop-touch.invariant.3 threads below)
     (c.ask_own.ensures.cost threads c.loop-touch.steps (below_same c.args.store.now c.enter.new.self threads (same_cell c.args.store.now c.enter.new.self joined) below)
     (c.ask_others.ensures.cost threads (below_same c.args.store.now c.loop-touch.store threads (same_cell c.args.store.now c.loop-touch.store c.loop-touch.invariant.2) below)))

@@ -19,54 +19,38 @@ use Rattle.rd_check.proofs.CheckLemmas.{call_cost, call_next, call_races, checks
 use Rattle.rd_check.proofs.ReportLemmas.{answer_text, texts_grow}
 use Rattle.rd_check.proofs.checking.Check.event.Goals as goal
 
-pub event-requires : goal.event-requires
-event-requires g c =
-    let (start, before, item, ready) = c.requires in
-    let now = event_next (kinds_of start.spec.now) c.args.self.now.tracker (items before) item c.args.event.now ready.next in
-    record { next = (_, _, now) }
-
 pub pass-requires : goal.pass-requires
 pass-requires g c =
     let (start, before, item, ready) = c.requires in
     let now = event_next (kinds_of start.spec.now) c.args.self.now.tracker (items before) item c.args.event.now ready.next in
     record { next = (_, _, now) }
 
-pub returns-in-Ok-clause-checks : goal.returns-in-Ok-clause-checks
-returns-in-Ok-clause-checks g c = λ start before item ready.
+pub returns-in_default-event-clause-checks : goal.returns-in_default-event-clause-checks
+returns-in_default-event-clause-checks g c = λ start before item ready.
     let entry : Entry = record { number = c.args.number; item = item } in
     checks_quiet start c.args.self.now c.pass.new.self before entry ready.checks
     (event_tracks (kinds_of start.spec.now) c.args.self.now.tracker (items before) item c.args.event.now ready.next c.pass.new.self c.in-Ok.ensures.stands c.in-Ok.ensures.count)
-    (accepted.Event c.args.event.now) ready.next (λ call e. c.in_default.not-Call call cc)
+    (accepted.Event c.args.event.now) ready.next (λ call e. c.in_default-event.not-Call call cc)
 
-pub returns-in-Ok-clause-written : goal.returns-in-Ok-clause-written
-returns-in-Ok-clause-written g c = λ start before item ready.
+pub returns-in_default-event-clause-written : goal.returns-in_default-event-clause-written
+returns-in_default-event-clause-written g c = λ start before item ready.
     let entry : Entry = record { number = c.args.number; item = item } in
-    let same = texts_quiet start.spec.now c.args.self.now.tracker before entry (accepted.Event c.args.event.now) ready.next (λ call e. c.in_default.not-Call call cc) in
+    let same = texts_quiet start.spec.now c.args.self.now.tracker before entry (accepted.Event c.args.event.now) ready.next (λ call e. c.in_default-event.not-Call call cc) in
     ([], same ∙ sym (append-nil (race_texts start.spec.now before)), appends_none (g.S.Sink.written c.args.out.now) (g.S.Sink.written c.args.out.now) refl)
-
-pub returns-in-Ok-clause-cost : goal.returns-in-Ok-clause-cost
-returns-in-Ok-clause-cost g c = λ start before item ready.
-    omega (arith, c.pass.ensures.cost, event_cost (kinds_of start.spec.now) c.args.self.now.tracker (items before) item c.args.event.now ready.next)
-
-pub returns-in-Err-clause-halted : goal.returns-in-Err-clause-halted
-returns-in-Err-clause-halted g c = λ start before item ready.
-    let entry : Entry = record { number = c.args.number; item = item } in
-    let (rest, is) = texts_grow start.spec.now before entry ready.next.tracks.told in
-    ([], rest, is, appends_none (g.S.Sink.written c.args.out.now) (g.S.Sink.written c.args.out.now) refl)
-
-pub returns-in-Err-clause-cost : goal.returns-in-Err-clause-cost
-returns-in-Err-clause-cost g c = λ start before item ready.
-    omega (arith, c.pass.ensures.cost, event_cost (kinds_of start.spec.now) c.args.self.now.tracker (items before) item c.args.event.now ready.next)
-
-pub returns-in_default-event-clause-halted : goal.returns-in_default-event-clause-halted
-returns-in_default-event-clause-halted g c = λ start before item ready.
-    let entry : Entry = record { number = c.args.number; item = item } in
-    let (rest, is) = texts_grow start.spec.now before entry ready.next.tracks.told in
-    ([], rest, is, appends_none (g.S.Sink.written c.args.out.now) (g.S.Sink.written c.args.out.now) refl)
 
 pub returns-in_default-event-clause-cost : goal.returns-in_default-event-clause-cost
 returns-in_default-event-clause-cost g c = λ start before item ready.
-    omega (arith, c.event.ensures.cost, event_cost (kinds_of start.spec.now) c.args.self.now.tracker (items before) item c.args.event.now ready.next)
+    omega (arith, c.pass.ensures.cost, event_cost (kinds_of start.spec.now) c.args.self.now.tracker (items before) item c.args.event.now ready.next)
+
+pub returns-in_default-clause-halted : goal.returns-in_default-clause-halted
+returns-in_default-clause-halted g c = λ start before item ready.
+    let entry : Entry = record { number = c.args.number; item = item } in
+    let (rest, is) = texts_grow start.spec.now before entry ready.next.tracks.told in
+    ([], rest, is, appends_none (g.S.Sink.written c.args.out.now) (g.S.Sink.written c.args.out.now) refl)
+
+pub returns-in_default-clause-cost : goal.returns-in_default-clause-cost
+returns-in_default-clause-cost g c = λ start before item ready.
+    omega (arith, c.pass.ensures.cost, event_cost (kinds_of start.spec.now) c.args.self.now.tracker (items before) item c.args.event.now ready.next)
 
 pub detect-requires-clause-next : goal.detect-requires-clause-next
 detect-requires-clause-next g c =
@@ -77,7 +61,7 @@ detect-requires-clause-next g c =
       event_numbers before,
       entry_events start.spec.now before,
       call_next start c.args.self.now before entry c.args.event.now c.in-Call.call c.in-Call.is (naming_in c.args.names.now) c.args.place ready
-          c.in-Ok-event.stamp c.in-Ok-event.ensures.stamp c.event.new.self c.in-Ok-event.ensures.stands,
+          c.pass.new.self c.in-Ok.ensures.stamp c.in-Ok.ensures.stands,
     )
 
 pub detect-requires-clause-few : goal.detect-requires-clause-few
@@ -94,9 +78,9 @@ returns-in-Ok-None-clause-checks g c = λ start before item ready.
     let names = naming_in c.args.names.now in
     let numbers = event_numbers before in
     let es = entry_events start.spec.now before in
-    let next = call_next start c.args.self.now before entry c.args.event.now c.in-Call.call c.in-Call.is names c.args.place ready c.in-Ok-event.stamp c.in-Ok-event.ensures.stamp c.event.new.self c.in-Ok-event.ensures.stands in
+    let next = call_next start c.args.self.now before entry c.args.event.now c.in-Call.call c.in-Call.is names c.args.place ready c.pass.new.self c.in-Ok.ensures.stamp c.in-Ok.ensures.stands in
     let said = c.in-Ok-None.ensures in
-    let tracked = event_tracks (kinds_of start.spec.now) c.args.self.now.tracker (items before) item c.args.event.now ready.next c.event.new.self c.in-Ok-event.ensures.stands c.in-Ok-event.ensures.count in
+    let tracked = event_tracks (kinds_of start.spec.now) c.args.self.now.tracker (items before) item c.args.event.now ready.next c.pass.new.self c.in-Ok.ensures.stands c.in-Ok.ensures.count in
     checks_call start c.args.self.now before entry c.args.event.now c.in-Call.call c.in-Call.is names c.args.place ready c.detect.new.self said.same.0 said.same.2
     (subst (λ tracker. Tracks (kinds_of start.spec.now) tracker (items before ++ item ∷ [])) (sym said.same.1) tracked)
     (said.stands start.spec.now (roots_of (items before)) numbers es next)
@@ -109,7 +93,7 @@ returns-in-Ok-None-clause-written g c = λ start before item ready.
     let names = naming_in c.args.names.now in
     let numbers = event_numbers before in
     let es = entry_events start.spec.now before in
-    let next = call_next start c.args.self.now before entry c.args.event.now c.in-Call.call c.in-Call.is names c.args.place ready c.in-Ok-event.stamp c.in-Ok-event.ensures.stamp c.event.new.self c.in-Ok-event.ensures.stands in
+    let next = call_next start c.args.self.now before entry c.args.event.now c.in-Call.call c.in-Call.is names c.args.place ready c.pass.new.self c.in-Ok.ensures.stamp c.in-Ok.ensures.stands in
     let text = text_call start c.args.self.now before entry c.args.event.now c.in-Call.call c.in-Call.is names c.args.place ready c.in-Ok-None.field-0
     (c.in-Ok-None.ensures.answer start.spec.now (roots_of (items before)) numbers es next) in (
       [],
@@ -120,8 +104,8 @@ returns-in-Ok-None-clause-written g c = λ start before item ready.
 pub returns-in-Ok-None-clause-cost : goal.returns-in-Ok-None-clause-cost
 returns-in-Ok-None-clause-cost g c = λ start before item ready.
     let entry : Entry = record { number = c.args.number; item = item } in
-    call_cost start c.args.self.now before entry c.args.event.now c.in-Call.call c.in-Call.is (naming_in c.args.names.now) c.args.place ready c.event.new.self c.in-Ok-event.ensures.count c.args.steps.now
-    c.event.new.steps c.detect.new.steps c.event.ensures.cost c.in-Ok-None.ensures.cost
+    call_cost start c.args.self.now before entry c.args.event.now c.in-Call.call c.in-Call.is (naming_in c.args.names.now) c.args.place ready c.pass.new.self c.in-Ok.ensures.count c.args.steps.now
+    c.pass.new.steps c.detect.new.steps c.pass.ensures.cost c.in-Ok-None.ensures.cost
 
 pub report-requires-clause-known : goal.report-requires-clause-known
 report-requires-clause-known g c =
@@ -130,7 +114,7 @@ report-requires-clause-known g c =
     let names = naming_in c.args.names.now in
     let numbers = event_numbers before in
     let es = entry_events start.spec.now before in
-    let next = call_next start c.args.self.now before entry c.args.event.now c.in-Call.call c.in-Call.is names c.args.place ready c.in-Ok-event.stamp c.in-Ok-event.ensures.stamp c.event.new.self c.in-Ok-event.ensures.stands in
+    let next = call_next start c.args.self.now before entry c.args.event.now c.in-Call.call c.in-Call.is names c.args.place ready c.pass.new.self c.in-Ok.ensures.stamp c.in-Ok.ensures.stands in
     let said = c.in-Ok-Some.ensures in
     known_race start c.args.self.now before entry c.args.event.now c.in-Call.call c.in-Call.is names c.args.place ready c.in-Ok-Some.field-0 c.in-Ok-Some.race
     (said.answer start.spec.now (roots_of (items before)) numbers es next) c.in-Ok-Some.field-0-is c.detect.new.self.spec.now said.same.0
@@ -141,10 +125,10 @@ returns-in-Ok-Some-clause-checks g c = always_ok _ c.report.result (λ start bef
     let names = naming_in c.args.names.now in
     let numbers = event_numbers before in
     let es = entry_events start.spec.now before in
-    let next = call_next start c.args.self.now before entry c.args.event.now c.in-Call.call c.in-Call.is names c.args.place ready c.in-Ok-event.stamp c.in-Ok-event.ensures.stamp c.event.new.self c.in-Ok-event.ensures.stands in
+    let next = call_next start c.args.self.now before entry c.args.event.now c.in-Call.call c.in-Call.is names c.args.place ready c.pass.new.self c.in-Ok.ensures.stamp c.in-Ok.ensures.stands in
     let said = c.in-Ok-Some.ensures in
     let same = c.report.ensures.same in
-    let tracked = event_tracks (kinds_of start.spec.now) c.args.self.now.tracker (items before) item c.args.event.now ready.next c.event.new.self c.in-Ok-event.ensures.stands c.in-Ok-event.ensures.count in
+    let tracked = event_tracks (kinds_of start.spec.now) c.args.self.now.tracker (items before) item c.args.event.now ready.next c.pass.new.self c.in-Ok.ensures.stands c.in-Ok.ensures.count in
     checks_call start c.args.self.now before entry c.args.event.now c.in-Call.call c.in-Call.is names c.args.place ready c.report.new.self (same.0 ∙ said.same.0) (same.4 ∙ said.same.2)
     (subst (λ tracker. Tracks (kinds_of start.spec.now) tracker (items before ++ item ∷ [])) (sym (same.1 ∙ said.same.1)) tracked)
     (subst (λ d. DetectorStandsFor start.spec.now d (roots_of (items before)) (numbers ++ c.args.number ∷ []) (es ++ event.Call c.in-Call.call ∷ [])) (sym same.2) (said.stands start.spec.now (roots_of (items before)) numbers es next))
@@ -159,7 +143,7 @@ returns-in-Ok-Some-clause-written g c = on_ok_weaker c.report.result
     let names = naming_in c.args.names.now in
     let numbers = event_numbers before in
     let es = entry_events start.spec.now before in
-    let next = call_next start c.args.self.now before entry c.args.event.now c.in-Call.call c.in-Call.is names c.args.place ready c.in-Ok-event.stamp c.in-Ok-event.ensures.stamp c.event.new.self c.in-Ok-event.ensures.stands in
+    let next = call_next start c.args.self.now before entry c.args.event.now c.in-Call.call c.in-Call.is names c.args.place ready c.pass.new.self c.in-Ok.ensures.stamp c.in-Ok.ensures.stands in
     let text = text_call start c.args.self.now before entry c.args.event.now c.in-Call.call c.in-Call.is names c.args.place ready c.in-Ok-Some.field-0
     (c.in-Ok-Some.ensures.answer start.spec.now (roots_of (items before)) numbers es next) in (
       answer_text start.spec.now names (Some c.in-Ok-Some.race),
@@ -178,7 +162,7 @@ returns-in-Ok-Some-clause-halted g c = on_err_weaker c.report.result
     let names = naming_in c.args.names.now in
     let numbers = event_numbers before in
     let es = entry_events start.spec.now before in
-    let next = call_next start c.args.self.now before entry c.args.event.now c.in-Call.call c.in-Call.is names c.args.place ready c.in-Ok-event.stamp c.in-Ok-event.ensures.stamp c.event.new.self c.in-Ok-event.ensures.stands in
+    let next = call_next start c.args.self.now before entry c.args.event.now c.in-Call.call c.in-Call.is names c.args.place ready c.pass.new.self c.in-Ok.ensures.stamp c.in-Ok.ensures.stands in
     let text = text_call start c.args.self.now before entry c.args.event.now c.in-Call.call c.in-Call.is names c.args.place ready c.in-Ok-Some.field-0
     (c.in-Ok-Some.ensures.answer start.spec.now (roots_of (items before)) numbers es next) in
     let (part, rest, is, writes) = subst (λ kinds. WritesFront (g.S.Sink.written c.args.out.now) (g.S.Sink.written c.report.new.out) []
@@ -195,20 +179,20 @@ returns-in-Ok-Some-clause-halted g c = on_err_weaker c.report.result
 pub returns-in-Ok-Some-clause-cost : goal.returns-in-Ok-Some-clause-cost
 returns-in-Ok-Some-clause-cost g c = λ start before item ready.
     let entry : Entry = record { number = c.args.number; item = item } in
-    call_cost start c.args.self.now before entry c.args.event.now c.in-Call.call c.in-Call.is (naming_in c.args.names.now) c.args.place ready c.event.new.self c.in-Ok-event.ensures.count c.args.steps.now
-    c.event.new.steps c.detect.new.steps c.event.ensures.cost c.in-Ok-Some.ensures.cost
+    call_cost start c.args.self.now before entry c.args.event.now c.in-Call.call c.in-Call.is (naming_in c.args.names.now) c.args.place ready c.pass.new.self c.in-Ok.ensures.count c.args.steps.now
+    c.pass.new.steps c.detect.new.steps c.pass.ensures.cost c.in-Ok-Some.ensures.cost
 
-pub returns-in-Err-detect-clause-halted : goal.returns-in-Err-detect-clause-halted
-returns-in-Err-detect-clause-halted g c = λ start before item ready.
+pub returns-in-Err-clause-halted : goal.returns-in-Err-clause-halted
+returns-in-Err-clause-halted g c = λ start before item ready.
     let entry : Entry = record { number = c.args.number; item = item } in
     let (rest, is) = texts_grow start.spec.now before entry ready.next.tracks.told in
     ([], rest, is, appends_none (g.S.Sink.written c.args.out.now) (g.S.Sink.written c.args.out.now) refl)
 
-pub returns-in-Err-detect-clause-cost : goal.returns-in-Err-detect-clause-cost
-returns-in-Err-detect-clause-cost g c = λ start before item ready.
+pub returns-in-Err-clause-cost : goal.returns-in-Err-clause-cost
+returns-in-Err-clause-cost g c = λ start before item ready.
     let entry : Entry = record { number = c.args.number; item = item } in
-    call_cost start c.args.self.now before entry c.args.event.now c.in-Call.call c.in-Call.is (naming_in c.args.names.now) c.args.place ready c.event.new.self c.in-Ok-event.ensures.count c.args.steps.now
-    c.event.new.steps c.detect.new.steps c.event.ensures.cost c.in-Err-detect.ensures.cost
+    call_cost start c.args.self.now before entry c.args.event.now c.in-Call.call c.in-Call.is (naming_in c.args.names.now) c.args.place ready c.pass.new.self c.in-Ok.ensures.count c.args.steps.now
+    c.pass.new.steps c.detect.new.steps c.pass.ensures.cost c.in-Err.ensures.cost
 
 pub report-requires-clause-formulas : goal.report-requires-clause-formulas
 report-requires-clause-formulas g c =
