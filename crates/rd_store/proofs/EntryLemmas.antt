@@ -1,9 +1,10 @@
 -- A store as the list of its entries.
-use Rattle.std.proofs.Common.{◌≡◌, ◌≢◌, ℕ, zero, suc, ◌+◌, ◌-◌, ◌*◌, ◌<◌, ◌≤◌, Bool, true, false, cond, ◌⊎◌, inl, inr, List, [], ◌∷◌, ◌++◌, length, map, Option, None, Some, is_some, IsSome, IsTrue, Result, Ok, Err, IfOk, OnErr, ◌↔◌, refl, sym, ap, ◌∙◌, subst, arith, true≢false}
-use Rattle.std.specs.Prelude.{slice_get}
+use Rattle.std.proofs.Common.{◌≡◌, ◌≢◌, ℕ, zero, suc, ◌+◌, ◌-◌, ◌*◌, ◌<◌, ◌≤◌, ◌==◌, not, Bool, true, false, cond, filter, ◌⊎◌, inl, inr, List, [], ◌∷◌, ◌++◌, length, map, Option, None, Some, is_some, IsSome, IsTrue, Result, Ok, Err, IfOk, OnErr, ◌↔◌, refl, sym, ap, ◌∙◌, subst, arith, true≢false}
+use Rattle.std.specs.Prelude.{slice_get, vec_len}
 use Rattle.std.specs.Option.{option_map_or}
-use Rattle.std.specs.Map.{values_of, lookup}
-use Rattle.std.proofs.lemmas.Bool.{false_from_ne_true}
+use Rattle.std.specs.List.{AllByRecursion, IsDistinct}
+use Rattle.std.specs.Map.{keys_of, values_of, lookup}
+use Rattle.std.proofs.lemmas.Bool.{eqb-false, eqb-true, false_from_ne_true}
 use Rattle.std.proofs.lemmas.List.{length-map}
 use Rattle.std.proofs.lemmas.List.Sums.{sum_by-cons}
 use Rattle.indexmap.specs.Layout.{set_value_at}
@@ -13,7 +14,7 @@ use Rattle.rd_points.specs.declared.points.Point.{Point}
 use Rattle.rd_store.specs.declared.Seat.{Seat}
 use Rattle.rd_store.specs.declared.Witness.{Witness}
 use Rattle.rd_store.specs.Stores.{Cell, HasOneEach, HasRoom, IsSameStore, IsSeat, IsSwept, IsTouched, PointCells, cell_at, cell_count, cell_of, cells_at, held_of, place_of, point_at, spare_at}
-use Rattle.rd_store.specs.StoreParts.{Cells, cell, HaveOneEach, IsKept, cells_of, held_entries, live, room_of, swept, swept_at, swept_below, with_cell}
+use Rattle.rd_store.specs.StoreParts.{Cells, Held, cell, HaveOneEach, IsKept, cells_of, held_entries, live, room_of, swept, swept_at, swept_below, with_cell}
 use Rattle.rd_store.proofs.CellLemmas.{live-cell_of, live-one_each, place_stays, with-length, with-one_each, with-others, with-own}
 
 abbrev pub Entries : Type 0
@@ -447,3 +448,83 @@ swept_cells clock (h ∷ store) p = by (same_point p h.point) (swept_cells clock
 pub swept_all : (clock : List ℕ) (store new : List PointCells) → ((p : Point) → HasOneEach (cells_at store p)) → new ≡ swept_below clock store (length store) → IsSwept clock store new
 swept_all clock store new each is = λ point thread.
     ap (λ s. cell_at s point thread) is ∙ ap (λ l. cell_of l thread) (swept_cells clock store point) ∙ live-cell_of clock thread (cells_at store point) (each point)
+
+-- ---- points without cells
+
+-- an entry has cells
+abbrev pub has_cells : Point × Cells → Bool
+has_cells e = not (vec_len e.1 == 0)
+
+none_left : (items : List Held) → length items ≡ 0 → map cell items ≡ []
+none_left [] none = refl
+none_left (x ∷ items) none = absurd (omega (arith, none))
+
+not_false : (b : Bool) → not b ≡ false → b ≡ true
+not_false true h = refl
+not_false false h = absurd (true≢false h)
+
+not_true : (b : Bool) → not b ≡ true → b ≡ false
+not_true true h = absurd (true≢false (sym h))
+not_true false h = refl
+
+no_cells : (e : Point × Cells) → has_cells e ≡ false → cells_of e.1 ≡ []
+no_cells e none =
+    let zero : vec_len e.1 ≡ 0 = eqb-true (vec_len e.1) 0 (not_false (vec_len e.1 == 0) none) in
+    none_left e.1.items (omega (arith, zero, e.1.ok.0, e.1.ok.1))
+
+some_cells : (e : Point × Cells) → has_cells e ≡ true → 1 ≤ length (cells_of e.1)
+some_cells e some =
+    let more : vec_len e.1 ≡ 0 → ⊥ = eqb-false (vec_len e.1) 0 (not_true (vec_len e.1 == 0) some) in
+    omega (arith, more, length-map e.1.items cell, e.1.ok.0, e.1.ok.1)
+
+cells_apart : (x : Point) (es : Entries) → AllByRecursion (λ y. same_point x y ≡ false) (keys_of es) → cells_at (held_entries es) x ≡ []
+cells_apart x [] apart = refl
+cells_apart x (e ∷ es) apart = rw (apart.0) (cells_apart x es apart.1)
+
+module _ (same : (a b : Point) → IsTrue (same_point a b) ↔ (a ≡ b)) where
+  pub bare_cells : (es : Entries) → IsDistinct same_point (keys_of es) → (p : Point) → cells_at (held_entries (filter has_cells es)) p ≡ cells_at (held_entries es) p
+  unfolding IsDistinct
+  bare_cells [] distinct p = refl
+  bare_cells (e ∷ es) distinct p = by (has_cells e) refl (same_point p e.0) refl (bare_cells es distinct.1 p)
+    where
+      by : (kept : Bool) → has_cells e ≡ kept → (here : Bool) → same_point p e.0 ≡ here → cells_at (held_entries (filter has_cells es)) p ≡ cells_at (held_entries es) p
+          → cells_at (held_entries (cond kept (e ∷ filter has_cells es) (filter has_cells es))) p ≡ option_map_or (λ (h : PointCells). h.cells) (cond here (Some (held_entry e)) (held_of (held_entries es) p)) []
+      by true k true h rest = rw h refl
+      by true k false h rest = rw h rest
+      by false k true h rest =
+          let is : p ≡ e.0 = (same p e.0).0 h in
+          rest ∙ ap (cells_at (held_entries es)) is ∙ cells_apart e.0 es distinct.0 ∙ sym (no_cells e k)
+      by false k false h rest = rest
+
+pub bare_count : (es : Entries) → cell_count (held_entries (filter has_cells es)) ≡ cell_count (held_entries es)
+bare_count [] = refl
+bare_count (e ∷ es) = by (has_cells e) refl (bare_count es)
+  where
+    by : (kept : Bool) → has_cells e ≡ kept → cell_count (held_entries (filter has_cells es)) ≡ cell_count (held_entries es)
+        → cell_count (held_entries (cond kept (e ∷ filter has_cells es) (filter has_cells es))) ≡ cell_count (held_entries (e ∷ es))
+    by true k rest = rw (count-cons (held_entry e) (held_entries es), count-cons (held_entry e) (held_entries (filter has_cells es))) (omega (arith, rest))
+    by false k rest = rw (count-cons (held_entry e) (held_entries es)) (omega (arith, rest, ap length (no_cells e k)))
+
+pub bare_few : (es : Entries) → length (held_entries (filter has_cells es)) ≤ cell_count (held_entries (filter has_cells es))
+bare_few [] = omega arith
+bare_few (e ∷ es) = by (has_cells e) refl (bare_few es)
+  where
+    by : (kept : Bool) → has_cells e ≡ kept → length (held_entries (filter has_cells es)) ≤ cell_count (held_entries (filter has_cells es))
+        → length (held_entries (cond kept (e ∷ filter has_cells es) (filter has_cells es))) ≤ cell_count (held_entries (cond kept (e ∷ filter has_cells es) (filter has_cells es)))
+    by true k rest = rw (count-cons (held_entry e) (held_entries (filter has_cells es))) (omega (arith, rest, some_cells e k))
+    by false k rest = rest
+
+bare_one_each : (es : Entries) → HaveOneEach es → HaveOneEach (filter has_cells es)
+bare_one_each [] each = tt
+bare_one_each (e ∷ es) each = by (has_cells e) (bare_one_each es each.1)
+  where
+    by : (kept : Bool) → HaveOneEach (filter has_cells es) → HaveOneEach (cond kept (e ∷ filter has_cells es) (filter has_cells es))
+    by true rest = (each.0, rest)
+    by false rest = rest
+
+pub bare_kept : (es : Entries) (count : ℕ) → IsKept es count → IsKept (filter has_cells es) count
+bare_kept es count kept = record { one_each = bare_one_each es kept.one_each; counted = kept.counted ∙ sym (bare_count es) }
+
+-- where the cells stay, what was swept is
+pub swept_same : (clock : List ℕ) (old middle new : List PointCells) → IsSwept clock old middle → ((p : Point) → cells_at new p ≡ cells_at middle p) → IsSwept clock old new
+swept_same clock old middle new swept same p t = ap (λ cells. cell_of cells t) (same p) ∙ swept p t

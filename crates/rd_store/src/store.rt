@@ -1,5 +1,5 @@
 //! The cells of access points.
-ghost use Rattle.std.specs.Prelude.{◌≡◌, false, ◌+◌, ◌<◌, ◌≤◌, ◌⊎◌, not, [], Contains, length, map, option_map, is_some, OnOk, OnErr, IfOk, IsSome, IsTrue, if◌then◌else◌};
+ghost use Rattle.std.specs.Prelude.{◌≡◌, false, ◌+◌, ◌*◌, ◌<◌, ◌≤◌, ◌⊎◌, not, [], Contains, length, map, option_map, is_some, OnOk, OnErr, IfOk, IsSome, IsTrue, if◌then◌else◌};
 ghost use Rattle.rd_points.specs.declared.points.Point.{Point as PointOf};
 ghost use Rattle.rd_store.specs.StoreParts.{cell, cells_of, room_of, later as later_of, latest_of, live, swept_at, with_cell};
 ghost use Rattle.rd_store.specs.Lent.{lent_witness};
@@ -11,7 +11,7 @@ use crate::{PointRef, Witness, WitnessRef};
 use indexmap::IndexMap;
 use rd_base::{NoMemory, Steps};
 use rd_clock::Clock;
-use rd_points::{Point, Points};
+use rd_points::{Point, Points, law_of_equal_points};
 use std::alloc::Global;
 use std::marker::Model;
 use std::rc::Rc;
@@ -290,12 +290,32 @@ impl Store {
         self.count -= gone as u128;
     }
 
-    /// Drops exactly the cells that the clock covers. It takes no memory, and counts no steps.
-    pub fn sweep(&mut self, floor: &Clock)
-        ensures { IsSwept floor.now self.old self.new }
+    // Takes out the points that have no cell.
+    fn drop_bare_points(&mut self)
+        ensures cells { (point : PointOf) → cells_at self.new point ≡ cells_at self.old point }
+        ensures count { cell_count self.new ≡ cell_count self.old }
+        ensures few { length self.new ≤ cell_count self.new }
     {
+        law_of_equal_points();
+        // `len` is called for its clause that no point stands there twice.
+        let _entered = self.points.len();
+        self.points.retain(|_point, cells| !cells.is_empty());
+    }
+
+    /// Drops exactly the cells that the clock covers, and counts no steps. Points without cells stay entered while there are no more points than
+    /// four times the cells that there were; where there are, they go, so that the work of a sweep hangs on the cells that were made since the last
+    /// one, and not on all points that there ever were.
+    pub fn sweep(&mut self, floor: &Clock)
+        ensures swept { IsSwept floor.now self.old self.new }
+        ensures few { (length self.new < 4 * cell_count self.old + 4)
+            ⊎ (length self.new ≤ cell_count self.new) }
+    {
+        let many = self.len() as u128 / 4 > self.count;
         for place in 0..self.len() {
             self.sweep_at(place, floor);
+        }
+        if many {
+            self.drop_bare_points();
         }
     }
 
