@@ -115,3 +115,16 @@ module _ (same : (a b : Point) → IsTrue (same_point a b) ↔ (a ≡ b)) where
   found_at es store i p v distinct is at value =
       let first = first_at es i p distinct (ap (λ s. point_at s i) is ∙ at) in
       record { first = first; found = found_first (same_point p) es i v first value; at = value }
+
+  -- a point stands at one index alone
+  pub entered_once : (es : Entries) → IsDistinct same_point (keys_of es) → (i j : ℕ) (p : Point) → point_at (held_entries es) i ≡ Some p → point_at (held_entries es) j ≡ Some p → i ≡ j
+  unfolding IsDistinct
+  entered_once [] distinct i j p at also = cc
+  entered_once (e ∷ es) distinct zero zero p at also = refl
+  entered_once (e ∷ es) distinct zero (suc j) p at also =
+      let own : e.0 ≡ p = cc in
+      absurd (true≢false (sym ((same p e.0).1 (sym own)) ∙ apart_at e.0 p es j distinct.0 also))
+  entered_once (e ∷ es) distinct (suc i) zero p at also =
+      let own : e.0 ≡ p = cc in
+      absurd (true≢false (sym ((same p e.0).1 (sym own)) ∙ apart_at e.0 p es i distinct.0 at))
+  entered_once (e ∷ es) distinct (suc i) (suc j) p at also = ap suc (entered_once es distinct.1 i j p at also)

@@ -1,9 +1,9 @@
 //! The cells of access points.
-ghost use Rattle.std.specs.Prelude.{◌≡◌, false, ◌+◌, ◌*◌, ◌<◌, ◌≤◌, ◌⊎◌, not, [], Contains, length, map, option_map, is_some, OnOk, OnErr, IfOk, IsSome, IsTrue, if◌then◌else◌};
+ghost use Rattle.std.specs.Prelude.{◌≡◌, ℕ, Some, false, ◌+◌, ◌*◌, ◌<◌, ◌≤◌, ◌⊎◌, not, [], Contains, length, map, option_map, is_some, OnOk, OnErr, IfOk, IsSome, IsTrue, if◌then◌else◌};
 ghost use Rattle.rd_points.specs.declared.points.Point.{Point as PointOf};
 ghost use Rattle.rd_store.specs.StoreParts.{cell, cells_of, room_of, later as later_of, latest_of, live, swept_at, with_cell};
 ghost use Rattle.rd_store.specs.Lent.{lent_witness};
-ghost use Rattle.rd_store.specs.Stores.{HasOneEach, HasRoom, IsLatestUncovered, IsSameStore, IsSwept, IsTouched, cell_count, cell_of, cells_at, is_covered, others_of, place_of};
+ghost use Rattle.rd_store.specs.Stores.{HasOneEach, HasRoom, IsLatestUncovered, IsSameStore, IsSwept, IsTouched, cell_count, cell_of, cells_at, is_covered, others_of, place_of, point_at};
 
 mod indexed;
 
@@ -273,11 +273,14 @@ impl Store {
         self.touch_at(seat, thread, witness, steps);
     }
 
-    // How many points were entered.
-    fn len(&self) -> usize
+    /// How many points are entered, none of them twice. It takes no memory.
+    pub fn entered(&self) -> usize
         ensures len { result ≡ length self.now }
+        ensures once { (i j : ℕ) (point : PointOf) → point_at self.now i ≡ Some point
+            → point_at self.now j ≡ Some point → i ≡ j }
         ensures one_each { (point : PointOf) → HasOneEach (cells_at self.now point) }
     {
+        law_of_equal_points();
         self.points.len()
     }
 
@@ -310,8 +313,8 @@ impl Store {
         ensures few { (length self.new < 4 * cell_count self.old + 4)
             ⊎ (length self.new ≤ cell_count self.new) }
     {
-        let many = self.len() as u128 / 4 > self.count;
-        for place in 0..self.len() {
+        let many = self.entered() as u128 / 4 > self.count;
+        for place in 0..self.entered() {
             self.sweep_at(place, floor);
         }
         if many {

@@ -207,6 +207,46 @@ fn calls_in_the_same_memory<L: Ledger>(rt: &impl Abort, alloc: Global, blank: Bl
     assert!(rt; store.cells() == 1);
 }
 
+fn points_without_cells<L: Ledger>(rt: &impl Abort, alloc: Global, blank: Blank)
+    requires name { blank.name ≡ L.name }
+    requires parts { blank.parts ≡ L.parts }
+    requires some { 0 < blank.parts }
+{
+    let mut steps = Steps::<L>::new(blank);
+    let floor = clock_of_one(alloc, 9, &mut steps).expect(rt, "memory");
+    let mut store = Store::new(alloc);
+    for class in 0..300 {
+        let point = Point {
+            object: 7,
+            class,
+            value: None,
+        };
+        let witness = seen(alloc, 1, class, 4).expect(rt, "memory");
+        touch(alloc, &mut store, &point, witness, &mut steps).expect(rt, "memory");
+    }
+    // as many cells as points: these stay
+    store.sweep(&floor);
+    assert!(rt; store.cells() == 0);
+    assert!(rt; store.entered() == 300);
+    let point = Point {
+        object: 7,
+        class: 8,
+        value: None,
+    };
+    let witness = seen(alloc, 1, 300, 10).expect(rt, "memory");
+    touch(alloc, &mut store, &point, witness, &mut steps).expect(rt, "memory");
+    // one cell, which the floor doesn't cover: all other points go
+    store.sweep(&floor);
+    assert!(rt; store.cells() == 1);
+    assert!(rt; store.entered() == 1);
+    assert!(rt; latest(&store, &point, &Clock::new(alloc), &mut steps) == Some(300));
+}
+
+#[test]
+fn takes_out_points_without_cells(rt: HostRuntime) {
+    points_without_cells::<Brand>(&rt, rt.alloc(), Blank::new(1));
+}
+
 #[test]
 fn writes_over_what_nothing_else_has(rt: HostRuntime) {
     calls_in_the_same_memory::<Brand>(&rt, rt.alloc(), Blank::new(1));
