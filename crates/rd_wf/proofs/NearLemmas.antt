@@ -1,6 +1,7 @@
 -- What stands at a number of a roster is what its name is looked up to.
-use Rattle.std.proofs.Common.{◌≡◌, ℕ, Bool, true, false, not, cond, List, [], ◌∷◌, ◌++◌, slice_get, Option, Some, None, option_map, refl, sym, ap, subst, ◌∙◌}
-use Rattle.std.specs.List.{IsDistinct}
+use Rattle.std.proofs.Common.{◌≡◌, ℕ, Bool, true, false, not, cond, ◌<◌, List, [], ◌∷◌, ◌++◌, length, position, slice_get, Option, Some, None, option_map, refl, sym, ap, subst, ◌∙◌}
+use Rattle.std.specs.List.{IsDistinct, position_or_len}
+use Rattle.std.proofs.lemmas.Bool.{lt-ltb}
 use Rattle.std.specs.Cmp.Lexicographic.{nat_list_eq_equiv}
 use Rattle.std.proofs.lemmas.Map.Keys.{IsDistinct-push}
 use Rattle.std.proofs.lemmas.Option.{same_Some, slice_get-map, slice_get_within, get_or_from_slice_get}
@@ -20,6 +21,13 @@ use Rattle.rd_wf.proofs.RosterLemmas.{lock_at, thread_keys}
 place_of : (names : List (List ℕ)) → IsDistinct same_name names → (i : ℕ) (name : List ℕ) → slice_get names i ≡ Some name → place names name ≡ i
 place_of names differ i name at =
     subst (λ n. place names n ≡ i) (get_or_from_slice_get names i name [] at) (place_at names differ i (slice_get_within names i name at))
+
+-- and is found there
+pub place_found : (names : List (List ℕ)) → IsDistinct same_name names → (i : ℕ) (name : List ℕ) → slice_get names i ≡ Some name → Some i ≡ position (same_name name) names
+place_found names differ i name at =
+    let is : position_or_len (same_name name) names ≡ i = place_of names differ i name at in
+    let inside : i < length names = slice_get_within names i name at in
+    rw (is, lt-ltb i (length names) inside) refl
 
 -- no two locks have one name
 lock_differs : (locks : List (List ℕ)) (acquired : Option (List ℕ)) → IsDistinct same_name locks → IsDistinct same_name (with_lock locks acquired)

@@ -273,7 +273,9 @@ impl Roster {
     ghost use Rattle.rd_event.specs.declared.items.Line.{Line as LineOf};
     ghost use Rattle.rd_ecl.specs.Kinds.{Kind, methods_at};
     ghost use Rattle.rd_wf.specs.Roster.{RosterStandsFor, Permits, Forbids, depth_of, found_method, found_object, found_thread, lock_in, thread_count, lock_count, object_count};
-    ghost use Rattle.rd_wf.specs.MayFollow.{is_among, locks_of, place};
+    ghost use Rattle.rd_wf.specs.MayFollow.{is_among, locks_of, place, same_name};
+    ghost use Rattle.std.specs.Prelude.{is_some};
+    ghost use Rattle.indexmap.specs.IndexMap.{get_by, index_of_by};
 
     #[inline(always)]
     fn find_thread(&self, name: &Name, near: usize) -> FoundThread
@@ -421,6 +423,22 @@ impl Roster {
         Ok(thread)
     }
 
+    // The number of a kind. That of the last object is tried first.
+    fn find_kind(&self, kind: &Name) -> Option<usize>
+        ensures index { result ≡ index_of_by (same_name kind.now) self.now.kinds }
+        ensures found { is_some result ≡ is_some (get_by (same_name kind.now) self.now.kinds) }
+    {
+        // `len` is called for its clause that no two kinds have one name.
+        let _count = self.kinds.len();
+        if let Some((_object, last)) = self.objects.last()
+            && let Some((known, _methods)) = self.kinds.get_index(*last as usize)
+            && known == kind
+        {
+            return Some(*last as usize);
+        }
+        self.kinds.get_index_of(kind)
+    }
+
     pub(super) fn judge_object(
         &self,
         name: &Name,
@@ -434,7 +452,7 @@ impl Roster {
         ensures err { IfErr result (Forbids self.now limits.now (Line.Object name.now kind.now)) }
     {
         let object = self.objects.len() as u32;
-        let found = self.kinds.get_index_of(kind);
+        let found = self.find_kind(kind);
         let kind = found.unwrap_or(self.kinds.len());
         let broken = Broken {
             header_first: !self.header,
