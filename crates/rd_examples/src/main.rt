@@ -35,6 +35,10 @@ const EXAMPLES: &str = "\
     check message_by_a_lock.trace message_by_a_lock.out\n\
     check name_twice.trace name_twice.out\n\
     check read_after_join.trace read_after_join.out\n\
+    check recorded_cpp.trace recorded_cpp.out\n\
+    check recorded_go.trace recorded_go.out\n\
+    check recorded_java.trace recorded_java.out\n\
+    check recorded_python.trace recorded_python.out\n\
     check refused_bad_line.trace refused_bad_line.out\n\
     check refused_header_first.trace refused_header_first.out\n\
     check refused_late_root.trace refused_late_root.out\n\
