@@ -158,14 +158,14 @@ impl Detector {
         &mut self,
         found: bool,
         seats: &[Seat],
-        seen: WitnessRef,
+        seen: &WitnessRef,
         steps: &mut Steps<L>,
     ) -> Result<bool, NoMemory>
-        requires { AreSeats self.old.store seen.call.now.thread
-            (touched_points self.old.tables seen.call.now) seats.now }
+        requires { AreSeats self.old.store seen.now.call.now.thread
+            (touched_points self.old.tables seen.now.call.now) seats.now }
         ensures none { IfOk result (λ done. IsTrue done → found ≡ false) }
         ensures taken { IfOk result (λ done. IsTrue done → (threads : List TrackedOf)
-            → IsTaken threads self.old self.new seen.entry.call.now (lent_witness seen.entry)) }
+            → IsTaken threads self.old self.new seen.now.call.now (lent_witness seen.now)) }
         ensures kept { IfOk result (λ done. done ≡ false → self.new ≡ self.old) }
         ensures err { OnErr result (self.new ≡ self.old) }
         ensures cost { steps.new ≤ steps.old + length seats.now }
@@ -177,7 +177,7 @@ impl Detector {
         if found || is_due(self.store.cells(), self.kept) {
             return Ok(false);
         }
-        let done = self.store.touch_over(*seat, seen, steps)?;
+        let done = self.store.touch_over(*seat, *seen, steps)?;
         Ok(done)
     }
 
@@ -217,16 +217,16 @@ impl Detector {
         &mut self,
         latest: Option<Rc<Witness>>,
         seats: &[Seat],
-        seen: WitnessRef,
+        seen: &WitnessRef,
         tracker: &Tracker,
         steps: &mut Steps<L>,
     ) -> Result<Option<Race>, NoMemory>
-        requires { AreSeats self.old.store seen.call.now.thread
-            (touched_points self.old.tables seen.call.now) seats.now }
+        requires { AreSeats self.old.store seen.now.call.now.thread
+            (touched_points self.old.tables seen.now.call.now) seats.now }
         ensures answer { IfOk result
-            (Answers (lent_witness seen.entry) (option_map (λ held. held.value) latest)) }
+            (Answers (lent_witness seen.now) (option_map (λ held. held.value) latest)) }
         ensures taken { OnOk result (IsTaken tracker.now.threads self.old self.new
-            seen.entry.call.now (lent_witness seen.entry)) }
+            seen.now.call.now (lent_witness seen.now)) }
         ensures err { OnErr result (IsUntaken self.old self.new) }
         ensures cost { steps.new ≤ steps.old + length seats.now }
     {
@@ -241,25 +241,25 @@ impl Detector {
     #[inline(never)]
     fn judge<L: Ledger>(
         &mut self,
-        seen: WitnessRef,
+        seen: &WitnessRef,
         tracker: &Tracker,
         steps: &mut Steps<L>,
     ) -> Result<Option<Race>, NoMemory>
         requires next { (kinds : List SpecifiedKind) × (roots : ℕ → Bool) × (lines : List ℕ) × (es : List EventOf)
-            × IsNextCall kinds self.old tracker.now roots lines es seen.place seen.call.now (lent_stamp seen.stamp) }
+            × IsNextCall kinds self.old tracker.now roots lines es seen.now.place seen.now.call.now (lent_stamp seen.now.stamp) }
 
         // the call is judged and kept
         ensures answer { IfOk result (λ answer. (kinds : List SpecifiedKind) (roots : ℕ → Bool) (lines : List ℕ) (es : List EventOf)
-            → IsNextCall kinds self.old tracker.now roots lines es seen.entry.place seen.entry.call.now (lent_stamp seen.entry.stamp)
-            → IsAnswer kinds (lines ++ seen.entry.line ∷ []) (es ++ event.Call seen.entry.call.now ∷ []) seen.entry.place answer) }
+            → IsNextCall kinds self.old tracker.now roots lines es seen.now.place seen.now.call.now (lent_stamp seen.now.stamp)
+            → IsAnswer kinds (lines ++ seen.now.line ∷ []) (es ++ event.Call seen.now.call.now ∷ []) seen.now.place answer) }
         ensures stands { OnOk result ((kinds : List SpecifiedKind) (roots : ℕ → Bool) (lines : List ℕ) (es : List EventOf)
-            → IsNextCall kinds self.old tracker.now roots lines es seen.entry.place seen.entry.call.now (lent_stamp seen.entry.stamp)
-            → DetectorStandsFor kinds self.new roots (lines ++ seen.entry.line ∷ []) (es ++ event.Call seen.entry.call.now ∷ [])) }
+            → IsNextCall kinds self.old tracker.now roots lines es seen.now.place seen.now.call.now (lent_stamp seen.now.stamp)
+            → DetectorStandsFor kinds self.new roots (lines ++ seen.now.line ∷ []) (es ++ event.Call seen.now.call.now ∷ [])) }
 
         // what it leaves, and a bound of the steps
-        ensures taken { OnOk result (IsTaken tracker.now.threads self.old self.new seen.entry.call.now (lent_witness seen.entry)) }
+        ensures taken { OnOk result (IsTaken tracker.now.threads self.old self.new seen.now.call.now (lent_witness seen.now)) }
         ensures err { OnErr result (IsUntaken self.old self.new) }
-        ensures cost { steps.new ≤ steps.old + detection_bound self.old.tables (length tracker.now.threads) seen.entry.call.now }
+        ensures cost { steps.new ≤ steps.old + detection_bound self.old.tables (length tracker.now.threads) seen.now.call.now }
     {
         law_of_merging();
         let mut seats = ArrayVec::new();
@@ -267,8 +267,7 @@ impl Detector {
         if self.keep_over(latest.is_some(), seats.as_slice(), seen, steps)? {
             return Ok(None);
         }
-        let answer = self.keep_new(latest, seats.as_slice(), seen, tracker, steps)?;
-        Ok(answer)
+        self.keep_new(latest, seats.as_slice(), seen, tracker, steps)
     }
 
     /// Takes the call at the next place of a trace that is well-formed with the specification, on the line of that number, with the
@@ -308,7 +307,7 @@ impl Detector {
             call,
             stamp: StampRef::new(stamp),
         };
-        self.judge(seen, tracker, steps)
+        self.judge(&seen, tracker, steps)
     }
 
     /// Takes a call as `call` does, where the tracker passed it last, and so has its stamp.
@@ -343,7 +342,7 @@ impl Detector {
             call,
             stamp: tracker.last_stamp(call.thread),
         };
-        self.judge(seen, tracker, steps)
+        self.judge(&seen, tracker, steps)
     }
 
     /// How many cells there are: one for each point and each thread that touched it, but for those that were swept. It takes no memory.

@@ -1,5 +1,6 @@
 use Rattle.std.proofs.Common.{◌≡◌, ◌∷◌, [], ◌++◌, None, length, refl, ap, sym, subst, ◌∙◌, arith}
 use Rattle.std.specs.Prelude.{option_map}
+use Rattle.std.proofs.lemmas.Result.{IfOk-weaker, on_ok_weaker}
 use Rattle.rd_clock.specs.Stamps.{lent_stamp}
 use Rattle.rd_event.specs.declared.events.Event.TheVariants as event
 use Rattle.rd_store.specs.Lent.{lent_witness}
@@ -11,22 +12,22 @@ use Rattle.rd_detect.proofs.SweepLemmas.{stands_taken}
 use Rattle.rd_detect.proofs.detector.Detector.judge.Goals as goal
 
 pub returns-in_err-latest-clause-cost : goal.returns-in_err-latest-clause-cost
-returns-in_err-latest-clause-cost g c = asked_bound c.args.self.now.tables (length c.args.tracker.now.threads) c.args.seen.call.now c.args.steps.now c.look.new.steps
-    (c.look.ensures.cost (length c.args.tracker.now.threads) (below c.requires.next.0 c.args.self.now c.args.tracker.now c.requires.next.1 c.requires.next.2 c.requires.next.3 c.args.seen.place c.args.seen.call.now (lent_stamp c.args.seen.stamp) c.requires.next.4))
+returns-in_err-latest-clause-cost g c = asked_bound c.args.self.now.tables (length c.args.tracker.now.threads) c.args.seen.now.call.now c.args.steps.now c.look.new.steps
+    (c.look.ensures.cost (length c.args.tracker.now.threads) (below c.requires.next.0 c.args.self.now c.args.tracker.now c.requires.next.1 c.requires.next.2 c.requires.next.3 c.args.seen.now.place c.args.seen.now.call.now (lent_stamp c.args.seen.now.stamp) c.requires.next.4))
 
 pub returns-in_err-keep_over-clause-cost : goal.returns-in_err-keep_over-clause-cost
-returns-in_err-keep_over-clause-cost g c = tried_bound c.args.self.now.tables (length c.args.tracker.now.threads) c.args.seen.call.now c.args.steps.now c.look.new.steps
-    (c.look.ensures.cost (length c.args.tracker.now.threads) (below c.requires.next.0 c.args.self.now c.args.tracker.now c.requires.next.1 c.requires.next.2 c.requires.next.3 c.args.seen.place c.args.seen.call.now (lent_stamp c.args.seen.stamp) c.requires.next.4))
-    (length c.as_slice.result.now) c.keep_over.new.steps (omega (arith, own_below c.requires.next.0 c.args.self.now c.args.tracker.now c.requires.next.1 c.requires.next.2 c.requires.next.3 c.args.seen.place c.args.seen.call.now (lent_stamp c.args.seen.stamp) c.requires.next.4))
+returns-in_err-keep_over-clause-cost g c = tried_bound c.args.self.now.tables (length c.args.tracker.now.threads) c.args.seen.now.call.now c.args.steps.now c.look.new.steps
+    (c.look.ensures.cost (length c.args.tracker.now.threads) (below c.requires.next.0 c.args.self.now c.args.tracker.now c.requires.next.1 c.requires.next.2 c.requires.next.3 c.args.seen.now.place c.args.seen.now.call.now (lent_stamp c.args.seen.now.stamp) c.requires.next.4))
+    (length c.as_slice.result.now) c.keep_over.new.steps (omega (arith, own_below c.requires.next.0 c.args.self.now c.args.tracker.now c.requires.next.1 c.requires.next.2 c.requires.next.3 c.args.seen.now.place c.args.seen.now.call.now (lent_stamp c.args.seen.now.stamp) c.requires.next.4))
     (ap length c.as_slice.ensures.value ∙ c.in_ok-latest.ensures.seats.long) (omega (arith, c.keep_over.ensures.cost))
 
 pub returns-then-branch-clause-answer : goal.returns-then-branch-clause-answer
 returns-then-branch-clause-answer g c = λ kinds roots lines es next.
-    subst (λ place. IsAnswer kinds (lines ++ c.args.seen.line ∷ []) (es ++ event.Call c.args.seen.call.now ∷ []) place None) (sym next.at_end)
-    (is_answer c.law_of_merging.ensures.tells kinds c.args.self.now c.args.tracker.now roots lines es c.args.seen.place c.args.seen.call.now (lent_stamp c.args.seen.stamp) next c.args.seen.line
+    subst (λ place. IsAnswer kinds (lines ++ c.args.seen.now.line ∷ []) (es ++ event.Call c.args.seen.now.call.now ∷ []) place None) (sym next.at_end)
+    (is_answer c.law_of_merging.ensures.tells kinds c.args.self.now c.args.tracker.now roots lines es c.args.seen.now.place c.args.seen.now.call.now (lent_stamp c.args.seen.now.stamp) next c.args.seen.now.line
     None
-    (subst (λ latest. IsLatestOf c.args.self.now.store (asked_points (tables_of kinds) c.args.seen.call.now) c.args.seen.stamp.clock.now latest) nothing
-    (subst (λ tables. IsLatestOf c.args.self.now.store (asked_points tables c.args.seen.call.now) c.args.seen.stamp.clock.now (option_map (λ held. held.value) c.in_ok-latest.latest))
+    (subst (λ latest. IsLatestOf c.args.self.now.store (asked_points (tables_of kinds) c.args.seen.now.call.now) c.args.seen.now.stamp.clock.now latest) nothing
+    (subst (λ tables. IsLatestOf c.args.self.now.store (asked_points tables c.args.seen.now.call.now) c.args.seen.now.stamp.clock.now (option_map (λ held. held.value) c.in_ok-latest.latest))
     next.stands.tables_are c.in_ok-latest.ensures.latest))
     None refl)
   where
@@ -34,48 +35,48 @@ returns-then-branch-clause-answer g c = λ kinds roots lines es next.
     nothing = none_found c.in_ok-latest.latest (sym c.is_some.ensures ∙ c.in_ok-keep_over.ensures.none c.if-branch.true)
 
 pub returns-then-branch-clause-taken : goal.returns-then-branch-clause-taken
-returns-then-branch-clause-taken g c = taken_after c.args.tracker.now.threads c.args.self.now c.look.new.self c.keep_over.new.self c.args.seen.call.now _ c.look.ensures.same
+returns-then-branch-clause-taken g c = taken_after c.args.tracker.now.threads c.args.self.now c.look.new.self c.keep_over.new.self c.args.seen.now.call.now _ c.look.ensures.same
     (c.in_ok-keep_over.ensures.taken c.if-branch.true c.args.tracker.now.threads)
 
 pub returns-then-branch-clause-stands : goal.returns-then-branch-clause-stands
 returns-then-branch-clause-stands g c = λ kinds roots lines es next.
-    stands_taken kinds c.args.self.now c.keep_over.new.self c.args.tracker.now roots lines es c.args.seen.place c.args.seen.call.now (lent_stamp c.args.seen.stamp) c.args.seen.line c.law_of_merging.ensures.tells next
-    (taken_after c.args.tracker.now.threads c.args.self.now c.look.new.self c.keep_over.new.self c.args.seen.call.now _ c.look.ensures.same
+    stands_taken kinds c.args.self.now c.keep_over.new.self c.args.tracker.now roots lines es c.args.seen.now.place c.args.seen.now.call.now (lent_stamp c.args.seen.now.stamp) c.args.seen.now.line c.law_of_merging.ensures.tells next
+    (taken_after c.args.tracker.now.threads c.args.self.now c.look.new.self c.keep_over.new.self c.args.seen.now.call.now _ c.look.ensures.same
     (c.in_ok-keep_over.ensures.taken c.if-branch.true c.args.tracker.now.threads))
 
 pub returns-then-branch-clause-cost : goal.returns-then-branch-clause-cost
-returns-then-branch-clause-cost g c = tried_bound c.args.self.now.tables (length c.args.tracker.now.threads) c.args.seen.call.now c.args.steps.now c.look.new.steps
-    (c.look.ensures.cost (length c.args.tracker.now.threads) (below c.requires.next.0 c.args.self.now c.args.tracker.now c.requires.next.1 c.requires.next.2 c.requires.next.3 c.args.seen.place c.args.seen.call.now (lent_stamp c.args.seen.stamp) c.requires.next.4))
-    (length c.as_slice.result.now) c.keep_over.new.steps (omega (arith, own_below c.requires.next.0 c.args.self.now c.args.tracker.now c.requires.next.1 c.requires.next.2 c.requires.next.3 c.args.seen.place c.args.seen.call.now (lent_stamp c.args.seen.stamp) c.requires.next.4))
+returns-then-branch-clause-cost g c = tried_bound c.args.self.now.tables (length c.args.tracker.now.threads) c.args.seen.now.call.now c.args.steps.now c.look.new.steps
+    (c.look.ensures.cost (length c.args.tracker.now.threads) (below c.requires.next.0 c.args.self.now c.args.tracker.now c.requires.next.1 c.requires.next.2 c.requires.next.3 c.args.seen.now.place c.args.seen.now.call.now (lent_stamp c.args.seen.now.stamp) c.requires.next.4))
+    (length c.as_slice.result.now) c.keep_over.new.steps (omega (arith, own_below c.requires.next.0 c.args.self.now c.args.tracker.now c.requires.next.1 c.requires.next.2 c.requires.next.3 c.args.seen.now.place c.args.seen.now.call.now (lent_stamp c.args.seen.now.stamp) c.requires.next.4))
     (ap length c.as_slice.ensures.value ∙ c.in_ok-latest.ensures.seats.long) (omega (arith, c.keep_over.ensures.cost))
 
-pub returns-in_err-answer-clause-cost : goal.returns-in_err-answer-clause-cost
-returns-in_err-answer-clause-cost g c = tried_bound c.args.self.now.tables (length c.args.tracker.now.threads) c.args.seen.call.now c.args.steps.now c.look.new.steps
-    (c.look.ensures.cost (length c.args.tracker.now.threads) (below c.requires.next.0 c.args.self.now c.args.tracker.now c.requires.next.1 c.requires.next.2 c.requires.next.3 c.args.seen.place c.args.seen.call.now (lent_stamp c.args.seen.stamp) c.requires.next.4))
-    (length c.as_slice.result.now) c.keep_new.new.steps (omega (arith, own_below c.requires.next.0 c.args.self.now c.args.tracker.now c.requires.next.1 c.requires.next.2 c.requires.next.3 c.args.seen.place c.args.seen.call.now (lent_stamp c.args.seen.stamp) c.requires.next.4))
-    (ap length c.as_slice.ensures.value ∙ c.in_ok-latest.ensures.seats.long) (omega (arith, c.keep_over.ensures.cost, c.keep_new.ensures.cost, ap length c.as_slice.ensures.value, ap length c.as_slice-2.ensures.value))
-
 pub returns-clause-answer : goal.returns-clause-answer
-returns-clause-answer g c = λ kinds roots lines es next.
-    subst (λ place. IsAnswer kinds (lines ++ c.args.seen.line ∷ []) (es ++ event.Call c.args.seen.call.now ∷ []) place c.in_ok-answer.answer) (sym next.at_end)
-    (is_answer c.law_of_merging.ensures.tells kinds c.args.self.now c.args.tracker.now roots lines es c.args.seen.place c.args.seen.call.now (lent_stamp c.args.seen.stamp) next c.args.seen.line
+returns-clause-answer g c = IfOk-weaker c.keep_new.result _ _
+    (λ answer is kinds roots lines es next.
+    subst (λ place. IsAnswer kinds (lines ++ c.args.seen.now.line ∷ []) (es ++ event.Call c.args.seen.now.call.now ∷ []) place answer) (sym next.at_end)
+    (is_answer c.law_of_merging.ensures.tells kinds c.args.self.now c.args.tracker.now roots lines es c.args.seen.now.place c.args.seen.now.call.now (lent_stamp c.args.seen.now.stamp) next c.args.seen.now.line
     (option_map (λ held. held.value) c.in_ok-latest.latest)
-    (subst (λ tables. IsLatestOf c.args.self.now.store (asked_points tables c.args.seen.call.now) c.args.seen.stamp.clock.now (option_map (λ held. held.value) c.in_ok-latest.latest))
+    (subst (λ tables. IsLatestOf c.args.self.now.store (asked_points tables c.args.seen.now.call.now) c.args.seen.now.stamp.clock.now (option_map (λ held. held.value) c.in_ok-latest.latest))
     next.stands.tables_are c.in_ok-latest.ensures.latest)
-    c.in_ok-answer.answer c.in_ok-answer.ensures.answer)
+    answer is))
+    c.keep_new.ensures.answer
 
 pub returns-clause-taken : goal.returns-clause-taken
-returns-clause-taken g c = taken_after c.args.tracker.now.threads c.args.self.now c.look.new.self c.keep_new.new.self c.args.seen.call.now _ c.look.ensures.same
-    (subst (λ (d : Detecting). IsTaken c.args.tracker.now.threads d c.keep_new.new.self c.args.seen.call.now (lent_witness c.args.seen)) (c.in_ok-keep_over.ensures.kept c.if-branch.false) c.in_ok-answer.ensures.taken)
+returns-clause-taken g c = on_ok_weaker c.keep_new.result
+    (λ taken. taken_after c.args.tracker.now.threads c.args.self.now c.look.new.self c.keep_new.new.self c.args.seen.now.call.now _ c.look.ensures.same
+    (subst (λ (d : Detecting). IsTaken c.args.tracker.now.threads d c.keep_new.new.self c.args.seen.now.call.now (lent_witness c.args.seen.now)) (c.in_ok-keep_over.ensures.kept c.if-branch.false) taken))
+    c.keep_new.ensures.taken
 
 pub returns-clause-stands : goal.returns-clause-stands
-returns-clause-stands g c = λ kinds roots lines es next.
-    stands_taken kinds c.args.self.now c.keep_new.new.self c.args.tracker.now roots lines es c.args.seen.place c.args.seen.call.now (lent_stamp c.args.seen.stamp) c.args.seen.line c.law_of_merging.ensures.tells next
-    (taken_after c.args.tracker.now.threads c.args.self.now c.look.new.self c.keep_new.new.self c.args.seen.call.now _ c.look.ensures.same
-    (subst (λ (d : Detecting). IsTaken c.args.tracker.now.threads d c.keep_new.new.self c.args.seen.call.now (lent_witness c.args.seen)) (c.in_ok-keep_over.ensures.kept c.if-branch.false) c.in_ok-answer.ensures.taken))
+returns-clause-stands g c = on_ok_weaker c.keep_new.result
+    (λ taken kinds roots lines es next.
+    stands_taken kinds c.args.self.now c.keep_new.new.self c.args.tracker.now roots lines es c.args.seen.now.place c.args.seen.now.call.now (lent_stamp c.args.seen.now.stamp) c.args.seen.now.line c.law_of_merging.ensures.tells next
+    (taken_after c.args.tracker.now.threads c.args.self.now c.look.new.self c.keep_new.new.self c.args.seen.now.call.now _ c.look.ensures.same
+    (subst (λ (d : Detecting). IsTaken c.args.tracker.now.threads d c.keep_new.new.self c.args.seen.now.call.now (lent_witness c.args.seen.now)) (c.in_ok-keep_over.ensures.kept c.if-branch.false) taken)))
+    c.keep_new.ensures.taken
 
 pub returns-clause-cost : goal.returns-clause-cost
-returns-clause-cost g c = tried_bound c.args.self.now.tables (length c.args.tracker.now.threads) c.args.seen.call.now c.args.steps.now c.look.new.steps
-    (c.look.ensures.cost (length c.args.tracker.now.threads) (below c.requires.next.0 c.args.self.now c.args.tracker.now c.requires.next.1 c.requires.next.2 c.requires.next.3 c.args.seen.place c.args.seen.call.now (lent_stamp c.args.seen.stamp) c.requires.next.4))
-    (length c.as_slice.result.now) c.keep_new.new.steps (omega (arith, own_below c.requires.next.0 c.args.self.now c.args.tracker.now c.requires.next.1 c.requires.next.2 c.requires.next.3 c.args.seen.place c.args.seen.call.now (lent_stamp c.args.seen.stamp) c.requires.next.4))
+returns-clause-cost g c = tried_bound c.args.self.now.tables (length c.args.tracker.now.threads) c.args.seen.now.call.now c.args.steps.now c.look.new.steps
+    (c.look.ensures.cost (length c.args.tracker.now.threads) (below c.requires.next.0 c.args.self.now c.args.tracker.now c.requires.next.1 c.requires.next.2 c.requires.next.3 c.args.seen.now.place c.args.seen.now.call.now (lent_stamp c.args.seen.now.stamp) c.requires.next.4))
+    (length c.as_slice.result.now) c.keep_new.new.steps (omega (arith, own_below c.requires.next.0 c.args.self.now c.args.tracker.now c.requires.next.1 c.requires.next.2 c.requires.next.3 c.args.seen.now.place c.args.seen.now.call.now (lent_stamp c.args.seen.now.stamp) c.requires.next.4))
     (ap length c.as_slice.ensures.value ∙ c.in_ok-latest.ensures.seats.long) (omega (arith, c.keep_over.ensures.cost, c.keep_new.ensures.cost, ap length c.as_slice.ensures.value, ap length c.as_slice-2.ensures.value))
