@@ -65,6 +65,8 @@ impl<'a> Check<'a> {
 
     /// Hands the call at this place, which is the next event and which the tracker passed, to the detector, and counts the race that it tells
     /// of.
+    // kept out of line, so that a walk over other lines doesn't pay for its locals
+    #[inline(never)]
     fn detect<L: Ledger>(
         &mut self,
         line: u64,

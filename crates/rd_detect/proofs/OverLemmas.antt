@@ -18,7 +18,7 @@ only_one [] x one at = cc
 only_one (y ∷ []) x one at = cc
 only_one (y ∷ z ∷ xs) x one at = absurd (omega (arith, one))
 
-untouched : (store : List PointCells) (thread : ℕ) (witness : Witness) → AreTouched store store [] thread witness
+pub untouched : (store : List PointCells) (thread : ℕ) (witness : Witness) → AreTouched store store [] thread witness
 untouched store thread witness = record {
   own = λ point has. none_in point has;
   rest = λ point. inr refl;

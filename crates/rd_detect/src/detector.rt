@@ -21,7 +21,7 @@ ghost use Rattle.rd_store.specs.declared.Witness.{Witness as WitnessOf};
 #[cfg(test)]
 mod tests;
 
-use crate::touching::{look, touch};
+use crate::touching::{look, touch_all};
 use arrayvec::ArrayVec;
 use rd_base::{NoMemory, Steps};
 use rd_classes::{law_of_merging, merge};
@@ -196,16 +196,8 @@ impl Detector {
         ensures err { OnErr result (IsUntaken self.old self.new) }
         ensures cost { steps.new ≤ steps.old + length seats.now }
     {
-        let count = seats.len();
-        let floor = self.floor(count, tracker)?;
-        touch(
-            &mut self.store,
-            seats,
-            count,
-            witness.call.thread,
-            witness,
-            steps,
-        )?;
+        let floor = self.floor(seats.len(), tracker)?;
+        touch_all(&mut self.store, seats, witness.call.thread, witness, steps)?;
         self.sweep(floor);
         Ok(())
     }

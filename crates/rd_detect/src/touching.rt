@@ -74,9 +74,9 @@ pub fn look<L: Ledger>(
     Ok(latest)
 }
 
-/// Sets the cells of a thread at as many of these points as are told, each of which has room for it, to this call. Each growth comes first, so that
-/// after want of memory all is as before.
-pub fn touch<L: Ledger>(
+// Sets the cells of a thread that have these seats, as many as are told, to this call. Each growth comes first, so that after want of memory
+// all is as before.
+fn touch<L: Ledger>(
     store: &mut Store,
     seats: &[Seat],
     count: usize,
@@ -101,4 +101,28 @@ pub fn touch<L: Ledger>(
     touch(store, seats, count - 1, thread, witness, steps)?;
     store.touch_at(seats[count - 1], thread, held, steps);
     Ok(())
+}
+
+/// Sets the cells of a thread that have these seats to this call. After want of memory all is as before.
+pub fn touch_all<L: Ledger>(
+    store: &mut Store,
+    seats: &[Seat],
+    thread: u32,
+    witness: &Rc<Witness>,
+    steps: &mut Steps<L>,
+) -> Result<(), NoMemory>
+    requires { (points : List PointOf) × AreSeats store.old thread points seats.now }
+    ensures touched { OnOk result ((points : List PointOf) → AreSeats store.old thread points seats.now
+        → AreTouched store.old store.new points thread witness.now.value) }
+    ensures err { OnErr result (store.new ≡ store.old) }
+    ensures cost { steps.new ≤ steps.old + length seats.now }
+{
+    law_of_equal_points();
+    // Most calls touch one point.
+    if let [seat] = seats {
+        let held = witness.clone()?;
+        store.touch_at(*seat, thread, held, steps);
+        return Ok(());
+    }
+    touch(store, seats, seats.len(), thread, witness, steps)
 }
