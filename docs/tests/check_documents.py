@@ -1,0 +1,486 @@
+#!/usr/bin/env python3
+"""Checks that what the documents name is there, and that what they show is so.
+
+    check_documents.py [--rd2 PROGRAM] [--all]
+
+Lists each fault as FILE:LINE: WHAT, and ends with 1 where there is one. With --rd2 it runs the program on each command, trace and
+specification that a document shows, and compares the output with the one shown beside it. --all lists too what was checked.
+"""
+import argparse, collections, pathlib, re, shutil, subprocess, sys, tempfile
+
+TOP = pathlib.Path(__file__).resolve().parents[2]
+DOCUMENTS = [TOP / 'README.md', *sorted((TOP / 'docs').rglob('*.md')), *sorted(TOP.glob('crates/*/README.md'))]
+NAMING = [TOP / 'docs' / name for name in ('proved.md', 'definitions.md', 'architecture.md', 'DECISIONS.md')]
+OUTSIDE = {'out'}                                 # folders of crates that builds make
+MADE = {'run.trace', 'run.out', 'report.txt'}     # files that a command in a document writes
+ENDINGS = r'\.(?:trace|spec|out|md|py|rt|antt|edit|txt|java|go|cpp|hpp)'
+PROGRAM = r'(?:crates/rd2/out/)?rd2'
+REPORT = re.compile(r'(race line \d|races \d|replay (exact|differs line \d|not shipped)|refused (line|spec line) \d|refused usage)')
+
+faults, checked = [], collections.Counter()
+
+
+def fault(document, line, text):
+    faults.append(f'{document.path.relative_to(TOP)}:{line}: {text}')
+
+
+class Block(list):
+    """The lines of a block of code, and the number of its first one."""
+    def __init__(self, first, language=''):
+        self.first, self.language = first, language
+
+
+class Document:
+    """A page: its lines of prose by number, its blocks of code, which end at empty lines, its anchors."""
+    def __init__(self, path):
+        self.path, self.prose, self.blocks, self.anchors = path, {}, [], set()
+        fence = block = None
+        listed = 0                                # how far a list indents its text
+        lines = path.read_text(encoding='utf-8').split('\n')
+        for number, line in enumerate(lines, 1):
+            begin = re.match(r' *```(\w*)', line)
+            if begin:
+                fence = None if fence is not None else Block(number + 1, begin[1])
+                if fence is not None:
+                    self.blocks.append(fence)
+                continue
+            if fence is not None:
+                fence.append(line)
+                continue
+            item = re.match(r'( *)(?:-|\d+\.) +', line)
+            if item and not re.match(r' {4}', line):
+                listed = len(item[0])
+            elif line and not line.startswith(' '):
+                listed = 0
+            indented = line.startswith(' ' * (listed + 4)) and not item
+            if indented and line.strip() and (block is not None or not lines[number - 2].strip()):
+                if block is None:
+                    block = Block(number)
+                    self.blocks.append(block)
+                block.append(line[listed + 4:])
+                continue
+            block = None
+            self.prose[number] = line
+            heading = re.match(r'#+ (.*)', line)
+            if heading:
+                self.anchors.add(re.sub(r'[^\w\- ]', '', heading[1].strip().lower()).replace(' ', '-'))
+
+    def codes(self, first=0, last=sys.maxsize):
+        """What stands in backticks between two lines, with its line."""
+        for number, line in self.prose.items():
+            if first <= number <= last:
+                for code in re.findall(r'(?<!`)`([^`]+)`(?!`)', line):
+                    yield number, code
+
+
+def text_files(folder):
+    for path in folder.rglob('*'):
+        if path.is_file() and not OUTSIDE.intersection(path.relative_to(TOP).parts):
+            yield path
+
+
+def like(pattern):
+    """A path with words in capitals, which stand for any name, as a pattern of names."""
+    return re.sub(r'\b[A-Z]+\b(?!\.md)', '*', re.sub(r'(?<=_)[A-Z]+(?=\.)', '*', pattern))
+
+
+def is_there(document, path):
+    """Whether a path leads to a file, from the top, from crates/, or from the page's own folder."""
+    folders = (TOP, TOP / 'crates', document.path.parent)
+    return any(any(True for _ in folder.glob(like(path.rstrip('/')))) for folder in folders if not path.startswith('/'))
+
+
+def check_links(document, anchors):
+    for number, line in document.prose.items():
+        for target in re.findall(r'\]\(([^)\s]+)\)', re.sub(r'`[^`]*`', '', line)):
+            if re.match(r'\w+:', target):
+                continue
+            path, _, anchor = target.partition('#')
+            to = (document.path.parent / path).resolve() if path else document.path
+            checked['links'] += 1
+            if not to.exists():
+                fault(document, number, f'the link leads to no file: {target}')
+            elif anchor and anchor not in anchors(to):
+                fault(document, number, f'the link leads to no heading: {target}')
+
+
+def check_paths(document, names):
+    for number, code in document.codes():
+        for word in code.split():
+            word = word.rstrip(',;')
+            if re.fullmatch(r'(?:examples|docs|crates|rd_\w+|recorders)/[\w./*-]+', word):
+                checked['paths'] += 1
+                if 'crates/rd2/out/' not in word and not is_there(document, word):
+                    fault(document, number, f'no such file: {word}')
+            elif re.fullmatch(r'[\w-]+' + ENDINGS, word) and word not in MADE:
+                checked['names of files'] += 1
+                pattern = like(word)
+                there = word in names or '*' in pattern and any(pathlib.PurePath(name).match(pattern) for name in names)
+                if not there and not is_there(document, word):
+                    fault(document, number, f'no file of this name: {word}')
+
+
+def commands_of(document):
+    """The commands that a page shows, each with its line, its words, and the lines below it in its block."""
+    for block in document.blocks:
+        for at, line in enumerate(block):
+            for found in re.finditer(r'(?:^|\$ |[;|(] *|&& |do )' + PROGRAM + r' ([^|;>#)]*)', line):
+                shown = block[at + 1:] if line.startswith('$ ') else []
+                piped = '|' in line or ';' in line
+                yield block.first + at, found[1].split(), None if piped else shown
+            trial = re.search(r'rt (?:run|try)(?P<given>.*?) -- (?P<words>[^)]*)\)', line)
+            if trial:
+                given = dict(pair.split('=') for pair in re.findall(r'--data (\S+)', trial['given']))
+                words = [given.get(word, word) for word in trial['words'].split()]
+                yield block.first + at, [word.replace('../../', '') for word in words], None
+    for number, code in document.codes():
+        found = re.fullmatch(PROGRAM + r'((?: [^|\s]+)+)(?: \|.*)?', code)
+        if found:
+            yield number, found[1].split(), None
+
+
+def usages(formats):
+    """The commands with each number of words that they take, and words to try, by the table of the commands."""
+    known = {}
+    for line in formats.prose.values():
+        row = re.match(r'\| `rd2 (\w[\w-]*)([^`]*)` \|', line)
+        words = row[2].split() if row else []
+        tries = ['set' if word.strip('[]') in ('TRACE', 'SPEC', 'FILE', 'NAME') else '1' for word in words]
+        for count in range(len([word for word in words if word[0] != '[']), len(words) + 1) if row else ():
+            known[row[1], count] = tries[:count]
+    return known
+
+
+def check_usages(readme, formats, known, program):
+    """README names the commands of the table, and the program has each."""
+    for number, line in readme.prose.items():
+        if line.startswith('| 2 |'):
+            named = {code.split()[0] for code in re.findall(r'`([^`]+)`', line)}
+            for word in sorted(named ^ {word for word, _ in known}):
+                fault(readme, number, f'README and docs/formats.md have other commands: {word}')
+    for (word, count), words in sorted(known.items()) if program else ():
+        if program.run(word, *words) == ['refused usage']:
+            fault(formats, 1, f'the program has no command {word} with {count} more words')
+
+
+def check_commands(document, known):
+    for number, words, _ in commands_of(document):
+        checked['commands'] += 1
+        words = [word for word in words if word[0] != '[']
+        if (words[0], len(words) - 1) not in known:
+            fault(document, number, f'no such command: rd2 {" ".join(words)}')
+        for word in words[1:]:
+            if re.search(ENDINGS + '$', word) and word not in MADE and not is_there(document, word):
+                fault(document, number, f'the command names a file that is not there: {word}')
+    for block in document.blocks:
+        for at, line in enumerate(block):
+            for path in re.findall(r'(?:python3|g\+\+[^|;]*?|go run) ([\w./-]+\.(?:py|cpp)|\./\w+)', line):
+                checked['programs'] += 1
+                if not is_there(document, path) and not list((TOP / 'docs' / 'recorders').glob('*/' + path)):
+                    fault(document, block.first + at, f'no such program: {path}')
+
+
+def check_numbered(document):
+    """Blocks of numbered lines are those of the example that the text in front of them names last."""
+    for block in document.blocks:
+        rows = [re.match(r' *(\d+)  (.*)$', line) for line in block]
+        if len(rows) < 3 or not all(rows):
+            continue
+        named = [code for _, code in document.codes(block.first - 6, block.first) if re.fullmatch(r'examples/[\w.]+', code)]
+        if not named:
+            fault(document, block.first, 'numbered lines, and no example is named before them')
+            continue
+        checked['numbered lines'] += len(rows)
+        lines = (TOP / named[-1]).read_text().split('\n')
+        for at, row in enumerate(rows):
+            number, shown = int(row[1]), row[2]
+            here = lines[number - 1] if number <= len(lines) else None
+            same = here == shown or shown.endswith(' ..') and here is not None and here.startswith(shown[:-3])
+            if not same:
+                fault(document, block.first + at, f'line {number} of {named[-1]} is another')
+
+
+def stored(words):
+    """The file with the stored output of a command, or none."""
+    if len(words) < 2 or not words[1].startswith('examples/'):
+        return None
+    base, ending = words[1].rsplit('.', 1)
+    path = TOP / {'check': base + '.out', 'replay': base + '.replay.out', 'points': base + '.points.out',
+                  'spec': base + '.spec.out'}.get(words[0], 'none')
+    return path if path.is_file() else None
+
+
+class Program:
+    """The built program, or none."""
+    def __init__(self, path):
+        self.path, self.folder = path and str(pathlib.Path(path).resolve()), tempfile.mkdtemp()
+
+    def __bool__(self):
+        return bool(self.path)
+
+    def run(self, *words):
+        run = subprocess.run([self.path, *words], cwd=TOP, capture_output=True)
+        return run.stdout.decode().rstrip('\n').split('\n')
+
+    def run_on(self, command, *texts):
+        names = []
+        for number, text in enumerate(texts):
+            path = pathlib.Path(self.folder) / f'file{number}'
+            path.write_bytes(text if isinstance(text, bytes) else text.encode())
+            names.append(str(path))
+        return self.run(command, *names)
+
+
+def check_outputs(document, program):
+    """Below a command that begins with `$ ` stands what it writes."""
+    for number, words, shown in commands_of(document):
+        if not shown or not shown[0].strip() or any(re.fullmatch('[A-Z]+', word) for word in words):
+            continue
+        path, wanted = stored(words), list(shown)
+        if path:
+            checked['outputs, with a file'] += 1
+            if path.read_text().rstrip('\n').split('\n') != wanted:
+                fault(document, number, f'{path.relative_to(TOP)} has another output than the one shown')
+        if program:
+            checked['outputs, run'] += 1
+            if program.run(*words) != wanted:
+                fault(document, number, f'rd2 {" ".join(words)} writes something else')
+
+
+def head(block):
+    """The first line that is no comment."""
+    return next((line for line in block if line and not line.startswith('#')), '')
+
+
+def variants(document, spec, first, last):
+    """What the text between two lines makes of a specification: a line behind it, or without a part."""
+    for _, code in document.codes(first, last):
+        if code.startswith(('commute ', 'method ')):
+            yield spec + code + '\n'
+    for number, line in document.prose.items():
+        for part in re.findall(r'Without `([^`]+)`', line) if first <= number <= last else ():
+            yield spec.replace(' ' + part, '')
+    yield spec
+
+
+def check_whole_texts(document, program):
+    """Whole traces and specifications give what is shown behind them; other reports stand in a file of examples/."""
+    spec = trace = None
+    before = 0                                    # where the block before ends
+    reports = ['\n' + path.read_text() for path in (TOP / 'examples').glob('*.out')]
+    for block in document.blocks:
+        text = '\n'.join(block) + '\n'
+        if head(block) == 'rdspec 1':
+            spec, trace = text, None
+        elif head(block) == 'rdtrace 1':
+            trace = text
+        elif REPORT.match(block[0]):
+            refused = block[0].startswith('refused spec')
+            if not trace and not (refused and spec):
+                checked['reports of examples'] += 1
+                if not any('\n' + text in each for each in reports):
+                    fault(document, block.first, 'a report that no file of examples/ has')
+            elif program:
+                checked['shown texts, run'] += 1
+                specs = list(variants(document, spec, before, block.first)) if spec else []
+                if refused:
+                    answers = [program.run_on('spec', each) for each in specs]
+                else:
+                    answers = [program.run_on('check', trace, *specs[:1])]
+                if block not in answers:
+                    fault(document, block.first, f'the text above it gives {" / ".join(answers[-1][:2])}')
+        elif head(block).startswith('kind ') and program:
+            name = block[0].split()[1]
+            if name in ('register', 'counter', 'set', 'dictionary'):
+                checked['shown kinds, run'] += 1
+                if program.run('kind', name)[1:] != block:
+                    fault(document, block.first, f'rd2 kind {name} writes something else')
+        before = block.first + len(block)
+
+
+def check_refusals(document, program):
+    """The table of refused lines of specifications, each behind the four lines above the table."""
+    begin = None
+    for block in document.blocks:
+        if len(block) == 4 and block[0] == 'rdspec 1':
+            begin = '\n'.join(block) + '\n'
+    for number, line in document.prose.items():
+        row = re.match(r'\| `([^`]+)`(, also [^|]*)? \| `(line 5 place [^`]+)` \|', line)
+        if not row or not program:
+            continue
+        checked['refused lines, run'] += 1
+        answer = program.run_on('spec', begin + row[1] + '\n')
+        if answer != ['refused spec ' + row[3]]:
+            fault(document, number, f'`{row[1]}` gives {answer[0]}')
+        for word in re.findall(r'`([^`]+)`', row[2] or ''):
+            other = re.sub(r'(==|null|= value@2|<)(?= |$)', lambda old: '< value@2' if old[1] == '= value@2' else word, row[1], count=1)
+            checked['refused lines, run'] += 1
+            said = program.run_on('spec', begin + other + '\n')[0].split()
+            if said[6:] != row[3].split()[4:]:
+                fault(document, number, f'`{other}` gives {" ".join(said)}')
+
+
+def as_bytes(shown):
+    """The line that `cat -A` shows so, or a plain line."""
+    line = (shown[:-1] if shown.endswith('$') else shown).encode()
+    line = line.replace(b'^M', b'\r').replace(b'^I', b'\t').replace(b'M-oM-;M-?', b'\xef\xbb\xbf')
+    return line.replace(b'M-CM-$', b'\xc3\xa4')
+
+
+def check_bad_lines(document, program):
+    """The table of what looks right: each line of its second column is refused as `bad-line`, each of its third is not."""
+    rows, within = [], False
+    for number, line in document.prose.items():
+        within = line.startswith('| in the line |') or within and line.startswith('|')
+        if within and line.startswith('|') and number:
+            rows.append((number, [re.findall(r'`([^`]+)`', cell) for cell in line.split('|')[2:4]]))
+    for number, cells in rows if program else ():
+        for bad, codes in zip((True, False), cells):
+            for code in codes:
+                body = as_bytes(code)
+                if not bad and not re.match(rb'(call|fork|rdtrace|nil|true|-?\d|".*"$)', body):
+                    continue                      # a part of a line
+                if not re.match(rb'(call|fork|\xef\xbb\xbf|rdtrace)', body):
+                    body = b'call a x write ' + body + b' -> nil'
+                begin = b'' if b'rdtrace' in body else b'rdtrace 1\nthread main\nthread a\nobject x register\n'
+                answer = program.run_on('check', begin + body + b'\n')
+                checked['lines that look right, run'] += 1
+                if bad != any(re.fullmatch(r'refused line \d+ bad-line', line) for line in answer):
+                    fault(document, number, f'`{code}` gives {answer[-1]}')
+
+
+def check_causes(document):
+    """Each cause of the table of refused lines has a trace in examples/ whose report tells it."""
+    told = ' '.join(path.read_text() for path in (TOP / 'examples').glob('*.out'))
+    within = False
+    for number, line in document.prose.items():
+        row = re.match(r'\| `([a-z-]+)( [A-Z]+)?` \|', line)
+        within = line.startswith('| cause |') or within and line.startswith('|')
+        if within and row:
+            checked['causes'] += 1
+            if not re.search(rf'refused line \d+ {row[1]}\b', told):
+                fault(document, number, f'no example of {row[1]}')
+
+
+def crates():
+    """The crates of crates.txt, each with those that it stands on."""
+    rows = [line.split('#')[0].partition(':') for line in (TOP / 'crates.txt').read_text().split('\n')]
+    return {name.split()[0]: below.split() for name, _, below in rows if name.strip()}
+
+
+def check_crates(document):
+    below, rows, within = crates(), {}, False
+    for number, line in document.prose.items():
+        cells = [cell.strip() for cell in line.split('|')]
+        within = line.startswith('| crate | does |') or within and line.startswith('|')
+        if within and re.match(r'rd(2|_)', cells[1]):
+            for name in cells[1].split(', '):
+                rows[name] = number, cells[3]
+
+    def beneath(name):
+        return {other for each in below.get(name, ()) for other in (each, *beneath(each))}
+    for name, (number, stands_on) in rows.items():
+        checked['crates'] += 1
+        if name not in below:
+            fault(document, number, f'{name} is not in crates.txt')
+            continue
+        named = set(re.findall(r'rd_\w+|(?<=`)\w+(?=`)', stands_on))
+        if re.search('below them|above it', stands_on):
+            wrong = named - beneath(name)
+        else:
+            wrong = named ^ set(below[name])
+        if wrong:
+            fault(document, number, f'crates.txt says something else of what {name} stands on: {", ".join(sorted(wrong))}')
+    for name in sorted(set(below) - set(rows)):
+        fault(document, 1, f'{name} is in crates.txt and in no row of the table')
+    for name in sorted(below):
+        if not (TOP / 'crates' / name / 'README.md').is_file():
+            fault(document, 1, f'{name} has no README.md')
+
+
+def check_names(document, words, own):
+    """Names in backticks stand in some crate, and where the crate is named, in that one."""
+    for number, code in document.codes():
+        if not re.fullmatch(r'[A-Za-z_]\w*(?:::\w+)*(?:\(\))?', code) or re.fullmatch('[A-Z]+', code):
+            continue
+        parts = re.findall(r'\w+', code)
+        where = words
+        if parts[0] in own:
+            where, parts = own[parts[0]], parts[1:]
+        for part in parts:
+            checked['names'] += 1
+            if part not in where:
+                fault(document, number, f'no such name: {code}')
+
+
+def check_counts(examples, trials, proved):
+    """The pages tell as many examples and rows as are run."""
+    rows = len((examples.path.parent / 'stdout').read_text().splitlines())
+    told = sum(int(number) for line in examples.prose.values() if line.startswith('- ') for number in re.findall(r'\b\d+\b', line))
+    if told != rows:
+        fault(examples, 1, f'the list has {told} runs, and stdout {rows}')
+    runs = (trials.path.parent / 'stdout').read_text().split()[0]
+    for document, pattern in ((trials, rf'Runs of `run` \(rd_run\), {runs} of them'), (proved, rf'rd_trials, {runs} in rows')):
+        checked['counts'] += 1
+        if not any(re.search(pattern, line) for line in document.prose.values()):
+            fault(document, 1, f'rd_trials has {runs} runs')
+
+
+def check_kit(document):
+    """The kit that README names is the one that `rt` tells of itself."""
+    if shutil.which('rt'):
+        line = subprocess.run(['rt', 'version'], capture_output=True, text=True).stdout.strip()
+        named = [code for _, code in document.codes() if code.startswith('rattle-kit-')]
+        checked['kits'] += 1
+        if named != [line]:
+            fault(document, 1, f'`rt version` here prints {line}')
+
+
+def main():
+    options = argparse.ArgumentParser(usage=__doc__)
+    options.add_argument('--rd2')
+    options.add_argument('--all', action='store_true')
+    given = options.parse_args()
+    program = Program(given.rd2)
+    documents = {path: Document(path) for path in DOCUMENTS}
+
+    def anchors(path):
+        return documents[path].anchors if path in documents else set()
+    files = [path for folder in ('docs', 'crates') for path in text_files(TOP / folder)]
+    files += [path for path in TOP.iterdir() if path.is_file()]
+    names = {path.name for path in files}
+    own = collections.defaultdict(set)
+    for path in files:
+        if path.suffix in ('.rt', '.antt', '.edit', '.txt', '.row', '') and path.parts[len(TOP.parts)] == 'crates':
+            crate = path.parts[len(TOP.parts) + 1]
+            own[crate] |= set(re.findall(r'\w+', path.read_text(errors='replace'))) | {path.stem}
+    words = set().union(*own.values()) | {word for name, below in crates().items() for word in (name, *name.split('_'), *below)}
+    known = usages(documents[TOP / 'docs' / 'formats.md'])
+    for path, document in documents.items():
+        check_links(document, anchors)
+        check_paths(document, names)
+        check_commands(document, known)
+        check_numbered(document)
+        check_outputs(document, program)
+        check_whole_texts(document, program)
+        if path in NAMING or path.parent.parent == TOP / 'crates':
+            check_names(document, words, own)
+    check_usages(documents[TOP / 'README.md'], documents[TOP / 'docs' / 'formats.md'], known, program)
+    check_refusals(documents[TOP / 'docs' / 'specifications.md'], program)
+    check_bad_lines(documents[TOP / 'docs' / 'formats.md'], program)
+    check_causes(documents[TOP / 'docs' / 'formats.md'])
+    check_crates(documents[TOP / 'docs' / 'architecture.md'])
+    check_counts(documents[TOP / 'crates' / 'rd_examples' / 'README.md'], documents[TOP / 'crates' / 'rd_trials' / 'README.md'],
+                 documents[TOP / 'docs' / 'proved.md'])
+    check_kit(documents[TOP / 'README.md'])
+    shutil.rmtree(program.folder)
+    if given.all:
+        for what, count in sorted(checked.items()):
+            print(f'{count:6} {what}')
+    for each in faults:
+        print(each)
+    sys.exit(1 if faults else 0)
+
+
+if __name__ == '__main__':
+    main()
