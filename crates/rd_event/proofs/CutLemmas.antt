@@ -1,5 +1,5 @@
 -- Where a value ends: at the first space outside its quotes.
-use Rattle.std.proofs.Common.{◌≡◌, ℕ, suc, ◌+◌, ◌/◌, ◌%◌, ◌<◌, ◌≤◌, ◌^◌, true, false, ◌≢◌, List, [], ◌∷◌, ◌++◌, length, take, drop, get_or, refl, sym, ◌∙◌, ap, pos, negsuc, codes, decimal, arith, append_assoc, length-append, length-drop, add-one, eqb-true, ne_eqb, inl, inr, take_at}
+use Rattle.std.proofs.Common.{◌≡◌, ℕ, suc, ◌+◌, ◌/◌, ◌%◌, ◌<◌, ◌≤◌, ◌^◌, true, false, ◌≢◌, List, [], ◌∷◌, ◌++◌, length, take, drop, get_or, refl, sym, ◌∙◌, ap, pos, negsuc, codes, decimal, arith, append_assoc, length-append, length-drop, add-one, eqb-true, ne_eqb, inl, inr, take_at, take_all, ◌-◌}
 use Rattle.std.specs.Fmt.{digit_glyph}
 use Rattle.std.specs.List.{AllByRecursion}
 use Rattle.std.specs.Str.Parse.{AllDigits}
@@ -31,6 +31,36 @@ goes_on place bytes index within on = rw (drop_more bytes index 0 within, on) re
 pub ends_behind : (place : Place) (bytes : List ℕ) (index : ℕ) → length bytes ≤ index → value_length place (drop index bytes) ≡ 0
 unfolding value_length
 ends_behind place bytes index behind = at_drop_all (value_length place) bytes index behind
+
+-- the same outside quotes and between them, by the byte that stands there
+pub at_space : (bytes : List ℕ) (index : ℕ) → index < length bytes → get_or bytes index 0 ≡ 32 → value_length Outside (drop index bytes) ≡ 0
+at_space bytes index within here = ends_here Outside bytes index within (rw here refl)
+
+pub at_quote : (bytes : List ℕ) (index : ℕ) → index < length bytes → get_or bytes index 0 ≡ 34
+    → value_length Outside (drop index bytes) ≡ suc (value_length Quoted (drop (index + 1) bytes))
+at_quote bytes index within here =
+    goes_on Outside bytes index within (rw here refl) ∙ ap (λ place. suc (value_length place (drop (index + 1) bytes))) (rw here refl)
+
+pub at_other : (bytes : List ℕ) (index : ℕ) → index < length bytes → get_or bytes index 0 ≢ 32 → get_or bytes index 0 ≢ 34
+    → value_length Outside (drop index bytes) ≡ suc (value_length Outside (drop (index + 1) bytes))
+at_other bytes index within no_space no_quote =
+    goes_on Outside bytes index within (ne_eqb _ 32 no_space)
+    ∙ ap (λ place. suc (value_length place (drop (index + 1) bytes))) (rw (ne_eqb _ 34 no_quote) refl)
+
+pub at_closing : (bytes : List ℕ) (index : ℕ) → index < length bytes → get_or bytes index 0 ≡ 34
+    → value_length Quoted (drop index bytes) ≡ suc (value_length Outside (drop (index + 1) bytes))
+at_closing bytes index within here =
+    goes_on Quoted bytes index within refl ∙ ap (λ place. suc (value_length place (drop (index + 1) bytes))) (rw here refl)
+
+pub at_inner : (bytes : List ℕ) (index : ℕ) → index < length bytes → get_or bytes index 0 ≢ 34 → get_or bytes index 0 ≢ 92
+    → value_length Quoted (drop index bytes) ≡ suc (value_length Quoted (drop (index + 1) bytes))
+at_inner bytes index within no_quote no_escape =
+    goes_on Quoted bytes index within refl
+    ∙ ap (λ place. suc (value_length place (drop (index + 1) bytes))) (rw (ne_eqb _ 34 no_quote, ne_eqb _ 92 no_escape) refl)
+
+-- what stands behind a place is all that is taken there
+pub quoted_behind : (bytes : List ℕ) (place : ℕ) → value_length Quoted (take (length bytes - place) (drop place bytes)) ≡ value_length Quoted (drop place bytes)
+quoted_behind bytes place = ap (value_length Quoted) (take_all (length bytes - place) (drop place bytes) (omega (arith, length-drop place bytes)))
 
 -- only a space ends a value
 space_ends : (place : Place) (byte : ℕ) → ends_value place byte ≡ true → byte ≡ 32

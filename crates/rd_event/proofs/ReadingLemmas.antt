@@ -14,7 +14,7 @@ use Rattle.rd_event.specs.declared.items.Line.TheVariants.{Skip, Header, Thread,
 use Rattle.rd_event.specs.declared.items.LineEvent.{LineEvent}
 use Rattle.rd_event.specs.declared.items.LineEvent.TheVariants.{Fork, Join, Acquire, Release, Call}
 use Rattle.rd_event.specs.declared.reading.Pair.{Pair}
-use Rattle.rd_event.specs.declared.reading.Pair.TheVariants.{Acquire as AcquirePair, Release as ReleasePair}
+use Rattle.rd_event.specs.declared.reading.Pair.TheVariants.{Join as JoinPair, Acquire as AcquirePair, Release as ReleasePair}
 use Rattle.rd_event.specs.declared.reading.LineRefused.{LineRefused}
 use Rattle.rd_event.specs.declared.reading.LineRefused.TheVariants.{BadLine}
 use Rattle.rd_event.specs.Items.{IsEvent, LineInRange, words_apart, event_spelling, line_spelling, Says}
@@ -120,6 +120,10 @@ acquire_behind bytes rest is = rw is (pair_behind AcquirePair (λ names. Acquire
 pub release_behind : (bytes rest : List ℕ) → bytes ≡ codes "release " ++ rest → item_of bytes ≡ option_map (pair_item ReleasePair) (names_read rest)
 unfolding item_of item_with event_with
 release_behind bytes rest is = rw is (pair_behind ReleasePair (λ names. Release names.0 names.1) (λ names. refl) (names_read rest))
+
+pub join_behind : (bytes rest : List ℕ) → bytes ≡ codes "join " ++ rest → item_of bytes ≡ option_map (pair_item JoinPair) (names_read rest)
+unfolding item_of item_with event_with
+join_behind bytes rest is = rw is (pair_behind JoinPair (λ names. Join names.0 names.1) (λ names. refl) (names_read rest))
 
 -- an item that is found is in its range, and the bytes say it
 pub found_said : (bytes : List ℕ) (item : Line) → item_of bytes ≡ Some item → LineInRange item × Says bytes item

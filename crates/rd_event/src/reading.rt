@@ -25,7 +25,8 @@ pub enum LineRefused {
     NoMemory,
 }
 
-fn is_skipped(bytes: &[u8]) -> bool
+/// Whether a line with these bytes, without its line feed, is skipped: it is empty, or its first byte is `#`.
+pub fn is_skipped(bytes: &[u8]) -> bool
     ensures { result ≡ is_skipped bytes.now }
 {
     bytes.first().is_none_or(|byte| *byte == b'#')
@@ -260,10 +261,6 @@ fn read_item(alloc: Global, bytes: &[u8], line: &mut Line) -> Result<(), LineRef
         (λ e. e ≡ LineRefused.NoMemory →
         IsTrue (is_call_keyword (before_first is_space bytes.now))) }
 {
-    if is_skipped(bytes) {
-        skip(line);
-        return Ok(());
-    }
     if let Some(rest) = behind(bytes, b"call ") {
         return read_call(alloc, rest, line);
     }
@@ -272,6 +269,13 @@ fn read_item(alloc: Global, bytes: &[u8], line: &mut Line) -> Result<(), LineRef
     }
     if let Some(rest) = behind(bytes, b"release ") {
         return read_pair(Pair::Release, rest, line);
+    }
+    if let Some(rest) = behind(bytes, b"join ") {
+        return read_pair(Pair::Join, rest, line);
+    }
+    if is_skipped(bytes) {
+        skip(line);
+        return Ok(());
     }
     let (keyword, rest) = cut(bytes);
     if bytes_are(keyword, "call") {

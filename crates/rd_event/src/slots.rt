@@ -1,7 +1,7 @@
 //! Reading the arguments and the result of a call.
-ghost use Rattle.std.specs.Prelude.{◌≡◌, List, Some, None, is_some, IfOk, IfErr};
+ghost use Rattle.std.specs.Prelude.{◌≡◌, ◌≤◌, length, List, Some, None, is_some, IfOk, IfErr, IfSome};
 ghost use Rattle.rd_base.specs.declared.values.Value.{Value};
-ghost use Rattle.rd_event.specs.declared.slots.Place.TheVariants.{Outside};
+ghost use Rattle.rd_event.specs.declared.slots.Place.TheVariants.{Outside, Quoted};
 ghost use Rattle.rd_event.specs.ReadingSlots.{ends_value, next_place, value_length, first_value, other_values, slots_read};
 
 use crate::reading::{LineRefused, bytes_are};
@@ -51,16 +51,66 @@ fn next_place(place: Place, byte: u8) -> Place
     }
 }
 
-// How many bytes stand before the first space outside quotes.
-fn value_length(bytes: &[u8]) -> usize
-    ensures { result ≡ value_length Outside bytes.now }
+// How many bytes stand before the first space outside quotes, from a place on.
+fn length_from(start: Place, bytes: &[u8]) -> usize
+    ensures value { result ≡ value_length start bytes.now }
+    ensures within { result ≤ length bytes.now }
 {
-    let mut place = Place::Outside;
+    let mut place = start;
     for (index, byte) in bytes.iter().enumerate() {
         if ends_value(place, *byte) {
             return index;
         }
         place = next_place(place, *byte);
+    }
+    bytes.len()
+}
+
+// The same between quotes, where no byte is escaped and the value ends behind the closing quote, as it mostly does.
+fn plain_length(bytes: &[u8]) -> Option<usize>
+    ensures value { IfSome result (λ found. found ≡ value_length Quoted bytes.now) }
+    ensures within { IfSome result (λ found. found ≤ length bytes.now) }
+{
+    for (index, byte) in bytes.iter().enumerate() {
+        if *byte == b'\\' {
+            return None;
+        }
+        if *byte == b'"' {
+            let end = index + 1;
+            if end == bytes.len() {
+                return Some(end);
+            }
+            if bytes[end] == b' ' {
+                return Some(end);
+            }
+            return None;
+        }
+    }
+    None
+}
+
+// The same between quotes.
+fn quoted_length(bytes: &[u8]) -> usize
+    ensures value { result ≡ value_length Quoted bytes.now }
+    ensures within { result ≤ length bytes.now }
+{
+    match plain_length(bytes) {
+        Some(found) => found,
+        None => length_from(Place::Quoted, bytes),
+    }
+}
+
+// The same from the front of a value on. Most have no quotes.
+fn value_length(bytes: &[u8]) -> usize
+    ensures { result ≡ value_length Outside bytes.now }
+{
+    for (index, byte) in bytes.iter().enumerate() {
+        if *byte == b' ' {
+            return index;
+        }
+        if *byte == b'"' {
+            return index + 1 + quoted_length(&bytes[index + 1..]);
+        }
     }
     bytes.len()
 }

@@ -1,23 +1,31 @@
-use Rattle.std.proofs.Common.{arith, sym, ◌∙◌, ◌≡◌, false, get_or}
-use Rattle.rd_event.specs.ReadingSlots.{ends_value}
-use Rattle.rd_event.proofs.CutLemmas.{ends_here, goes_on, ends_behind}
+use Rattle.std.proofs.Common.{arith, sym, ◌∙◌, ◌≡◌, refl, true, false, get_or, drop, suc, ◌+◌}
+use Rattle.rd_event.specs.declared.slots.Place.TheVariants.{Outside, Quoted}
+use Rattle.rd_event.specs.ReadingSlots.{ends_value, value_length}
+use Rattle.rd_event.proofs.CutLemmas.{at_quote, at_space, at_other, ends_behind, quoted_behind}
 use Rattle.rd_event.proofs.slots.value_length.Goals as goal
 
-pub returns-then-ends_value : goal.returns-then-ends_value
-returns-then-ends_value c =
-    omega (
-      arith,
-      c.loop-index.invariant,
-      ends_here c.loop-index.place c.args.bytes.now c.loop-index.index c.loop-index-test.true
-          (sym c.ends_value.ensures ∙ c.if-ends_value.true),
-    )
+pub returns-then-byte-eq32 : goal.returns-then-byte-eq32
+returns-then-byte-eq32 c =
+    omega (arith, c.loop-index.invariant, at_space c.args.bytes.now c.loop-index.index c.loop-index-test.true c.if-byte-eq32.true)
 
 pub loop-index-preserved : goal.loop-index-preserved
 loop-index-preserved c =
-    let on : ends_value c.loop-index.place (get_or c.args.bytes.now c.loop-index.index 0) ≡ false = sym c.ends_value.ensures ∙ c.if-ends_value.false in
-    let step = goes_on c.loop-index.place c.args.bytes.now c.loop-index.index c.loop-index-test.true on in
-    rw c.next_place-place.ensures (omega (arith, c.loop-index.invariant, step))
+    omega (
+      arith,
+      c.loop-index.invariant,
+      at_other c.args.bytes.now c.loop-index.index c.loop-index-test.true c.if-byte-eq32.false c.if-byte-eq34.false,
+    )
 
 pub returns : goal.returns
 returns c =
-    omega (arith, c.loop-index.invariant, ends_behind c.loop-index.place c.args.bytes.now c.loop-index.index c.loop-index-test.false)
+    omega (arith, c.loop-index.invariant, ends_behind Outside c.args.bytes.now c.loop-index.index c.loop-index-test.false)
+
+pub returns-then-byte-eq34 : goal.returns-then-byte-eq34
+returns-then-byte-eq34 c =
+    omega (
+      arith,
+      c.loop-index.invariant,
+      c.quoted_length.ensures.value,
+      quoted_behind c.args.bytes.now (c.loop-index.index + 1),
+      at_quote c.args.bytes.now c.loop-index.index c.loop-index-test.true c.if-byte-eq34.true,
+    )
