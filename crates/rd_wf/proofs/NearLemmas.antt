@@ -1,6 +1,7 @@
 -- What stands at a number of a roster is what its name is looked up to.
 use Rattle.std.proofs.Common.{◌≡◌, ℕ, Bool, true, false, not, cond, ◌<◌, List, [], ◌∷◌, ◌++◌, length, position, slice_get, Option, Some, None, option_map, refl, sym, ap, subst, ◌∙◌}
 use Rattle.std.specs.List.{IsDistinct, position_or_len}
+use Rattle.std.specs.Map.{keys_of, lookup}
 use Rattle.std.proofs.lemmas.Bool.{lt-ltb}
 use Rattle.std.specs.Cmp.Lexicographic.{nat_list_eq_equiv}
 use Rattle.std.proofs.lemmas.Map.Keys.{IsDistinct-push}
@@ -13,7 +14,7 @@ use Rattle.rd_wf.specs.declared.roster.Lock.{Lock}
 use Rattle.rd_wf.specs.declared.roster.Roster.{Roster}
 use Rattle.rd_wf.proofs.LockLemmas.{place_at}
 use Rattle.rd_wf.proofs.PlaceLemmas.{got_contained}
-use Rattle.rd_wf.proofs.RosterLemmas.{lock_at, thread_keys}
+use Rattle.rd_wf.proofs.RosterLemmas.{lock_at, lookup-at, thread_keys}
 
 -- ---- names that differ
 
@@ -28,6 +29,20 @@ place_found names differ i name at =
     let is : position_or_len (same_name name) names ≡ i = place_of names differ i name at in
     let inside : i < length names = slice_get_within names i name at in
     rw (is, lt-ltb i (length names) inside) refl
+
+-- so a look-up by that name finds what stands there
+module _ {X : Type 0} (entries : List (List ℕ × X)) (differ : IsDistinct same_name (keys_of entries)) (i : ℕ) (name : List ℕ) (value : X) (at : slice_get entries i ≡ Some (name, value)) where
+  key_at : slice_get (keys_of entries) i ≡ Some name
+  key_at = slice_get-map (λ entry. entry.0) entries i ∙ ap (option_map (λ entry. entry.0)) at
+
+  pub index_near : position (same_name name) (keys_of entries) ≡ Some i
+  index_near = sym (place_found (keys_of entries) differ i name key_at)
+
+  pub value_near : lookup (same_name name) entries ≡ Some value
+  value_near =
+      sym (lookup-at (same_name name) entries)
+      ∙ ap (λ n. option_map (λ entry. entry.1) (slice_get entries n)) (place_of (keys_of entries) differ i name key_at)
+      ∙ ap (option_map (λ entry. entry.1)) at
 
 -- no two locks have one name
 lock_differs : (locks : List (List ℕ)) (acquired : Option (List ℕ)) → IsDistinct same_name locks → IsDistinct same_name (with_lock locks acquired)

@@ -59,7 +59,7 @@ module _ {X : Type 0} (test : List ℕ → Bool) where
       by true rest = refl
       by false rest = rest
 
-  lookup-at : (entries : List (List ℕ × X)) → option_map (λ e. e.1) (slice_get entries (position_or_len test (keys_of entries))) ≡ lookup test entries
+  pub lookup-at : (entries : List (List ℕ × X)) → option_map (λ e. e.1) (slice_get entries (position_or_len test (keys_of entries))) ≡ lookup test entries
   lookup-at [] = refl
   lookup-at (e ∷ es) = by (test e.0) (lookup-at es)
     where

@@ -40,8 +40,26 @@ impl Methods {
         Ok(Methods { slots })
     }
 
-    /// The method of that name.
+    /// The method of that name. A kind has few, so they are compared one after another before the name is hashed.
     pub fn find(&self, name: &Name) -> FoundMethod
+        ensures { result ≡ found_method (methods_in self.now) name.now }
+    {
+        for number in 0..self.slots.len() {
+            if let Some((known, slots)) = self.slots.get_index(number)
+                && known == name
+            {
+                return FoundMethod {
+                    number: number as u8,
+                    unknown: false,
+                    slots: *slots,
+                };
+            }
+        }
+        self.look_up(name)
+    }
+
+    #[inline(never)]
+    fn look_up(&self, name: &Name) -> FoundMethod
         ensures { result ≡ found_method (methods_in self.now) name.now }
     {
         match self.slots.get_full(name) {

@@ -37,9 +37,10 @@ pub struct Roster {
     locks: IndexMap<Name, Lock>,
     /// each with the number of its kind
     objects: IndexMap<Name, u32>,
-    /// numbers of threads and of locks, each where `near_place` puts its name, which is looked for there first
+    /// numbers of threads, locks and objects, each where `near_place` puts its name, which is looked for there first
     near_threads: [u32; NEAR_LENGTH],
     near_locks: [u32; NEAR_LENGTH],
+    near_objects: [u32; NEAR_LENGTH],
     ghost few_kinds: { index_map_len kinds < 2 ^ 32 },
     ghost few_threads: { index_map_len threads < 2 ^ 32 },
     ghost few_locks: { index_map_len locks < 2 ^ 32 },
@@ -78,6 +79,7 @@ impl Roster {
             objects: IndexMap::new(alloc),
             near_threads: [0; NEAR_LENGTH],
             near_locks: [0; NEAR_LENGTH],
+            near_objects: [0; NEAR_LENGTH],
         })
     }
 
@@ -281,6 +283,7 @@ impl Roster {
         let slots = slots.copy(self.alloc)?;
         self.events += 1;
         self.near_threads[near % NEAR_LENGTH] = numbers.thread;
+        self.near_objects[near_place(object) % NEAR_LENGTH] = numbers.object;
         Ok(Accepted::Event(Event::Call(Call {
             thread: numbers.thread,
             object: numbers.object,
@@ -366,6 +369,17 @@ impl Roster {
     {
         self.take(line, limits)
     }
+
+    /// The law of skipped lines: each may follow, and a roster stands for one more of them as it is.
+    pub fn law_of_skipped_lines(&self)
+        ensures follows { (kinds : List Kind) (limits : Limits) (lines : List LineOf) →
+            first_broken kinds limits lines LineOf.Skip ≡ None }
+        ensures stands { (kinds : List Kind) (lines : List LineOf) →
+            RosterStandsFor kinds self.now lines →
+            RosterStandsFor kinds self.now (lines ++ LineOf.Skip ∷ []) }
+        ensures few { (kinds : List Kind) (lines : List LineOf) → RosterStandsFor kinds self.now lines →
+            length (threads_of (lines ++ LineOf.Skip ∷ [])) ≤ 4294967295 }
+    {}
 
     /// Whether the lines may end here: a trace has a header. It takes no memory.
     pub fn finish(&self) -> Result<(), WfCause>

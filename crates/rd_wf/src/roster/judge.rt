@@ -371,7 +371,28 @@ impl Roster {
         }
     }
 
+    #[inline(always)]
     fn find_object(&self, name: &Name) -> FoundObject
+        ensures { (kinds : List Kind) (lines : List LineOf) → RosterStandsFor kinds self.now lines →
+            result ≡ found_object kinds lines name.now }
+    {
+        // `len` is called for its clause that no two objects have one name.
+        let _count = self.objects.len();
+        let guess = self.near_objects[near_place(name) % NEAR_LENGTH];
+        if let Some((known, kind)) = self.objects.get_index(guess as usize)
+            && known == name
+        {
+            return FoundObject {
+                number: guess,
+                unknown: false,
+                kind: *kind,
+            };
+        }
+        self.look_up_object(name)
+    }
+
+    #[inline(never)]
+    fn look_up_object(&self, name: &Name) -> FoundObject
         ensures { (kinds : List Kind) (lines : List LineOf) → RosterStandsFor kinds self.now lines →
             result ≡ found_object kinds lines name.now }
     {

@@ -1,12 +1,16 @@
-use Rattle.std.proofs.Common.{sym}
+use Rattle.std.proofs.Common.{◌≡◌, Some, sym, ap, ◌∙◌}
+use Rattle.std.specs.Prelude.{slice_get}
+use Rattle.std.specs.Cmp.Lexicographic.{bytes_decides}
+use Rattle.rd_wf.proofs.NearLemmas.{index_near, value_near}
 use Rattle.rd_wf.proofs.RosterLemmas.{object_found}
 use Rattle.rd_wf.proofs.roster.Roster.find_object.Goals as goal
 
-pub returns-in-None : goal.returns-in-None
-returns-in-None c = λ kinds lines stands.
-    rw (c.len.ensures.len, c.len-in-None.ensures.len)
-    (sym (object_found kinds c.args.self.now lines stands c.args.name.now _ _ (sym c.in-None.ensures.index) (sym c.in-None.ensures.value)))
-
-pub returns-in-Some : goal.returns-in-Some
-returns-in-Some c = λ kinds lines stands.
-    sym (object_found kinds c.args.self.now lines stands c.args.name.now _ _ (sym c.in-Some.ensures.index) (sym c.in-Some.ensures.value))
+pub returns : goal.returns
+returns c = λ kinds lines stands.
+    let name : c.in-Some.known.now ≡ c.args.name.now = (bytes_decides c.in-Some.known.now c.args.name.now).0 (sym c.eq.ensures ∙ c.if-eq.true) in
+    let entries = c.args.self.now.objects.entries in
+    let at : slice_get entries _ ≡ Some (c.args.name.now, c.in-Some.kind.now) =
+    sym c.in-Some.ensures.entry ∙ ap (λ known. Some (known, c.in-Some.kind.now)) name in
+    sym (object_found kinds c.args.self.now lines stands c.args.name.now _ _
+    (index_near entries c.len-count.ensures.unique _ c.args.name.now c.in-Some.kind.now at)
+    (value_near entries c.len-count.ensures.unique _ c.args.name.now c.in-Some.kind.now at))
