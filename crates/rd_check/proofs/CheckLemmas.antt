@@ -37,6 +37,7 @@ use Rattle.rd_ecl.specs.Specified.{SpecifiedKind}
 use Rattle.rd_wf.specs.MayFollow.{MayFollow, accepted_of, begun_name, events, is_event, is_root, is_skip, numbered_event, threads_of}
 use Rattle.rd_check.specs.Checked.{check_bound, detector_bound, entry_events, event_numbers, race_at, race_texts, races_of, text_with}
 use Rattle.rd_detect.specs.RaceTests.{latest_of}
+use Rattle.rd_json.specs.declared.forms.Form.{Form}
 use Rattle.rd_walk.specs.Walk.{Entry, items, tracking_bound}
 use Rattle.rd_check.specs.declared.checking.Check.{Check}
 use Rattle.rd_wf.specs.declared.roster.Roster.{Roster}
@@ -287,6 +288,7 @@ module _ (start now : Check) (tracker : Tracking) (before : List Entry) (entry :
   checks_no_event : is_event entry.item ≡ false → Detects (roots_of (items (before ++ entry ∷ []))) → Checks start (before ++ entry ∷ []) new
   checks_no_event quiet detects = record {
     starts = checks.starts;
+    form = checks.form;
     spec = checks.spec;
     formulas = checks.formulas;
     tracks = tracks_now;
@@ -304,6 +306,7 @@ module _ (start now : Check) (tracker : Tracking) (before : List Entry) (entry :
       let formed : WellFormedWith kinds (roots_of (items (before ++ entry ∷ []))) (earlier ++ e ∷ [])
       = subst (WellFormedWith kinds (roots_of (items (before ++ entry ∷ [])))) (events_all spec before entry event is) formed_now in record {
         starts = checks.starts;
+        form = checks.form;
         spec = checks.spec;
         formulas = checks.formulas;
         tracks = tracks_now;
@@ -332,29 +335,29 @@ module _ (start now : Check) (tracker : Tracking) (before : List Entry) (entry :
           absurd (other _ (next.told_as ∙ ap (accepted_of kinds (items before)) is))
 
 -- and nothing is written
-pub texts_quiet : (kinds : List SpecifiedKind) (tracker : Tracking) (before : List Entry) (entry : Entry) (numbers : Accepted)
+pub texts_quiet : (form : Form) (kinds : List SpecifiedKind) (tracker : Tracking) (before : List Entry) (entry : Entry) (numbers : Accepted)
     → IsNextLine (kinds_of kinds) tracker (items before) entry.item numbers
-    → ((call : CallOf) → numbers ≢ accepted.Event (numbered.Call call)) → race_texts kinds (before ++ entry ∷ []) ≡ race_texts kinds before
+    → ((call : CallOf) → numbers ≢ accepted.Event (numbered.Call call)) → race_texts form kinds (before ++ entry ∷ []) ≡ race_texts form kinds before
 unfolding accepted_of
-texts_quiet kinds tracker before entry numbers next other = by entry.item refl
+texts_quiet form kinds tracker before entry numbers next other = by entry.item refl
   where
     told : AreTold (kinds_of kinds) (items before)
     told = next.tracks.told
 
     other_event : (event : LineEvent) → entry.item ≡ Event event → ((call : CallOf) → numbered_event (kinds_of kinds) (items before) event ≢ numbered.Call call)
-        → race_texts kinds (before ++ entry ∷ []) ≡ race_texts kinds before
+        → race_texts form kinds (before ++ entry ∷ []) ≡ race_texts form kinds before
     other_event event is no_call =
-        texts_more kinds before entry event is told
-        ∙ ap (λ o. race_texts kinds before ++ text_with (race_at kinds (naming (items before ++ entry.item ∷ [])) (event_numbers before ++ entry.number ∷ [])
+        texts_more kinds before entry event is form told
+        ∙ ap (λ o. race_texts form kinds before ++ text_with (race_at form kinds (naming (items before ++ entry.item ∷ [])) (event_numbers before ++ entry.number ∷ [])
         (entry_events kinds before ++ numbered_event (kinds_of kinds) (items before) event ∷ [])) (length (entry_events kinds before)) o)
         (not_reported (Commute kinds) (calls_commute kinds) (passing kinds) (entry_events kinds before) (numbered_event (kinds_of kinds) (items before) event) no_call)
-        ∙ append-nil (race_texts kinds before)
+        ∙ append-nil (race_texts form kinds before)
 
-    by : (item : Line) → entry.item ≡ item → race_texts kinds (before ++ entry ∷ []) ≡ race_texts kinds before
-    by Skip is = quiet_texts kinds before entry (ap is_event is) told
-    by (Header version) is = quiet_texts kinds before entry (ap is_event is) told
-    by (Thread name) is = quiet_texts kinds before entry (ap is_event is) told
-    by (Object name kind) is = quiet_texts kinds before entry (ap is_event is) told
+    by : (item : Line) → entry.item ≡ item → race_texts form kinds (before ++ entry ∷ []) ≡ race_texts form kinds before
+    by Skip is = quiet_texts kinds before entry (ap is_event is) form told
+    by (Header version) is = quiet_texts kinds before entry (ap is_event is) form told
+    by (Thread name) is = quiet_texts kinds before entry (ap is_event is) form told
+    by (Object name kind) is = quiet_texts kinds before entry (ap is_event is) form told
     by (Event (Fork thread child)) is = other_event (Fork thread child) is (λ call same. cc)
     by (Event (Join thread child)) is = other_event (Join thread child) is (λ call same. cc)
     by (Event (Acquire thread lock)) is = other_event (Acquire thread lock) is (λ call same. cc)
@@ -456,13 +459,14 @@ module _ (start now : Check) (before : List Entry) (entry : Entry) (e : Numbered
       omega (arith, track, detected, event_cost known now.tracker (items before) entry.item e ready.next)
 
   -- what is kept, and what is written
-  pub checks_call : (new : Check) → new.spec.now ≡ now.spec.now → new.formulas ≡ now.formulas → Tracks known new.tracker (items before ++ entry.item ∷ [])
+  pub checks_call : (new : Check) → new.form ≡ now.form → new.spec.now ≡ now.spec.now → new.formulas ≡ now.formulas → Tracks known new.tracker (items before ++ entry.item ∷ [])
       → DetectorStandsFor asked new.detector (roots_of (items before)) (event_numbers before ++ entry.number ∷ []) (es ++ numbered.Call call ∷ [])
       → new.races ≡ now.races + next_races asked es (numbered.Call call) → Checks start (before ++ entry ∷ []) new
-  checks_call new one_spec one_formulas tracks detects races =
+  checks_call new one_form one_spec one_formulas tracks detects races =
       let (event, is, same) = event_is in
       let roots_now : root_count (items (before ++ entry ∷ [])) ≡ root_count (items before) = ap root_count (items_more before entry) ∙ same_roots_then in record {
         starts = checks.starts;
+        form = one_form ∙ checks.form;
         spec = one_spec ∙ checks.spec;
         formulas = one_formulas ∙ checks.formulas;
         tracks = subst (Tracks known new.tracker) (sym (items_more before entry)) tracks;
@@ -472,11 +476,11 @@ module _ (start now : Check) (before : List Entry) (entry : Entry) (e : Numbered
         races = races ∙ ap (λ n. n + next_races asked es (numbered.Call call)) checks.races ∙ ap (λ e. races_of asked before + next_races asked es e) same ∙ sym (races_more asked before entry event is);
       }
 
-  pub texts_call : race_texts asked (before ++ entry ∷ []) ≡ race_texts asked before ++ next_text asked names (event_numbers before) entry.number es (numbered.Call call)
+  pub texts_call : race_texts start.form asked (before ++ entry ∷ []) ≡ race_texts start.form asked before ++ next_text start.form asked names (event_numbers before) entry.number es (numbered.Call call)
   texts_call =
       let (event, is, same) = event_is in
-      texts_more asked before entry event is checks.tracks.told
-      ∙ (λ k. race_texts asked before ++ next_text asked (sym ready.naming_is k) (event_numbers before) entry.number es (sym same k))
+      texts_more asked before entry event is start.form checks.tracks.told
+      ∙ (λ k. race_texts start.form asked before ++ next_text start.form asked (sym ready.naming_is k) (event_numbers before) entry.number es (sym same k))
 
   -- what the detector answers
   abbrev Answered : Option Race → Type 0
@@ -493,7 +497,7 @@ module _ (start now : Check) (before : List Entry) (entry : Entry) (e : Numbered
       counted ∙ ap (λ n. now.races + n) (sym (next_races_is asked names (event_numbers before) entry.number es call place ready.at_end answer is))
 
   pub text_call : (answer : Option Race) → Answered answer
-      → race_texts asked (before ++ entry ∷ []) ≡ race_texts asked before ++ answer_text asked names answer
+      → race_texts start.form asked (before ++ entry ∷ []) ≡ race_texts start.form asked before ++ answer_text asked start.form names answer
   text_call answer is =
-      texts_call ∙ ap (λ text. race_texts asked before ++ text)
-      (next_text_is asked names (event_numbers before) entry.number es call place ready.at_end answer is)
+      texts_call ∙ ap (λ text. race_texts start.form asked before ++ text)
+      (next_text_is asked names (event_numbers before) entry.number es call place ready.at_end answer is start.form)

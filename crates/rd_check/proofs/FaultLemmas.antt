@@ -2,7 +2,8 @@
 use Rattle.std.proofs.Common.{◌≡◌, ◌<◌, ◌^◌, ◌⊎◌, inl, inr, ℕ, ◌+◌, List, [], ◌∷◌, ◌++◌, Result, Ok, Err, refl, sym, ap, subst, ◌∙◌}
 use Rattle.rd_base.specs.Limits.{AreUsable}
 use Rattle.rd_base.specs.declared.limits.Limits.{Limits}
-use Rattle.rd_report.specs.Texts.{ending_text}
+use Rattle.rd_json.specs.Forms.{ending_in}
+use Rattle.rd_json.specs.declared.forms.Form.{Form}
 use Rattle.rd_wf.specs.Events.{AreAccepted}
 use Rattle.rd_event.specs.declared.items.Line.{Line}
 use Rattle.rd_io.proofs.FaultLemmas.{front_reading}
@@ -60,10 +61,10 @@ module _ (kinds : List Kind) (limits : Limits) where
       (front_reading limits.line limits.bytes stop bytes more)
 
 -- the texts of races that are written before a read fails are a front of what is written for the whole
-pub fault_front : (kinds : List SpecifiedKind) (limits : Limits) → AreUsable limits → limits.threads < 2 ^ 32 → (stop : Stop) (bytes more : List ℕ)
-    → IsFront (race_texts kinds (entries_of (trace_of (kinds_of kinds) limits fault bytes))) (check_outcome kinds (trace_of (kinds_of kinds) limits stop (bytes ++ more))).text
+pub fault_front : (form : Form) (kinds : List SpecifiedKind) (limits : Limits) → AreUsable limits → limits.threads < 2 ^ 32 → (stop : Stop) (bytes more : List ℕ)
+    → IsFront (race_texts form kinds (entries_of (trace_of (kinds_of kinds) limits fault bytes))) (check_outcome form kinds (trace_of (kinds_of kinds) limits stop (bytes ++ more))).text
 unfolding IsCutOf
-fault_front kinds limits usable range stop bytes more = by (cut_trace (kinds_of kinds) limits stop bytes more)
+fault_front form kinds limits usable range stop bytes more = by (cut_trace (kinds_of kinds) limits stop bytes more)
   where
     cut : Walked
     cut = trace_of (kinds_of kinds) limits fault bytes
@@ -71,13 +72,13 @@ fault_front kinds limits usable range stop bytes more = by (cut_trace (kinds_of 
     whole : Walked
     whole = trace_of (kinds_of kinds) limits stop (bytes ++ more)
 
-    by : IsCutOf cut whole → IsFront (race_texts kinds (entries_of cut)) (check_outcome kinds whole).text
+    by : IsCutOf cut whole → IsFront (race_texts form kinds (entries_of cut)) (check_outcome form kinds whole).text
     by (inl same) = (
-      ending_text (thread_names (entries_of whole)) (races_of kinds (entries_of whole)) (entries_ending kinds (entries_of whole) (ending_of whole)),
-      ap (λ w. race_texts kinds (entries_of w) ++ ending_text (thread_names (entries_of whole)) (races_of kinds (entries_of whole)) (entries_ending kinds (entries_of whole) (ending_of whole))) (sym same),
+      ending_in form (thread_names (entries_of whole)) (races_of kinds (entries_of whole)) (entries_ending kinds (entries_of whole) (ending_of whole)),
+      ap (λ w. race_texts form kinds (entries_of w) ++ ending_in form (thread_names (entries_of whole)) (races_of kinds (entries_of whole)) (entries_ending kinds (entries_of whole) (ending_of whole))) (sym same),
     )
     by (inr (entries, later, is_cut, is)) =
         let accepted = subst (λ w. AreAccepted (kinds_of kinds) (items (entries_of w))) is (trace_accepted (kinds_of kinds) limits usable range stop (bytes ++ more)) in
-        let front = front_outcome kinds entries later accepted in
-        subst (λ text. IsFront text (check_outcome kinds whole).text) (ap (race_texts kinds) (sym (ap entries_of is_cut ∙ entries_at entries Fault)))
-        (subst (λ w. IsFront (race_texts kinds entries) (check_outcome kinds w).text) (sym is) front)
+        let front = front_outcome form kinds entries later accepted in
+        subst (λ text. IsFront text (check_outcome form kinds whole).text) (ap (race_texts form kinds) (sym (ap entries_of is_cut ∙ entries_at entries Fault)))
+        (subst (λ w. IsFront (race_texts form kinds entries) (check_outcome form kinds w).text) (sym is) front)

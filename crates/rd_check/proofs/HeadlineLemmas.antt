@@ -18,6 +18,7 @@ use Rattle.rd_check.proofs.ReportLemmas.{passing, texts_report}
 use Rattle.rd_check.specs.Checked.{check_outcome, entry_events, race_texts, races_before, races_of}
 use Rattle.rd_replaying.proofs.DeclaredLemmas.{calls_declared}
 use Rattle.rd_check.specs.Reports.{IsChecked}
+use Rattle.rd_json.specs.declared.forms.Form.{Form}
 use Rattle.rd_walk.specs.Walk.{ending_of, entries_of, items, trace_of}
 
 -- ---- how many calls are reported
@@ -33,10 +34,10 @@ module _ (kinds : List SpecifiedKind) where
       by rest None none = inr (none, subst (Counts (Reported (Commute kinds) es) n) (omega arith) rest)
       by rest (Some i) is = inl ((i, is.racing), (races_before (calls_commute kinds) es n, omega arith, rest))
 
-  pub checked : (limits : Limits) → AreUsable limits → limits.threads < 2 ^ 32 → (stop : Stop) (bytes : List ℕ)
-      → IsChecked kinds limits stop bytes (check_outcome kinds (trace_of (kinds_of kinds) limits stop bytes))
+  pub checked : (form : Form) (limits : Limits) → AreUsable limits → limits.threads < 2 ^ 32 → (stop : Stop) (bytes : List ℕ)
+      → IsChecked form kinds limits stop bytes (check_outcome form kinds (trace_of (kinds_of kinds) limits stop bytes))
   unfolding races_of
-  checked limits usable range stop bytes =
+  checked form limits usable range stop bytes =
       let walked = trace_of (kinds_of kinds) limits stop bytes in
       let entries = entries_of walked in
       let es = entry_events kinds entries in record {
@@ -44,8 +45,8 @@ module _ (kinds : List SpecifiedKind) where
         ending = ending_of walked;
         walk = trace_walk (kinds_of kinds) limits stop bytes;
         formed = told_formed (kinds_of kinds) (items entries) (accepted_told (kinds_of kinds) (items entries) (trace_accepted (kinds_of kinds) limits usable range stop bytes));
-        races = race_texts kinds entries;
-        report = texts_report kinds entries;
+        races = race_texts form kinds entries;
+        report = texts_report kinds form entries;
         count = races_of kinds entries;
         counted = counted_before es (length es);
         declared = calls_declared (kinds_of kinds) entries (trace_accepted (kinds_of kinds) limits usable range stop bytes);

@@ -24,6 +24,10 @@ use Rattle.rd_order.specs.Order.{call_in, thread_of}
 use Rattle.rd_order.proofs.CountsLemmas.{counts_none}
 use Rattle.rd_order.proofs.EventListLemmas.{counted_once, known_later, may_follow_at}
 use Rattle.rd_order.proofs.OrderLemmas.{at_front}
+use Rattle.rd_json.specs.Forms.{race_in}
+use Rattle.rd_json.specs.Json.{failed_words, race_json, string_json, told_json}
+use Rattle.rd_json.specs.declared.forms.Form.{Form}
+use Rattle.rd_json.specs.declared.forms.Form.TheVariants.{Text, Json, EndingOnly}
 use Rattle.rd_report.specs.Races.{Told, clock_text, counts_from, failed_line, race_text, told_by, told_text, with_commas}
 use Rattle.rd_report.specs.Texts.{name_of, naming}
 use Rattle.rd_store.specs.declared.Witness.{Witness}
@@ -121,6 +125,19 @@ told_longer kinds threads ts objects os told thread object none =
     ++ call_text (of_thread i) (of_object i) (name_at (kind_at kinds told.call.kind).methods told.call.method) told.call.slots
     ++ codes " clock " ++ of_clock i ++ codes "\n"
 
+-- so it is with JSON
+json_longer : (kinds : List SpecifiedKind) (threads ts objects os : List (List ℕ)) (told : Told) → told.call.thread < length threads
+    → told.call.object < length objects → ((t : ℕ) → length threads ≤ t → told.clock t ≡ 0)
+    → told_json kinds (record { threads = threads ++ ts; objects = objects ++ os }) told ≡ told_json kinds (record { threads = threads; objects = objects }) told
+unfolding told_json
+json_longer kinds threads ts objects os told thread object none =
+    let of_thread = name_kept threads ts told.call.thread thread in
+    let of_object = name_kept objects os told.call.object object in
+    let of_clock = clock_kept threads ts told.clock none in
+    λ i. codes "{\"call\":"
+    ++ string_json (call_text (of_thread i) (of_object i) (name_at (kind_at kinds told.call.kind).methods told.call.method) told.call.slots)
+    ++ codes ",\"clock\":" ++ string_json (of_clock i) ++ codes ",\"line\":" ++ decimal told.line ++ codes "}"
+
 -- two texts of calls are the same where they are for the calls at these places
 same_calls : (F G : CallOf → CallOf → List ℕ) (later earlier : Option Event)
     → ((b a : CallOf) → later ≡ Some (Call b) → earlier ≡ Some (Call a) → F b a ≡ G b a) → calls_text F later earlier ≡ calls_text G later earlier
@@ -159,14 +176,34 @@ module _ (kinds : List SpecifiedKind) (lines : List Line) (told : AreTold (kinds
       ∙ told_longer kinds (threads_of lines) (cons_option (begun_name line) []) (objects_of lines) (cons_option (declared_name line) []) (told_at numbers old j call)
       named.thread named.object (clock_named kinds lines told j)
 
-  -- what is written for two calls doesn't change
-  pub race_longer : (j i : ℕ) → j < length old → i < length old
-      → race_at kinds (naming (lines ++ line ∷ [])) (numbers ++ more) (old ++ fs) j i ≡ race_at kinds (naming lines) numbers old j i
-  unfolding race_at race_text
-  race_longer j i inside before =
-      (λ k. calls_text (λ later earlier. race_text kinds (naming (lines ++ line ∷ [])) (told_at (numbers ++ more) (old ++ fs) j later) (told_at (numbers ++ more) (old ++ fs) i earlier))
-      (at_front old fs j inside k) (at_front old fs i before k))
-      ∙ same_calls _ _ (slice_get old j) (slice_get old i) (λ b a at_j at_i.
+  json_same : (j : ℕ) (call : CallOf) → slice_get old j ≡ Some (Call call)
+      → told_json kinds (naming (lines ++ line ∷ [])) (told_at (numbers ++ more) (old ++ fs) j call) ≡ told_json kinds (naming lines) (told_at numbers old j call)
+  json_same j call at =
+      let named = all_named kinds lines told j call at in
+      let same = told_same j call (slice_get_within old j (Call call) at) in
+      (λ i. told_json kinds (more_names i) (same i))
+      ∙ json_longer kinds (threads_of lines) (cons_option (begun_name line) []) (objects_of lines) (cons_option (declared_name line) []) (told_at numbers old j call)
+      named.thread named.object (clock_named kinds lines told j)
+
+  race_same : (form : Form) (j i : ℕ) (b a : CallOf) → slice_get old j ≡ Some (Call b) → slice_get old i ≡ Some (Call a)
+      → race_in form kinds (naming (lines ++ line ∷ [])) (told_at (numbers ++ more) (old ++ fs) j b) (told_at (numbers ++ more) (old ++ fs) i a)
+      ≡ race_in form kinds (naming lines) (told_at numbers old j b) (told_at numbers old i a)
+  unfolding race_text race_json
+  race_same Text j i b a at_j at_i =
       let later = text_same j b at_j in
       let earlier = text_same i a at_i in
-      λ k. codes "race line " ++ later k ++ codes "with line " ++ earlier k ++ failed_line kinds b a)
+      λ k. codes "race line " ++ later k ++ codes "with line " ++ earlier k ++ failed_line kinds b a
+  race_same Json j i b a at_j at_i =
+      let later = json_same j b at_j in
+      let earlier = json_same i a at_i in
+      λ k. codes "{\"earlier\":" ++ earlier k ++ codes ",\"formula\":" ++ string_json (failed_words kinds b a) ++ codes ",\"later\":" ++ later k ++ codes "}\n"
+  race_same EndingOnly j i b a at_j at_i = refl
+
+  -- what is written for two calls doesn't change
+  pub race_longer : (form : Form) (j i : ℕ) → j < length old → i < length old
+      → race_at form kinds (naming (lines ++ line ∷ [])) (numbers ++ more) (old ++ fs) j i ≡ race_at form kinds (naming lines) numbers old j i
+  unfolding race_at
+  race_longer form j i inside before =
+      (λ k. calls_text (λ later earlier. race_in form kinds (naming (lines ++ line ∷ [])) (told_at (numbers ++ more) (old ++ fs) j later) (told_at (numbers ++ more) (old ++ fs) i earlier))
+      (at_front old fs j inside k) (at_front old fs i before k))
+      ∙ same_calls _ _ (slice_get old j) (slice_get old i) (race_same form j i)

@@ -1,7 +1,8 @@
 -- The outcome of `check`.
 use Rattle.rd_ecl.specs.Kinds.{Kind, kinds_of}
 use Rattle.rd_ecl.specs.Specified.{SpecifiedKind}
-use Rattle.rd_report.specs.Texts.{ending_text}
+use Rattle.rd_json.specs.Forms.{ending_in}
+use Rattle.rd_json.specs.declared.forms.Form.{Form}
 use Rattle.rd_report.specs.declared.endings.Ending.{Ending}
 use Rattle.rd_walk.proofs.OutputLemmas.{behind}
 use Rattle.rd_replaying.proofs.EndingLemmas.{well_end}
@@ -31,58 +32,58 @@ accepted_front kinds before (x ∷ xs) ys accepted =
     let rest = accepted_front kinds (before ++ x ∷ []) xs ys accepted.1 in
     ((accepted.0, rest.0), subst (λ b. AreAcceptedFrom kinds b ys) (append_assoc before (x ∷ []) xs) rest.1)
 
-module _ (kinds : List SpecifiedKind) where
-  pub outcome_at : (entries : List Entry) (ending : WalkEnd) → check_outcome kinds (after entries (ends ending))
-      ≡ record { text = race_texts kinds entries ++ ending_text (thread_names entries) (races_of kinds entries) (entries_ending kinds entries ending); status = check_status (races_of kinds entries) (entries_ending kinds entries ending) }
+module _ (form : Form) (kinds : List SpecifiedKind) where
+  pub outcome_at : (entries : List Entry) (ending : WalkEnd) → check_outcome form kinds (after entries (ends ending))
+      ≡ record { text = race_texts form kinds entries ++ ending_in form (thread_names entries) (races_of kinds entries) (entries_ending kinds entries ending); status = check_status (races_of kinds entries) (entries_ending kinds entries ending) }
   outcome_at entries ending =
       ap (λ es. let o : Outcome = record {
-        text = race_texts kinds es ++ ending_text (thread_names es) (races_of kinds es) (entries_ending kinds es (ending_of (after entries (ends ending))));
+        text = race_texts form kinds es ++ ending_in form (thread_names es) (races_of kinds es) (entries_ending kinds es (ending_of (after entries (ends ending))));
         status = check_status (races_of kinds es) (entries_ending kinds es (ending_of (after entries (ends ending))));
       } in o) (entries_at entries ending)
       ∙ ap (λ e. let o : Outcome = record {
-        text = race_texts kinds entries ++ ending_text (thread_names entries) (races_of kinds entries) (entries_ending kinds entries e);
+        text = race_texts form kinds entries ++ ending_in form (thread_names entries) (races_of kinds entries) (entries_ending kinds entries e);
         status = check_status (races_of kinds entries) (entries_ending kinds entries e);
       } in o) (ending_at entries ending)
 
   -- the texts for the first lines are a front of what is written
   pub front_outcome : (entries : List Entry) (walked : Walked) → AreAccepted (kinds_of kinds) (items (entries_of (after entries walked)))
-      → IsFront (race_texts kinds entries) (check_outcome kinds (after entries walked)).text
+      → IsFront (race_texts form kinds entries) (check_outcome form kinds (after entries walked)).text
   front_outcome entries walked accepted =
       let all = entries_of (after entries walked) in
-      let behind = ending_text (thread_names all) (races_of kinds all) (entries_ending kinds all (ending_of (after entries walked))) in
+      let behind = ending_in form (thread_names all) (races_of kinds all) (entries_ending kinds all (ending_of (after entries walked))) in
       let split = subst (AreAccepted (kinds_of kinds)) (ap items (entries_after entries walked) ∙ map-append (λ (entry : Entry). entry.item) entries (entries_of walked)) accepted in
       let (first, later) = accepted_front (kinds_of kinds) [] (items entries) (items (entries_of walked)) split in
-      let (more, texts) = texts_front kinds entries (entries_of walked) later (accepted_told (kinds_of kinds) (items entries) first) in (
+      let (more, texts) = texts_front kinds form entries (entries_of walked) later (accepted_told (kinds_of kinds) (items entries) first) in (
         more ++ behind,
-        ap (λ t. t ++ behind) (ap (race_texts kinds) (entries_after entries walked) ∙ texts) ∙ append_assoc (race_texts kinds entries) more behind,
+        ap (λ t. t ++ behind) (ap (race_texts form kinds) (entries_after entries walked) ∙ texts) ∙ append_assoc (race_texts form kinds entries) more behind,
       )
 
 -- what is written of a report's end, and its status
-abbrev ended_so : List (List ℕ) → ℕ → Ending → Outcome
-ended_so names races ending = record { text = ending_text names races ending; status = check_status races ending }
+abbrev ended_so : Form → List (List ℕ) → ℕ → Ending → Outcome
+ended_so form names races ending = record { text = ending_in form names races ending; status = check_status races ending }
 
 -- of `check`
-pub check_concluded : (status : Status) (part : List ℕ) (spec : List SpecifiedKind) (kinds : List Kind) (entries : List Entry) (end : WalkEnd)
-    (names : List (List ℕ)) (races : ℕ) (ending : Ending) → kinds ≡ kinds_of spec → names ≡ thread_names entries → races ≡ races_of spec entries
-    → ending ≡ ending_of_report (replay_of kinds entries) end → IsOutput status part (ended_so names races ending)
-    → IsOutput status (race_texts spec entries ++ part) (check_outcome spec (after entries (ends end)))
-check_concluded status part spec kinds entries end names races ending are named counted ended output =
+pub check_concluded : (status : Status) (part : List ℕ) (form said : Form) (spec : List SpecifiedKind) (kinds : List Kind) (entries : List Entry) (end : WalkEnd)
+    (names : List (List ℕ)) (races : ℕ) (ending : Ending) → said ≡ form → kinds ≡ kinds_of spec → names ≡ thread_names entries → races ≡ races_of spec entries
+    → ending ≡ ending_of_report (replay_of kinds entries) end → IsOutput status part (ended_so said names races ending)
+    → IsOutput status (race_texts form spec entries ++ part) (check_outcome form spec (after entries (ends end)))
+check_concluded status part form said spec kinds entries end names races ending formed are named counted ended output =
     let so : ending ≡ entries_ending spec entries end = ended ∙ ap (λ k. ending_of_report (replay_of k entries) end) are in
-    let all = subst (IsOutput status part) (λ i. ended_so (named i) (counted i) (so i)) output in
-    subst (IsOutput status (race_texts spec entries ++ part)) (sym (outcome_at spec entries end))
-    (behind status (race_texts spec entries) part (ending_text (thread_names entries) (races_of spec entries) (entries_ending spec entries end))
+    let all = subst (IsOutput status part) (λ i. ended_so (formed i) (named i) (counted i) (so i)) output in
+    subst (IsOutput status (race_texts form spec entries ++ part)) (sym (outcome_at form spec entries end))
+    (behind status (race_texts form spec entries) part (ending_in form (thread_names entries) (races_of spec entries) (entries_ending spec entries end))
     (check_status (races_of spec entries) (entries_ending spec entries end)) all)
 
 -- where memory runs out before anything more is written
-pub check_front : (spec : List SpecifiedKind) (entries : List Entry) (end : WalkEnd) → IsOutput NoMemory (race_texts spec entries ++ []) (check_outcome spec (after entries (ends end)))
-check_front spec entries end =
-    let text = ending_text (thread_names entries) (races_of spec entries) (entries_ending spec entries end) in
-    (text, ap (λ o. o.text) (outcome_at spec entries end) ∙ ap (λ t. t ++ text) (sym (append-nil (race_texts spec entries))))
+pub check_front : (form : Form) (spec : List SpecifiedKind) (entries : List Entry) (end : WalkEnd) → IsOutput NoMemory (race_texts form spec entries ++ []) (check_outcome form spec (after entries (ends end)))
+check_front form spec entries end =
+    let text = ending_in form (thread_names entries) (races_of spec entries) (entries_ending spec entries end) in
+    (text, ap (λ o. o.text) (outcome_at form spec entries end) ∙ ap (λ t. t ++ text) (sym (append-nil (race_texts form spec entries))))
 
 pub check_fronts : (kinds : List Kind) (start : CheckOf) (entries : List Entry) (walked : Walked) → CheckBegins kinds start
-    → AreAccepted kinds (items (entries_of (after entries walked))) → IsFront (race_texts start.spec.now entries) (check_outcome start.spec.now (after entries walked)).text
+    → AreAccepted kinds (items (entries_of (after entries walked))) → IsFront (race_texts start.form start.spec.now entries) (check_outcome start.form start.spec.now (after entries walked)).text
 check_fronts kinds start entries walked begins accepted =
-    front_outcome start.spec.now entries walked (subst (λ k. AreAccepted k (items (entries_of (after entries walked)))) begins.kinds_are accepted)
+    front_outcome start.form start.spec.now entries walked (subst (λ k. AreAccepted k (items (entries_of (after entries walked)))) begins.kinds_are accepted)
 
-pub check_well : (kinds : List SpecifiedKind) (walked : Walked) → IsWell (check_outcome kinds walked).status → ending_of walked ≡ End
-check_well kinds walked = well_end (races_of kinds (entries_of walked)) (replay_of (kinds_of kinds) (entries_of walked)) (ending_of walked)
+pub check_well : (form : Form) (kinds : List SpecifiedKind) (walked : Walked) → IsWell (check_outcome form kinds walked).status → ending_of walked ≡ End
+check_well form kinds walked = well_end (races_of kinds (entries_of walked)) (replay_of (kinds_of kinds) (entries_of walked)) (ending_of walked)

@@ -23,7 +23,9 @@ use Rattle.rd_wf.specs.Events.{AreAcceptedFrom, AreTold, IsAccepted, event_of, e
 use Rattle.rd_ecl.specs.Kinds.{Kind, kinds_of}
 use Rattle.rd_ecl.specs.Specified.{SpecifiedKind}
 use Rattle.rd_wf.specs.MayFollow.{is_event, numbered_event}
-use Rattle.rd_report.specs.Races.{race_text, told_by}
+use Rattle.rd_json.specs.Forms.{race_in}
+use Rattle.rd_json.specs.declared.forms.Form.{Form}
+use Rattle.rd_report.specs.Races.{told_by}
 use Rattle.rd_report.specs.Texts.{Naming, naming}
 use Rattle.rd_store.specs.declared.Race.{Race}
 use Rattle.rd_check.proofs.NamingLemmas.{race_longer, witness_told}
@@ -122,18 +124,18 @@ module _ (kinds : List SpecifiedKind) where
       pub quiet_events : entry_events kinds (entries ++ entry ∷ []) ≡ entry_events kinds entries
       quiet_events = no_event
 
-      pub quiet_texts : AreTold (kinds_of kinds) (items entries) → race_texts kinds (entries ++ entry ∷ []) ≡ race_texts kinds entries
+      pub quiet_texts : (form : Form) → AreTold (kinds_of kinds) (items entries) → race_texts form kinds (entries ++ entry ∷ []) ≡ race_texts form kinds entries
       unfolding race_texts
-      quiet_texts told =
+      quiet_texts form told =
           let es : List Numbered = entry_events kinds entries in
           let numbers : List ℕ = event_numbers entries in
-          let text = entries_race kinds (entries ++ entry ∷ []) in
-          let same_text : (n i : ℕ) → n < length es → i < length es → text n i ≡ entries_race kinds entries n i
+          let text = entries_race form kinds (entries ++ entry ∷ []) in
+          let same_text : (n i : ℕ) → n < length es → i < length es → text n i ≡ entries_race form kinds entries n i
           = λ n i inside before.
-          (λ k. race_at kinds (naming (items_more entries entry k)) ((no_number ∙ sym (append-nil numbers)) k) ((no_event ∙ sym (append-nil es)) k) n i)
-          ∙ race_longer kinds (items entries) told entry.item numbers [] [] (numbers_counted kinds entries) n i inside before in
+          (λ k. race_at form kinds (naming (items_more entries entry k)) ((no_number ∙ sym (append-nil numbers)) k) ((no_event ∙ sym (append-nil es)) k) n i)
+          ∙ race_longer kinds (items entries) told entry.item numbers [] [] (numbers_counted kinds entries) form n i inside before in
           (λ k. texts_before (calls_commute kinds) text ((no_event ∙ sym (append-nil es)) k) (length (no_event k)))
-          ∙ texts_longer (entries_race kinds entries) text es [] same_text (length es) (omega arith)
+          ∙ texts_longer (entries_race form kinds entries) text es [] same_text (length es) (omega arith)
 
       pub quiet_races : races_of kinds (entries ++ entry ∷ []) ≡ races_of kinds entries
       unfolding races_of
@@ -150,19 +152,19 @@ module _ (kinds : List SpecifiedKind) where
       pub events_all : entry_events kinds (entries ++ entry ∷ []) ≡ entry_events kinds entries ++ numbered_event (kinds_of kinds) (items entries) event ∷ []
       events_all = all_more ∙ ap (λ item. entry_events kinds entries ++ cons_option (event_of (kinds_of kinds) (items entries) item) []) is
 
-      pub texts_more : AreTold (kinds_of kinds) (items entries) → race_texts kinds (entries ++ entry ∷ [])
-          ≡ race_texts kinds entries ++ next_text kinds (naming (items entries ++ entry.item ∷ [])) (event_numbers entries) entry.number (entry_events kinds entries) e
+      pub texts_more : (form : Form) → AreTold (kinds_of kinds) (items entries) → race_texts form kinds (entries ++ entry ∷ [])
+          ≡ race_texts form kinds entries ++ next_text form kinds (naming (items entries ++ entry.item ∷ [])) (event_numbers entries) entry.number (entry_events kinds entries) e
       unfolding race_texts texts_before
-      texts_more told =
+      texts_more form told =
           let es : List Numbered = entry_events kinds entries in
           let numbers : List ℕ = event_numbers entries in
-          let text = race_at kinds (naming (items entries ++ entry.item ∷ [])) (numbers ++ entry.number ∷ []) (es ++ e ∷ []) in
-          let same_text : (n i : ℕ) → n < length es → i < length es → text n i ≡ entries_race kinds entries n i
-          = race_longer kinds (items entries) told entry.item numbers (entry.number ∷ []) (e ∷ []) (numbers_counted kinds entries) in
-          (λ k. texts_before (calls_commute kinds) (race_at kinds (naming (items_more entries entry k)) (event_numbers_more k) (events_all k)) (events_all k) (length (events_all k)))
+          let text = race_at form kinds (naming (items entries ++ entry.item ∷ [])) (numbers ++ entry.number ∷ []) (es ++ e ∷ []) in
+          let same_text : (n i : ℕ) → n < length es → i < length es → text n i ≡ entries_race form kinds entries n i
+          = race_longer kinds (items entries) told entry.item numbers (entry.number ∷ []) (e ∷ []) (numbers_counted kinds entries) form in
+          (λ k. texts_before (calls_commute kinds) (race_at form kinds (naming (items_more entries entry k)) (event_numbers_more k) (events_all k)) (events_all k) (length (events_all k)))
           ∙ ap (texts_before (calls_commute kinds) text (es ++ e ∷ [])) (length_more es e)
-          ∙ ap (λ t. t ++ next_text kinds (naming (items entries ++ entry.item ∷ [])) numbers entry.number es e)
-          (texts_longer (entries_race kinds entries) text es (e ∷ []) same_text (length es) (omega arith))
+          ∙ ap (λ t. t ++ next_text form kinds (naming (items entries ++ entry.item ∷ [])) numbers entry.number es e)
+          (texts_longer (entries_race form kinds entries) text es (e ∷ []) same_text (length es) (omega arith))
 
       pub races_more : races_of kinds (entries ++ entry ∷ []) ≡ races_of kinds entries + next_races kinds (entry_events kinds entries) (numbered_event (kinds_of kinds) (items entries) event)
       unfolding races_of races_before
@@ -173,32 +175,32 @@ module _ (kinds : List SpecifiedKind) where
           ∙ ap (λ n. n + next_races kinds es e) (races_longer es (e ∷ []) (length es) (omega arith))
 
   -- the texts of further lines come behind those before
-  pub texts_grow : (before : List Entry) (entry : Entry) → AreTold (kinds_of kinds) (items before)
-      → IsFront (race_texts kinds before) (race_texts kinds (before ++ entry ∷ []))
-  texts_grow before entry told = by entry.item refl
+  pub texts_grow : (form : Form) (before : List Entry) (entry : Entry) → AreTold (kinds_of kinds) (items before)
+      → IsFront (race_texts form kinds before) (race_texts form kinds (before ++ entry ∷ []))
+  texts_grow form before entry told = by entry.item refl
     where
-      quiet : is_event entry.item ≡ false → IsFront (race_texts kinds before) (race_texts kinds (before ++ entry ∷ []))
-      quiet event = ([], quiet_texts before entry event told ∙ sym (append-nil (race_texts kinds before)))
+      quiet : is_event entry.item ≡ false → IsFront (race_texts form kinds before) (race_texts form kinds (before ++ entry ∷ []))
+      quiet event = ([], quiet_texts before entry event form told ∙ sym (append-nil (race_texts form kinds before)))
 
-      by : (item : Line) → entry.item ≡ item → IsFront (race_texts kinds before) (race_texts kinds (before ++ entry ∷ []))
+      by : (item : Line) → entry.item ≡ item → IsFront (race_texts form kinds before) (race_texts form kinds (before ++ entry ∷ []))
       by Skip is = quiet (ap is_event is)
       by (Header version) is = quiet (ap is_event is)
       by (Thread name) is = quiet (ap is_event is)
       by (Object name kind) is = quiet (ap is_event is)
-      by (Event event) is = (_, texts_more before entry event is told)
+      by (Event event) is = (_, texts_more before entry event is form told)
 
-  pub texts_front : (entries more : List Entry) → AreAcceptedFrom (kinds_of kinds) (items entries) (items more) → AreTold (kinds_of kinds) (items entries)
-      → IsFront (race_texts kinds entries) (race_texts kinds (entries ++ more))
-  texts_front entries [] accepted told = ([], ap (race_texts kinds) (append-nil entries) ∙ sym (append-nil (race_texts kinds entries)))
-  texts_front entries (x ∷ xs) accepted told =
+  pub texts_front : (form : Form) (entries more : List Entry) → AreAcceptedFrom (kinds_of kinds) (items entries) (items more) → AreTold (kinds_of kinds) (items entries)
+      → IsFront (race_texts form kinds entries) (race_texts form kinds (entries ++ more))
+  texts_front form entries [] accepted told = ([], ap (race_texts form kinds) (append-nil entries) ∙ sym (append-nil (race_texts form kinds entries)))
+  texts_front form entries (x ∷ xs) accepted told =
       let now : AreTold (kinds_of kinds) (items (entries ++ x ∷ []))
       = subst (AreTold (kinds_of kinds)) (sym (items_more entries x)) (told_next (kinds_of kinds) (items entries) x.item accepted.0 told) in
       let later : AreAcceptedFrom (kinds_of kinds) (items (entries ++ x ∷ [])) (items xs)
       = subst (λ lines. AreAcceptedFrom (kinds_of kinds) lines (items xs)) (sym (items_more entries x)) accepted.1 in
-      let (first, is_first) = texts_grow entries x told in
-      let (rest, is_rest) = texts_front (entries ++ x ∷ []) xs later now in (
+      let (first, is_first) = texts_grow form entries x told in
+      let (rest, is_rest) = texts_front form (entries ++ x ∷ []) xs later now in (
         first ++ rest,
-        ap (race_texts kinds) (sym (append_assoc entries (x ∷ []) xs)) ∙ is_rest ∙ ap (λ t. t ++ rest) is_first ∙ append_assoc (race_texts kinds entries) first rest,
+        ap (race_texts form kinds) (sym (append_assoc entries (x ∷ []) xs)) ∙ is_rest ∙ ap (λ t. t ++ rest) is_first ∙ append_assoc (race_texts form kinds entries) first rest,
       )
 
   -- ---- how many are reported
@@ -339,33 +341,33 @@ module _ (kinds : List SpecifiedKind) where
       by None none = inl (none, append-nil (texts_before (calls_commute kinds) text es n))
       by (Some i) is = inr (i, is, refl)
 
-  pub texts_report : (entries : List Entry) → IsReport (Commute kinds) (entries_race kinds entries) (entry_events kinds entries) (length (entry_events kinds entries)) (race_texts kinds entries)
+  pub texts_report : (form : Form) (entries : List Entry) → IsReport (Commute kinds) (entries_race form kinds entries) (entry_events kinds entries) (length (entry_events kinds entries)) (race_texts form kinds entries)
   unfolding race_texts
-  texts_report entries = report_before (entries_race kinds entries) (entry_events kinds entries) (length (entry_events kinds entries))
+  texts_report form entries = report_before (entries_race form kinds entries) (entry_events kinds entries) (length (entry_events kinds entries))
 
   -- ---- what a detector answers is what is written
 
-  abbrev pub answer_text : Naming → Option Race → List ℕ
-  answer_text names None = []
-  answer_text names (Some race) = race_text kinds names (told_by race.later.value) (told_by race.earlier.value)
+  abbrev pub answer_text : Form → Naming → Option Race → List ℕ
+  answer_text form names None = []
+  answer_text form names (Some race) = race_in form kinds names (told_by race.later.value) (told_by race.earlier.value)
 
   module _ (names : Naming) (numbers : List ℕ) (number : ℕ) (es : List Numbered) (call : CallOf) where
     abbrev now : List Numbered
     now = es ++ Call call ∷ []
 
-    text_answered : (answer : Option Race) → IsAnswer kinds (numbers ++ number ∷ []) now (length es) answer → next_text kinds names numbers number es (Call call) ≡ answer_text names answer
+    text_answered : (form : Form) (answer : Option Race) → IsAnswer kinds (numbers ++ number ∷ []) now (length es) answer → next_text form kinds names numbers number es (Call call) ≡ answer_text form names answer
     unfolding race_at
-    text_answered None none = ap (text_with (race_at kinds names (numbers ++ number ∷ []) now) (length es)) (latest_none (Commute kinds) (calls_commute kinds) (passing kinds) now (length es) none)
-    text_answered (Some race) (i, latest, is) =
+    text_answered form None none = ap (text_with (race_at form kinds names (numbers ++ number ∷ []) now) (length es)) (latest_none (Commute kinds) (calls_commute kinds) (passing kinds) now (length es) none)
+    text_answered form (Some race) (i, latest, is) =
         let all : List ℕ = numbers ++ number ∷ [] in
         let later = witness_told all now is.later is.at_j in
         let earlier = witness_told all now is.earlier is.at_i in
-        ap (text_with (race_at kinds names all now) (length es)) (latest_some (Commute kinds) (calls_commute kinds) (passing kinds) now (length es) i latest)
-        ∙ (λ k. calls_text (λ b a. race_text kinds names (told_at all now (sym is.later_place k) b) (told_at all now (sym is.earlier_place k) a))
+        ap (text_with (race_at form kinds names all now) (length es)) (latest_some (Commute kinds) (calls_commute kinds) (passing kinds) now (length es) i latest)
+        ∙ (λ k. calls_text (λ b a. race_in form kinds names (told_at all now (sym is.later_place k) b) (told_at all now (sym is.earlier_place k) a))
         (slice_get now (sym is.later_place k)) (slice_get now (sym is.earlier_place k)))
-        ∙ (λ k. calls_text (λ b a. race_text kinds names (told_at all now is.later.place b) (told_at all now is.earlier.place a)) (is.at_j.call k) (is.at_i.call k))
-        ∙ (λ k. race_text kinds names (sym later k) (sym earlier k))
-        ∙ (λ k. race_text kinds names (told_by (sym is.is.later_is k)) (told_by (sym is.is.earlier_is k)))
+        ∙ (λ k. calls_text (λ b a. race_in form kinds names (told_at all now is.later.place b) (told_at all now is.earlier.place a)) (is.at_j.call k) (is.at_i.call k))
+        ∙ (λ k. race_in form kinds names (sym later k) (sym earlier k))
+        ∙ (λ k. race_in form kinds names (told_by (sym is.is.later_is k)) (told_by (sym is.is.earlier_is k)))
 
     races_answered : (answer : Option Race) → IsAnswer kinds (numbers ++ number ∷ []) now (length es) answer → next_races kinds es (Call call) ≡ cond (is_some answer) 1 0
     races_answered None none = ap (λ o. cond (is_some o) 1 0) (latest_none (Commute kinds) (calls_commute kinds) (passing kinds) now (length es) none)
@@ -375,8 +377,8 @@ module _ (kinds : List SpecifiedKind) where
       at_last : IsAnswer kinds (numbers ++ number ∷ []) now (length es) answer
       at_last = subst (λ p. IsAnswer kinds (numbers ++ number ∷ []) now p answer) last is
 
-      pub next_text_is : next_text kinds names numbers number es (Call call) ≡ answer_text names answer
-      next_text_is = text_answered answer at_last
+      pub next_text_is : (form : Form) → next_text form kinds names numbers number es (Call call) ≡ answer_text form names answer
+      next_text_is form = text_answered form answer at_last
 
       pub next_races_is : next_races kinds es (Call call) ≡ cond (is_some answer) 1 0
       next_races_is = races_answered answer at_last

@@ -13,6 +13,7 @@ use Rattle.rd_walk.specs.Output.{HasOutcome, IsWell, Outcome}
 use Rattle.rd_check.specs.Checked.{check_outcome, races_of}
 use Rattle.rd_replaying.specs.Endings.{check_status, ending_of_report}
 use Rattle.rd_replaying.specs.Replaying.{replay_of}
+use Rattle.rd_json.specs.declared.forms.Form.{Form}
 use Rattle.rd_spec_commands.specs.Meanings.{IsSpecFileRefused}
 use Rattle.rd_walk.specs.Traces.{IsWholeOutput, walk_on}
 use Rattle.rd_walk.specs.Meanings.{WritesAll}
@@ -33,41 +34,41 @@ one_kinds old (Some file) x y (bytes, said, text, says, is) (others, also, text_
     is ∙ ap (λ kinds. shipped_kinds ++ kinds) (one_said others reserved_names said also (subst (λ b. SpecSays b reserved_names said) same says) says_too) ∙ sym is_too
 
 -- no specification is accepted and refused
-not_refused : (old new : Source) (file : List ℕ) (kinds : List SpecifiedKind) (outcome : Outcome) → AreKinds old (Some file) kinds → ¬ (IsSpecFileRefused file false old new outcome)
-not_refused old new file kinds outcome (bytes, said, text, says, is) refused =
+not_refused : (form : Form) (old new : Source) (file : List ℕ) (kinds : List SpecifiedKind) (outcome : Outcome) → AreKinds old (Some file) kinds → ¬ (IsSpecFileRefused form file false old new outcome)
+not_refused form old new file kinds outcome (bytes, said, text, says, is) refused =
     never_refused bytes reserved_names said refused.refused says
     (subst (λ b. IsSpecRefused b reserved_names refused.refused) (one_text old file refused.bytes bytes refused.text text) refused.refuses)
 
-checked_well : (kinds : List SpecifiedKind) (walked : Walked) → ending_of walked ≡ End → IsWell (check_outcome kinds walked).status
-checked_well kinds walked well =
+checked_well : (form : Form) (kinds : List SpecifiedKind) (walked : Walked) → ending_of walked ≡ End → IsWell (check_outcome form kinds walked).status
+checked_well form kinds walked well =
     let entries = entries_of walked in
     subst (λ e. IsWell (check_status (races_of kinds entries) (ending_of_report (replay_of (kinds_of kinds) entries) e))) (sym well)
     (ends_well (races_of kinds entries) (replay_of (kinds_of kinds) entries))
 
-module _ (trace : List ℕ) (limits : Limits) (old new : Source) (kinds : List SpecifiedKind) (bytes : List ℕ) (at : file_of old.files trace ≡ Some bytes)
+module _ (form : Form) (trace : List ℕ) (limits : Limits) (old new : Source) (kinds : List SpecifiedKind) (bytes : List ℕ) (at : file_of old.files trace ≡ Some bytes)
     (well : ending_of (trace_of (kinds_of kinds) limits end bytes) ≡ End) (part : List ℕ) (status : Status) where
   abbrev whole_outcome : Outcome
-  whole_outcome = check_outcome kinds (trace_of (kinds_of kinds) limits end bytes)
+  whole_outcome = check_outcome form kinds (trace_of (kinds_of kinds) limits end bytes)
 
-  whole_checked : (file : Option (List ℕ)) (files : ℕ) (outcome : Outcome) → AreKinds old file kinds → IsCheckedWith trace file files limits false old new outcome
+  whole_checked : (file : Option (List ℕ)) (files : ℕ) (outcome : Outcome) → AreKinds old file kinds → IsCheckedWith form trace file files limits false old new outcome
       → part ≡ outcome.text → status ≡ outcome.status → IsWholeOutput whole_outcome part status
   whole_checked file files outcome are checked text told =
       let same = one_kinds old file checked.kinds kinds checked.are are in
-      whole_from whole_outcome outcome part status (checked_well kinds (trace_of (kinds_of kinds) limits end bytes) well)
-      (checked.is ∙ (λ i. check_outcome (same i) (walk_on (kinds_of (same i)) limits (option_map (λ b. (end, b)) (at i))))) text told
+      whole_from whole_outcome outcome part status (checked_well form kinds (trace_of (kinds_of kinds) limits end bytes) well)
+      (checked.is ∙ (λ i. check_outcome form (same i) (walk_on (kinds_of (same i)) limits (option_map (λ b. (end, b)) (at i))))) text told
 
-  whole_of : (file : Option (List ℕ)) (outcome : Outcome) → AreKinds old file kinds → IsCheckOutcome trace file limits false old new outcome
+  whole_of : (file : Option (List ℕ)) (outcome : Outcome) → AreKinds old file kinds → IsCheckOutcome form trace file limits false old new outcome
       → part ≡ outcome.text → status ≡ outcome.status → IsWholeOutput whole_outcome part status
   whole_of None outcome are (inl faulted) text told = absurd (true≢false (sym faulted.risen))
   whole_of None outcome are (inr checked) text told = whole_checked None 1 outcome are checked text told
   whole_of (Some file) outcome are (inl faulted) text told = absurd (true≢false (sym faulted.risen))
-  whole_of (Some file) outcome are (inr (inl refused)) text told = absurd (not_refused old new file kinds outcome are refused)
+  whole_of (Some file) outcome are (inr (inl refused)) text told = absurd (not_refused form old new file kinds outcome are refused)
   whole_of (Some file) outcome are (inr (inr checked)) text told = whole_checked (Some file) 2 outcome are checked text told
 
-pub whole_check : (trace : List ℕ) (file : Option (List ℕ)) (limits : Limits) (old new : Source) (part : List ℕ) (status : Status)
-    → HasOutcome (IsCheckOutcome trace file limits false old new) status part → status ≢ OutputFault → WritesAll (check_meaning trace file) limits old part status
-whole_check trace file limits old new part status has other kinds bytes are at well =
-    elim (all_written (IsCheckOutcome trace file limits false old new) status part has other) [
+pub whole_check : (form : Form) (trace : List ℕ) (file : Option (List ℕ)) (limits : Limits) (old new : Source) (part : List ℕ) (status : Status)
+    → HasOutcome (IsCheckOutcome form trace file limits false old new) status part → status ≢ OutputFault → WritesAll (check_meaning form trace file) limits old part status
+whole_check form trace file limits old new part status has other kinds bytes are at well =
+    elim (all_written (IsCheckOutcome form trace file limits false old new) status part has other) [
       | inl none ↦ inl none
-      | inr all ↦ inr (whole_of trace limits old new kinds bytes at well part status file all.outcome are all.is all.text all.told)
+      | inr all ↦ inr (whole_of form trace limits old new kinds bytes at well part status file all.outcome are all.is all.text all.told)
     ]

@@ -11,8 +11,10 @@ use Rattle.rd_event.specs.declared.events.Event.TheVariants as event
 use Rattle.rd_event.specs.declared.events.Event.{Event}
 use Rattle.rd_event.specs.declared.items.Line.{Line}
 use Rattle.rd_hb.specs.ClockTests.{clock_at}
-use Rattle.rd_report.specs.Races.{Told, race_text}
-use Rattle.rd_report.specs.Texts.{Naming, ending_text, naming}
+use Rattle.rd_json.specs.Forms.{ending_in, fault_in, race_in}
+use Rattle.rd_json.specs.declared.forms.Form.{Form}
+use Rattle.rd_report.specs.Races.{Told}
+use Rattle.rd_report.specs.Texts.{Naming, naming}
 use Rattle.rd_report.specs.declared.endings.Ending.{Ending}
 use Rattle.rd_replaying.specs.Replaying.{replay_of}
 use Rattle.rd_walk.specs.Traces.{ReportTexts}
@@ -43,10 +45,10 @@ abbrev pub calls_text : (Call → Call → List ℕ) → Option Event → Option
 calls_text text (Some (event.Call later)) (Some (event.Call earlier)) = text later earlier
 calls_text text _ _ = []
 
--- the text of the race of the calls at two places, the later one first
-unfoldable pub race_at : List SpecifiedKind → Naming → List ℕ → List Event → ℕ → ℕ → List ℕ
-race_at kinds names numbers es j i =
-    calls_text (λ later earlier. race_text kinds names (told_at numbers es j later) (told_at numbers es i earlier)) (slice_get es j) (slice_get es i)
+-- the text in a form of the race of the calls at two places, the later one first
+unfoldable pub race_at : Form → List SpecifiedKind → Naming → List ℕ → List Event → ℕ → ℕ → List ℕ
+race_at form kinds names numbers es j i =
+    calls_text (λ later earlier. race_in form kinds names (told_at numbers es j later) (told_at numbers es i earlier)) (slice_get es j) (slice_get es i)
 
 -- what is written for the event at a place, by the latest that races with it: nothing where none does
 abbrev pub text_with : (ℕ → ℕ → List ℕ) → ℕ → Option ℕ → List ℕ
@@ -72,25 +74,25 @@ unfoldable pub races_of : List SpecifiedKind → List Entry → ℕ
 races_of kinds entries = races_before (calls_commute kinds) (entry_events kinds entries) (length (entry_events kinds entries))
 
 -- the text of the race of the calls at two places of the accepted lines
-abbrev pub entries_race : List SpecifiedKind → List Entry → ℕ → ℕ → List ℕ
-entries_race kinds entries = race_at kinds (naming (items entries)) (event_numbers entries) (entry_events kinds entries)
+abbrev pub entries_race : Form → List SpecifiedKind → List Entry → ℕ → ℕ → List ℕ
+entries_race form kinds entries = race_at form kinds (naming (items entries)) (event_numbers entries) (entry_events kinds entries)
 
 -- the texts of the reported calls of the accepted lines, in their order, each with the latest that races with it
-unfoldable pub race_texts : List SpecifiedKind → List Entry → List ℕ
-race_texts kinds entries = texts_before (calls_commute kinds) (entries_race kinds entries) (entry_events kinds entries) (length (entry_events kinds entries))
+unfoldable pub race_texts : Form → List SpecifiedKind → List Entry → List ℕ
+race_texts form kinds entries = texts_before (calls_commute kinds) (entries_race form kinds entries) (entry_events kinds entries) (length (entry_events kinds entries))
 
 -- the ending of a report of these accepted lines
 abbrev pub entries_ending : List SpecifiedKind → List Entry → WalkEnd → Ending
 entries_ending kinds entries ending = ending_of_report (replay_of (kinds_of kinds) entries) ending
 
--- `check` on a trace with objects of these kinds
-abbrev pub check_outcome : List SpecifiedKind → Walked → Outcome
-check_outcome kinds walked =
+-- `check` on a trace with objects of these kinds, in this form
+abbrev pub check_outcome : Form → List SpecifiedKind → Walked → Outcome
+check_outcome form kinds walked =
     let entries = entries_of walked in
     let races = races_of kinds entries in
     let ending = entries_ending kinds entries (ending_of walked) in
     record {
-      text = race_texts kinds entries ++ ending_text (thread_names entries) races ending;
+      text = race_texts form kinds entries ++ ending_in form (thread_names entries) races ending;
       status = check_status races ending;
     }
 
@@ -103,6 +105,7 @@ detector_bound kinds threads _ = 0
 abbrev pub check_bound : List SpecifiedKind → List Line → Line → ℕ
 check_bound kinds before item = tracking_bound before item + detector_bound kinds (length (threads_of (before ++ item ∷ []))) (event_of (kinds_of kinds) before item)
 
--- what `check` writes for accepted lines and in all, and the bound on its steps
-abbrev pub check_texts : List SpecifiedKind → ReportTexts
-check_texts kinds = record { lines = race_texts kinds; outcome = check_outcome kinds; bound = check_bound kinds }
+-- what `check` writes in this form for accepted lines, in all and where the trace can't be opened, and the bound on its steps
+abbrev pub check_texts : Form → List SpecifiedKind → ReportTexts
+check_texts form kinds =
+    record { lines = race_texts form kinds; outcome = check_outcome form kinds; bound = check_bound kinds; unopened = fault_in form }

@@ -12,6 +12,7 @@ use Rattle.rd_detect.specs.Detect.{DetectorStandsFor}
 use Rattle.rd_detect.specs.RaceTests.{latest_of}
 use Rattle.rd_ecl.specs.Kinds.{Kind, kinds_of}
 use Rattle.rd_ecl.specs.Specified.{SpecifiedKind}
+use Rattle.rd_json.specs.declared.forms.Form.{Form}
 use Rattle.rd_order.specs.EventLists.{WellFormedWith}
 use Rattle.rd_report.specs.Races.{IsNamed}
 use Rattle.rd_report.specs.Texts.{Naming, naming}
@@ -49,6 +50,7 @@ pub record IsNew (start : Check) : Type 0 where
 -- specification, and the calls that are reported among them are counted
 pub record Checks (start : Check) (entries : List Entry) (now : Check) : Type 0 where
   pub starts : IsNew start
+  pub form : now.form ≡ start.form
   pub spec : now.spec.now ≡ start.spec.now
   pub formulas : now.formulas ≡ start.spec.now
   pub tracks : Tracks (kinds_of start.spec.now) now.tracker (items entries)
@@ -70,9 +72,9 @@ abbrev pub AreNamed : List SpecifiedKind → Naming → List Event → Type 0
 AreNamed kinds names es = (i : ℕ) (call : Call) → slice_get es i ≡ Some (event.Call call) → IsNamed kinds names call
 
 -- what is written for one event more, which is on the line of this number
-abbrev pub next_text : List SpecifiedKind → Naming → List ℕ → ℕ → List Event → Event → List ℕ
-next_text kinds names numbers number es e =
-    text_with (race_at kinds names (numbers ++ number ∷ []) (es ++ e ∷ [])) (length es) (latest_of (calls_commute kinds) (es ++ e ∷ []) (length es))
+abbrev pub next_text : Form → List SpecifiedKind → Naming → List ℕ → ℕ → List Event → Event → List ℕ
+next_text form kinds names numbers number es e =
+    text_with (race_at form kinds names (numbers ++ number ∷ []) (es ++ e ∷ [])) (length es) (latest_of (calls_commute kinds) (es ++ e ∷ []) (length es))
 
 -- whether it is reported, by a number
 abbrev pub next_races : List SpecifiedKind → List Event → Event → ℕ

@@ -7,6 +7,8 @@ use Rattle.rd_ecl.specs.Kinds.{kinds_of}
 use Rattle.rd_ecl.specs.Specified.{SpecifiedKind}
 use Rattle.rd_io.specs.Inputs.{Source, file_of}
 use Rattle.rd_io.specs.Lines.Stop.{end}
+use Rattle.rd_json.specs.Forms.{fault_in}
+use Rattle.rd_json.specs.declared.forms.Form.{Form}
 use Rattle.rd_kinds.specs.Shipped.{reserved_names, shipped_kinds}
 use Rattle.rd_walk.specs.Output.{Outcome}
 use Rattle.rd_check.specs.Checked.{check_outcome, check_texts}
@@ -24,30 +26,30 @@ AreKinds old (Some file) kinds =
     (bytes : List ℕ) × (said : List SpecifiedKind) × IsSpecText old file bytes × SpecSays bytes reserved_names said × (kinds ≡ shipped_kinds ++ said)
 
 -- where all of so many files were opened: the trace is checked
-pub record IsCheckedWith (trace : List ℕ) (file : Option (List ℕ)) (files : ℕ) (limits : Limits) (rose : Bool) (old new : Source) (outcome : Outcome) : Type 0 where
+pub record IsCheckedWith (form : Form) (trace : List ℕ) (file : Option (List ℕ)) (files : ℕ) (limits : Limits) (rose : Bool) (old new : Source) (outcome : Outcome) : Type 0 where
   pub all_opened : new.opens ≡ old.opens + files
   pub kinds : List SpecifiedKind
   pub are : AreKinds old file kinds
-  pub is : outcome ≡ check_outcome kinds (walk_of (kinds_of kinds) trace limits rose old new)
+  pub is : outcome ≡ check_outcome form kinds (walk_of (kinds_of kinds) trace limits rose old new)
 
-abbrev pub IsCheckOutcome : List ℕ → Option (List ℕ) → Limits → Bool → Source → Source → Outcome → Type 0
-IsCheckOutcome trace None limits rose old new outcome = IsFaulted 1 rose old new outcome ⊎ IsCheckedWith trace None 1 limits rose old new outcome
-IsCheckOutcome trace (Some file) limits rose old new outcome =
-    IsFaulted 2 rose old new outcome
-    ⊎ (IsSpecFileRefused file rose old new outcome ⊎ IsCheckedWith trace (Some file) 2 limits rose old new outcome)
+abbrev pub IsCheckOutcome : Form → List ℕ → Option (List ℕ) → Limits → Bool → Source → Source → Outcome → Type 0
+IsCheckOutcome form trace None limits rose old new outcome = IsFaulted (fault_in form) 1 rose old new outcome ⊎ IsCheckedWith form trace None 1 limits rose old new outcome
+IsCheckOutcome form trace (Some file) limits rose old new outcome =
+    IsFaulted (fault_in form) 2 rose old new outcome
+    ⊎ (IsSpecFileRefused form file rose old new outcome ⊎ IsCheckedWith form trace (Some file) 2 limits rose old new outcome)
 
 -- so it is with the kinds of its objects
-abbrev pub TakesKnown : Option (List ℕ) → List ℕ → Limits → Bool → Source → Source → List ℕ → ℕ → ℕ → Type 0
-TakesKnown file trace limits rose old new part before after =
-    (kinds : List SpecifiedKind) × AreKinds old file kinds × TakesTrace (check_texts kinds) (kinds_of kinds) trace limits rose old new part before after
+abbrev pub TakesKnown : Form → Option (List ℕ) → List ℕ → Limits → Bool → Source → Source → List ℕ → ℕ → ℕ → Type 0
+TakesKnown form file trace limits rose old new part before after =
+    (kinds : List SpecifiedKind) × AreKinds old file kinds × TakesTrace (check_texts form kinds) (kinds_of kinds) trace limits rose old new part before after
 
 -- what was taken of the last file that was opened, and nothing where none was, and the steps that were counted
-abbrev pub TakesChecked : List ℕ → Option (List ℕ) → Limits → Bool → Source → Source → List ℕ → ℕ → ℕ → Type 0
-TakesChecked trace None limits rose old new part before after =
-    (new.opens ≡ old.opens + 1 → TakesKnown None trace limits rose old new part before after)
+abbrev pub TakesChecked : Form → List ℕ → Option (List ℕ) → Limits → Bool → Source → Source → List ℕ → ℕ → ℕ → Type 0
+TakesChecked form trace None limits rose old new part before after =
+    (new.opens ≡ old.opens + 1 → TakesKnown form None trace limits rose old new part before after)
     × (new.opens ≡ old.opens → IsUntaken old new × (after ≡ before))
-TakesChecked trace (Some file) limits rose old new part before after =
-    (new.opens ≡ old.opens + 2 → TakesKnown (Some file) trace limits rose old new part before after)
+TakesChecked form trace (Some file) limits rose old new part before after =
+    (new.opens ≡ old.opens + 2 → TakesKnown form (Some file) trace limits rose old new part before after)
     × (new.opens ≡ old.opens + 1 → TakesSpec file old new × (after ≡ before))
     × (new.opens ≡ old.opens → IsUntaken old new × (after ≡ before))
 
@@ -57,23 +59,23 @@ ReadsChecked trace file limits old new =
     (kinds : List SpecifiedKind) × AreKinds old file kinds × IsReadWhole (kinds_of kinds) trace limits old new
 
 -- nothing is left out
-abbrev pub WritesChecked : List ℕ → Option (List ℕ) → Limits → Source → List ℕ → Status → Type 0
-WritesChecked trace file limits old part status =
+abbrev pub WritesChecked : Form → List ℕ → Option (List ℕ) → Limits → Source → List ℕ → Status → Type 0
+WritesChecked form trace file limits old part status =
     (kinds : List SpecifiedKind) (bytes : List ℕ) → AreKinds old file kinds → file_of old.files trace ≡ Some bytes
-    → ending_of (trace_of (kinds_of kinds) limits end bytes) ≡ End → (status ≡ NoMemory) ⊎ IsWholeOutput (check_outcome kinds (trace_of (kinds_of kinds) limits end bytes)) part status
+    → ending_of (trace_of (kinds_of kinds) limits end bytes) ≡ End → (status ≡ NoMemory) ⊎ IsWholeOutput (check_outcome form kinds (trace_of (kinds_of kinds) limits end bytes)) part status
 
 -- the files, in the order in which they are opened
 abbrev pub checked_files : List ℕ → Option (List ℕ) → List (List ℕ)
 checked_files trace None = trace ∷ []
 checked_files trace (Some file) = file ∷ trace ∷ []
 
--- `check TRACE` and `check TRACE SPEC`
-abbrev pub check_meaning : List ℕ → Option (List ℕ) → Meaning
-check_meaning trace file = record {
+-- `check TRACE` and `check TRACE SPEC`, in this form
+abbrev pub check_meaning : Form → List ℕ → Option (List ℕ) → Meaning
+check_meaning form trace file = record {
   files = checked_files trace file;
   specification = file;
-  outcome = IsCheckOutcome trace file;
-  takes = TakesChecked trace file;
+  outcome = IsCheckOutcome form trace file;
+  takes = TakesChecked form trace file;
   reads = ReadsChecked trace file;
-  writes = WritesChecked trace file;
+  writes = WritesChecked form trace file;
 }

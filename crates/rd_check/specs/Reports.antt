@@ -11,7 +11,8 @@ use Rattle.rd_io.specs.Lines.{Stop, reading}
 use Rattle.rd_wf.specs.Events.{roots_of}
 use Rattle.rd_ecl.specs.Kinds.{kinds_of}
 use Rattle.rd_ecl.specs.Specified.{SpecifiedKind}
-use Rattle.rd_report.specs.Texts.{ending_text}
+use Rattle.rd_json.specs.Forms.{ending_in}
+use Rattle.rd_json.specs.declared.forms.Form.{Form}
 use Rattle.rd_replay.specs.Replays.{Recorded}
 use Rattle.rd_wf.specs.MayFollow.{object_kinds}
 use Rattle.rd_replaying.specs.Replaying.{recorded_of}
@@ -35,10 +36,10 @@ IsReport Commuting race es (suc place) text =
 
 -- ---- the whole
 
--- What `check` writes and answers for the bytes of a trace whose objects are of these kinds, and whose reading ends so: the
+-- What `check` writes in this form and answers for the bytes of a trace whose objects are of these kinds, and whose reading ends so: the
 -- texts of the races among the events of the accepted lines, how many calls are reported, and how the lines end, with the replay of the calls
 -- at the end of the trace.
-pub record IsChecked (kinds : List SpecifiedKind) (limits : Limits) (stop : Stop) (bytes : List ℕ) (outcome : Outcome) : Type 0 where
+pub record IsChecked (form : Form) (kinds : List SpecifiedKind) (limits : Limits) (stop : Stop) (bytes : List ℕ) (outcome : Outcome) : Type 0 where
   -- the accepted lines, and how they end
   pub entries : List Entry
   pub ending : WalkEnd
@@ -47,12 +48,12 @@ pub record IsChecked (kinds : List SpecifiedKind) (limits : Limits) (stop : Stop
   pub formed : WellFormedWith (kinds_of kinds) (roots_of (items entries)) (entry_events kinds entries)
   -- a text for each reported call, with the latest that races with it: both calls, their clocks, and the formula that they fail
   pub races : List ℕ
-  pub report : IsReport (Commute kinds) (entries_race kinds entries) (entry_events kinds entries) (length (entry_events kinds entries)) races
+  pub report : IsReport (Commute kinds) (entries_race form kinds entries) (entry_events kinds entries) (length (entry_events kinds entries)) races
   -- how many calls are reported
   pub count : ℕ
   pub counted : Counts (Reported (Commute kinds) (entry_events kinds entries)) (length (entry_events kinds entries)) count
   -- the calls are on declared objects, as the law of replays asks
   pub declared : All (λ (recorded : Recorded). recorded.1.object < length (object_kinds (kinds_of kinds) (items entries))) (recorded_of (kinds_of kinds) entries)
   -- what is written, and the status
-  pub text : outcome.text ≡ races ++ ending_text (thread_names entries) count (entries_ending kinds entries ending)
+  pub text : outcome.text ≡ races ++ ending_in form (thread_names entries) count (entries_ending kinds entries ending)
   pub status : outcome.status ≡ check_status count (entries_ending kinds entries ending)

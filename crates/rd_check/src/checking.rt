@@ -7,7 +7,8 @@ use rd_ecl::Spec;
 use rd_event::{Call, Event, Line};
 use rd_hb::Tracker;
 use rd_io::Sink;
-use rd_report::{Formulas, append_race, formula_line};
+use rd_json::{Form, append_race};
+use rd_report::{Formulas, formula_line};
 use rd_store::Race;
 use rd_walk::{Analysis, Halt, write_lines};
 use rd_wf::{Accepted, Roster};
@@ -18,6 +19,8 @@ use std::sync::ledger::Ledger;
 #[derive(Debug, Drop)]
 pub struct Check<'a> {
     alloc: Global,
+    /// the form of the report
+    pub(crate) form: Form,
     /// the kinds of the objects
     spec: &'a Spec,
     /// the lines of the formulas that races failed
@@ -37,7 +40,8 @@ impl<'a> Check<'a> {
     ghost use Rattle.rd_event.specs.declared.items.Line.{Line as LineOf};
     ghost use Rattle.rd_detect.specs.Detect.{IsAnswer, IsNextCall, DetectorStandsFor, detection_bound};
     ghost use Rattle.rd_hb.specs.Tracker.{last_stamp};
-    ghost use Rattle.rd_report.specs.Races.{IsKnownRace, race_text, told_by};
+    ghost use Rattle.rd_report.specs.Races.{IsKnownRace, told_by};
+    ghost use Rattle.rd_json.specs.Forms.{race_in};
     ghost use Rattle.rd_report.specs.Texts.{naming_in};
     ghost use Rattle.rd_walk.specs.Analysis.{TellsFault, WritesBetween, WritesFront};
     ghost use Rattle.rd_check.specs.Checking.{Checks, IsNew, IsNextEventLine, IsNextLine};
@@ -46,14 +50,16 @@ impl<'a> Check<'a> {
     ghost use Rattle.rd_ecl.specs.Kinds.{kinds_of};
     ghost use Rattle.rd_ecl.specs.Specified.{SpecifiedKind};
 
-    /// A check of no lines.
-    pub fn new(alloc: Global, spec: &'a Spec) -> Result<Check<'a>, NoMemory>
+    /// A check of no lines, whose report has this form.
+    pub fn new(alloc: Global, form: Form, spec: &'a Spec) -> Result<Check<'a>, NoMemory>
         ensures new { IfOk result IsNew }
+        ensures form { IfOk result (λ check. check.form ≡ form) }
         ensures spec { IfOk result (λ check. check.spec.now ≡ spec.now) }
     {
         let detector = Detector::new(alloc, spec)?;
         Ok(Check {
             alloc,
+            form,
             spec,
             formulas: Formulas::new(alloc, spec),
             text: Bytes::new(alloc),
@@ -79,7 +85,7 @@ impl<'a> Check<'a> {
         requires few { self.old.races + 1 < 2 ^ 64 }
 
         // the call is judged and kept, and other parts stay
-        ensures same { (self.new.spec.now ≡ self.old.spec.now)
+        ensures same { (self.new.form ≡ self.old.form) × (self.new.spec.now ≡ self.old.spec.now)
             × (self.new.tracker ≡ self.old.tracker)
             × (self.new.formulas ≡ self.old.formulas) }
         ensures answer { IfOk result (λ answer. (kinds : List SpecifiedKind) (roots : ℕ → Bool) (numbers : List ℕ) (es : List EventOf)
@@ -104,24 +110,40 @@ impl<'a> Check<'a> {
         Ok(answer)
     }
 
-    /// Makes the text that of a race. The numbers in it are known to the specification and the roster.
+    /// Makes the text that of a race, in the form of the report. The numbers in it are known to the specification and the roster.
     fn set_text(&mut self, race: &Race, names: &Roster) -> Result<(), NoMemory>
         requires known { IsKnownRace self.old.spec.now (naming_in names.now) race.now }
         requires formulas { self.old.formulas ≡ self.old.spec.now }
-        ensures same { (self.new.spec.now ≡ self.old.spec.now)
+        ensures same { (self.new.form ≡ self.old.form) × (self.new.spec.now ≡ self.old.spec.now)
             × (self.new.tracker ≡ self.old.tracker) × (self.new.detector ≡ self.old.detector)
             × (self.new.races ≡ self.old.races) × (self.new.formulas ≡ self.old.formulas) }
         ensures text { OnOk result
-            (self.new.text ≡ race_text self.old.spec.now (naming_in names.now)
+            (self.new.text ≡ race_in self.old.form self.old.spec.now (naming_in names.now)
             (told_by race.now.later.value) (told_by race.now.earlier.value)) }
     {
         self.text.clear();
         if let Some(line) = self.formulas.find(race.kind, race.first, race.second) {
-            return append_race(&mut self.text, race, line, self.spec, names);
+            return append_race(
+                &mut self.text,
+                self.form,
+                self.alloc,
+                race,
+                line,
+                self.spec,
+                names,
+            );
         }
         let kind = &self.spec.kinds()[race.kind as usize];
         let line = formula_line(self.alloc, kind, race.first, race.second)?;
-        append_race(&mut self.text, race, line.items(), self.spec, names)?;
+        append_race(
+            &mut self.text,
+            self.form,
+            self.alloc,
+            race,
+            line.items(),
+            self.spec,
+            names,
+        )?;
         self.formulas.keep(race.kind, race.first, race.second, line)
     }
 
@@ -129,14 +151,14 @@ impl<'a> Check<'a> {
     fn report<S: Sink>(&mut self, race: &Race, names: &Roster, out: &mut S) -> Result<(), Halt>
         requires known { IsKnownRace self.old.spec.now (naming_in names.now) race.now }
         requires formulas { self.old.formulas ≡ self.old.spec.now }
-        ensures same { (self.new.spec.now ≡ self.old.spec.now)
+        ensures same { (self.new.form ≡ self.old.form) × (self.new.spec.now ≡ self.old.spec.now)
             × (self.new.tracker ≡ self.old.tracker) × (self.new.detector ≡ self.old.detector)
             × (self.new.races ≡ self.old.races) × (self.new.formulas ≡ self.old.formulas) }
         ensures ok { OnOk result (Appends (S.written out.old) (S.written out.new)
-            (race_text self.old.spec.now (naming_in names.now) (told_by race.now.later.value)
+            (race_in self.old.form self.old.spec.now (naming_in names.now) (told_by race.now.later.value)
             (told_by race.now.earlier.value))) }
         ensures front { OnErr result (WritesFront (S.written out.old) (S.written out.new) []
-            (race_text self.old.spec.now (naming_in names.now) (told_by race.now.later.value)
+            (race_in self.old.form self.old.spec.now (naming_in names.now) (told_by race.now.later.value)
             (told_by race.now.earlier.value))) }
         ensures fault { TellsFault (S.faults out.old) (S.faults out.new) (S.at_fault out.new)
             (S.written out.new) result }
@@ -181,12 +203,12 @@ impl<'a> Check<'a> {
             Checks start (before ++ record { number = number; item = item } ∷ []) self.new) }
         ensures written { OnOk result ((start : Check) (before : List Entry) (item : LineOf) →
             IsNextEventLine start self.old before item event.now (naming_in names.now) place →
-            WritesBetween (S.written out.old) (S.written out.new) (race_texts start.spec.now before)
-            (race_texts start.spec.now (before ++ record { number = number; item = item } ∷ []))) }
+            WritesBetween (S.written out.old) (S.written out.new) (race_texts start.form start.spec.now before)
+            (race_texts start.form start.spec.now (before ++ record { number = number; item = item } ∷ []))) }
         ensures halted { OnErr result ((start : Check) (before : List Entry) (item : LineOf) →
             IsNextEventLine start self.old before item event.now (naming_in names.now) place →
-            WritesFront (S.written out.old) (S.written out.new) (race_texts start.spec.now before)
-            (race_texts start.spec.now (before ++ record { number = number; item = item } ∷ []))) }
+            WritesFront (S.written out.old) (S.written out.new) (race_texts start.form start.spec.now before)
+            (race_texts start.form start.spec.now (before ++ record { number = number; item = item } ∷ []))) }
         ensures cost { (start : Check) (before : List Entry) (item : LineOf) →
             IsNextEventLine start self.old before item event.now (naming_in names.now) place →
             steps.new ≤ steps.old + check_bound start.spec.now (items before) item }
@@ -216,7 +238,7 @@ impl<'a> Analysis for Check<'a> {
 
     ghost leads = { CheckLeads };
 
-    ghost text = { λ _ start. race_texts start.spec.now };
+    ghost text = { λ _ start. race_texts start.form start.spec.now };
 
     ghost bound = { λ _ start. check_bound start.spec.now };
 

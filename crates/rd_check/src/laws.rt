@@ -4,6 +4,7 @@ ghost use Rattle.rd_base.specs.Limits.{AreUsable};
 ghost use Rattle.rd_base.specs.declared.limits.Limits.{Limits};
 ghost use Rattle.rd_detect.specs.Races.{Reported};
 ghost use Rattle.rd_detect.specs.Commuting.{Commute};
+ghost use Rattle.rd_json.specs.declared.forms.Form.{Form};
 ghost use Rattle.rd_io.specs.Lines.{Stop};
 ghost use Rattle.rd_io.specs.Lines.Stop.{fault};
 ghost use Rattle.rd_walk.specs.Output.{IsFront};
@@ -18,47 +19,47 @@ ghost use Rattle.rd_ecl.specs.Specified.{SpecifiedKind};
 use rd_object::ReplayEnd;
 use rd_walk::{Status, WalkEnd};
 
-/// What `check` writes and answers, in the words of races. The texts of the races are, for each event of the accepted lines in
+/// What `check` writes in any form and answers, in the words of races. The texts of the races are, for each event of the accepted lines in
 /// their order, nothing where no earlier call races with it, else the text of the race with the latest that does. The
 /// count of races is 0 exactly where no call is reported. The status is `Raced` exactly where the trace was read to its
 /// end and some call is reported, and `ReplayDiffers` exactly where it was read to its end, no call is reported, and in the replay a call
 /// differs from its record.
 pub fn law_of_reports()
-    ensures report { (kinds : List SpecifiedKind) (entries : List Entry) →
-        IsReport (Commute kinds) (entries_race kinds entries) (entry_events kinds entries)
-        (length (entry_events kinds entries)) (race_texts kinds entries) }
+    ensures report { (form : Form) (kinds : List SpecifiedKind) (entries : List Entry) →
+        IsReport (Commute kinds) (entries_race form kinds entries) (entry_events kinds entries)
+        (length (entry_events kinds entries)) (race_texts form kinds entries) }
     ensures none { (kinds : List SpecifiedKind) (entries : List Entry) →
         ((races_of kinds entries ≡ 0)
         ↔ ((j : ℕ) → ¬ (Reported (Commute kinds) (entry_events kinds entries) j))) }
-    ensures raced { (kinds : List SpecifiedKind) (walked : Walked) →
-        ((check_outcome kinds walked).status ≡ Status.Raced
+    ensures raced { (form : Form) (kinds : List SpecifiedKind) (walked : Walked) →
+        ((check_outcome form kinds walked).status ≡ Status.Raced
         ↔ ((ending_of walked ≡ WalkEnd.End)
         × ((j : ℕ) × Reported (Commute kinds) (entry_events kinds (entries_of walked)) j))) }
-    ensures differs { (kinds : List SpecifiedKind) (walked : Walked) →
-        ((check_outcome kinds walked).status ≡ Status.ReplayDiffers
+    ensures differs { (form : Form) (kinds : List SpecifiedKind) (walked : Walked) →
+        ((check_outcome form kinds walked).status ≡ Status.ReplayDiffers
         ↔ ((ending_of walked ≡ WalkEnd.End)
         × (((j : ℕ) → ¬ (Reported (Commute kinds) (entry_events kinds (entries_of walked)) j))
         × ((line : ℕ) × (expected : ExpectedOf)
         × (replay_of (kinds_of kinds) (entries_of walked) ≡ ReplayEnd.Differs line expected))))) }
 {}
 
-/// The headline, for all bytes of a trace, whatever the kinds of its objects and the limits within their ranges, and wherever the reading
+/// The headline, for all bytes of a trace, whatever the form, the kinds of its objects and the limits within their ranges, and wherever the reading
 /// of it ends. The outcome that `run` is proved to write and answer is this: the accepted lines are those that say an item which may
 /// follow, up to the first line that doesn't; the text has, for each event of theirs with which an earlier call races, the text of the race
 /// with the latest that does, which tells both calls with their lines and clocks and the formula that they fail; then how many calls are
 /// reported, and then how the replay of the calls ends, which are on declared objects, or why a line was refused, or that a read failed; and
 /// the status is that of how the lines end, of whether a call is reported, and of the replay.
 pub fn law_of_checks()
-    ensures { (kinds : List SpecifiedKind) (limits : Limits) → AreUsable limits →
+    ensures { (form : Form) (kinds : List SpecifiedKind) (limits : Limits) → AreUsable limits →
         limits.threads < 2 ^ 32 → (stop : Stop) (bytes : List ℕ) →
-        IsChecked kinds limits stop bytes
-        (check_outcome kinds (trace_of (kinds_of kinds) limits stop bytes)) }
+        IsChecked form kinds limits stop bytes
+        (check_outcome form kinds (trace_of (kinds_of kinds) limits stop bytes)) }
 {}
 
 /// The texts of races that are written before a read fails are a front of what is written for the whole, whatever bytes were still to come.
 pub fn law_of_faults()
-    ensures { (kinds : List SpecifiedKind) (limits : Limits) → AreUsable limits →
+    ensures { (form : Form) (kinds : List SpecifiedKind) (limits : Limits) → AreUsable limits →
         limits.threads < 2 ^ 32 → (stop : Stop) (bytes more : List ℕ) →
-        IsFront (race_texts kinds (entries_of (trace_of (kinds_of kinds) limits fault bytes)))
-        (check_outcome kinds (trace_of (kinds_of kinds) limits stop (bytes ++ more))).text }
+        IsFront (race_texts form kinds (entries_of (trace_of (kinds_of kinds) limits fault bytes)))
+        (check_outcome form kinds (trace_of (kinds_of kinds) limits stop (bytes ++ more))).text }
 {}

@@ -55,6 +55,7 @@ const EXAMPLES: &str = "\
     check texts.trace texts.out\n\
     check unwritten_lock.trace unwritten_lock.out\n\
     check updates_in_turn.trace updates_in_turn.out\n\
+    check-json dictionary_update.trace dictionary_update.json.out\n\
     replay check_then_act.trace check_then_act.replay.out\n\
     replay dictionary_update.trace dictionary_update.replay.out\n\
     replay guarded_counter.trace guarded_counter.replay.out\n\

@@ -84,15 +84,15 @@ replayed_well kinds walked well =
 
 -- a replay
 pub whole_replay : (trace : List ℕ) (limits : Limits) (old new : Source) (part : List ℕ) (status : Status)
-    → HasOutcome (IsTraceOutcome (replay_outcome built_in_kinds) built_in_kinds trace limits false old new) status part → status ≢ OutputFault
+    → HasOutcome (IsTraceOutcome (replay_texts built_in_kinds) built_in_kinds trace limits false old new) status part → status ≢ OutputFault
     → WritesAll (replay_meaning trace) limits old part status
 whole_replay trace limits old new part status has other bytes at well =
-    elim (all_written (IsTraceOutcome (replay_outcome built_in_kinds) built_in_kinds trace limits false old new) status part has other) [
+    elim (all_written (IsTraceOutcome (replay_texts built_in_kinds) built_in_kinds trace limits false old new) status part has other) [
       | inl none ↦ inl none
       | inr all ↦ inr (by all.outcome all.is all.text all.told)
     ]
   where
-    by : (outcome : Outcome) → IsTraceOutcome (replay_outcome built_in_kinds) built_in_kinds trace limits false old new outcome → part ≡ outcome.text → status ≡ outcome.status
+    by : (outcome : Outcome) → IsTraceOutcome (replay_texts built_in_kinds) built_in_kinds trace limits false old new outcome → part ≡ outcome.text → status ≡ outcome.status
         → IsWholeOutput (replay_outcome built_in_kinds (trace_of built_in_kinds limits end bytes)) part status
     by outcome (inl faulted) text told = absurd (true≢false (sym faulted.risen))
     by outcome (inr (opened, is)) text told =

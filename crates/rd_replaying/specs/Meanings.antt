@@ -28,7 +28,7 @@ abbrev pub replay_meaning : List ℕ → Meaning
 replay_meaning trace = record {
   files = trace ∷ [];
   specification = None;
-  outcome = IsTraceOutcome (replay_outcome built_in_kinds) built_in_kinds trace;
+  outcome = IsTraceOutcome (replay_texts built_in_kinds) built_in_kinds trace;
   takes = TakesReplayed trace;
   reads = IsReadWhole built_in_kinds trace;
   writes = WritesReplayed trace;

@@ -49,7 +49,7 @@ replay_outcome kinds walked =
 
 -- nothing is written for the lines, and no step is counted
 abbrev pub replay_texts : List Kind → ReportTexts
-replay_texts kinds = record { lines = λ entries. []; outcome = replay_outcome kinds; bound = λ before item. 0 }
+replay_texts kinds = record { lines = λ entries. []; outcome = replay_outcome kinds; bound = λ before item. 0; unopened = fault_line }
 
 -- those of a trace that is replayed
 abbrev pub built_in_kinds : List Kind

@@ -22,6 +22,13 @@ pub trait ReplayedReport: Analysis {
     /// What is written for a trace whose lines are these, from the first state on, and the status.
     ghost outcome: { List Kind → Self → Walked → Outcome };
 
+    /// What is written where the trace can't be opened.
+    ghost unopened: { Self → List ℕ };
+
+    /// What is written where the trace can't be opened.
+    fn unopened_text(&self) -> &'static [u8]
+        ensures { result.now ≡ unopened self.now };
+
     /// Writes what stands behind the texts of the lines, by how the lines end, and says how the report does. The roster has their names, and
     /// the replayer has heard them.
     fn conclude<S: Sink>(
@@ -67,6 +74,12 @@ pub trait ReplayedReport: Analysis {
 impl<A: ReplayedReport> Report for Replaying<A> {
     ghost outcome = { λ kinds start. A.outcome kinds start.inner };
 
+    ghost unopened = { λ start. A.unopened start.inner };
+
+    fn unopened_text(&self) -> &'static [u8] {
+        self.inner.unopened_text()
+    }
+
     fn conclude<S: Sink>(
         &self,
         alloc: Global,
@@ -89,6 +102,15 @@ impl<L: ReplayedReport, R: ReplayedReport> ReplayedReport for Either<L, R> {
     ghost outcome = { λ kinds start walked. either
         (λ left. L.outcome kinds left walked)
         (λ right. R.outcome kinds right walked) start };
+
+    ghost unopened = { either L.unopened R.unopened };
+
+    fn unopened_text(&self) -> &'static [u8] {
+        match self {
+            Either::Left(left) => left.unopened_text(),
+            Either::Right(right) => right.unopened_text(),
+        }
+    }
 
     fn conclude<S: Sink>(
         &self,

@@ -252,9 +252,16 @@ impl Analysis for ReplayAlone {
 }
 
 impl ReplayedReport for ReplayAlone {
+    ghost use Rattle.rd_io.specs.Inputs.{fault_line};
     ghost use Rattle.rd_replaying.specs.States.{replay_outcome};
 
     ghost outcome = { λ kinds _ walked. replay_outcome kinds walked };
+
+    ghost unopened = { λ _. fault_line };
+
+    fn unopened_text(&self) -> &'static [u8] {
+        b"fault input\n"
+    }
 
     fn conclude<S: Sink>(
         &self,

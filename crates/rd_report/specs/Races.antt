@@ -40,6 +40,11 @@ pub record Told : Type 0 where
 abbrev pub told_by : Witness → Told
 told_by witness = record { line = witness.line; call = witness.call; clock = component witness.stamp.clock }
 
+-- a call, as it stands in its line
+abbrev pub named_call : List SpecifiedKind → Naming → Call → List ℕ
+named_call kinds naming call =
+    call_text (name_of naming.threads call.thread) (name_of naming.objects call.object) (name_at (kind_at kinds call.kind).methods call.method) call.slots
+
 -- the number of its line, the call as it stands there, and its clock
 unfoldable pub told_text : List SpecifiedKind → Naming → Told → List ℕ
 told_text kinds naming told =
@@ -53,6 +58,10 @@ told_text kinds naming told =
 -- the line of the formula of two methods of a kind, the first not declared behind the second
 unfoldable pub formula_line : SpecifiedKind → ℕ → ℕ → List ℕ
 formula_line kind first second = codes "formula " ++ kind.name ++ codes " " ++ pair_text kind first second ++ codes "\n"
+
+-- the same without its first word and its line feed
+unfoldable pub formula_words : SpecifiedKind → ℕ → ℕ → List ℕ
+formula_words kind first second = kind.name ++ codes " " ++ pair_text kind first second
 
 -- the line of the formula that two calls fail
 abbrev pub failed_line : List SpecifiedKind → Call → Call → List ℕ

@@ -74,15 +74,24 @@ replay_line Exact = codes "replay exact\n"
 replay_line (Differs number expected) = codes "replay differs line " ++ decimal number ++ codes " " ++ expected_text expected ++ codes "\n"
 replay_line NotShipped = codes "replay not shipped\n"
 
+-- the same without its first word and its line feed
+unfoldable pub replay_words : ReplayEnd → List ℕ
+replay_words Exact = codes "exact"
+replay_words (Differs number expected) = codes "differs line " ++ decimal number ++ codes " " ++ expected_text expected
+replay_words NotShipped = codes "not shipped"
+
 -- ---- endings
 
 -- the line that tells how many calls are reported
 abbrev pub races_line : ℕ → List ℕ
 races_line races = codes "races " ++ decimal races ++ codes "\n"
 
--- the line of a refusal
+-- the line of a refusal, and the same without its line feed
 abbrev pub refused_line : List (List ℕ) → ℕ → TraceCause → List ℕ
 refused_line names number cause = codes "refused line " ++ decimal number ++ codes " " ++ cause_text names cause ++ codes "\n"
+
+abbrev pub refused_words : List (List ℕ) → ℕ → TraceCause → List ℕ
+refused_words names number cause = codes "refused line " ++ decimal number ++ codes " " ++ cause_text names cause
 
 -- the text behind the races: how many calls are reported, and how the replay ended, or where the trace was refused, by the names of the
 -- threads, or that it could not be read on

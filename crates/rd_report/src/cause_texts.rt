@@ -1,17 +1,21 @@
 //! How a trace ends, in words.
 ghost use Rattle.std.specs.Prelude.{◌≡◌, ◌++◌, codes, decimal, IfOk, OnOk};
-ghost use Rattle.rd_report.specs.Texts.{cause_text, wf_text, races_line, refused_line, ending_text, name_of};
+ghost use Rattle.rd_report.specs.Texts.{cause_text, wf_text, races_line, refused_line, refused_words, ending_text, name_of};
+ghost use Rattle.rd_report.specs.Writing.{ArePlain};
 ghost use Rattle.rd_wf.specs.Roster.{names_in};
 
 use crate::endings::Ending;
+use crate::numbers::{append_decimal, append_passed};
 use crate::replays::append_replay;
-use rd_base::{Bytes, NoMemory, append_limit, append_number};
+use rd_base::{Bytes, NoMemory, append_number};
 use rd_wf::{Roster, TraceCause, WfCause};
 use std::alloc::Global;
 
 // Puts the name of a thread behind the text, and nothing where no thread has the number.
+#[tactic(auto, using(crate::proofs::PlainLemmas::none_plain))]
 fn append_thread(text: &mut Bytes, names: &Roster, thread: u32) -> Result<(), NoMemory>
-    ensures { OnOk result (text.new ≡ text.old ++ name_of (names_in names.now) thread) }
+    ensures text { OnOk result (text.new ≡ text.old ++ name_of (names_in names.now) thread) }
+    ensures plain { OnOk result (ArePlain (name_of (names_in names.now) thread)) }
 {
     if names.threads() <= thread {
         return Ok(());
@@ -21,7 +25,8 @@ fn append_thread(text: &mut Bytes, names: &Roster, thread: u32) -> Result<(), No
 
 #[tactic(auto, unfolding(crate::specs::Texts::wf_text))]
 fn append_wf(text: &mut Bytes, names: &Roster, cause: WfCause) -> Result<(), NoMemory>
-    ensures { OnOk result (text.new ≡ text.old ++ wf_text (names_in names.now) cause) }
+    ensures text { OnOk result (text.new ≡ text.old ++ wf_text (names_in names.now) cause) }
+    ensures plain { OnOk result (ArePlain (wf_text (names_in names.now) cause)) }
 {
     match cause {
         WfCause::HeaderFirst => text.append(b"header-first"),
@@ -39,19 +44,20 @@ fn append_wf(text: &mut Bytes, names: &Roster, cause: WfCause) -> Result<(), NoM
             append_thread(text, names, holder)
         }
         WfCause::NotHeld => text.append(b"not-held"),
-        WfCause::Limit(name, number) => append_limit(text, name, u64::from(number)),
+        WfCause::Limit(name, number) => append_passed(text, name, u64::from(number)),
     }
 }
 
 #[tactic(auto, unfolding(crate::specs::Texts::cause_text))]
 fn append_cause(text: &mut Bytes, names: &Roster, cause: TraceCause) -> Result<(), NoMemory>
-    ensures { OnOk result (text.new ≡ text.old ++ cause_text (names_in names.now) cause) }
+    ensures text { OnOk result (text.new ≡ text.old ++ cause_text (names_in names.now) cause) }
+    ensures plain { OnOk result (ArePlain (cause_text (names_in names.now) cause)) }
 {
     match cause {
         TraceCause::BadLine => text.append(b"bad-line"),
         TraceCause::NoFinalNewline => text.append(b"no-final-newline"),
         TraceCause::Wf(broken) => append_wf(text, names, broken),
-        TraceCause::Limit(name, number) => append_limit(text, name, number),
+        TraceCause::Limit(name, number) => append_passed(text, name, number),
     }
 }
 
@@ -64,6 +70,23 @@ fn append_races(text: &mut Bytes, races: u64) -> Result<(), NoMemory>
     text.append(b"\n")
 }
 
+// Puts behind the text which line of a trace is refused, and why.
+fn append_refused_words(
+    text: &mut Bytes,
+    names: &Roster,
+    number: u64,
+    cause: TraceCause,
+) -> Result<(), NoMemory>
+    ensures text { OnOk result
+        (text.new ≡ text.old ++ refused_words (names_in names.now) number cause) }
+    ensures plain { OnOk result (ArePlain (refused_words (names_in names.now) number cause)) }
+{
+    text.append(b"refused line ")?;
+    append_decimal(text, number)?;
+    text.append(b" ")?;
+    append_cause(text, names, cause)
+}
+
 // Puts the line behind the text that tells which line of a trace is refused, and why.
 fn append_refused(
     text: &mut Bytes,
@@ -73,11 +96,23 @@ fn append_refused(
 ) -> Result<(), NoMemory>
     ensures { OnOk result (text.new ≡ text.old ++ refused_line (names_in names.now) number cause) }
 {
-    text.append(b"refused line ")?;
-    append_number(text, number)?;
-    text.append(b" ")?;
-    append_cause(text, names, cause)?;
+    append_refused_words(text, names, number, cause)?;
     text.append(b"\n")
+}
+
+/// The line of a refusal without its line feed. The roster has the names of the threads. Its bytes are plain.
+pub fn refused_words(
+    alloc: Global,
+    line: u64,
+    cause: TraceCause,
+    names: &Roster,
+) -> Result<Bytes, NoMemory>
+    ensures text { IfOk result (λ text. text ≡ refused_words (names_in names.now) line cause) }
+    ensures plain { IfOk result ArePlain }
+{
+    let mut text = Bytes::new(alloc);
+    append_refused_words(&mut text, names, line, cause)?;
+    Ok(text)
 }
 
 /// The line of a refusal: which line of a trace is refused, and why. The roster has the names of the threads.

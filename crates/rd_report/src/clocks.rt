@@ -3,13 +3,15 @@ ghost use Rattle.std.specs.Prelude.{◌≡◌, ◌<◌, ◌++◌, ◌||◌, nat_
 ghost use Rattle.rd_clock.specs.Clock.{component};
 ghost use Rattle.rd_report.specs.Races.{clock_text};
 ghost use Rattle.rd_report.specs.Texts.{name_of};
-ghost use Rattle.rd_report.specs.Writing.{comma, clock_part_text};
+ghost use Rattle.rd_report.specs.Writing.{ArePlain, comma, clock_part_text};
 ghost use Rattle.rd_wf.specs.Roster.{names_in, thread_count};
 
 use rd_base::{Bytes, NoMemory, Steps, append_number};
 use rd_clock::Clock;
 use rd_wf::Roster;
-use std::sync::ledger::Ledger;
+use std::alloc::Global;
+use std::marker::Brand;
+use std::sync::ledger::{Blank, Ledger};
 
 // A comma, where a part stands in front.
 fn comma(some: bool) -> &'static [u8]
@@ -31,6 +33,7 @@ fn append_part(
     ensures text { OnOk result
         (text.new ≡ text.old ++ clock_part_text some (name_of (names_in names.now) thread) count) }
     ensures some { IfOk result (λ now. now ≡ (some || nat_lt 0 count)) }
+    ensures plain { ArePlain text.old → OnOk result (ArePlain text.new) }
 {
     if count == 0 {
         return Ok(some);
@@ -49,12 +52,43 @@ pub(crate) fn append_clock<L: Ledger>(
     names: &Roster,
     steps: &mut Steps<L>,
 ) -> Result<(), NoMemory>
-    ensures { OnOk result
+    ensures text { OnOk result
         (text.new ≡ text.old ++ clock_text (names_in names.now) (component clock.now)) }
+    ensures plain { ArePlain text.old → OnOk result (ArePlain text.new) }
 {
     let mut some = false;
     for thread in 0..names.threads() {
         some = append_part(text, names, thread, clock.get(thread, steps), some)?;
     }
     Ok(())
+}
+
+// The text of a clock, with a counter of its own for its reads.
+#[tactic(auto, using(crate::proofs::PlainLemmas::none_plain))]
+fn clock_text_with<L: Ledger>(
+    alloc: Global,
+    clock: &Clock,
+    names: &Roster,
+    blank: Blank,
+) -> Result<Bytes, NoMemory>
+    requires name { blank.name ≡ L.name }
+    requires parts { blank.parts ≡ L.parts }
+    requires some { 0 < blank.parts }
+    ensures text { IfOk result
+        (λ text. text ≡ clock_text (names_in names.now) (component clock.now)) }
+    ensures plain { IfOk result ArePlain }
+{
+    let mut steps = Steps::<L>::new(blank);
+    let mut text = Bytes::new(alloc);
+    append_clock(&mut text, clock, names, &mut steps)?;
+    Ok(text)
+}
+
+/// The text of a clock: `THREAD:N` for each thread of which it counts events, in the order of their numbers. Its bytes are plain.
+pub fn clock_text(alloc: Global, clock: &Clock, names: &Roster) -> Result<Bytes, NoMemory>
+    ensures text { IfOk result
+        (λ text. text ≡ clock_text (names_in names.now) (component clock.now)) }
+    ensures plain { IfOk result ArePlain }
+{
+    clock_text_with::<Brand>(alloc, clock, names, Blank::new(1))
 }

@@ -2,11 +2,10 @@
 ghost use Rattle.std.specs.Prelude.{◌≡◌, ◌≤◌, ◌<◌, ◌++◌, length, IfOk, OnOk};
 ghost use Rattle.rd_clock.specs.Clock.{component};
 ghost use Rattle.rd_ecl.specs.Specified.{kind_at};
-ghost use Rattle.rd_event.specs.Items.{call_text};
 ghost use Rattle.rd_print.specs.Printed.{name_at};
-ghost use Rattle.rd_report.specs.Races.{IsKnownRace, IsNamed, formula_line, race_text, told_by, told_text};
-ghost use Rattle.rd_report.specs.Texts.{name_of, naming_in};
-ghost use Rattle.rd_wf.specs.Roster.{names_in, object_names_in};
+ghost use Rattle.rd_report.specs.Races.{IsKnownRace, IsNamed, formula_line, named_call, race_text, told_by, told_text};
+ghost use Rattle.rd_report.specs.Texts.{naming_in};
+ghost use Rattle.rd_report.specs.Writing.{ArePlain};
 
 use crate::clocks::append_clock;
 use rd_base::{Bytes, Name, NoMemory, Steps, append_number};
@@ -59,15 +58,26 @@ fn append_named_call(
     names: &Roster,
 ) -> Result<(), NoMemory>
     requires { IsNamed spec.now (naming_in names.now) call.now }
-    ensures { OnOk result
-        (text.new ≡ text.old ++ call_text (name_of (names_in names.now) call.now.thread)
-        (name_of (object_names_in names.now) call.now.object)
-        (name_at (kind_at spec.now call.now.kind).methods call.now.method) call.now.slots) }
+    ensures text { OnOk result
+        (text.new ≡ text.old ++ named_call spec.now (naming_in names.now) call.now) }
+    ensures plain { OnOk result (ArePlain (named_call spec.now (naming_in names.now) call.now)) }
 {
     let thread = names.thread_name(call.thread);
     let object = names.object_name(call.object);
     let method = method_name(spec, call.kind, call.method);
     append_call(text, thread, object, method, call.slots.items())
+}
+
+/// A call, as it stands in its line: `THREAD OBJECT METHOD ARGUMENT .. -> RESULT`. The numbers in it are known to the specification and
+/// the roster. Its bytes are plain.
+pub fn call_text(alloc: Global, call: &Call, spec: &Spec, names: &Roster) -> Result<Bytes, NoMemory>
+    requires { IsNamed spec.now (naming_in names.now) call.now }
+    ensures text { IfOk result (λ text. text ≡ named_call spec.now (naming_in names.now) call.now) }
+    ensures plain { IfOk result ArePlain }
+{
+    let mut text = Bytes::new(alloc);
+    append_named_call(&mut text, call, spec, names)?;
+    Ok(text)
 }
 
 // Puts behind the text what is told of a call that has this clock: the number of its line, the call and the clock.

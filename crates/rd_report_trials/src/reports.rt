@@ -9,6 +9,7 @@ use rd_base::{Bytes, LimitName, Limits, Slots, Steps, Value};
 use rd_clock::{Clock, Stamp};
 use rd_ecl::Spec;
 use rd_event::Call;
+use rd_json::{ending_json, race_json};
 use rd_object::{Expected, ReplayEnd, Shape, ValueCounts, ValuePairs};
 use rd_print::{formula_text, print};
 use rd_report::{
@@ -155,7 +156,18 @@ fn is_appended(
     is_text(rt, told, wanted);
 }
 
-// The race of the two calls has this text.
+// So it is written as JSON.
+fn is_object(rt: &impl Abort, alloc: Global, spec: &Spec, names: &Roster, race: &Race, wanted: &str)
+    requires { IsKnownRace spec.now (naming_in names.now) race.now }
+{
+    let text = race_json(alloc, race, spec, names).expect(rt, "memory");
+    is_text(rt, text.items(), wanted);
+}
+
+// A text, and the same as JSON.
+type Wanted<'a> = (&'a str, &'a str);
+
+// The race of the two calls is told so.
 fn is_told(
     rt: &impl Abort,
     alloc: Global,
@@ -163,15 +175,16 @@ fn is_told(
     names: &Roster,
     later: Rc<Witness>,
     earlier: Rc<Witness>,
-    wanted: &str,
+    wanted: Wanted<'_>,
 )
     requires spec { HasOneMethod spec.now }
     requires later { IsOfOne later.value.call }
     requires earlier { IsOfOne earlier.value.call }
 {
     let race = race_of(rt, spec, names, later, earlier);
-    is_written(rt, alloc, spec, names, &race, wanted);
-    is_appended(rt, alloc, spec, names, &race, wanted);
+    is_written(rt, alloc, spec, names, &race, wanted.0);
+    is_appended(rt, alloc, spec, names, &race, wanted.0);
+    is_object(rt, alloc, spec, names, &race, wanted.1);
 }
 
 // Two calls of the first flag, with one counter for their clocks.
@@ -193,13 +206,13 @@ fn both_calls<L: Ledger>(
     (first, call_of(rt, alloc, second, &mut steps))
 }
 
-// Two threads set a flag, on these lines of a trace. The text of the race is this.
+// Two threads set a flag, on these lines of a trace. The race is told so.
 fn is_race(
     rt: &impl Abort,
     alloc: Global,
     lines: &str,
     (later, earlier): (Told, Told),
-    wanted: &str,
+    wanted: Wanted<'_>,
 ) {
     let (later, earlier) = both_calls::<Brand>(rt, alloc, Blank::new(1), later, earlier);
     let spec = spec_of(rt, alloc, FLAGS);
@@ -208,27 +221,33 @@ fn is_race(
     is_told(rt, alloc, &spec, &names, later, earlier, wanted);
 }
 
-// The lines of a trace, the later and the earlier of two calls, and the text of their race.
-type RaceRow<'a> = (&'a str, (Told, Told), &'a str);
+// The lines of a trace, the later and the earlier of two calls, and how their race is told.
+type RaceRow<'a> = (&'a str, (Told, Told), Wanted<'a>);
 
 const RACES: [RaceRow<'static>; 2] = [
     (
         "rdtrace 1;thread p;thread q;object f flag",
         ((6, 1, false, (0, 1, 0)), (5, 0, true, (1, 0, 0))),
-        "race line 6 q f set -> false clock q:1\nwith line 5 p f set -> true clock p:1\nformula flag set set when done@1 = true\n",
+        (
+            "race line 6 q f set -> false clock q:1\nwith line 5 p f set -> true clock p:1\nformula flag set set when done@1 = true\n",
+            "{\"earlier\":{\"call\":\"p f set -> true\",\"clock\":\"p:1\",\"line\":5},\"formula\":\"flag set set when done@1 = true\",\"later\":{\"call\":\"q f set -> false\",\"clock\":\"q:1\",\"line\":6}}\n",
+        ),
     ),
     // the first and the last of three threads
     (
         "rdtrace 1;thread main;thread a;thread b;object g.1 flag",
         ((4294967296, 2, true, (2, 0, 1)), (40, 0, true, (12, 7, 0))),
-        "race line 4294967296 b g.1 set -> true clock main:2,b:1\nwith line 40 main g.1 set -> true clock main:12,a:7\nformula flag set set when done@1 = true\n",
+        (
+            "race line 4294967296 b g.1 set -> true clock main:2,b:1\nwith line 40 main g.1 set -> true clock main:12,a:7\nformula flag set set when done@1 = true\n",
+            "{\"earlier\":{\"call\":\"main g.1 set -> true\",\"clock\":\"main:12,a:7\",\"line\":40},\"formula\":\"flag set set when done@1 = true\",\"later\":{\"call\":\"b g.1 set -> true\",\"clock\":\"main:2,b:1\",\"line\":4294967296}}\n",
+        ),
     ),
 ];
 
 #[test]
 fn a_race_of_two_calls(rt: HostRuntime) {
     for (lines, calls, wanted) in &RACES {
-        is_race(&rt, rt.alloc(), lines, *calls, wanted);
+        is_race(&rt, rt.alloc(), lines, *calls, *wanted);
     }
 }
 
@@ -260,36 +279,73 @@ fn ending(closing: Closing, line: u64) -> Ending {
     }
 }
 
-// How many races there are, how the lines end, at which line, and the text.
-const ENDINGS: [(u64, Closing, u64, &str); 6] = [
-    (0, Closing::Exact, 0, "races 0\nreplay exact\n"),
+// How many races there are, how the lines end, at which line, and how it is told.
+type EndingRow<'a> = (u64, Closing, u64, Wanted<'a>);
+
+const ENDINGS: [EndingRow<'static>; 6] = [
+    (
+        0,
+        Closing::Exact,
+        0,
+        (
+            "races 0\nreplay exact\n",
+            "{\"ending\":\"end\",\"races\":0,\"replay\":\"exact\"}\n",
+        ),
+    ),
     (
         1,
         Closing::LockHeld,
         10,
-        "races 1\nrefused line 10 lock-held p\n",
+        (
+            "races 1\nrefused line 10 lock-held p\n",
+            "{\"ending\":\"refused line 10 lock-held p\",\"races\":1}\n",
+        ),
     ),
-    (0, Closing::BadLine, 2, "races 0\nrefused line 2 bad-line\n"),
+    (
+        0,
+        Closing::BadLine,
+        2,
+        (
+            "races 0\nrefused line 2 bad-line\n",
+            "{\"ending\":\"refused line 2 bad-line\",\"races\":0}\n",
+        ),
+    ),
     (
         3,
         Closing::NoFinalNewline,
         7,
-        "races 3\nrefused line 7 no-final-newline\n",
+        (
+            "races 3\nrefused line 7 no-final-newline\n",
+            "{\"ending\":\"refused line 7 no-final-newline\",\"races\":3}\n",
+        ),
     ),
     (
         0,
         Closing::LongLine,
         2,
-        "races 0\nrefused line 2 limit line 8192\n",
+        (
+            "races 0\nrefused line 2 limit line 8192\n",
+            "{\"ending\":\"refused line 2 limit line 8192\",\"races\":0}\n",
+        ),
     ),
-    (0, Closing::Fault, 0, "races 0\nfault input\n"),
+    (
+        0,
+        Closing::Fault,
+        0,
+        (
+            "races 0\nfault input\n",
+            "{\"ending\":\"fault input\",\"races\":0}\n",
+        ),
+    ),
 ];
 
-fn end_so(rt: &impl Abort, alloc: Global, names: &Roster, rows: &[(u64, Closing, u64, &str)]) {
+fn end_so(rt: &impl Abort, alloc: Global, names: &Roster, rows: &[EndingRow<'_>]) {
     for (races, closing, line, wanted) in rows {
         let ending = ending(*closing, *line);
         let text = ending_text(alloc, *races, &ending, names).expect(rt, "memory");
-        is_text(rt, text.items(), wanted);
+        is_text(rt, text.items(), wanted.0);
+        let object = ending_json(alloc, *races, &ending, names).expect(rt, "memory");
+        is_text(rt, object.items(), wanted.1);
     }
 }
 

@@ -3,7 +3,8 @@ use Rattle.rd_run.specs.Commands.Command.{kind}
 use Rattle.rd_run.specs.Commands.{Command, usage_meaning, named_number, shipped_named, usage_outcome}
 use Rattle.rd_base.specs.declared.limits.Limits.{Limits}
 use Rattle.rd_ecl.specs.Specified.{SpecifiedKind}
-use Rattle.rd_io.specs.Inputs.{Source}
+use Rattle.rd_io.specs.Inputs.{Source, fault_line}
+use Rattle.rd_json.specs.Forms.{fault_in}
 use Rattle.rd_kinds.specs.Shipped.{counter_kind, dictionary_kind, register_kind, set_kind, shipped_kinds}
 use Rattle.rd_walk.proofs.OutputLemmas.{has_outcome}
 use Rattle.rd_walk.specs.Output.{IsOutput}
@@ -46,9 +47,10 @@ no_fault_told fault (Err e) is inputs before point written =
 -- what one of the commands that walk over a trace writes, by what it does with each line
 abbrev pub part_texts : List Kind → Either Check ReplayAlone → ReportTexts
 part_texts kinds part = record {
-  lines = λ entries. either (λ check. race_texts check.spec.now entries) (λ alone. []) part;
-  outcome = λ walked. either (λ check. check_outcome check.spec.now walked) (λ alone. replay_outcome kinds walked) part;
+  lines = λ entries. either (λ check. race_texts check.form check.spec.now entries) (λ alone. []) part;
+  outcome = λ walked. either (λ check. check_outcome check.form check.spec.now walked) (λ alone. replay_outcome kinds walked) part;
   bound = λ before item. either (λ check. check_bound check.spec.now before item) (λ alone. 0) part;
+  unopened = either (λ check. fault_in check.form) (λ alone. fault_line) part;
 }
 
 -- each number below the count of the built-in kinds is that of one

@@ -7,7 +7,7 @@ use Rattle.rd_walk.proofs.WholeLemmas.{all_written}
 use Rattle.rd_base.specs.declared.limits.Limits.{Limits}
 use Rattle.rd_io.specs.Inputs.{Source}
 use Rattle.rd_walk.specs.Output.{HasOutcome}
-use Rattle.rd_replaying.specs.States.{replay_outcome, built_in_kinds}
+use Rattle.rd_replaying.specs.States.{replay_texts, built_in_kinds}
 use Rattle.rd_run.specs.Commands.Command.{check, kind, of_spec, replay}
 use Rattle.rd_check.specs.Meanings.{IsCheckOutcome}
 use Rattle.rd_spec_commands.specs.Meanings.{IsJudged, IsUnread}
@@ -31,12 +31,12 @@ pub whole_run : (command : Option Command) (limits : Limits) (rose : Bool) (old 
     → Runs (meaning_of command) limits rose old new part status before after → rose ≡ false → status ≢ OutputFault → (command ≡ None → status ≢ NoMemory)
     → WritesAll (meaning_of command) limits old part status
 whole_run None limits rose old new part status before after runs calm other some = whole_usage part status runs.output other (some refl)
-whole_run (Some (check trace file)) limits rose old new part status before after runs calm other some =
-    whole_check trace file limits old new part status
-    (subst (λ r. HasOutcome (IsCheckOutcome trace file limits r old new) status part) calm runs.output) other
+whole_run (Some (check form trace file)) limits rose old new part status before after runs calm other some =
+    whole_check form trace file limits old new part status
+    (subst (λ r. HasOutcome (IsCheckOutcome form trace file limits r old new) status part) calm runs.output) other
 whole_run (Some (replay trace)) limits rose old new part status before after runs calm other some =
     whole_replay trace limits old new part status
-    (subst (λ r. HasOutcome (IsTraceOutcome (replay_outcome built_in_kinds) built_in_kinds trace limits r old new) status part) calm runs.output) other
+    (subst (λ r. HasOutcome (IsTraceOutcome (replay_texts built_in_kinds) built_in_kinds trace limits r old new) status part) calm runs.output) other
 whole_run (Some (kind built_in)) limits rose old new part status before after runs calm other some =
     whole_kind built_in limits old part status runs.output other
 whole_run (Some (of_spec said file)) limits rose old new part status before after runs calm other some =

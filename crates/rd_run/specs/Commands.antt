@@ -6,6 +6,8 @@ use Rattle.rd_print.specs.Printed.{spec_text}
 use Rattle.rd_spec_commands.specs.Meanings.{kind_meaning, said_meaning}
 use Rattle.rd_replaying.specs.Meanings.{replay_meaning}
 use Rattle.rd_ecl.specs.Specified.{SpecifiedKind}
+use Rattle.rd_json.specs.declared.forms.Form.{Form}
+use Rattle.rd_json.specs.declared.forms.Form.TheVariants.{Text, Json}
 use Rattle.rd_kinds.specs.Shipped.{shipped_kinds}
 use Rattle.rd_walk.specs.Output.{Outcome}
 use Rattle.rd_walk.specs.declared.status.Status.TheVariants.{Usage}
@@ -18,8 +20,8 @@ use Rattle.std.specs.Prelude.{◌≡◌, ℕ, List, Option, Some, None, codes, o
 
 -- what the words ask for
 pub data Command : Type 0 where
-  -- a trace, and a specification where one is named
-  check : List ℕ → Option (List ℕ) → Command
+  -- a trace, and a specification where one is named, with a report in this form
+  check : Form → List ℕ → Option (List ℕ) → Command
   -- a trace
   replay : List ℕ → Command
   -- a text of the kinds that a specification says
@@ -34,12 +36,15 @@ shipped_named name = find (λ kind. same_name name kind.name) shipped_kinds
 -- the words are exactly those of a command
 abbrev pub command_of : List (List ℕ) → Option Command
 command_of (word ∷ name ∷ []) =
-    if same_name word (codes "check") then Some (check name None)
+    if same_name word (codes "check") then Some (check Text name None)
+    else if same_name word (codes "check-json") then Some (check Json name None)
     else if same_name word (codes "replay") then Some (replay name)
     else if same_name word (codes "spec") then Some (of_spec Spec name)
     else if same_name word (codes "points") then Some (of_spec Points name)
     else if same_name word (codes "kind") then option_map kind (shipped_named name) else None
-command_of (word ∷ trace ∷ file ∷ []) = if same_name word (codes "check") then Some (check trace (Some file)) else None
+command_of (word ∷ trace ∷ file ∷ []) =
+    if same_name word (codes "check") then Some (check Text trace (Some file))
+    else if same_name word (codes "check-json") then Some (check Json trace (Some file)) else None
 command_of _ = None
 
 -- where the words match no command
@@ -65,7 +70,7 @@ said_text Points kinds = points_text kinds
 -- what a command means
 abbrev pub meaning_of : Option Command → Meaning
 meaning_of None = usage_meaning
-meaning_of (Some (check trace file)) = check_meaning trace file
+meaning_of (Some (check form trace file)) = check_meaning form trace file
 meaning_of (Some (replay trace)) = replay_meaning trace
 meaning_of (Some (of_spec said file)) = said_meaning (said_text said) file
 meaning_of (Some (kind built_in)) = kind_meaning built_in
@@ -74,8 +79,8 @@ meaning_of (Some (kind built_in)) = kind_meaning built_in
 
 abbrev pub asked_command : Option Asked → Option Command
 asked_command None = None
-asked_command (Some (Check trace)) = Some (check trace.now None)
-asked_command (Some (CheckWith trace file)) = Some (check trace.now (Some file.now))
+asked_command (Some (Check asked)) = Some (check asked.form asked.trace.now None)
+asked_command (Some (CheckWith asked file)) = Some (check asked.form asked.trace.now (Some file.now))
 asked_command (Some (Replay trace)) = Some (replay trace.now)
 asked_command (Some (OfSpec said file)) = Some (of_spec said file.now)
 asked_command (Some (BuiltIn number)) = option_map kind (slice_get shipped_kinds number)

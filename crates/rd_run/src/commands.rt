@@ -5,6 +5,7 @@ ghost use Rattle.rd_run.specs.Commands.{asked_command, command_of, named_number}
 use rd_base::Word;
 use rd_ecl::Spec;
 use rd_io::Sink;
+use rd_json::Form;
 use rd_points_command::PointTables;
 use rd_spec_commands::{CanonicalText, SpecReport};
 use rd_walk::Halt;
@@ -32,12 +33,19 @@ impl SpecReport for Said {
     }
 }
 
+/// A trace to check, and the form of the report.
+#[derive(Clone, Copy)]
+pub struct ToCheck<'a> {
+    pub form: Form,
+    pub trace: &'a Word,
+}
+
 /// What the words of the command line ask for.
 pub enum Command<'a> {
-    /// `check TRACE`
-    Check(&'a Word),
-    /// `check TRACE SPEC`
-    CheckWith(&'a Word, &'a Word),
+    /// `check TRACE` or `check-json TRACE`
+    Check(ToCheck<'a>),
+    /// `check TRACE SPEC` or `check-json TRACE SPEC`
+    CheckWith(ToCheck<'a>, &'a Word),
     /// `replay TRACE`
     Replay(&'a Word),
     /// `spec SPEC` or `points SPEC`
@@ -73,7 +81,16 @@ pub(crate) fn command_of(words: &[Word]) -> Option<Command<'_>>
         (λ command. (number : ℕ) → command ≡ Command.Kind number → number < 4) }
 {
     match words {
-        [word, trace] if word.items() == b"check".as_slice() => Some(Command::Check(trace)),
+        [word, trace] if word.items() == b"check".as_slice() => Some(Command::Check(ToCheck {
+            form: Form::Text,
+            trace,
+        })),
+        [word, trace] if word.items() == b"check-json".as_slice() => {
+            Some(Command::Check(ToCheck {
+                form: Form::Json,
+                trace,
+            }))
+        }
         [word, trace] if word.items() == b"replay".as_slice() => Some(Command::Replay(trace)),
         [word, file] if word.items() == b"spec".as_slice() => Some(Command::OfSpec(
             Said::Spec,
@@ -87,7 +104,18 @@ pub(crate) fn command_of(words: &[Word]) -> Option<Command<'_>>
             None => None,
         },
         [word, trace, file] if word.items() == b"check".as_slice() => {
-            Some(Command::CheckWith(trace, file))
+            let asked = ToCheck {
+                form: Form::Text,
+                trace,
+            };
+            Some(Command::CheckWith(asked, file))
+        }
+        [word, trace, file] if word.items() == b"check-json".as_slice() => {
+            let asked = ToCheck {
+                form: Form::Json,
+                trace,
+            };
+            Some(Command::CheckWith(asked, file))
         }
         _ => None,
     }

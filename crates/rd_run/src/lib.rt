@@ -1,4 +1,4 @@
-//! A run of the program: `check` and `replay` over a trace, `spec` and `points` over a specification, `kind`.
+//! A run of the program: `check`, `check-json` and `replay` over a trace, `spec` and `points` over a specification, `kind`.
 #![tactic(auto)]
 
 mod commands;

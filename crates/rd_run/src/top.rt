@@ -18,7 +18,7 @@ ghost use Rattle.rd_walk.specs.Meanings.{Runs, WritesAll};
 ghost use Rattle.rd_run.specs.Commands.Command.{check, kind, replay};
 ghost use Rattle.rd_spec_commands.specs.Meanings.{kind_outcome};
 
-use crate::commands::{Command, command_of};
+use crate::commands::{Command, ToCheck, command_of};
 use either::Either;
 use rd_base::{Limits, NoMemory, Steps, Word};
 use rd_check::Check;
@@ -38,11 +38,11 @@ use std::sync::ledger::Ledger;
 /// What a command does with each accepted line of a trace: one type for all commands, so that the program has one walk.
 type Part<'a> = Either<Check<'a>, ReplayAlone>;
 
-/// `check` on a trace whose objects are of these kinds.
+/// `check` on a trace whose objects are of these kinds, in the form that is asked for.
 fn check<I: Inputs, S: Sink, L: Ledger>(
     alloc: Global,
     spec: &Spec,
-    trace: &Word,
+    asked: &ToCheck<'_>,
     inputs: &mut I,
     out: &mut S,
     limits: &Limits,
@@ -58,7 +58,7 @@ fn check<I: Inputs, S: Sink, L: Ledger>(
         old.opens ≤ 2 ^ 63 →
         (new : Source) × (part : List ℕ) × (I.told inputs.new ≡ Some new)
         × Appends (S.written out.old) (S.written out.new) part
-        × ReportsTrace (check_texts spec.now) (kinds_of spec.now) trace.now limits.now
+        × ReportsTrace (check_texts asked.now.form spec.now) (kinds_of spec.now) asked.now.trace.now limits.now
         (nat_lt (I.faults inputs.old)
         (I.faults inputs.new)) old new part
         (report_status result) steps.old steps.new }
@@ -66,7 +66,7 @@ fn check<I: Inputs, S: Sink, L: Ledger>(
         (S.faults out.old) (S.faults out.new) (S.at_fault out.new) (S.written out.new) result }
 {
     let roster = Roster::new(alloc, spec)?;
-    let analysis = Check::new(alloc, spec)?;
+    let analysis = Check::new(alloc, asked.form, spec)?;
     let part: Part<'_> = Either::Left(analysis);
     let mut walker = Walker {
         alloc,
@@ -76,13 +76,13 @@ fn check<I: Inputs, S: Sink, L: Ledger>(
         line: Line::Skip,
         refused: None,
     };
-    report_trace(&mut walker, trace, inputs, out, steps)
+    report_trace(&mut walker, asked.trace, inputs, out, steps)
 }
 
 /// `check TRACE`
 fn check_shipped<I: Inputs, S: Sink, L: Ledger>(
     alloc: Global,
-    trace: &Word,
+    asked: &ToCheck<'_>,
     inputs: &mut I,
     out: &mut S,
     limits: &Limits,
@@ -95,7 +95,7 @@ fn check_shipped<I: Inputs, S: Sink, L: Ledger>(
         old.opens < 2 ^ 63 →
         (new : Source) × (part : List ℕ) × (I.told inputs.new ≡ Some new)
         × Appends (S.written out.old) (S.written out.new) part
-        × Runs (check_meaning trace.now None) limits.now
+        × Runs (check_meaning asked.now.form asked.now.trace.now None) limits.now
         (nat_lt (I.faults inputs.old)
         (I.faults inputs.new)) old new part
         (report_status result) steps.old steps.new }
@@ -103,7 +103,7 @@ fn check_shipped<I: Inputs, S: Sink, L: Ledger>(
         (S.faults out.old) (S.faults out.new) (S.at_fault out.new) (S.written out.new) result }
 {
     let spec = shipped(alloc)?;
-    check(alloc, &spec, trace, inputs, out, limits, steps)
+    check(alloc, &spec, asked, inputs, out, limits, steps)
 }
 
 /// The shipped kinds, then those of a specification.
@@ -119,7 +119,7 @@ fn with_shipped(alloc: Global, said: Spec) -> Result<Spec, NoMemory>
 /// `check TRACE SPEC`
 fn check_with<I: Inputs, S: Sink, L: Ledger>(
     alloc: Global,
-    trace: &Word,
+    asked: &ToCheck<'_>,
     file: &Word,
     inputs: &mut I,
     out: &mut S,
@@ -131,7 +131,7 @@ fn check_with<I: Inputs, S: Sink, L: Ledger>(
         old.opens < 2 ^ 63 →
         (new : Source) × (part : List ℕ) × (I.told inputs.new ≡ Some new)
         × Appends (S.written out.old) (S.written out.new) part
-        × Runs (check_meaning trace.now (Some file.now)) limits.now
+        × Runs (check_meaning asked.now.form asked.now.trace.now (Some file.now)) limits.now
         (nat_lt (I.faults inputs.old)
         (I.faults inputs.new)) old new part result steps.old steps.new }
     ensures input_fault { result ≡ Status.InputFault →
@@ -144,10 +144,10 @@ fn check_with<I: Inputs, S: Sink, L: Ledger>(
 {
     let said = match read_spec(alloc, file, inputs) {
         Ok(said) => said,
-        Err(unread) => return spec_command_status(refuse_unread(alloc, &unread, out)),
+        Err(unread) => return spec_command_status(refuse_unread(alloc, asked.form, &unread, out)),
     };
     match with_shipped(alloc, said) {
-        Ok(spec) => report_status(check(alloc, &spec, trace, inputs, out, limits, steps)),
+        Ok(spec) => report_status(check(alloc, &spec, asked, inputs, out, limits, steps)),
         Err(_) => Status::NoMemory,
     }
 }
@@ -205,7 +205,8 @@ fn refuse_usage<S: Sink>(out: &mut S) -> Status
 
 /// Runs the command that the words of the command line ask for, without the program's own name: `check TRACE` and `check TRACE SPEC`,
 /// which report the races of a trace by the formulas of the kinds that are built in, and of those of a specification, and say whether the
-/// recorded results are those of the objects; `replay TRACE`, which says this alone, and where it is so what the objects hold in the end;
+/// recorded results are those of the objects; `check-json TRACE` and `check-json TRACE SPEC`, the same as lines with one JSON object each;
+/// `replay TRACE`, which says this alone, and where it is so what the objects hold in the end;
 /// `spec SPEC`, which writes the canonical text of a specification, and `points SPEC`, which writes the access points of its kinds, or where
 /// and why it is refused; or `kind NAME`, which writes the canonical text of a kind that is built in. Any other words write `refused usage`. Each line is handed to the output by itself, with its line feed.
 ///
@@ -274,11 +275,11 @@ pub fn run<I: Inputs, S: Sink, L: Ledger>(
 {
     match command_of(words) {
         None => refuse_usage(out),
-        Some(Command::Check(trace)) => {
-            report_status(check_shipped(alloc, trace, inputs, out, limits, steps))
+        Some(Command::Check(asked)) => {
+            report_status(check_shipped(alloc, &asked, inputs, out, limits, steps))
         }
-        Some(Command::CheckWith(trace, file)) => {
-            check_with(alloc, trace, file, inputs, out, limits, steps)
+        Some(Command::CheckWith(asked, file)) => {
+            check_with(alloc, &asked, file, inputs, out, limits, steps)
         }
         Some(Command::Replay(trace)) => {
             report_status(replay(alloc, trace, inputs, out, limits, steps))

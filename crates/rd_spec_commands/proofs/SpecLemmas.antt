@@ -11,6 +11,7 @@ use Rattle.rd_reading.specs.Texts.{IsSpecRefused, SpecSays}
 use Rattle.rd_reading.specs.declared.parsing.SpecRefused.{SpecRefused as Refusal}
 use Rattle.rd_walk.specs.Output.{IsOutput, fault_outcome}
 use Rattle.rd_walk.specs.Meanings.{Runs}
+use Rattle.rd_json.specs.declared.forms.Form.TheVariants.{Text}
 use Rattle.rd_spec_commands.specs.Specifications.{TellsUnread, accepted_outcome, most_bytes, refused_outcome}
 use Rattle.rd_spec_commands.specs.declared.specifications.Unread.{Unread}
 use Rattle.rd_spec_commands.specs.declared.specifications.Unread.TheVariants.{Fault, Refused, NoMemory as OutOfMemory}
@@ -65,11 +66,11 @@ module _ (text : List SpecifiedKind → List ℕ) (file : List ℕ) (limits : Li
       }
 
   pub spec_refused : now ≡ before → (bytes : List ℕ) (refused : Refusal) → ReadsSpec file old new bytes → IsSpecRefused bytes reserved_names refused
-      → IsOutput status part (refused_outcome refused) → Runs (said_meaning text file) limits (ltb before now) old new part status steps steps
+      → IsOutput status part (refused_outcome Text refused) → Runs (said_meaning text file) limits (ltb before now) old new part status steps steps
   spec_refused same bytes refused reads refuses output =
       let quiet : ltb before now ≡ false = grind (arith, nat_tests) in
       record {
-        output = has_outcome ((said_meaning text file).outcome limits (ltb before now) old new) status part (refused_outcome refused)
+        output = has_outcome ((said_meaning text file).outcome limits (ltb before now) old new) status part (refused_outcome Text refused)
             (inr (record { calm = quiet; one_opened = reads.opens; bytes = bytes; text = reads.text; is = inr (refused, refuses, refl) })) output;
         opened = leaves.opened;
         taken = (leaves.taken, leaves.unopened, refl);
@@ -97,7 +98,7 @@ module _ (text : List SpecifiedKind → List ℕ) (file : List ℕ) (limits : Li
       })
 
   -- as it is told why the specification isn't there
-  pub spec_told : (unread : Unread) → TellsUnread unread status part → (unread ≡ Fault → Rose before now) → (unread ≢ Fault → now ≡ before)
+  pub spec_told : (unread : Unread) → TellsUnread Text unread status part → (unread ≡ Fault → Rose before now) → (unread ≢ Fault → now ≡ before)
       → ((refused : Refusal) → unread ≡ Refused refused → (bytes : List ℕ) × ReadsSpec file old new bytes × IsSpecRefused bytes reserved_names refused)
       → Runs (said_meaning text file) limits (ltb before now) old new part status steps steps
   spec_told Fault tells risen calm refuses = spec_faulted (risen refl) tells.0

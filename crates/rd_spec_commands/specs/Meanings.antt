@@ -4,6 +4,7 @@ use Rattle.rd_walk.specs.Meanings.{Meaning}
 use Rattle.rd_base.specs.declared.limits.Limits.{Limits}
 use Rattle.rd_ecl.specs.Specified.{SpecifiedKind}
 use Rattle.rd_io.specs.Inputs.{Source, file_of}
+use Rattle.rd_json.specs.declared.forms.Form.{Form}
 use Rattle.rd_kinds.specs.Shipped.{reserved_names}
 use Rattle.rd_print.specs.Printed.{spec_text}
 use Rattle.rd_walk.specs.Output.{Outcome, fault_outcome}
@@ -20,15 +21,15 @@ pub record IsSpecText (old : Source) (file bytes : List ℕ) : Type 0 where
   pub held : file_of old.files file ≡ Some whole
   pub front : bytes ≡ take most_bytes whole
 
--- where the specification is refused: the trace isn't opened
-pub record IsSpecFileRefused (file : List ℕ) (rose : Bool) (old new : Source) (outcome : Outcome) : Type 0 where
+-- where the specification is refused, as it is told in this form: the trace isn't opened
+pub record IsSpecFileRefused (form : Form) (file : List ℕ) (rose : Bool) (old new : Source) (outcome : Outcome) : Type 0 where
   pub calm : rose ≡ false
   pub one_opened : new.opens ≡ old.opens + 1
   pub bytes : List ℕ
   pub text : IsSpecText old file bytes
   pub refused : Refusal
   pub refuses : IsSpecRefused bytes reserved_names refused
-  pub is : outcome ≡ refused_outcome refused
+  pub is : outcome ≡ refused_outcome form refused
 
 -- where the specification was read: it is judged
 pub record IsJudged (of_kinds : List SpecifiedKind → List ℕ) (file : List ℕ) (rose : Bool) (old new : Source) (outcome : Outcome) : Type 0 where

@@ -6,8 +6,10 @@ use Rattle.rd_ecl.specs.Specified.{SpecifiedKind}
 use Rattle.rd_kinds.specs.Shipped.{reserved_names}
 use Rattle.rd_reading.specs.Texts.{IsSpecRefused, SpecSays}
 use Rattle.rd_reading.specs.declared.parsing.SpecRefused.{SpecRefused as Refusal}
-use Rattle.rd_reading.specs.RefusedTexts.{spec_refused_line}
-use Rattle.rd_walk.specs.Output.{IsOutput, Outcome, fault_outcome, halted_with}
+use Rattle.rd_json.specs.Forms.{fault_in, refused_in}
+use Rattle.rd_json.specs.declared.forms.Form.{Form}
+use Rattle.rd_json.specs.declared.forms.Form.TheVariants.{Text}
+use Rattle.rd_walk.specs.Output.{IsOutput, Outcome, halted_with, unopened_outcome}
 use Rattle.rd_walk.specs.declared.analysis.Halt.{Halt}
 use Rattle.rd_spec_commands.specs.declared.specifications.SpecStatus.{SpecStatus}
 use Rattle.rd_spec_commands.specs.declared.specifications.SpecStatus.TheVariants as spec
@@ -36,15 +38,15 @@ spec_command_status (Err halt) = halted_with halt
 abbrev pub accepted_outcome : (List SpecifiedKind → List ℕ) → List SpecifiedKind → Outcome
 accepted_outcome text kinds = record { text = text kinds; status = Clean }
 
--- where a line is refused
-abbrev pub refused_outcome : Refusal → Outcome
-refused_outcome refused = record { text = spec_refused_line refused; status = spec_status refused.cause }
+-- where a line is refused, as it is told in this form
+abbrev pub refused_outcome : Form → Refusal → Outcome
+refused_outcome form refused = record { text = refused_in form refused; status = spec_status refused.cause }
 
 -- the outcome for these bytes: they say kinds, or they are refused
 abbrev pub IsSpecOutcome : (List SpecifiedKind → List ℕ) → List ℕ → Outcome → Type 0
 IsSpecOutcome text bytes outcome =
     ((kinds : List SpecifiedKind) × SpecSays bytes reserved_names kinds × (outcome ≡ accepted_outcome text kinds))
-    ⊎ ((refused : Refusal) × IsSpecRefused bytes reserved_names refused × (outcome ≡ refused_outcome refused))
+    ⊎ ((refused : Refusal) × IsSpecRefused bytes reserved_names refused × (outcome ≡ refused_outcome Text refused))
 
 -- how many bytes of a file are read at most: one more than a text may have
 abbrev pub most_bytes : ℕ
@@ -52,8 +54,8 @@ most_bytes = MOST_SPEC_BYTES + 1
 
 -- ---- a specification that isn't there
 
--- what is written where a specification isn't there, and the status
-abbrev pub TellsUnread : Unread → Status → List ℕ → Type 0
-TellsUnread Fault status part = IsOutput status part fault_outcome × ((status ≡ InputFault) ⊎ (status ≡ OutputFault))
-TellsUnread (Refused refused) status part = IsOutput status part (refused_outcome refused)
-TellsUnread NoMemory status part = (status ≡ MemoryRanOut) × (part ≡ [])
+-- what is written in this form where a specification isn't there, and the status
+abbrev pub TellsUnread : Form → Unread → Status → List ℕ → Type 0
+TellsUnread form Fault status part = IsOutput status part (unopened_outcome (fault_in form)) × ((status ≡ InputFault) ⊎ (status ≡ OutputFault))
+TellsUnread form (Refused refused) status part = IsOutput status part (refused_outcome form refused)
+TellsUnread form NoMemory status part = (status ≡ MemoryRanOut) × (part ≡ [])

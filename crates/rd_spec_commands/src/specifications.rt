@@ -16,10 +16,11 @@ ghost use Rattle.rd_spec_commands.specs.Specifications.{TellsUnread, accepted_ou
 use rd_base::{MOST_SPEC_BYTES, Word};
 use rd_ecl::Spec;
 use rd_io::{FrontRefused, Inputs, Sink, read_front};
+use rd_json::{Form, fault_in, refused_in};
 use rd_kinds::reserved;
 use rd_print::print;
-use rd_reading::{ParseRefused, SpecCause, SpecRefused, parse, spec_refused_line};
-use rd_walk::{Halt, Status, status_of, write_fault, write_line, write_lines};
+use rd_reading::{ParseRefused, SpecCause, SpecRefused, parse};
+use rd_walk::{Halt, Status, status_of, write_line, write_lines};
 use std::alloc::Global;
 
 /// How many bytes of a file are read at most: one more than a text may have.
@@ -159,27 +160,33 @@ fn refusal_status(cause: &SpecCause) -> SpecStatus
     }
 }
 
-/// Writes where and why a specification is refused.
-fn refuse<S: Sink>(alloc: Global, refused: &SpecRefused, out: &mut S) -> Result<SpecStatus, Halt>
+/// Writes in this form where and why a specification is refused.
+fn refuse<S: Sink>(
+    alloc: Global,
+    form: Form,
+    refused: &SpecRefused,
+    out: &mut S,
+) -> Result<SpecStatus, Halt>
     ensures output { (part : List ℕ) × Appends (S.written out.old) (S.written out.new) part
-        × IsOutput (spec_command_status result) part (refused_outcome refused.now) }
+        × IsOutput (spec_command_status result) part (refused_outcome form refused.now) }
     ensures read { IfOk result (λ status. status ≢ SpecStatus.InputFault) }
     ensures fault { TellsFault (S.faults out.old) (S.faults out.new) (S.at_fault out.new)
         (S.written out.new) result }
 {
-    let line = spec_refused_line(alloc, refused)?;
+    let line = refused_in(form, alloc, refused)?;
     write_line(out, line.items())?;
     Ok(refusal_status(&refused.cause))
 }
 
-/// Says why a specification isn't there.
+/// Says in this form why a specification isn't there.
 pub fn refuse_unread<S: Sink>(
     alloc: Global,
+    form: Form,
     unread: &Unread,
     out: &mut S,
 ) -> Result<SpecStatus, Halt>
     ensures output { (part : List ℕ) × Appends (S.written out.old) (S.written out.new) part
-        × TellsUnread unread.now (spec_command_status result) part }
+        × TellsUnread form unread.now (spec_command_status result) part }
 
     // each fault is told as one, and memory runs out only where the file was read
     ensures input { IfOk result
@@ -190,10 +197,10 @@ pub fn refuse_unread<S: Sink>(
 {
     match unread {
         Unread::Fault => {
-            write_fault(out)?;
+            write_line(out, fault_in(form))?;
             Ok(SpecStatus::InputFault)
         }
-        Unread::Refused(refused) => refuse(alloc, refused, out),
+        Unread::Refused(refused) => refuse(alloc, form, refused, out),
         Unread::NoMemory => Err(Halt::NoMemory),
     }
 }
@@ -222,6 +229,6 @@ pub fn report_spec<R: SpecReport, I: Inputs, S: Sink>(
 {
     match read_spec(alloc, file, inputs) {
         Ok(said) => accept(alloc, report, &said, out),
-        Err(unread) => refuse_unread(alloc, &unread, out),
+        Err(unread) => refuse_unread(alloc, Form::Text, &unread, out),
     }
 }

@@ -13,7 +13,7 @@ use Rattle.rd_walk.specs.declared.walk.WalkEnd.{WalkEnd}
 use Rattle.rd_walk.specs.declared.walk.WalkEnd.TheVariants.{End, Refused, Fault}
 use Rattle.rd_wf.specs.Events.{AreAccepted}
 use Rattle.rd_walk.specs.Traces.{HasReported, IsReadWhole, IsTraceOutcome, ReportTexts, ReportsTrace, walk_of, walk_on}
-use Rattle.rd_walk.specs.Output.{IsFront, IsOutput, IsWell, fault_outcome, report_status}
+use Rattle.rd_walk.specs.Output.{IsFront, IsOutput, IsWell, report_status, unopened_outcome}
 use Rattle.rd_walk.specs.declared.analysis.Halt.{Halt}
 use Rattle.rd_walk.specs.declared.status.TraceStatus.{TraceStatus}
 use Rattle.std.specs.Result.{IsErr, IsErrAnd}
@@ -47,16 +47,16 @@ module _ (texts : ReportTexts) (kinds : List Kind) (name : List ℕ) (limits : L
 
   -- the trace could not be opened
   pub reports_unopened : (before now : ℕ) (old new : Source) (part : List ℕ) (status : Status) (steps : ℕ) → before < 2 ^ 63 → Rose before now
-      → IsNotOpened old new name → IsOutput status part fault_outcome → ReportsTrace texts kinds name limits (ltb before now) old new part status steps steps
+      → IsNotOpened old new name → IsOutput status part (unopened_outcome texts.unopened) → ReportsTrace texts kinds name limits (ltb before now) old new part status steps steps
   reports_unopened before now old new part status steps few risen opened output =
       let rose : ltb before now ≡ true = grind (arith, nat_tests) in
       record {
-        output = has_outcome (IsTraceOutcome texts.outcome kinds name limits (ltb before now) old new) status part fault_outcome
+        output = has_outcome (IsTraceOutcome texts kinds name limits (ltb before now) old new) status part (unopened_outcome texts.unopened)
             (inl (record { risen = rose; some_unopened = omega (arith, opened.opens); is = refl })) output;
         opened = opens_none name old new opened;
         taken = λ more. absurd (omega (arith, opened.opens, more));
         unopened = λ same. ((opened.taken, opened.held), refl);
-        read = λ well. absurd (fault_no_well (well_written status part fault_outcome well output));
+        read = λ well. absurd (fault_no_well (well_written status part (unopened_outcome texts.unopened) well output));
       }
 
   -- it was opened, and the report is done with it
@@ -73,7 +73,7 @@ module _ (texts : ReportTexts) (kinds : List Kind) (name : List ℕ) (limits : L
       reports_over walk_is output read_whole =
           subst (λ r. ReportsTrace texts kinds name limits r old new part status from to) (sym is_rose)
           (record {
-            output = has_outcome (IsTraceOutcome texts.outcome kinds name limits rose old new) status part (texts.outcome (walk_of kinds name limits rose old new))
+            output = has_outcome (IsTraceOutcome texts kinds name limits rose old new) status part (texts.outcome (walk_of kinds name limits rose old new))
                 (inr (opens_once name old mid new taken few_opens opened takes, refl))
                 (subst (λ w. IsOutput status part (texts.outcome w)) (sym walk_is) output);
             opened = opens_only name old mid new taken few_opens opened takes;

@@ -67,6 +67,9 @@ report_status (Ok trace.LimitReached) = LimitReached
 report_status (Ok trace.InputFault) = InputFault
 report_status (Err halt) = halted_with halt
 
--- where the file could not be opened, or not be read
+-- where a file could not be opened, or not be read, and this is what is written then
+abbrev pub unopened_outcome : List ℕ → Outcome
+unopened_outcome text = record { text = text; status = InputFault }
+
 abbrev pub fault_outcome : Outcome
-fault_outcome = record { text = fault_line; status = InputFault }
+fault_outcome = unopened_outcome fault_line

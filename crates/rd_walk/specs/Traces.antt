@@ -1,5 +1,5 @@
 -- What a report leaves of a trace: what it walks over, opens and takes, and writes. This project's profile.
-use Rattle.rd_walk.specs.Output.{halted_with, HasOutcome, IsWell, Outcome, IsOutput, fault_outcome}
+use Rattle.rd_walk.specs.Output.{halted_with, HasOutcome, IsWell, Outcome, IsOutput, unopened_outcome}
 use Rattle.rd_base.specs.declared.limits.Limits.{Limits}
 use Rattle.rd_ecl.specs.Kinds.{Kind}
 use Rattle.rd_event.specs.declared.items.Line.{Line}
@@ -22,6 +22,8 @@ pub record ReportTexts : Type 0 where
   pub outcome : Walked → Outcome
   -- the bound on the steps of a line behind others
   pub bound : List Line → Line → ℕ
+  -- where the trace can't be opened
+  pub unopened : List ℕ
 
 -- What a report has done when it ends, which writes these texts: all was written, or it was cut short behind
 -- the lines or in their text. These bytes were taken of the input and `held` is left of it, and the count of the inputs' faults rose where a
@@ -46,17 +48,17 @@ walk_on kinds limits (Some input) = trace_of kinds limits input.0 input.1
 abbrev pub walk_of : List Kind → List ℕ → Limits → Bool → Source → Source → Walked
 walk_of kinds trace limits rose old new = walk_on kinds limits (input_of trace rose old new)
 
--- where a file could not be opened, or a specification not be read: not all of so many files were opened
-pub record IsFaulted (files : ℕ) (rose : Bool) (old new : Source) (outcome : Outcome) : Type 0 where
+-- where a file could not be opened, or a specification not be read: not all of so many files were opened, and this text is written
+pub record IsFaulted (text : List ℕ) (files : ℕ) (rose : Bool) (old new : Source) (outcome : Outcome) : Type 0 where
   pub risen : rose ≡ true
   pub some_unopened : new.opens < old.opens + files
-  pub is : outcome ≡ fault_outcome
+  pub is : outcome ≡ unopened_outcome text
 
 -- The outcome of a report on a trace whose objects are of these kinds: that of its walk, where it was opened.
-abbrev pub IsTraceOutcome : (Walked → Outcome) → List Kind → List ℕ → Limits → Bool → Source → Source → Outcome → Type 0
-IsTraceOutcome report kinds trace limits rose old new outcome =
-    IsFaulted 1 rose old new outcome
-    ⊎ ((new.opens ≡ old.opens + 1) × (outcome ≡ report (walk_of kinds trace limits rose old new)))
+abbrev pub IsTraceOutcome : ReportTexts → List Kind → List ℕ → Limits → Bool → Source → Source → Outcome → Type 0
+IsTraceOutcome texts kinds trace limits rose old new outcome =
+    IsFaulted texts.unopened 1 rose old new outcome
+    ⊎ ((new.opens ≡ old.opens + 1) × (outcome ≡ texts.outcome (walk_of kinds trace limits rose old new)))
 
 -- The files are as before. No more opens were counted than files are named, and no more opens of a missing file than named ones are missing.
 pub record OpensOnly (names : List (List ℕ)) (old new : Source) : Type 0 where
@@ -94,7 +96,7 @@ pub record IsWholeOutput (outcome : Outcome) (part : List ℕ) (status : Status)
 
 -- what a report leaves of a trace whose objects are of these kinds, where inputs told `old` before the trace was opened
 pub record ReportsTrace (texts : ReportTexts) (kinds : List Kind) (trace : List ℕ) (limits : Limits) (rose : Bool) (old new : Source) (part : List ℕ) (status : Status) (before after : ℕ) : Type 0 where
-  pub output : HasOutcome (IsTraceOutcome texts.outcome kinds trace limits rose old new) status part
+  pub output : HasOutcome (IsTraceOutcome texts kinds trace limits rose old new) status part
   pub opened : OpensOnly (trace ∷ []) old new
   pub taken : new.opens ≡ old.opens + 1 → TakesTrace texts kinds trace limits rose old new part before after
   pub unopened : new.opens ≡ old.opens → IsUntaken old new × (after ≡ before)

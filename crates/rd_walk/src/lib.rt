@@ -3,7 +3,6 @@
 
 mod alternatives;
 mod analysis;
-mod faults;
 mod judging;
 mod laws;
 mod reporting;
@@ -12,7 +11,6 @@ mod walk;
 mod writing;
 
 pub use analysis::{Analysis, Halt};
-pub use faults::write_fault;
 pub use judging::{Refusal, judge};
 pub use laws::law_of_walks;
 pub use reporting::{Report, report_trace};

@@ -14,9 +14,9 @@ ghost use Rattle.rd_wf.specs.Events.{AreAccepted};
 ghost use Rattle.rd_wf.specs.Roster.{RosterStandsFor, kinds_in};
 
 use crate::analysis::{Analysis, Halt};
-use crate::faults::write_fault;
 use crate::status::TraceStatus;
 use crate::walk::{WalkEnd, Walker, walk_lines};
+use crate::writing::write_line;
 use rd_base::{Steps, Word};
 use rd_io::{Inputs, LineReader, Sink};
 use rd_wf::Roster;
@@ -27,6 +27,13 @@ use std::sync::ledger::Ledger;
 pub trait Report: Analysis {
     /// What is written for a trace whose lines are these, from the first state on, and the status.
     ghost outcome: { List Kind → Self → Walked → Outcome };
+
+    /// What is written where the trace can't be opened.
+    ghost unopened: { Self → List ℕ };
+
+    /// What is written where the trace can't be opened.
+    fn unopened_text(&self) -> &'static [u8]
+        ensures { result.now ≡ unopened self.now };
 
     /// Writes what stands behind the texts of the lines, and gives the status, by how the lines end. The roster has their names.
     fn conclude<S: Sink>(
@@ -90,6 +97,7 @@ fn report_opened<A: Report, I: Inputs, S: Sink, L: Ledger>(
           lines = A.text (kinds_in walker.old.roster) walker.old.analysis;
           outcome = A.outcome (kinds_in walker.old.roster) walker.old.analysis;
           bound = A.bound (kinds_in walker.old.roster) walker.old.analysis;
+          unopened = A.unopened walker.old.analysis;
         }) (kinds_in walker.old.roster) walker.old.limits taken new.held entries part (report_status result)
         (I.faults inputs.old) (I.faults inputs.new)) }
     ensures faults { TellsFaults TraceStatus.InputFault (I.faults inputs.old) (I.faults inputs.new)
@@ -122,6 +130,7 @@ pub fn report_trace<A: Report, I: Inputs, S: Sink, L: Ledger>(
           lines = A.text (kinds_in walker.old.roster) walker.old.analysis;
           outcome = A.outcome (kinds_in walker.old.roster) walker.old.analysis;
           bound = A.bound (kinds_in walker.old.roster) walker.old.analysis;
+          unopened = A.unopened walker.old.analysis;
         }) (kinds_in walker.old.roster) trace.now walker.old.limits
         (nat_lt (I.faults inputs.old)
         (I.faults inputs.new)) old new part (report_status result) steps.old steps.new }
@@ -130,7 +139,7 @@ pub fn report_trace<A: Report, I: Inputs, S: Sink, L: Ledger>(
 {
     let mut reader = LineReader::new(walker.alloc, &walker.limits)?;
     let Ok(()) = inputs.open(trace) else {
-        write_fault(out)?;
+        write_line(out, walker.analysis.unopened_text())?;
         return Ok(TraceStatus::InputFault);
     };
     // its type says that it fits 32 bits

@@ -34,6 +34,7 @@ leads_none kinds start begins = record {
   kinds_are = begins.kinds_are;
   checks = record {
     starts = begins.new;
+    form = refl;
     spec = refl;
     formulas = begins.new.formulas;
     tracks = record {
@@ -46,6 +47,6 @@ leads_none kinds start begins = record {
   };
 }
 
-pub no_text : (start : Check) → race_texts start.spec.now [] ≡ []
+pub no_text : (start : Check) → race_texts start.form start.spec.now [] ≡ []
 unfolding race_texts texts_before
 no_text start = refl

@@ -4,8 +4,8 @@ use Rattle.rd_check.proofs.laws.law_of_reports.Goals as goal
 
 pub returns : goal.returns
 returns c = record {
-  report = texts_report;
+  report = λ form kinds. texts_report kinds form;
   none = none_reported;
-  raced = λ kinds walked. raced_where kinds (entries_of walked) (ending_of walked);
-  differs = λ kinds walked. differs_where kinds (entries_of walked) (ending_of walked);
+  raced = λ form kinds walked. raced_where kinds (entries_of walked) (ending_of walked);
+  differs = λ form kinds walked. differs_where kinds (entries_of walked) (ending_of walked);
 }

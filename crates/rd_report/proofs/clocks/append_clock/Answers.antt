@@ -12,18 +12,23 @@ length_names : (roster : Roster) → length (names_in roster) ≡ thread_count r
 length_names roster = length-map roster.threads.entries _
 
 pub loop-thread-init : goal.loop-thread-init
-loop-thread-init g c = ap (λ xs. c.args.text.now ++ xs) (parts_whole (names_in c.args.names.now) (component c.args.clock.now))
+loop-thread-init g c = (λ plain. plain, ap (λ xs. c.args.text.now ++ xs) (parts_whole (names_in c.args.names.now) (component c.args.clock.now)))
 
 pub loop-thread-preserved : goal.loop-thread-preserved
 loop-thread-preserved g c =
     let names = names_in c.args.names.now in
-    let clock = component c.args.clock.now in
-    part_more (c.args.text.now ++ clock_text names clock) c.loop-thread.text c.append_part.new.text c.loop-thread.some c.in_ok-some.some names clock c.loop-thread.thread
-    c.get.result (omega (arith, length_names c.args.names.now)) c.loop-thread.invariant c.get.ensures.value c.in_ok-some.ensures.some c.in_ok-some.ensures.text
+    let clock = component c.args.clock.now in (
+      λ plain. c.in_ok-some.ensures.plain (c.loop-thread.invariant.0 plain),
+      part_more (c.args.text.now ++ clock_text names clock) c.loop-thread.text c.append_part.new.text c.loop-thread.some c.in_ok-some.some names clock c.loop-thread.thread
+          c.get.result (omega (arith, length_names c.args.names.now)) c.loop-thread.invariant.1 c.get.ensures.value c.in_ok-some.ensures.some c.in_ok-some.ensures.text,
+    )
 
-pub returns : goal.returns
-returns g c =
+pub returns-clause-text : goal.returns-clause-text
+returns-clause-text g c =
     let names = names_in c.args.names.now in
     let clock = component c.args.clock.now in
     parts_all (c.args.text.now ++ clock_text names clock) c.loop-thread.text c.loop-thread.some names clock c.loop-thread.thread
-    (omega (arith, length_names c.args.names.now)) c.loop-thread.invariant
+    (omega (arith, length_names c.args.names.now)) c.loop-thread.invariant.1
+
+pub returns-clause-plain : goal.returns-clause-plain
+returns-clause-plain g c = λ plain. c.loop-thread.invariant.0 plain

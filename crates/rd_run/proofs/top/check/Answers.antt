@@ -22,7 +22,7 @@ returns-in_err-roster-clause-reports g c = λ old told few few_opens.
       [],
       told,
       appends_none wrote wrote refl,
-      reports_without (check_texts spec) (kinds_of spec) c.args.trace.now c.args.limits.now c.from_residual.result c.from_residual.ensures
+      reports_without (check_texts c.args.asked.now.form spec) (kinds_of spec) c.args.asked.now.trace.now c.args.limits.now c.from_residual.result c.from_residual.ensures
           (g.I.Inputs.faults c.args.inputs.now) old c.args.steps.now,
     )
 
@@ -34,7 +34,7 @@ returns-in_err-analysis-clause-reports g c = λ old told few few_opens.
       [],
       told,
       appends_none wrote wrote refl,
-      reports_without (check_texts spec) (kinds_of spec) c.args.trace.now c.args.limits.now c.from_residual-in_err-analysis.result
+      reports_without (check_texts c.args.asked.now.form spec) (kinds_of spec) c.args.asked.now.trace.now c.args.limits.now c.from_residual-in_err-analysis.result
           c.from_residual-in_err-analysis.ensures (g.I.Inputs.faults c.args.inputs.now) old c.args.steps.now,
     )
 
@@ -61,6 +61,7 @@ pub returns-clause-reports : goal.returns-clause-reports
 returns-clause-reports g c = λ old told few few_opens.
     let (new, part, now, writes, reports) = c.report_trace.ensures.reports old told few few_opens in
     let spec = c.in_ok-analysis.ensures.spec in
+    let form = c.in_ok-analysis.ensures.form in
     let kinds = kinds_in c.in_ok-roster.roster in
     let status = report_status c.report_trace.result in
     let rose = nat_lt (g.I.Inputs.faults c.args.inputs.now) (g.I.Inputs.faults c.report_trace.new.inputs) in (
@@ -68,8 +69,8 @@ returns-clause-reports g c = λ old told few few_opens.
       part,
       now,
       writes,
-      subst (λ (T : Type 0). T) (λ i. ReportsTrace (check_texts (spec i)) (c.in_ok-roster.ensures.kind_entries i) c.args.trace.now c.args.limits.now rose old new part status
+      subst (λ (T : Type 0). T) (λ i. ReportsTrace (check_texts (form i) (spec i)) (c.in_ok-roster.ensures.kind_entries i) c.args.asked.now.trace.now c.args.limits.now rose old new part status
           c.args.steps.now c.report_trace.new.steps)
-          (subst (λ inner. ReportsTrace (part_texts kinds inner) kinds c.args.trace.now c.args.limits.now rose old new part status c.args.steps.now c.report_trace.new.steps)
+          (subst (λ inner. ReportsTrace (part_texts kinds inner) kinds c.args.asked.now.trace.now c.args.limits.now rose old new part status c.args.steps.now c.report_trace.new.steps)
           c.new-3.ensures.inner reports),
     )

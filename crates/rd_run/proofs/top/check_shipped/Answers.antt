@@ -26,8 +26,8 @@ returns-clause-runs g c = λ old told few few_opens.
       part,
       now,
       writes,
-      runs_shipped c.args.trace.now c.args.limits.now rose old new part (report_status c.check.result) c.args.steps.now c.check.new.steps
-          (subst (λ kinds. ReportsTrace (check_texts kinds) (kinds_of kinds) c.args.trace.now c.args.limits.now rose old new part (report_status c.check.result) c.args.steps.now c.check.new.steps) c.in_ok-spec.ensures reports),
+      runs_shipped c.args.asked.now.form c.args.asked.now.trace.now c.args.limits.now rose old new part (report_status c.check.result) c.args.steps.now c.check.new.steps
+          (subst (λ kinds. ReportsTrace (check_texts c.args.asked.now.form kinds) (kinds_of kinds) c.args.asked.now.trace.now c.args.limits.now rose old new part (report_status c.check.result) c.args.steps.now c.check.new.steps) c.in_ok-spec.ensures reports),
     )
 
 pub returns-in_err-spec-clause-runs : goal.returns-in_err-spec-clause-runs
@@ -38,6 +38,6 @@ returns-in_err-spec-clause-runs g c = λ old told few few_opens.
       [],
       told,
       appends_none wrote wrote refl,
-      runs_shipped c.args.trace.now c.args.limits.now (nat_lt faults faults) old old [] _ c.args.steps.now c.args.steps.now
-          (reports_without (check_texts shipped_kinds) built_in_kinds c.args.trace.now c.args.limits.now c.from_residual.result c.from_residual.ensures faults old c.args.steps.now),
+      runs_shipped c.args.asked.now.form c.args.asked.now.trace.now c.args.limits.now (nat_lt faults faults) old old [] _ c.args.steps.now c.args.steps.now
+          (reports_without (check_texts c.args.asked.now.form shipped_kinds) built_in_kinds c.args.asked.now.trace.now c.args.limits.now c.from_residual.result c.from_residual.ensures faults old c.args.steps.now),
     )

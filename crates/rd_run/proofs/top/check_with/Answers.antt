@@ -25,9 +25,9 @@ returns-in-Err-clause-runs g c = λ old told few few_opens.
       part,
       now,
       writes,
-      unread_told c.args.trace.now c.args.file.now c.args.limits.now (g.I.Inputs.faults c.args.inputs.now) (g.I.Inputs.faults c.read_spec.new.inputs) old new part
+      unread_told c.args.asked.now.form c.args.asked.now.trace.now c.args.file.now c.args.limits.now (g.I.Inputs.faults c.args.inputs.now) (g.I.Inputs.faults c.read_spec.new.inputs) old new part
           c.spec_command_status.result c.args.steps.now few (leaves few_opens) c.in-Err.unread
-          (subst (λ status. TellsUnread c.in-Err.unread status part) (sym c.spec_command_status.ensures) tells)
+          (subst (λ status. TellsUnread c.args.asked.now.form c.in-Err.unread status part) (sym c.spec_command_status.ensures) tells)
           (λ e. c.read_spec.ensures.fault (c.in-Err.is ∙ ap Err e))
           (λ other. c.read_spec.ensures.calm (λ e. other (let is = c.in-Err.is in cc)))
           (λ refused e.
@@ -60,11 +60,11 @@ returns-in-Ok-with_shipped-clause-runs g c = λ old told few few_opens.
       part,
       now,
       writes,
-      runs_said c.args.trace.now c.args.file.now c.args.limits.now (nat_lt before after) old mid new part c.report_status.result c.args.steps.now c.check.new.steps
+      runs_said c.args.asked.now.form c.args.asked.now.trace.now c.args.file.now c.args.limits.now (nat_lt before after) old mid new part c.report_status.result c.args.steps.now c.check.new.steps
           left bytes c.in-Ok.said was says
-          (subst (λ status. ReportsTrace (check_texts (shipped_kinds ++ c.in-Ok.said)) (kinds_of (shipped_kinds ++ c.in-Ok.said)) c.args.trace.now c.args.limits.now (nat_lt before after) mid new part status c.args.steps.now c.check.new.steps) (sym c.report_status.ensures)
-          (subst (λ faults. ReportsTrace (check_texts (shipped_kinds ++ c.in-Ok.said)) (kinds_of (shipped_kinds ++ c.in-Ok.said)) c.args.trace.now c.args.limits.now (nat_lt faults after) mid new part (report_status c.check.result) c.args.steps.now c.check.new.steps) calm
-          (subst (λ kinds. ReportsTrace (check_texts kinds) (kinds_of kinds) c.args.trace.now c.args.limits.now (nat_lt (g.I.Inputs.faults c.read_spec.new.inputs) after) mid new part (report_status c.check.result) c.args.steps.now c.check.new.steps)
+          (subst (λ status. ReportsTrace (check_texts c.args.asked.now.form (shipped_kinds ++ c.in-Ok.said)) (kinds_of (shipped_kinds ++ c.in-Ok.said)) c.args.asked.now.trace.now c.args.limits.now (nat_lt before after) mid new part status c.args.steps.now c.check.new.steps) (sym c.report_status.ensures)
+          (subst (λ faults. ReportsTrace (check_texts c.args.asked.now.form (shipped_kinds ++ c.in-Ok.said)) (kinds_of (shipped_kinds ++ c.in-Ok.said)) c.args.asked.now.trace.now c.args.limits.now (nat_lt faults after) mid new part (report_status c.check.result) c.args.steps.now c.check.new.steps) calm
+          (subst (λ kinds. ReportsTrace (check_texts c.args.asked.now.form kinds) (kinds_of kinds) c.args.asked.now.trace.now c.args.limits.now (nat_lt (g.I.Inputs.faults c.read_spec.new.inputs) after) mid new part (report_status c.check.result) c.args.steps.now c.check.new.steps)
           c.in-Ok-with_shipped.ensures reports))),
     )
 
@@ -76,7 +76,7 @@ returns-in-Err-with_shipped-clause-runs g c = λ old told few few_opens.
       [],
       now,
       appends_none wrote wrote refl,
-      unread_without c.args.trace.now c.args.file.now c.args.limits.now (g.I.Inputs.faults c.args.inputs.now) (g.I.Inputs.faults c.read_spec.new.inputs) old new [] NoMemory
+      unread_without c.args.asked.now.form c.args.asked.now.trace.now c.args.file.now c.args.limits.now (g.I.Inputs.faults c.args.inputs.now) (g.I.Inputs.faults c.read_spec.new.inputs) old new [] NoMemory
           c.args.steps.now few (leaves few_opens) refl refl,
     )
 

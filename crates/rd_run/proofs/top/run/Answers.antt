@@ -51,7 +51,7 @@ returns-in-Some-Check-clause-runs g c = λ old told few few_opens.
       now,
       writes,
       subst (λ command. Runs (meaning_of command) c.args.limits.now rose old new part c.report_status.result c.args.steps.now c.check_shipped.new.steps) words
-          (subst (λ status. Runs (meaning_of (Some (check c.in-Some-Check.trace.now None))) c.args.limits.now rose old new part status c.args.steps.now c.check_shipped.new.steps) (sym c.report_status.ensures) runs),
+          (subst (λ status. Runs (meaning_of (Some (check c.in-Some-Check.asked.form c.in-Some-Check.asked.trace.now None))) c.args.limits.now rose old new part status c.args.steps.now c.check_shipped.new.steps) (sym c.report_status.ensures) runs),
     )
 
 pub returns-in-Some-Check-clause-whole : goal.returns-in-Some-Check-clause-whole
@@ -62,8 +62,8 @@ returns-in-Some-Check-clause-whole g c = λ old told few few_opens few_faults ca
       part,
       writes,
       subst (λ command. WritesAll (meaning_of command) c.args.limits.now old part c.report_status.result) words
-          (subst (λ status. WritesAll (meaning_of (Some (check c.in-Some-Check.trace.now None))) c.args.limits.now old part status) (sym c.report_status.ensures)
-          (whole_run (Some (check c.in-Some-Check.trace.now None)) c.args.limits.now _ old new part (report_status c.check_shipped.result) _ _ runs (not_risen _ _ calm)
+          (subst (λ status. WritesAll (meaning_of (Some (check c.in-Some-Check.asked.form c.in-Some-Check.asked.trace.now None))) c.args.limits.now old part status) (sym c.report_status.ensures)
+          (whole_run (Some (check c.in-Some-Check.asked.form c.in-Some-Check.asked.trace.now None)) c.args.limits.now _ old new part (report_status c.check_shipped.result) _ _ runs (not_risen _ _ calm)
           (none_failed _ _ _ _ (report_status c.check_shipped.result) wrote few_faults silent) (λ none. absurd (some≢none none)))),
     )
 
@@ -73,7 +73,7 @@ returns-in-Some-Check-clause-usage g c = λ e. absurd (report_no_usage c.check_s
 pub returns-in-Some-Check-clause-untouched : goal.returns-in-Some-Check-clause-untouched
 returns-in-Some-Check-clause-untouched g c = λ none.
     let words = ap (λ (command : Asked). asked_command (Some command)) (sym c.in-Some-Check.field-0-is) ∙ c.in-Some-Check.ensures.asked in
-    absurd (some_file c.in-Some-Check.trace.now [] (ap (λ command. (meaning_of command).files) words ∙ none))
+    absurd (some_file c.in-Some-Check.asked.trace.now [] (ap (λ command. (meaning_of command).files) words ∙ none))
 
 pub returns-in-Some-Check-clause-spec_refused : goal.returns-in-Some-Check-clause-spec_refused
 returns-in-Some-Check-clause-spec_refused g c = λ e. absurd (report_no_spec c.check_shipped.result (sym c.report_status.ensures ∙ e))
@@ -108,14 +108,14 @@ returns-in-Some-CheckWith-clause-whole g c = λ old told few few_opens few_fault
       part,
       writes,
       subst (λ command. WritesAll (meaning_of command) c.args.limits.now old part c.check_with.result) words
-          (whole_run (Some (check c.in-Some-CheckWith.trace.now (Some c.in-Some-CheckWith.file.now))) c.args.limits.now _ old new part c.check_with.result _ _ runs
+          (whole_run (Some (check c.in-Some-CheckWith.asked.form c.in-Some-CheckWith.asked.trace.now (Some c.in-Some-CheckWith.file.now))) c.args.limits.now _ old new part c.check_with.result _ _ runs
           (not_risen _ _ calm) (none_failed _ _ _ _ c.check_with.result c.check_with.ensures.fault few_faults silent) (λ none. absurd (some≢none none))),
     )
 
 pub returns-in-Some-CheckWith-clause-untouched : goal.returns-in-Some-CheckWith-clause-untouched
 returns-in-Some-CheckWith-clause-untouched g c = λ none.
     let words = ap (λ (command : Asked). asked_command (Some command)) (sym c.in-Some-CheckWith.field-0-is) ∙ c.in-Some-CheckWith.ensures.asked in
-    absurd (some_file c.in-Some-CheckWith.file.now (c.in-Some-CheckWith.trace.now ∷ []) (ap (λ command. (meaning_of command).files) words ∙ none))
+    absurd (some_file c.in-Some-CheckWith.file.now (c.in-Some-CheckWith.asked.trace.now ∷ []) (ap (λ command. (meaning_of command).files) words ∙ none))
 
 pub returns-in-Some-CheckWith-clause-spec_refused : goal.returns-in-Some-CheckWith-clause-spec_refused
 returns-in-Some-CheckWith-clause-spec_refused g c = λ refused.

@@ -1,7 +1,7 @@
-use Rattle.std.proofs.Common.{[], refl, subst, arith}
+use Rattle.std.proofs.Common.{◌∙◌, [], refl, subst, sym, arith}
 use Rattle.rd_io.proofs.SinkLemmas.{appends_none}
 use Rattle.rd_wf.specs.Roster.{kinds_in}
-use Rattle.rd_walk.specs.Output.{fault_outcome, report_status}
+use Rattle.rd_walk.specs.Output.{report_status, unopened_outcome}
 use Rattle.rd_walk.specs.Traces.{HasReported, ReportTexts}
 use Rattle.rd_walk.proofs.OutputLemmas.{report_cut}
 use Rattle.rd_walk.proofs.TraceLemmas.{reports_opened, reports_unopened, reports_without}
@@ -12,7 +12,7 @@ returns-in_err-reader-clause-reports g c = λ old told few few_opens.
     let wrote = g.S.Sink.written c.args.out.now in
     let faults = g.I.Inputs.faults c.args.inputs.now in
     let kinds = kinds_in c.args.walker.now.roster in
-    let texts : ReportTexts = record { lines = g.A.Analysis.text kinds c.args.walker.now.analysis; outcome = g.A.Report.outcome kinds c.args.walker.now.analysis; bound = g.A.Analysis.bound kinds c.args.walker.now.analysis } in (
+    let texts : ReportTexts = record { lines = g.A.Analysis.text kinds c.args.walker.now.analysis; outcome = g.A.Report.outcome kinds c.args.walker.now.analysis; bound = g.A.Analysis.bound kinds c.args.walker.now.analysis; unopened = g.A.Report.unopened c.args.walker.now.analysis } in (
       old,
       [],
       told,
@@ -27,23 +27,23 @@ returns-in_default-clause-reports g c = λ old told few few_opens.
       new,
       _,
       now,
-      c.in_ok-write_fault.ensures.ok,
-      reports_unopened (record { lines = g.A.Analysis.text kinds c.args.walker.now.analysis; outcome = g.A.Report.outcome kinds c.args.walker.now.analysis; bound = g.A.Analysis.bound kinds c.args.walker.now.analysis }) kinds c.args.trace.now c.args.walker.now.limits (g.I.Inputs.faults c.args.inputs.now)
-          (g.I.Inputs.faults c.open.new.self) old new _ _ c.args.steps.now few c.in_default.ensures.cause.failed opened (refl, refl),
+      c.in_ok-write_line.ensures.ok,
+      reports_unopened (record { lines = g.A.Analysis.text kinds c.args.walker.now.analysis; outcome = g.A.Report.outcome kinds c.args.walker.now.analysis; bound = g.A.Analysis.bound kinds c.args.walker.now.analysis; unopened = g.A.Report.unopened c.args.walker.now.analysis }) kinds c.args.trace.now c.args.walker.now.limits (g.I.Inputs.faults c.args.inputs.now)
+          (g.I.Inputs.faults c.open.new.self) old new _ _ c.args.steps.now few c.in_default.ensures.cause.failed opened (c.unopened_text.ensures, refl),
     )
 
-pub returns-in_err-write_fault-clause-reports : goal.returns-in_err-write_fault-clause-reports
-returns-in_err-write_fault-clause-reports g c = λ old told few few_opens.
+pub returns-in_err-write_line-clause-reports : goal.returns-in_err-write_line-clause-reports
+returns-in_err-write_line-clause-reports g c = λ old told few few_opens.
     let (new, now, opened) = c.in_default.ensures.told old told in
-    let (part, rest, is, writes) = c.in_err-write_fault.ensures.front in
+    let (part, rest, is, writes) = c.in_err-write_line.ensures.front in
     let kinds = kinds_in c.args.walker.now.roster in (
       new,
       part,
       now,
       writes,
-      reports_unopened (record { lines = g.A.Analysis.text kinds c.args.walker.now.analysis; outcome = g.A.Report.outcome kinds c.args.walker.now.analysis; bound = g.A.Analysis.bound kinds c.args.walker.now.analysis }) kinds c.args.trace.now c.args.walker.now.limits (g.I.Inputs.faults c.args.inputs.now)
+      reports_unopened (record { lines = g.A.Analysis.text kinds c.args.walker.now.analysis; outcome = g.A.Report.outcome kinds c.args.walker.now.analysis; bound = g.A.Analysis.bound kinds c.args.walker.now.analysis; unopened = g.A.Report.unopened c.args.walker.now.analysis }) kinds c.args.trace.now c.args.walker.now.limits (g.I.Inputs.faults c.args.inputs.now)
           (g.I.Inputs.faults c.open.new.self) old new part _ c.args.steps.now few c.in_default.ensures.cause.failed opened
-          (report_cut c.from_residual-in_err-write_fault.result _ c.from_residual-in_err-write_fault.ensures part rest fault_outcome is),
+          (report_cut c.from_residual-in_err-write_line.result _ c.from_residual-in_err-write_line.ensures part rest (unopened_outcome (g.A.Report.unopened c.args.walker.now.analysis)) (sym c.unopened_text.ensures ∙ is)),
     )
 
 pub returns-clause-reports : goal.returns-clause-reports
@@ -56,7 +56,7 @@ returns-clause-reports g c = λ old told few few_opens.
     let kinds = kinds_in c.args.walker.now.roster in
     let start = c.args.walker.now.analysis in
     let status = report_status c.report_opened.result in
-    let texts : ReportTexts = record { lines = g.A.Analysis.text kinds start; outcome = g.A.Report.outcome kinds start; bound = g.A.Analysis.bound kinds start } in (
+    let texts : ReportTexts = record { lines = g.A.Analysis.text kinds start; outcome = g.A.Report.outcome kinds start; bound = g.A.Analysis.bound kinds start; unopened = g.A.Report.unopened start } in (
       new,
       part,
       now,

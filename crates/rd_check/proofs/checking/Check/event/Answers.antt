@@ -6,7 +6,8 @@ use Rattle.rd_io.specs.Sinks.{Appends}
 use Rattle.rd_detect.specs.Detect.{DetectorStandsFor}
 use Rattle.rd_ecl.specs.Kinds.{kinds_of}
 use Rattle.rd_event.specs.declared.events.Event.TheVariants as event
-use Rattle.rd_report.specs.Races.{race_text, told_by}
+use Rattle.rd_json.specs.Forms.{race_in}
+use Rattle.rd_report.specs.Races.{told_by}
 use Rattle.rd_report.specs.Texts.{naming_in}
 use Rattle.rd_wf.specs.declared.causes.Accepted.TheVariants as accepted
 use Rattle.rd_walk.specs.Analysis.{WritesFront}
@@ -35,8 +36,8 @@ returns-in_default-event-clause-checks g c = λ start before item ready.
 pub returns-in_default-event-clause-written : goal.returns-in_default-event-clause-written
 returns-in_default-event-clause-written g c = λ start before item ready.
     let entry : Entry = record { number = c.args.number; item = item } in
-    let same = texts_quiet start.spec.now c.args.self.now.tracker before entry (accepted.Event c.args.event.now) ready.next (λ call e. c.in_default-event.not-Call call cc) in
-    ([], same ∙ sym (append-nil (race_texts start.spec.now before)), appends_none (g.S.Sink.written c.args.out.now) (g.S.Sink.written c.args.out.now) refl)
+    let same = texts_quiet start.form start.spec.now c.args.self.now.tracker before entry (accepted.Event c.args.event.now) ready.next (λ call e. c.in_default-event.not-Call call cc) in
+    ([], same ∙ sym (append-nil (race_texts start.form start.spec.now before)), appends_none (g.S.Sink.written c.args.out.now) (g.S.Sink.written c.args.out.now) refl)
 
 pub returns-in_default-event-clause-cost : goal.returns-in_default-event-clause-cost
 returns-in_default-event-clause-cost g c = λ start before item ready.
@@ -45,7 +46,7 @@ returns-in_default-event-clause-cost g c = λ start before item ready.
 pub returns-in_default-clause-halted : goal.returns-in_default-clause-halted
 returns-in_default-clause-halted g c = λ start before item ready.
     let entry : Entry = record { number = c.args.number; item = item } in
-    let (rest, is) = texts_grow start.spec.now before entry ready.next.tracks.told in
+    let (rest, is) = texts_grow start.spec.now start.form before entry ready.next.tracks.told in
     ([], rest, is, appends_none (g.S.Sink.written c.args.out.now) (g.S.Sink.written c.args.out.now) refl)
 
 pub returns-in_default-clause-cost : goal.returns-in_default-clause-cost
@@ -81,8 +82,8 @@ returns-in-Ok-None-clause-checks g c = λ start before item ready.
     let next = call_next start c.args.self.now before entry c.args.event.now c.in-Call.call c.in-Call.is names c.args.place ready c.pass.new.self c.in-Ok.ensures.stamp c.in-Ok.ensures.stands in
     let said = c.in-Ok-None.ensures in
     let tracked = event_tracks (kinds_of start.spec.now) c.args.self.now.tracker (items before) item c.args.event.now ready.next c.pass.new.self c.in-Ok.ensures.stands c.in-Ok.ensures.count in
-    checks_call start c.args.self.now before entry c.args.event.now c.in-Call.call c.in-Call.is names c.args.place ready c.detect.new.self said.same.0 said.same.2
-    (subst (λ tracker. Tracks (kinds_of start.spec.now) tracker (items before ++ item ∷ [])) (sym said.same.1) tracked)
+    checks_call start c.args.self.now before entry c.args.event.now c.in-Call.call c.in-Call.is names c.args.place ready c.detect.new.self said.same.0 said.same.1 said.same.3
+    (subst (λ tracker. Tracks (kinds_of start.spec.now) tracker (items before ++ item ∷ [])) (sym said.same.2) tracked)
     (said.stands start.spec.now (roots_of (items before)) numbers es next)
     (races_call start c.args.self.now before entry c.args.event.now c.in-Call.call c.in-Call.is names c.args.place ready c.in-Ok-None.field-0
     (said.answer start.spec.now (roots_of (items before)) numbers es next) c.detect.new.self.races said.races)
@@ -97,7 +98,7 @@ returns-in-Ok-None-clause-written g c = λ start before item ready.
     let text = text_call start c.args.self.now before entry c.args.event.now c.in-Call.call c.in-Call.is names c.args.place ready c.in-Ok-None.field-0
     (c.in-Ok-None.ensures.answer start.spec.now (roots_of (items before)) numbers es next) in (
       [],
-      text ∙ ap (λ answer. race_texts start.spec.now before ++ answer_text start.spec.now names answer) c.in-Ok-None.field-0-is,
+      text ∙ ap (λ answer. race_texts start.form start.spec.now before ++ answer_text start.spec.now start.form names answer) c.in-Ok-None.field-0-is,
       appends_none (g.S.Sink.written c.args.out.now) (g.S.Sink.written c.args.out.now) refl,
     )
 
@@ -117,7 +118,7 @@ report-requires-clause-known g c =
     let next = call_next start c.args.self.now before entry c.args.event.now c.in-Call.call c.in-Call.is names c.args.place ready c.pass.new.self c.in-Ok.ensures.stamp c.in-Ok.ensures.stands in
     let said = c.in-Ok-Some.ensures in
     known_race start c.args.self.now before entry c.args.event.now c.in-Call.call c.in-Call.is names c.args.place ready c.in-Ok-Some.field-0 c.in-Ok-Some.race
-    (said.answer start.spec.now (roots_of (items before)) numbers es next) c.in-Ok-Some.field-0-is c.detect.new.self.spec.now said.same.0
+    (said.answer start.spec.now (roots_of (items before)) numbers es next) c.in-Ok-Some.field-0-is c.detect.new.self.spec.now said.same.1
 
 pub returns-in-Ok-Some-clause-checks : goal.returns-in-Ok-Some-clause-checks
 returns-in-Ok-Some-clause-checks g c = always_ok _ c.report.result (λ start before item ready.
@@ -129,16 +130,16 @@ returns-in-Ok-Some-clause-checks g c = always_ok _ c.report.result (λ start bef
     let said = c.in-Ok-Some.ensures in
     let same = c.report.ensures.same in
     let tracked = event_tracks (kinds_of start.spec.now) c.args.self.now.tracker (items before) item c.args.event.now ready.next c.pass.new.self c.in-Ok.ensures.stands c.in-Ok.ensures.count in
-    checks_call start c.args.self.now before entry c.args.event.now c.in-Call.call c.in-Call.is names c.args.place ready c.report.new.self (same.0 ∙ said.same.0) (same.4 ∙ said.same.2)
-    (subst (λ tracker. Tracks (kinds_of start.spec.now) tracker (items before ++ item ∷ [])) (sym (same.1 ∙ said.same.1)) tracked)
-    (subst (λ d. DetectorStandsFor start.spec.now d (roots_of (items before)) (numbers ++ c.args.number ∷ []) (es ++ event.Call c.in-Call.call ∷ [])) (sym same.2) (said.stands start.spec.now (roots_of (items before)) numbers es next))
+    checks_call start c.args.self.now before entry c.args.event.now c.in-Call.call c.in-Call.is names c.args.place ready c.report.new.self (same.0 ∙ said.same.0) (same.1 ∙ said.same.1) (same.5 ∙ said.same.3)
+    (subst (λ tracker. Tracks (kinds_of start.spec.now) tracker (items before ++ item ∷ [])) (sym (same.2 ∙ said.same.2)) tracked)
+    (subst (λ d. DetectorStandsFor start.spec.now d (roots_of (items before)) (numbers ++ c.args.number ∷ []) (es ++ event.Call c.in-Call.call ∷ [])) (sym same.3) (said.stands start.spec.now (roots_of (items before)) numbers es next))
     (races_call start c.args.self.now before entry c.args.event.now c.in-Call.call c.in-Call.is names c.args.place ready c.in-Ok-Some.field-0
-    (said.answer start.spec.now (roots_of (items before)) numbers es next) c.report.new.self.races (same.3 ∙ said.races)))
+    (said.answer start.spec.now (roots_of (items before)) numbers es next) c.report.new.self.races (same.4 ∙ said.races)))
 
 pub returns-in-Ok-Some-clause-written : goal.returns-in-Ok-Some-clause-written
 returns-in-Ok-Some-clause-written g c = on_ok_weaker c.report.result
     (λ (wrote : Appends (g.S.Sink.written c.args.out.now) (g.S.Sink.written c.report.new.out)
-    (race_text c.detect.new.self.spec.now (naming_in c.args.names.now) (told_by c.in-Ok-Some.race.later.value) (told_by c.in-Ok-Some.race.earlier.value))) start before item ready.
+    (race_in c.detect.new.self.form c.detect.new.self.spec.now (naming_in c.args.names.now) (told_by c.in-Ok-Some.race.later.value) (told_by c.in-Ok-Some.race.earlier.value))) start before item ready.
     let entry : Entry = record { number = c.args.number; item = item } in
     let names = naming_in c.args.names.now in
     let numbers = event_numbers before in
@@ -146,18 +147,18 @@ returns-in-Ok-Some-clause-written g c = on_ok_weaker c.report.result
     let next = call_next start c.args.self.now before entry c.args.event.now c.in-Call.call c.in-Call.is names c.args.place ready c.pass.new.self c.in-Ok.ensures.stamp c.in-Ok.ensures.stands in
     let text = text_call start c.args.self.now before entry c.args.event.now c.in-Call.call c.in-Call.is names c.args.place ready c.in-Ok-Some.field-0
     (c.in-Ok-Some.ensures.answer start.spec.now (roots_of (items before)) numbers es next) in (
-      answer_text start.spec.now names (Some c.in-Ok-Some.race),
-      text ∙ ap (λ answer. race_texts start.spec.now before ++ answer_text start.spec.now names answer) c.in-Ok-Some.field-0-is,
-      subst (λ kinds. Appends (g.S.Sink.written c.args.out.now) (g.S.Sink.written c.report.new.out)
-          (race_text kinds names (told_by c.in-Ok-Some.race.later.value) (told_by c.in-Ok-Some.race.earlier.value)))
-          (c.in-Ok-Some.ensures.same.0 ∙ ready.checks.spec) wrote,
+      answer_text start.spec.now start.form names (Some c.in-Ok-Some.race),
+      text ∙ ap (λ answer. race_texts start.form start.spec.now before ++ answer_text start.spec.now start.form names answer) c.in-Ok-Some.field-0-is,
+      subst (λ (T : Type 0). T) (λ i. Appends (g.S.Sink.written c.args.out.now) (g.S.Sink.written c.report.new.out)
+          (race_in ((c.in-Ok-Some.ensures.same.0 ∙ ready.checks.form) i) ((c.in-Ok-Some.ensures.same.1 ∙ ready.checks.spec) i) names (told_by c.in-Ok-Some.race.later.value)
+          (told_by c.in-Ok-Some.race.earlier.value))) wrote,
     ))
     c.report.ensures.ok
 
 pub returns-in-Ok-Some-clause-halted : goal.returns-in-Ok-Some-clause-halted
 returns-in-Ok-Some-clause-halted g c = on_err_weaker c.report.result
     (λ (wrote : WritesFront (g.S.Sink.written c.args.out.now) (g.S.Sink.written c.report.new.out) []
-    (race_text c.detect.new.self.spec.now (naming_in c.args.names.now) (told_by c.in-Ok-Some.race.later.value) (told_by c.in-Ok-Some.race.earlier.value))) start before item ready.
+    (race_in c.detect.new.self.form c.detect.new.self.spec.now (naming_in c.args.names.now) (told_by c.in-Ok-Some.race.later.value) (told_by c.in-Ok-Some.race.earlier.value))) start before item ready.
     let entry : Entry = record { number = c.args.number; item = item } in
     let names = naming_in c.args.names.now in
     let numbers = event_numbers before in
@@ -165,13 +166,13 @@ returns-in-Ok-Some-clause-halted g c = on_err_weaker c.report.result
     let next = call_next start c.args.self.now before entry c.args.event.now c.in-Call.call c.in-Call.is names c.args.place ready c.pass.new.self c.in-Ok.ensures.stamp c.in-Ok.ensures.stands in
     let text = text_call start c.args.self.now before entry c.args.event.now c.in-Call.call c.in-Call.is names c.args.place ready c.in-Ok-Some.field-0
     (c.in-Ok-Some.ensures.answer start.spec.now (roots_of (items before)) numbers es next) in
-    let (part, rest, is, writes) = subst (λ kinds. WritesFront (g.S.Sink.written c.args.out.now) (g.S.Sink.written c.report.new.out) []
-    (race_text kinds names (told_by c.in-Ok-Some.race.later.value) (told_by c.in-Ok-Some.race.earlier.value)))
-    (c.in-Ok-Some.ensures.same.0 ∙ ready.checks.spec) wrote in (
+    let (part, rest, is, writes) = subst (λ (T : Type 0). T) (λ i. WritesFront (g.S.Sink.written c.args.out.now) (g.S.Sink.written c.report.new.out) []
+    (race_in ((c.in-Ok-Some.ensures.same.0 ∙ ready.checks.form) i) ((c.in-Ok-Some.ensures.same.1 ∙ ready.checks.spec) i) names (told_by c.in-Ok-Some.race.later.value)
+    (told_by c.in-Ok-Some.race.earlier.value))) wrote in (
       part,
       rest,
-      text ∙ ap (λ answer. race_texts start.spec.now before ++ answer_text start.spec.now names answer) c.in-Ok-Some.field-0-is
-          ∙ ap (λ t. race_texts start.spec.now before ++ t) is,
+      text ∙ ap (λ answer. race_texts start.form start.spec.now before ++ answer_text start.spec.now start.form names answer) c.in-Ok-Some.field-0-is
+          ∙ ap (λ t. race_texts start.form start.spec.now before ++ t) is,
       writes,
     ))
     c.report.ensures.front
@@ -185,7 +186,7 @@ returns-in-Ok-Some-clause-cost g c = λ start before item ready.
 pub returns-in-Err-clause-halted : goal.returns-in-Err-clause-halted
 returns-in-Err-clause-halted g c = λ start before item ready.
     let entry : Entry = record { number = c.args.number; item = item } in
-    let (rest, is) = texts_grow start.spec.now before entry ready.next.tracks.told in
+    let (rest, is) = texts_grow start.spec.now start.form before entry ready.next.tracks.told in
     ([], rest, is, appends_none (g.S.Sink.written c.args.out.now) (g.S.Sink.written c.args.out.now) refl)
 
 pub returns-in-Err-clause-cost : goal.returns-in-Err-clause-cost
@@ -198,4 +199,4 @@ pub report-requires-clause-formulas : goal.report-requires-clause-formulas
 report-requires-clause-formulas g c =
     let (start, before, item, ready) = c.requires in
     let same = c.in-Ok-Some.ensures.same in
-    same.2 ∙ ready.checks.formulas ∙ sym (same.0 ∙ ready.checks.spec)
+    same.3 ∙ ready.checks.formulas ∙ sym (same.1 ∙ ready.checks.spec)

@@ -92,16 +92,16 @@ returns-in-Root-clause-written g c = on_ok_weaker c.root.result
     kinds start before leads next.
     let entry : Entry = record { number = c.args.number; item = c.args._line.now } in
     let wrote = g.S.Sink.written c.args.out.now in
-    let same = texts_quiet start.spec.now c.args.self.now.tracker before entry c.args.accepted.now
+    let same = texts_quiet start.form start.spec.now c.args.self.now.tracker before entry c.args.accepted.now
     (next_line kinds start c.args.self.now before c.args.roster.now c.args._line.now c.args.accepted.now leads next) (λ call e. let is = c.in-Root.is in cc) in
-    ([], same ∙ sym (append-nil (race_texts start.spec.now before)), appends_none wrote wrote refl))
+    ([], same ∙ sym (append-nil (race_texts start.form start.spec.now before)), appends_none wrote wrote refl))
     c.root.ensures.checks
 
 pub returns-in-Root-clause-halted : goal.returns-in-Root-clause-halted
 returns-in-Root-clause-halted g c = always_err _ c.root.result (λ kinds start before leads next.
     let entry : Entry = record { number = c.args.number; item = c.args._line.now } in
     let wrote = g.S.Sink.written c.args.out.now in
-    let (rest, is) = texts_grow start.spec.now before entry leads.checks.tracks.told in
+    let (rest, is) = texts_grow start.spec.now start.form before entry leads.checks.tracks.told in
     ([], rest, is, appends_none wrote wrote refl))
 
 pub returns-in-Event-clause-leads : goal.returns-in-Event-clause-leads
@@ -120,8 +120,8 @@ pub returns-in-Event-clause-written : goal.returns-in-Event-clause-written
 returns-in-Event-clause-written g c = on_ok_weaker c.event.result
     (λ (wrote : (start : Check) (before : List Entry) (item : Line)
     → IsNextEventLine start c.args.self.now before item c.in-Event.event (naming_in c.args.roster.now) (c.events.result - 1)
-    → WritesBetween (g.S.Sink.written c.args.out.now) (g.S.Sink.written c.event.new.out) (race_texts start.spec.now before)
-    (race_texts start.spec.now (before ++ record { number = c.args.number; item = item } ∷ []))) kinds start before leads next.
+    → WritesBetween (g.S.Sink.written c.args.out.now) (g.S.Sink.written c.event.new.out) (race_texts start.form start.spec.now before)
+    (race_texts start.form start.spec.now (before ++ record { number = c.args.number; item = item } ∷ []))) kinds start before leads next.
     wrote start before c.args._line.now
     (ready kinds start c.args.self.now before c.args._line.now c.args.roster.now c.args.accepted.now c.in-Event.event c.in-Event.is leads next c.events.result
     (c.events.ensures kinds (items before ++ c.args._line.now ∷ []) next.stands)))
@@ -131,8 +131,8 @@ pub returns-in-Event-clause-halted : goal.returns-in-Event-clause-halted
 returns-in-Event-clause-halted g c = on_err_weaker c.event.result
     (λ (wrote : (start : Check) (before : List Entry) (item : Line)
     → IsNextEventLine start c.args.self.now before item c.in-Event.event (naming_in c.args.roster.now) (c.events.result - 1)
-    → WritesFront (g.S.Sink.written c.args.out.now) (g.S.Sink.written c.event.new.out) (race_texts start.spec.now before)
-    (race_texts start.spec.now (before ++ record { number = c.args.number; item = item } ∷ []))) kinds start before leads next.
+    → WritesFront (g.S.Sink.written c.args.out.now) (g.S.Sink.written c.event.new.out) (race_texts start.form start.spec.now before)
+    (race_texts start.form start.spec.now (before ++ record { number = c.args.number; item = item } ∷ []))) kinds start before leads next.
     wrote start before c.args._line.now
     (ready kinds start c.args.self.now before c.args._line.now c.args.roster.now c.args.accepted.now c.in-Event.event c.in-Event.is leads next c.events.result
     (c.events.ensures kinds (items before ++ c.args._line.now ∷ []) next.stands)))
@@ -161,8 +161,8 @@ module _ (kinds : List Kind) (start now : Check) (before : List Entry) (entry : 
         (quiet_tracks (kinds_of start.spec.now) now.tracker (items before) entry.item numbers line quiet) numbers line no_call;
   }
 
-  quiet_text : race_texts start.spec.now (before ++ entry ∷ []) ≡ race_texts start.spec.now before ++ []
-  quiet_text = texts_quiet start.spec.now now.tracker before entry numbers line no_call ∙ sym (append-nil (race_texts start.spec.now before))
+  quiet_text : race_texts start.form start.spec.now (before ++ entry ∷ []) ≡ race_texts start.form start.spec.now before ++ []
+  quiet_text = texts_quiet start.form start.spec.now now.tracker before entry numbers line no_call ∙ sym (append-nil (race_texts start.form start.spec.now before))
 
 pub returns-in-Nothing-clause-leads : goal.returns-in-Nothing-clause-leads
 returns-in-Nothing-clause-leads g c = λ kinds start before leads next.

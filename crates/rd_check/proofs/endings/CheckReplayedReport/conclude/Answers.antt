@@ -15,8 +15,8 @@ returns-in_err-ending-clause-output g c = λ kinds start entries leads replayed 
     let wrote = g.S.Sink.written c.args.out.now in (
       [],
       appends_none wrote wrote refl,
-      subst (λ status. IsOutput status (race_texts start.spec.now entries ++ []) (check_outcome start.spec.now (after entries (ends c.args.ending))))
-          (sym (report_without c.from_residual.result c.from_residual.ensures)) (check_front start.spec.now entries c.args.ending),
+      subst (λ status. IsOutput status (race_texts start.form start.spec.now entries ++ []) (check_outcome start.form start.spec.now (after entries (ends c.args.ending))))
+          (sym (report_without c.from_residual.result c.from_residual.ensures)) (check_front start.form start.spec.now entries c.args.ending),
     )
 
 pub returns-clause-output : goal.returns-clause-output
@@ -24,7 +24,7 @@ returns-clause-output g c = λ kinds start entries leads replayed stands.
     let (part, writes, output) = c.write_ending.ensures.output in (
       part,
       writes,
-      check_concluded (report_status c.write_ending.result) part start.spec.now kinds entries c.args.ending _ _ c.in_ok-ending.ending leads.kinds_are
+      check_concluded (report_status c.write_ending.result) part start.form c.args.self.now.form start.spec.now kinds entries c.args.ending _ _ c.in_ok-ending.ending leads.checks.form leads.kinds_are
           (thread_keys kinds c.args.names.now (items entries) stands) leads.checks.races
           (c.in_ok-ending.ensures.reported (object_kinds kinds (items entries)) (recorded_of kinds entries) replayed.stands) output,
     )

@@ -1,0 +1,11 @@
+use Rattle.std.proofs.Common.{◌++◌, ◌∙◌, ap, codes}
+use Rattle.serde_json.specs.View.{view}
+use Rattle.serde_json.specs.Written.{compact_text}
+use Rattle.rd_json.proofs.ObjectLemmas.{alone_text}
+use Rattle.rd_json.proofs.refusals.alone_json.Goals as goal
+
+pub returns : goal.returns
+returns c =
+    c.in_ok-append_object.ensures
+    ∙ (ap (λ t. t ++ (compact_text (view c.in_ok-object.object) ++ codes "\n")) c.new-text.ensures
+    ∙ (ap (λ d. compact_text d ++ codes "\n") c.in_ok-object.ensures ∙ alone_text c.args.ending.now c.requires))

@@ -1,0 +1,36 @@
+-- The forms in which a report is written: this project's profile.
+use Rattle.std.specs.Prelude.{ℕ, List, [], codes}
+use Rattle.rd_ecl.specs.Specified.{SpecifiedKind}
+use Rattle.rd_io.specs.Inputs.{fault_line}
+use Rattle.rd_reading.specs.RefusedTexts.{spec_refused_line}
+use Rattle.rd_reading.specs.declared.parsing.SpecRefused.{SpecRefused as Refusal}
+use Rattle.rd_report.specs.Races.{Told, race_text}
+use Rattle.rd_report.specs.Texts.{Naming, ending_text}
+use Rattle.rd_report.specs.declared.endings.Ending.{Ending}
+use Rattle.rd_json.specs.Json.{alone_json, ending_json, race_json, spec_refused_json}
+use Rattle.rd_json.specs.declared.forms.Form.{Form}
+use Rattle.rd_json.specs.declared.forms.Form.TheVariants.{Text, Json, EndingOnly}
+
+-- a race, the later call first
+abbrev pub race_in : Form → List SpecifiedKind → Naming → Told → Told → List ℕ
+race_in Text kinds naming later earlier = race_text kinds naming later earlier
+race_in Json kinds naming later earlier = race_json kinds naming later earlier
+race_in EndingOnly kinds naming later earlier = []
+
+-- what stands behind the races, by the names of the threads
+abbrev pub ending_in : Form → List (List ℕ) → ℕ → Ending → List ℕ
+ending_in Text names races ending = ending_text names races ending
+ending_in Json names races ending = ending_json names races ending
+ending_in EndingOnly names races ending = ending_text names races ending
+
+-- where a file can't be opened, or a specification not be read
+abbrev pub fault_in : Form → List ℕ
+fault_in Text = fault_line
+fault_in Json = alone_json (codes "fault input")
+fault_in EndingOnly = fault_line
+
+-- where a specification is refused
+abbrev pub refused_in : Form → Refusal → List ℕ
+refused_in Text refused = spec_refused_line refused
+refused_in Json refused = spec_refused_json refused
+refused_in EndingOnly refused = spec_refused_line refused

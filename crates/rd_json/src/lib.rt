@@ -1,0 +1,14 @@
+//! Reports as JSON, and the forms in which a report is written.
+#![tactic(auto)]
+
+mod endings;
+mod forms;
+mod objects;
+mod races;
+mod refusals;
+mod values;
+
+pub use endings::ending_json;
+pub use forms::{Form, append_race, ending_in, fault_in, refused_in};
+pub use races::{append_race_json, race_json};
+pub use refusals::spec_refused_json;

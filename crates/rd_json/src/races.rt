@@ -1,0 +1,83 @@
+//! A race as JSON.
+ghost use Rattle.std.specs.Prelude.{◌≡◌, ◌≤◌, ◌<◌, ◌++◌, length, IfOk, OnOk};
+ghost use Rattle.serde_json.specs.View.{view};
+ghost use Rattle.rd_ecl.specs.Specified.{kind_at};
+ghost use Rattle.rd_json.specs.Json.{race_json};
+ghost use Rattle.rd_json.specs.Values.{IsPlainCall, told_value};
+ghost use Rattle.rd_report.specs.Races.{IsKnownRace, IsNamed, formula_line, formula_words, told_by};
+ghost use Rattle.rd_report.specs.Texts.{naming_in};
+ghost use Rattle.rd_report.specs.Writing.{ArePlain};
+
+use crate::objects::{append_object, inside};
+use crate::values::{call_value, race_value};
+use rd_base::{Bytes, NoMemory};
+use rd_ecl::{KindSpec, Spec};
+use rd_report::{call_text, clock_text, formula_line};
+use rd_store::{Race, Witness};
+use rd_wf::Roster;
+use serde_json::Value;
+use std::alloc::Global;
+
+// What is told of a call.
+fn told_value(alloc: Global, told: &Witness, spec: &Spec, names: &Roster) -> Result<Value, NoMemory>
+    requires { IsNamed spec.now (naming_in names.now) told.now.call }
+    ensures value { IfOk result
+        (λ value. view value ≡ told_value spec.now (naming_in names.now) (told_by told.now)) }
+    ensures plain { OnOk result (IsPlainCall spec.now (naming_in names.now) (told_by told.now)) }
+{
+    let call = call_text(alloc, &told.call, spec, names)?;
+    let clock = clock_text(alloc, &told.stamp.clock, names)?;
+    Ok(call_value(alloc, call.items(), clock.items(), told.line)?)
+}
+
+// The line of a formula, without its first word and its line feed.
+fn formula_inside<'a>(kind: &KindSpec, first: u8, second: u8, line: &'a [u8]) -> &'a [u8]
+    requires methods { (first ≤ second) × (second < length kind.now.methods) }
+    requires line { line.now ≡ formula_line kind.now first second }
+    ensures words { result.now ≡ formula_words kind.now first second }
+    ensures plain { ArePlain (formula_words kind.now first second) }
+{
+    // its clause says what is known of a kind
+    let _methods = kind.methods();
+    inside(line, b"formula ".len())
+}
+
+/// Puts a race behind the text as a line with one JSON object: `{"earlier":{"call":CALL,"clock":CLOCK,"line":N},"formula":FORMULA,
+/// "later":..}`. The line of the formula is handed in. The numbers in the race are known to the specification and the roster. After want
+/// of memory the text may have a front of it.
+pub fn append_race_json(
+    text: &mut Bytes,
+    alloc: Global,
+    race: &Race,
+    formula: &[u8],
+    spec: &Spec,
+    names: &Roster,
+) -> Result<(), NoMemory>
+    requires known { IsKnownRace spec.now (naming_in names.now) race.now }
+    requires formula { formula.now ≡ formula_line
+        (kind_at spec.now race.now.kind) race.now.first race.now.second }
+    ensures { OnOk result
+        (text.new ≡ text.old ++ race_json spec.now (naming_in names.now)
+        (told_by race.now.later.value) (told_by race.now.earlier.value)) }
+{
+    let kind = &spec.kinds()[race.kind as usize];
+    let formula = formula_inside(kind, race.first, race.second, formula);
+    let earlier = told_value(alloc, &race.earlier, spec, names)?;
+    let later = told_value(alloc, &race.later, spec, names)?;
+    let object = race_value(alloc, earlier, formula, later)?;
+    append_object(text, alloc, &object)
+}
+
+/// A race as a line with one JSON object. The numbers in it are known to the specification and the roster.
+pub fn race_json(alloc: Global, race: &Race, spec: &Spec, names: &Roster) -> Result<Bytes, NoMemory>
+    requires { IsKnownRace spec.now (naming_in names.now) race.now }
+    ensures { IfOk result
+        (λ text. text ≡ race_json spec.now (naming_in names.now) (told_by race.now.later.value)
+        (told_by race.now.earlier.value)) }
+{
+    let kind = &spec.kinds()[race.kind as usize];
+    let formula = formula_line(alloc, kind, race.first, race.second)?;
+    let mut text = Bytes::new(alloc);
+    append_race_json(&mut text, alloc, race, formula.items(), spec, names)?;
+    Ok(text)
+}

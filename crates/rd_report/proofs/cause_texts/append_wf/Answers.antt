@@ -1,0 +1,14 @@
+use Rattle.std.proofs.Common.{subst, sym}
+use Rattle.std.proofs.lemmas.Result.{on_ok_weaker}
+use Rattle.rd_base.specs.Limits.{limit_cause_text}
+use Rattle.rd_wf.specs.Roster.{names_in}
+use Rattle.rd_report.specs.Texts.{wf_text}
+use Rattle.rd_report.specs.Writing.{ArePlain}
+use Rattle.rd_report.proofs.cause_texts.append_wf.Goals as goal
+
+pub returns-in-Limit-clause-plain : goal.returns-in-Limit-clause-plain
+unfolding wf_text
+returns-in-Limit-clause-plain c =
+    on_ok_weaker c.append_passed.result
+    (λ _. subst (λ cause. ArePlain (wf_text (names_in c.args.names.now) cause)) (sym c.in-Limit.is)
+    (subst (λ number. ArePlain (limit_cause_text c.in-Limit.name number)) c.from.ensures c.append_passed.ensures.plain)) c.append_passed.ensures.text
