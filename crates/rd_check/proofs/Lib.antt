@@ -4,5 +4,6 @@ pub mod FaultLemmas
 pub mod HeadlineLemmas
 pub mod NamingLemmas
 pub mod OutcomeLemmas
+pub mod QuietLemmas
 pub mod ReportLemmas
 pub mod WholeLemmas

@@ -263,4 +263,6 @@ impl<'a> Analysis for Check<'a> {
             }
         }
     }
+
+    fn law_of_skipped_lines(&self, _number: u64, _roster: &Roster) {}
 }

@@ -70,4 +70,8 @@ impl<A: Analysis> Analysis for Replaying<A> {
             Err(halt) => Err(halt),
         }
     }
+
+    fn law_of_skipped_lines(&self, number: u64, roster: &Roster) {
+        self.inner.law_of_skipped_lines(number, roster);
+    }
 }

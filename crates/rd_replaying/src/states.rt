@@ -249,6 +249,8 @@ impl Analysis for ReplayAlone {
     ) -> Result<(), Halt> {
         Ok(())
     }
+
+    fn law_of_skipped_lines(&self, _number: u64, _roster: &Roster) {}
 }
 
 impl ReplayedReport for ReplayAlone {

@@ -1,13 +1,20 @@
 -- The walk over the lines of a trace, one line after another.
-use Rattle.std.proofs.Common.{◌≡◌, ℕ, ◌+◌, ◌≤◌, List, [], ◌∷◌, ◌++◌, Some, Ok, Err, ap, ◌∙◌, refl, arith}
+use Rattle.std.proofs.Common.{◌≡◌, ℕ, ◌+◌, ◌≤◌, List, [], ◌∷◌, ◌++◌, Some, Ok, Err, true, ap, ◌∙◌, refl, arith, inl, length}
 use Rattle.std.proofs.lemmas.List.{append_assoc, append-nil, map-append}
 use Rattle.rd_io.specs.Lines.{Reading, LinesEnding}
 use Rattle.rd_io.specs.Lines.Reading.{stops, line}
 use Rattle.rd_base.specs.declared.limits.Limits.{Limits}
 use Rattle.rd_event.specs.Reading.{item_of}
+use Rattle.rd_event.specs.Items.{is_skipped}
 use Rattle.rd_event.specs.declared.items.Line.{Line}
+use Rattle.rd_event.specs.declared.items.Line.TheVariants.{Skip}
 use Rattle.rd_ecl.specs.Kinds.{Kind}
-use Rattle.rd_wf.specs.MayFollow.{first_broken}
+use Rattle.rd_base.specs.Limits.{AreUsable}
+use Rattle.rd_walk.specs.Analysis.{IsNextEntry}
+use Rattle.rd_wf.specs.MayFollow.{accepted_of, first_broken, threads_of}
+use Rattle.rd_wf.specs.Roster.{RosterStandsFor}
+use Rattle.rd_wf.specs.declared.causes.Accepted.TheVariants.{Nothing}
+use Rattle.rd_wf.specs.declared.roster.Roster.{Roster}
 use Rattle.rd_walk.specs.Walk.{Entry, Walked, accepted_or, after, bound_from, trace_end_of, ending_of, ends, entries_of, goes, goes_or_ends, items, judgement_of, judgement_of_item, walk}
 use Rattle.rd_wf.specs.declared.causes.WfCause.{WfCause}
 use Rattle.rd_wf.specs.declared.causes.TraceCause.{TraceCause}
@@ -18,6 +25,20 @@ pub judged_broken : (kinds : List Kind) (limits : Limits) (before : List Line) (
     → item_of bytes ≡ Some item → first_broken kinds limits before item ≡ Some cause → judgement_of kinds limits before bytes ≡ Err (Wf cause)
 unfolding judgement_of
 judged_broken kinds limits before bytes item cause says broken = ap (judgement_of_item kinds limits before) says ∙ ap (accepted_or item) broken
+
+-- a line that is skipped is accepted
+pub skipped_judged : (kinds : List Kind) (limits : Limits) (before : List Line) (bytes : List ℕ) → is_skipped bytes ≡ true
+    → judgement_of kinds limits before bytes ≡ Ok Skip
+unfolding judgement_of item_of first_broken
+skipped_judged kinds limits before bytes skipped = rw skipped refl
+
+-- and is the next entry
+pub next_skipped : (kinds : List Kind) (roster : Roster) (before : List Entry) (limits : Limits) → AreUsable limits
+    → RosterStandsFor kinds roster (items before ++ Skip ∷ []) → length (threads_of (items before ++ Skip ∷ [])) ≤ 4294967295
+    → IsNextEntry kinds roster before Skip Nothing
+unfolding accepted_of
+next_skipped kinds roster before limits usable stands few =
+    record { limits = limits; usable = usable; follows = inl refl; numbers = refl; stands = stands; few = few }
 
 pub walk_stops : (kinds : List Kind) (limits : Limits) (before : List Line) (number : ℕ) (ending : LinesEnding)
     → walk kinds limits before number (stops ending) ≡ ends (trace_end_of limits before number ending)

@@ -50,4 +50,11 @@ impl<L: Analysis, R: Analysis> Analysis for Either<L, R> {
             Either::Right(right) => right.accept(number, line, accepted, roster, out, steps),
         }
     }
+
+    fn law_of_skipped_lines(&self, number: u64, roster: &Roster) {
+        match self {
+            Either::Left(left) => left.law_of_skipped_lines(number, roster),
+            Either::Right(right) => right.law_of_skipped_lines(number, roster),
+        }
+    }
 }

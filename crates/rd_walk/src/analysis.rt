@@ -89,6 +89,19 @@ pub trait Analysis {
         ensures fault { TellsFault (S.faults out.old) (S.faults out.new) (S.at_fault out.new)
             (S.written out.new) result };
 
+    /// The law of skipped lines: one that is accepted leads to the same, and nothing is written for it.
+    fn law_of_skipped_lines(&self, number: u64, roster: &Roster)
+        ensures leads { (kinds : List Kind) (start : Self) (before : List Entry) →
+            leads kinds start before self.now →
+            IsNextEntry kinds roster.now before Item.Skip Accepted.Nothing →
+            leads kinds start
+            (before ++ record { number = number; item = Item.Skip } ∷ []) self.now }
+        ensures silent { (kinds : List Kind) (start : Self) (before : List Entry) →
+            leads kinds start before self.now →
+            IsNextEntry kinds roster.now before Item.Skip Accepted.Nothing →
+            text kinds start (before ++ record { number = number; item = Item.Skip } ∷ [])
+            ≡ text kinds start before };
+
     /// No line leads anywhere else, and nothing is written for none.
     ghost starts: { (kinds : List Kind) (start : Self) → begins kinds start →
         leads kinds start [] start };

@@ -18,7 +18,7 @@ ghost use Rattle.rd_wf.specs.Roster.{RosterStandsFor, kinds_in};
 use crate::analysis::{Analysis, Halt};
 use crate::judging::{Refusal, judge};
 use rd_base::{LimitName, Limits, Steps};
-use rd_event::Line;
+use rd_event::{Line, is_skipped};
 use rd_io::{Inputs, LineReader, Next, ReadEnd, Sink};
 use rd_wf::{Roster, TraceCause};
 use std::alloc::Global;
@@ -227,6 +227,11 @@ pub fn walk_lines<A: Analysis, I: Inputs, S: Sink, L: Ledger>(
             Err(refused) => return Ok(at_refusal(refused, reader.number(), &walker.limits)),
         }
         let number = reader.number();
+        if is_skipped(reader.line()) {
+            walker.roster.law_of_skipped_lines();
+            walker.analysis.law_of_skipped_lines(number, &walker.roster);
+            continue;
+        }
         match take_line(walker, number, reader.line(), out, steps) {
             Ok(Taken::Accepted) => {}
             Ok(Taken::Refused) => return Ok(WalkEnd::Refused {

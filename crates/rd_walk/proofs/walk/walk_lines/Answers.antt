@@ -1,5 +1,7 @@
 use Rattle.std.proofs.Common.{◌≡◌, ◌+◌, [], ◌∷◌, ◌++◌, length, Ok, Err, refl, sym, ap, ◌∙◌, subst, inl, inr, arith}
 use Rattle.std.proofs.lemmas.List.{append_assoc, append-nil, length-append}
+use Rattle.rd_event.specs.Items.{is_skipped}
+use Rattle.rd_event.specs.declared.items.Line.TheVariants.{Skip}
 use Rattle.rd_io.specs.Sinks.{Appends}
 use Rattle.rd_io.specs.Inputs.{Source}
 use Rattle.rd_io.specs.LineReader.{Reader, IsAtEnd}
@@ -10,7 +12,7 @@ use Rattle.rd_wf.specs.Roster.{RosterStandsFor, kinds_in}
 use Rattle.rd_walk.specs.Walk.{Entry, bound_from, trace_end_of, items}
 use Rattle.rd_walk.specs.Progress.{WalksTo, ending_for}
 use Rattle.rd_walk.specs.declared.walk.WalkEnd.TheVariants.{Refused}
-use Rattle.rd_walk.proofs.WalkLemmas.{bound_more, items_more}
+use Rattle.rd_walk.proofs.WalkLemmas.{bound_more, items_more, next_skipped, skipped_judged}
 use Rattle.rd_walk.proofs.ContinueLemmas.{continues_fresh, continues_line, walks_end, walks_further, walks_on, walks_refused, walks_to_refusal}
 use Rattle.rd_walk.proofs.ProgressLemmas.{all_begun, cut_line, cut_none, read_so_far}
 use Rattle.rd_walk.proofs.walk.walk_lines.Goals as goal
@@ -92,7 +94,7 @@ lines-preserved g c =
     let kinds = kinds_in c.args.walker.now.roster in
     let start = c.args.walker.now.analysis in
     let taking = c.in-Ok-Accepted.ensures.taken c.in-Ok-Accepted.field-0-is kinds start entries stands leads in
-    let (item, says, stands_now, leads_now, writes, cost_now) = rw (c.number-number.ensures.value, c.line.ensures, same) at taking in
+    let (item, says, stands_now, leads_now, writes, cost_now) = rw (c.number-number.ensures.value, c.line-in-lines.ensures, same) at taking in
     let entry : Entry = record { number = c.next.new.self.number; item = item } in (
       entries ++ entry ∷ [],
       taken ++ bytes,
@@ -133,7 +135,7 @@ returns-in-Ok-Refused-clause-walked g c =
           (λ (source : Source). WalksTo kinds limits (taken ++ bytes) source.held entries (Refused c.number-number.result cause))
           (λ source none. subst (λ n. WalksTo kinds limits (taken ++ bytes) source.held entries (Refused n cause)) (sym c.number-number.ensures.value)
           (walks_to_refusal kinds limits taken bytes c.lines.reader c.next.new.self entries so_far answered.tells moves.number source.held
-          cause (rw (c.line.ensures, same) at refusal.0)))
+          cause (rw (c.line-in-lines.ensures, same) at refusal.0)))
           told goes,
     )
 
@@ -162,7 +164,7 @@ returns-in-Err-take_line-clause-halted g c =
       )
       | inr (item, judged_so, front, cost_now) ↦
           let entry : Entry = record { number = c.next.new.self.number; item = item } in
-          let says = rw (c.line.ensures, same) at judged_so in
+          let says = rw (c.line-in-lines.ensures, same) at judged_so in
           let (part, rest, is, writes) = rw c.number-number.ensures.value at front in (
             entries ++ entry ∷ [],
             taken ++ bytes,
@@ -177,3 +179,36 @@ returns-in-Err-take_line-clause-halted g c =
             goes_now,
           )
     ]
+
+pub lines-preserved-then-is_skipped : goal.lines-preserved-then-is_skipped
+lines-preserved-then-is_skipped g c =
+    let (entries, taken, lines, going, so_far, stands, leads, text, cost, told, calm, faults, same, cut, counted) = c.lines.invariant in
+    let (bytes, answered, goes) = (rw c.in-Ok-Line.field-0-is at c.in-Ok-Line.ensures.tells) going in
+    let moves = (rw c.in-Ok-Line.field-0-is at c.in-Ok-Line.ensures.moves) going in
+    let limits = c.args.walker.now.limits in
+    let kinds = kinds_in c.args.walker.now.roster in
+    let start = c.args.walker.now.analysis in
+    let wrote = g.S.Sink.written c.args.out.now in
+    let says = skipped_judged kinds limits (items entries) c.next.new.self.line (ap is_skipped (sym c.line.ensures) ∙ sym c.is_skipped.ensures ∙ c.if-is_skipped.true) in
+    let entry : Entry = record { number = c.next.new.self.number; item = Skip } in
+    let next = next_skipped kinds c.lines.walker.roster entries limits c.requires.usable
+    (c.law_of_skipped_lines.ensures.stands kinds (items entries) stands) (c.law_of_skipped_lines.ensures.few kinds (items entries) stands) in
+    let numbered : record { number = c.number-number.result; item = Skip } ≡ entry = ap (λ n. record { number = n; item = Skip }) c.number-number.ensures.value in (
+      entries ++ entry ∷ [],
+      taken ++ bytes,
+      lines ++ c.next.new.self.line ∷ [],
+      moves.ended,
+      continues_line kinds limits taken bytes c.lines.reader c.next.new.self entries so_far answered.tells moves.number Skip says,
+      subst (RosterStandsFor kinds c.lines.walker.roster) (sym (items_more entries entry)) (c.law_of_skipped_lines.ensures.stands kinds (items entries) stands),
+      subst (λ e. g.A.Analysis.leads kinds start (entries ++ e ∷ []) c.lines.walker.analysis) numbered
+          (c.law_of_skipped_lines-then-is_skipped.ensures.leads kinds start entries leads next),
+      subst (Appends wrote (g.S.Sink.written c.lines.out))
+          (sym (c.law_of_skipped_lines-then-is_skipped.ensures.silent kinds start entries leads next) ∙ ap (λ e. g.A.Analysis.text kinds start (entries ++ e ∷ [])) numbered) text,
+      omega (arith, cost, bound_more (g.A.Analysis.bound kinds start) [] entries entry),
+      takes_on _ _ _ taken bytes told (λ old is. let r = goes old is in (r.0, r.1, r.2.0)),
+      c.in-Ok-Line.ensures.calm (λ e. let fault = sym (ap Ok c.in-Ok-Line.field-0-is) ∙ e in cc) ∙ calm,
+      faults,
+      same,
+      cut_line limits taken bytes c.lines.reader lines cut c.next.new.self answered.leaves,
+      omega (arith, length-append lines (c.next.new.self.line ∷ []), length-append entries (entry ∷ []), counted),
+    )

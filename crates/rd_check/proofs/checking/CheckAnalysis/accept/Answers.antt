@@ -20,6 +20,7 @@ use Rattle.rd_walk.specs.Walk.{Entry, items}
 use Rattle.rd_check.specs.declared.checking.Check.{Check}
 use Rattle.rd_walk.proofs.OutputLemmas.{always_err}
 use Rattle.rd_check.proofs.CheckLemmas.{checks_quiet, event_place, next_line, quiet_tracks, texts_quiet}
+use Rattle.rd_check.proofs.QuietLemmas.{quiet_leads, quiet_text}
 use Rattle.rd_check.proofs.ReportLemmas.{texts_grow}
 use Rattle.rd_check.proofs.checking.CheckAnalysis.accept.Goals as goal
 
@@ -143,26 +144,6 @@ returns-in-Event-clause-cost g c = λ kinds start before leads next.
     c.event.ensures.cost start before c.args._line.now
     (ready kinds start c.args.self.now before c.args._line.now c.args.roster.now c.args.accepted.now c.in-Event.event c.in-Event.is leads next c.events.result
     (c.events.ensures kinds (items before ++ c.args._line.now ∷ []) next.stands))
-
--- a line that is neither a root nor an event leaves all as it is
-module _ (kinds : List Kind) (start now : Check) (before : List Entry) (entry : Entry) (roster : Roster) (numbers : Accepted)
-    (quiet : (numbers ≡ accepted.Nothing) ⊎ ((object : ℕ) × (kind : ℕ) × (numbers ≡ accepted.Object object kind)))
-    (leads : CheckLeads kinds start before now) (next : IsNextEntry kinds roster before entry.item numbers) where
-  line : IsNextLine (kinds_of start.spec.now) now.tracker (items before) entry.item numbers
-  line = next_line kinds start now before roster entry.item numbers leads next
-
-  no_call : (call : CallOf) → numbers ≢ accepted.Event (numbered.Call call)
-  no_call call e = elim quiet [ inl nothing ↦ cc | inr object ↦ (let is = object.2 in cc) ]
-
-  quiet_leads : CheckLeads kinds start (before ++ entry ∷ []) now
-  quiet_leads = record {
-    kinds_are = leads.kinds_are;
-    checks = checks_quiet start now now.tracker before entry leads.checks
-        (quiet_tracks (kinds_of start.spec.now) now.tracker (items before) entry.item numbers line quiet) numbers line no_call;
-  }
-
-  quiet_text : race_texts start.form start.spec.now (before ++ entry ∷ []) ≡ race_texts start.form start.spec.now before ++ []
-  quiet_text = texts_quiet start.form start.spec.now now.tracker before entry numbers line no_call ∙ sym (append-nil (race_texts start.form start.spec.now before))
 
 pub returns-in-Nothing-clause-leads : goal.returns-in-Nothing-clause-leads
 returns-in-Nothing-clause-leads g c = λ kinds start before leads next.

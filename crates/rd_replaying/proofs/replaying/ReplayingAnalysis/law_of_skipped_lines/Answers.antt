@@ -1,0 +1,14 @@
+use Rattle.std.proofs.Common.{refl}
+use Rattle.rd_event.specs.declared.items.Line.TheVariants.{Skip}
+use Rattle.rd_wf.specs.declared.causes.Accepted.TheVariants.{Nothing}
+use Rattle.rd_walk.specs.Walk.{Entry}
+use Rattle.rd_replaying.proofs.ReplayingLemmas.{nothing_no_call, nothing_no_object, replayed_quiet}
+use Rattle.rd_replaying.proofs.replaying.ReplayingAnalysis.law_of_skipped_lines.Goals as goal
+
+pub returns-clause-leads : goal.returns-clause-leads
+returns-clause-leads g c = λ kinds start before leads next.
+    let entry : Entry = record { number = c.args.number; item = Skip } in
+    let replayer = c.args.self.now.replayer in (
+      c.law_of_skipped_lines.ensures.leads kinds start.inner before leads.0 next,
+      replayed_quiet kinds before entry replayer replayer leads.1 c.args.roster.now Nothing next (nothing_no_object Nothing refl) (nothing_no_call Nothing refl),
+    )
