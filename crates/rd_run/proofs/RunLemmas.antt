@@ -1,5 +1,5 @@
 -- What a run leaves without a command, and the number of a built-in kind.
-use Rattle.rd_run.specs.Commands.Command.{kind}
+use Rattle.rd_run.specs.Commands.Command.{gen_text, kind}
 use Rattle.rd_run.specs.Commands.{Command, usage_meaning, named_number, shipped_named, usage_outcome}
 use Rattle.rd_base.specs.declared.limits.Limits.{Limits}
 use Rattle.rd_ecl.specs.Specified.{SpecifiedKind}
@@ -64,6 +64,10 @@ shipped_at (suc (suc (suc (suc number)))) few = absurd (omega (arith, few))
 -- a kind is asked for by one word alone
 pub same_kind : (a b : SpecifiedKind) → ◌≡◌ {A = Option Command} (Some (kind a)) (Some (kind b)) → a ≡ b
 same_kind a b e = cc
+
+-- a generated trace is asked for by its number and how many calls it has
+pub same_numbers : (a b c d : ℕ) → ◌≡◌ {A = Option Command} (Some (gen_text a b)) (Some (gen_text c d)) → (a ≡ c) × (b ≡ d)
+same_numbers a b c d e = (cc, cc)
 
 -- the kind with a name, and its number
 register_name : register_kind.name ≡ codes "register"

@@ -1,6 +1,9 @@
 -- What the words of the command line ask for.
 use Rattle.rd_walk.specs.Meanings.{Meaning}
 use Rattle.rd_check.specs.Meanings.{check_meaning}
+use Rattle.rd_decimals.specs.Decimals.{number_read}
+use Rattle.rd_gen.specs.declared.counts.TheConstants.{MOST_CALLS}
+use Rattle.rd_gen_command.specs.GeneratedTexts.{gen_text_meaning}
 use Rattle.rd_points_command.specs.PointTexts.{points_text}
 use Rattle.rd_print.specs.Printed.{spec_text}
 use Rattle.rd_spec_commands.specs.Meanings.{kind_meaning, said_meaning}
@@ -13,10 +16,10 @@ use Rattle.rd_walk.specs.Output.{Outcome}
 use Rattle.rd_walk.specs.declared.status.Status.TheVariants.{Usage}
 use Rattle.rd_run.specs.declared.commands.Said.TheVariants.{Spec, Points}
 use Rattle.rd_run.specs.declared.commands.Said.{Said}
-use Rattle.rd_run.specs.declared.commands.Command.TheVariants.{Check, CheckWith, Replay, OfSpec, Kind as BuiltIn}
+use Rattle.rd_run.specs.declared.commands.Command.TheVariants.{Check, CheckWith, Replay, OfSpec, Kind as BuiltIn, GenText}
 use Rattle.rd_run.specs.declared.commands.Command.{Command as Asked}
 use Rattle.rd_wf.specs.MayFollow.{same_name}
-use Rattle.std.specs.Prelude.{◌≡◌, ℕ, List, Option, Some, None, codes, option_map, slice_get, if◌then◌else◌, [], ◌∷◌, ⊤, find}
+use Rattle.std.specs.Prelude.{◌≡◌, ℕ, List, Option, Some, None, codes, option_and_then, option_map, slice_get, if◌then◌else◌, [], ◌∷◌, ⊤, find}
 
 -- what the words ask for
 pub data Command : Type 0 where
@@ -28,10 +31,16 @@ pub data Command : Type 0 where
   of_spec : Said → List ℕ → Command
   -- a kind that is built in
   kind : SpecifiedKind → Command
+  -- the text of the trace of a number with so many calls
+  gen_text : ℕ → ℕ → Command
 
 -- the kind that is built in with this name
 abbrev pub shipped_named : List ℕ → Option SpecifiedKind
 shipped_named name = find (λ kind. same_name name kind.name) shipped_kinds
+
+-- the number of a generated trace, and how many calls it has, where words spell these
+abbrev pub numbers_read : List ℕ → List ℕ → Option (ℕ × ℕ)
+numbers_read number count = option_and_then (λ n. option_map (λ c. (n, c)) (number_read MOST_CALLS count)) (number_read 18446744073709551615 number)
 
 -- the words are exactly those of a command
 abbrev pub command_of : List (List ℕ) → Option Command
@@ -42,9 +51,10 @@ command_of (word ∷ name ∷ []) =
     else if same_name word (codes "spec") then Some (of_spec Spec name)
     else if same_name word (codes "points") then Some (of_spec Points name)
     else if same_name word (codes "kind") then option_map kind (shipped_named name) else None
-command_of (word ∷ trace ∷ file ∷ []) =
-    if same_name word (codes "check") then Some (check Text trace (Some file))
-    else if same_name word (codes "check-json") then Some (check Json trace (Some file)) else None
+command_of (word ∷ first ∷ second ∷ []) =
+    if same_name word (codes "check") then Some (check Text first (Some second))
+    else if same_name word (codes "check-json") then Some (check Json first (Some second))
+    else if same_name word (codes "gen-text") then option_map (λ numbers. gen_text numbers.0 numbers.1) (numbers_read first second) else None
 command_of _ = None
 
 -- where the words match no command
@@ -74,6 +84,7 @@ meaning_of (Some (check form trace file)) = check_meaning form trace file
 meaning_of (Some (replay trace)) = replay_meaning trace
 meaning_of (Some (of_spec said file)) = said_meaning (said_text said) file
 meaning_of (Some (kind built_in)) = kind_meaning built_in
+meaning_of (Some (gen_text number count)) = gen_text_meaning number count
 
 -- ---- as the program has them
 
@@ -84,6 +95,7 @@ asked_command (Some (CheckWith asked file)) = Some (check asked.form asked.trace
 asked_command (Some (Replay trace)) = Some (replay trace.now)
 asked_command (Some (OfSpec said file)) = Some (of_spec said file.now)
 asked_command (Some (BuiltIn number)) = option_map kind (slice_get shipped_kinds number)
+asked_command (Some (GenText number count)) = Some (gen_text number count)
 
 -- the number of the built-in kind with this name
 abbrev pub named_number : List ℕ → Option ℕ

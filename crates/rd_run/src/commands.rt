@@ -1,9 +1,12 @@
 //! What the words of the command line ask for.
-ghost use Rattle.std.specs.Prelude.{◌≡◌, ◌<◌, ℕ, IfSome};
-ghost use Rattle.rd_run.specs.Commands.{asked_command, command_of, named_number};
+ghost use Rattle.std.specs.Prelude.{◌≡◌, ◌<◌, ◌≤◌, ℕ, IfSome};
+ghost use Rattle.rd_gen.specs.declared.counts.TheConstants.{MOST_CALLS};
+ghost use Rattle.rd_run.specs.Commands.{asked_command, command_of, named_number, numbers_read};
 
 use rd_base::Word;
+use rd_decimals::read_number;
 use rd_ecl::Spec;
+use rd_gen::MOST_CALLS;
 use rd_io::Sink;
 use rd_json::Form;
 use rd_points_command::PointTables;
@@ -52,6 +55,8 @@ pub enum Command<'a> {
     OfSpec(Said, &'a Word),
     /// `kind NAME`, where a kind that is built in has the name, by its number
     Kind(u32),
+    /// `gen-text NUMBER COUNT`
+    GenText(u64, u32),
 }
 
 /// The number of the kind that is built in with this name.
@@ -74,11 +79,28 @@ fn shipped_number(name: &Word) -> Option<u32>
     None
 }
 
+/// The number of a generated trace, and how many calls it has, if the words spell these.
+fn trace_numbers(number: &Word, count: &Word) -> Option<(u64, u32)>
+    ensures numbers { result ≡ numbers_read number.now count.now }
+    ensures few { IfSome result (λ numbers. numbers.1 ≤ MOST_CALLS) }
+{
+    let Some(number) = read_number(number.items(), u64::MAX) else {
+        return None;
+    };
+    match read_number(count.items(), u64::from(MOST_CALLS)) {
+        Some(count) => Some((number, count as u32)),
+        None => None,
+    }
+}
+
 /// The command that the words of the command line ask for, if they match one.
 pub(crate) fn command_of(words: &[Word]) -> Option<Command<'_>>
     ensures asked { asked_command result ≡ command_of words.now }
     ensures known { IfSome result
         (λ command. (number : ℕ) → command ≡ Command.Kind number → number < 4) }
+    ensures few { IfSome result
+        (λ command. (number count : ℕ) → command ≡ Command.GenText number count →
+        count ≤ MOST_CALLS) }
 {
     match words {
         [word, trace] if word.items() == b"check".as_slice() => Some(Command::Check(ToCheck {
@@ -116,6 +138,12 @@ pub(crate) fn command_of(words: &[Word]) -> Option<Command<'_>>
                 trace,
             };
             Some(Command::CheckWith(asked, file))
+        }
+        [word, number, count] if word.items() == b"gen-text".as_slice() => {
+            match trace_numbers(number, count) {
+                Some((number, count)) => Some(Command::GenText(number, count)),
+                None => None,
+            }
         }
         _ => None,
     }

@@ -15,7 +15,8 @@ ghost use Rattle.rd_check.specs.Checked.{check_texts};
 ghost use Rattle.rd_replaying.specs.Replaying.{BeginWithBuiltIn};
 ghost use Rattle.rd_walk.specs.Traces.{ReportsTrace};
 ghost use Rattle.rd_walk.specs.Meanings.{Runs, WritesAll};
-ghost use Rattle.rd_run.specs.Commands.Command.{check, kind, replay};
+ghost use Rattle.rd_gen_command.specs.GeneratedTexts.{gen_text_outcome};
+ghost use Rattle.rd_run.specs.Commands.Command.{check, gen_text, kind, replay};
 ghost use Rattle.rd_spec_commands.specs.Meanings.{kind_outcome};
 
 use crate::commands::{Command, ToCheck, command_of};
@@ -24,6 +25,7 @@ use rd_base::{Limits, NoMemory, Steps, Word};
 use rd_check::Check;
 use rd_ecl::Spec;
 use rd_event::Line;
+use rd_gen_command::{gen_text, text_status};
 use rd_io::{Inputs, Sink};
 use rd_kinds::shipped;
 use rd_replaying::{ReplayAlone, Replaying};
@@ -208,7 +210,8 @@ fn refuse_usage<S: Sink>(out: &mut S) -> Status
 /// recorded results are those of the objects; `check-json TRACE` and `check-json TRACE SPEC`, the same as lines with one JSON object each;
 /// `replay TRACE`, which says this alone, and where it is so what the objects hold in the end;
 /// `spec SPEC`, which writes the canonical text of a specification, and `points SPEC`, which writes the access points of its kinds, or where
-/// and why it is refused; or `kind NAME`, which writes the canonical text of a kind that is built in. Any other words write `refused usage`. Each line is handed to the output by itself, with its line feed.
+/// and why it is refused; `kind NAME`, which writes the canonical text of a kind that is built in; or `gen-text NUMBER COUNT`, which writes
+/// the trace of a number with so many calls. Any other words write `refused usage`. Each line is handed to the output by itself, with its line feed.
 ///
 /// Whatever the inputs and the output tell: `Usage` comes exactly where the words match no command, unless writing failed;
 /// `InputFault` exactly where the inputs' count of faults rose in this call, unless writing failed or memory ran out; `OutputFault`
@@ -254,6 +257,10 @@ pub fn run<I: Inputs, S: Sink, L: Ledger>(
         command_of words.now ≡ Some (kind built_in) → (part : List ℕ)
         × Appends (S.written out.old) (S.written out.new) part
         × IsOutput result part (kind_outcome built_in) }
+    ensures gen_text { (number count : ℕ) → command_of words.now ≡ Some (gen_text number count) →
+        (part : List ℕ)
+        × Appends (S.written out.old) (S.written out.new) part
+        × IsOutput result part (gen_text_outcome number count) }
 
     // each of these statuses has its cause
     ensures usage { result ≡ Status.Usage → command_of words.now ≡ None }
@@ -288,5 +295,6 @@ pub fn run<I: Inputs, S: Sink, L: Ledger>(
             spec_command_status(report_spec(alloc, &said, file, inputs, out))
         }
         Some(Command::Kind(number)) => spec_command_status(kind(alloc, number, out)),
+        Some(Command::GenText(number, count)) => text_status(gen_text(alloc, number, count, out)),
     }
 }

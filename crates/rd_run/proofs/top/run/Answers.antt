@@ -7,10 +7,13 @@ use Rattle.rd_spec_commands.specs.Specifications.{spec_command_status}
 use Rattle.rd_spec_commands.proofs.StatusLemmas.{spec_calm, spec_failed, spec_no_usage, spec_wrote, written_no_input, written_no_spec}
 use Rattle.rd_run.specs.Commands.{asked_command, meaning_of}
 use Rattle.rd_walk.specs.Meanings.{Runs, WritesAll}
-use Rattle.rd_run.specs.Commands.Command.{check, kind, of_spec, replay}
+use Rattle.rd_run.specs.Commands.Command.{check, gen_text, kind, of_spec, replay}
 use Rattle.rd_run.specs.declared.commands.Command.{Command as Asked}
 use Rattle.rd_spec_commands.proofs.WholeLemmas.{runs_kind}
-use Rattle.rd_run.proofs.RunLemmas.{runs_usage, same_kind, shipped_at}
+use Rattle.rd_gen_command.proofs.StatusLemmas.{text_no_input, text_no_spec, text_no_usage, text_wrote}
+use Rattle.rd_gen_command.proofs.WholeLemmas.{runs_gen_text}
+use Rattle.rd_gen_command.specs.GeneratedTexts.{gen_text_outcome, text_status}
+use Rattle.rd_run.proofs.RunLemmas.{runs_usage, same_kind, same_numbers, shipped_at}
 use Rattle.rd_walk.proofs.WholeLemmas.{none_failed, not_risen}
 use Rattle.rd_run.proofs.WholeLemmas.{some_file, some≢none, usage_or_fault, whole_run}
 use Rattle.rd_run.proofs.top.run.Goals as goal
@@ -277,3 +280,61 @@ returns-in-Some-Kind-clause-input_fault g c = λ e. absurd (written_no_input c.k
 pub returns-in-Some-Kind-clause-output_fault : goal.returns-in-Some-Kind-clause-output_fault
 returns-in-Some-Kind-clause-output_fault g c =
     subst (StatusTellsFault _ _ _ _) (sym c.spec_command_status-in-Some-Kind.ensures) (spec_wrote _ _ _ _ c.kind.result c.kind.ensures.fault)
+
+pub returns-in-Some-GenText-clause-runs : goal.returns-in-Some-GenText-clause-runs
+returns-in-Some-GenText-clause-runs g c = λ old told few few_opens.
+    let number = c.in-Some-GenText.number in
+    let count = c.in-Some-GenText.count in
+    let (part, writes, output) = c.gen_text.ensures.output in
+    let faults = g.I.Inputs.faults c.args.inputs.now in
+    let words = ap (λ (command : Asked). asked_command (Some command)) (sym c.in-Some-GenText.field-0-is) ∙ c.in-Some-GenText.ensures.asked in (
+      old,
+      part,
+      told,
+      writes,
+      subst (λ command. Runs (meaning_of command) c.args.limits.now (nat_lt faults faults) old old part c.text_status.result c.args.steps.now c.args.steps.now) words
+          (runs_gen_text number count c.args.limits.now (nat_lt faults faults) old part c.text_status.result c.args.steps.now
+          (subst (λ status. IsOutput status part (gen_text_outcome number count)) (sym c.text_status.ensures) output)),
+    )
+
+pub returns-in-Some-GenText-clause-whole : goal.returns-in-Some-GenText-clause-whole
+returns-in-Some-GenText-clause-whole g c = λ old told few few_opens few_faults calm silent.
+    let number = c.in-Some-GenText.number in
+    let count = c.in-Some-GenText.count in
+    let (part, writes, output) = c.gen_text.ensures.output in
+    let faults = g.I.Inputs.faults c.args.inputs.now in
+    let status = text_status c.gen_text.result in
+    let words = ap (λ (command : Asked). asked_command (Some command)) (sym c.in-Some-GenText.field-0-is) ∙ c.in-Some-GenText.ensures.asked in (
+      part,
+      writes,
+      subst (λ command. WritesAll (meaning_of command) c.args.limits.now old part c.text_status.result) words
+          (subst (λ status. WritesAll (meaning_of (Some (gen_text number count))) c.args.limits.now old part status) (sym c.text_status.ensures)
+          (whole_run (Some (gen_text number count)) c.args.limits.now (nat_lt faults faults) old old part status c.args.steps.now c.args.steps.now
+          (runs_gen_text number count c.args.limits.now (nat_lt faults faults) old part status c.args.steps.now output) (not_risen faults faults refl)
+          (none_failed _ _ _ _ status (text_wrote _ _ _ _ c.gen_text.result c.gen_text.ensures.fault) few_faults silent) (λ none. absurd (some≢none none)))),
+    )
+
+pub returns-in-Some-GenText-clause-gen_text : goal.returns-in-Some-GenText-clause-gen_text
+returns-in-Some-GenText-clause-gen_text g c = λ number count is.
+    let (part, writes, output) = c.gen_text.ensures.output in
+    let words = ap (λ (command : Asked). asked_command (Some command)) (sym c.in-Some-GenText.field-0-is) ∙ c.in-Some-GenText.ensures.asked in
+    let (same, also) = same_numbers c.in-Some-GenText.number c.in-Some-GenText.count number count (words ∙ is) in (
+      part,
+      writes,
+      subst (λ status. IsOutput status part (gen_text_outcome number count)) (sym c.text_status.ensures)
+          (subst (λ n. IsOutput (text_status c.gen_text.result) part (gen_text_outcome n count)) same
+          (subst (λ m. IsOutput (text_status c.gen_text.result) part (gen_text_outcome c.in-Some-GenText.number m)) also output)),
+    )
+
+pub returns-in-Some-GenText-clause-usage : goal.returns-in-Some-GenText-clause-usage
+returns-in-Some-GenText-clause-usage g c = λ e. absurd (text_no_usage c.gen_text.result (sym c.text_status.ensures ∙ e))
+
+pub returns-in-Some-GenText-clause-spec_refused : goal.returns-in-Some-GenText-clause-spec_refused
+returns-in-Some-GenText-clause-spec_refused g c = λ e. absurd (text_no_spec c.gen_text.result (sym c.text_status.ensures ∙ e))
+
+pub returns-in-Some-GenText-clause-input_fault : goal.returns-in-Some-GenText-clause-input_fault
+returns-in-Some-GenText-clause-input_fault g c = λ e. absurd (text_no_input c.gen_text.result (sym c.text_status.ensures ∙ e))
+
+pub returns-in-Some-GenText-clause-output_fault : goal.returns-in-Some-GenText-clause-output_fault
+returns-in-Some-GenText-clause-output_fault g c =
+    subst (StatusTellsFault _ _ _ _) (sym c.text_status.ensures) (text_wrote _ _ _ _ c.gen_text.result c.gen_text.ensures.fault)

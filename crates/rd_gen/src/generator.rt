@@ -1,0 +1,146 @@
+//! The generator of a trace.
+ghost use Rattle.std.specs.Prelude.{◌≡◌, ◌≤◌, false, true, IfOk, OnOk, OnErr, IfSome};
+ghost use Rattle.rd_event.specs.Items.{IsSpellable};
+ghost use Rattle.rd_gen.specs.Generated.{generated};
+ghost use Rattle.rd_gen.specs.Generator.{behind_first, first_of};
+ghost use Rattle.rd_gen.specs.declared.counts.TheConstants.{MOST_CALLS};
+
+use crate::calls::{
+    acquire_of, call_of, join_of, last_call, next_number, opening_line, release_of,
+};
+use rd_base::NoMemory;
+use rd_event::Line;
+use rd_kinds::Dictionary;
+use rd_object::RefObject;
+use std::alloc::Global;
+use std::marker::Model;
+
+// Where a generator stands.
+#[derive(Clone, Copy, Debug)]
+pub(crate) enum Stage {
+    /// so many of the first lines were given
+    Opening(u8),
+    /// the next call comes
+    Turning,
+    /// its lock was taken
+    Calling,
+    /// the call was given, and its lock is to be given back
+    Releasing,
+    /// so many of the last lines were given
+    Closing(u8),
+}
+
+/// Makes the lines of a trace, one after another. Contracts see it as the lines that it has still to give, and whether it has failed.
+#[derive(Debug, Drop)]
+pub struct Generator {
+    alloc: Global,
+    locked: bool,
+    // the calls that aren't begun
+    left: u32,
+    // that of the last call that was begun
+    number: u32,
+    stage: Stage,
+    dictionary: Dictionary,
+    failed: bool,
+}
+
+impl Model for Generator {
+    ghost use Rattle.std.specs.Prelude.{◌<◌};
+    ghost use Rattle.rd_gen.specs.Generator.{Generating, IsStage, lines_from};
+
+    ghost Value = { Generating };
+
+    ghost view = { λ g. record { lines = lines_from g.stage g.locked g.left g.number g.dictionary; failed = g.failed } };
+
+    ghost invariant = { λ g. (g.number < 65536) × IsStage g.stage };
+}
+
+impl Generator {
+    /// A generator of the trace of this number with so many calls: at most 10,000,000. It takes no memory.
+    #[tactic(auto, unfolding(crate::specs::Generated::generated))]
+    pub fn new(alloc: Global, number: u64, count: u32) -> Generator
+        requires { count ≤ MOST_CALLS }
+        ensures { result ≡ record { lines = generated number count; failed = false } }
+    {
+        Generator {
+            alloc,
+            locked: number % 2 == 0,
+            left: count,
+            number: (number % 65536) as u32,
+            stage: Stage::Opening(0),
+            dictionary: Dictionary::start(alloc),
+            failed: false,
+        }
+    }
+
+    // The next line, where it has not failed.
+    fn make_line(&mut self) -> Result<Option<Line>, NoMemory>
+        ensures line { IfOk result (λ line. line ≡ first_of self.old.lines) }
+        ensures rest { OnOk result (self.new.lines ≡ behind_first self.old.lines) }
+        ensures spellable { IfOk result (λ line. IfSome line IsSpellable) }
+        ensures failed { self.new.failed ≡ self.old.failed }
+    {
+        match self.stage {
+            Stage::Opening(given) => {
+                self.stage = if given == 6 {
+                    Stage::Turning
+                } else {
+                    Stage::Opening(given + 1)
+                };
+                Ok(Some(opening_line(given)))
+            }
+            Stage::Turning => {
+                if self.left == 0 {
+                    self.stage = Stage::Closing(1);
+                    return Ok(Some(join_of(0)));
+                }
+                self.left -= 1;
+                self.number = next_number(self.number);
+                if self.locked {
+                    self.stage = Stage::Calling;
+                    return Ok(Some(acquire_of(self.number / 16)));
+                }
+                let line = call_of(self.alloc, &mut self.dictionary, self.number / 16)?;
+                Ok(Some(line))
+            }
+            Stage::Calling => {
+                self.stage = Stage::Releasing;
+                let line = call_of(self.alloc, &mut self.dictionary, self.number / 16)?;
+                Ok(Some(line))
+            }
+            Stage::Releasing => {
+                self.stage = Stage::Turning;
+                Ok(Some(release_of(self.number / 16)))
+            }
+            Stage::Closing(given) => {
+                if given == 5 {
+                    return Ok(None);
+                }
+                self.stage = Stage::Closing(given + 1);
+                if given == 4 {
+                    let line = last_call(self.alloc, &mut self.dictionary)?;
+                    return Ok(Some(line));
+                }
+                Ok(Some(join_of(u32::from(given))))
+            }
+        }
+    }
+
+    /// The next line, which has a spelling; `None` exactly behind the last. After want of memory each further call answers it too.
+    pub fn next_line(&mut self) -> Result<Option<Line>, NoMemory>
+        ensures line { IfOk result (λ line. line ≡ first_of self.old.lines) }
+        ensures rest { OnOk result (self.new.lines ≡ behind_first self.old.lines) }
+        ensures spellable { IfOk result (λ line. IfSome line IsSpellable) }
+
+        // after an `Err` it has failed, and answers nothing else
+        ensures well { OnOk result (self.old.failed ≡ false × self.new.failed ≡ false) }
+        ensures failed { OnErr result (self.new.failed ≡ true) }
+    {
+        if self.failed {
+            return Err(NoMemory);
+        }
+        let line = self.make_line();
+        self.failed = line.is_err();
+        line
+    }
+}

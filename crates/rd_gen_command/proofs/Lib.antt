@@ -1,0 +1,5 @@
+pub mod ReportLemmas
+pub mod StatusLemmas
+pub mod TextLemmas
+pub mod WalkLemmas
+pub mod WholeLemmas

@@ -1,0 +1,2 @@
+pub mod GeneratedTexts
+pub mod GeneratedWalks

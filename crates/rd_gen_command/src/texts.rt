@@ -1,0 +1,77 @@
+//! The command `gen-text`.
+ghost use Rattle.std.specs.Prelude.{◌≡◌, ◌≤◌, ℕ, List, [], IfOk, OnOk, OnErr};
+ghost use Rattle.rd_event.specs.Items.{IsSpellable};
+ghost use Rattle.rd_gen_command.specs.GeneratedTexts.{gen_text_outcome, line_text, lines_text, text_status};
+ghost use Rattle.rd_gen.specs.declared.counts.TheConstants.{MOST_CALLS};
+ghost use Rattle.rd_io.specs.Sinks.{Appends};
+ghost use Rattle.rd_walk.specs.Analysis.{TellsFault, WritesFront};
+ghost use Rattle.rd_walk.specs.Output.{IsOutput};
+
+use rd_base::{Bytes, NoMemory};
+use rd_event::{Line, spell};
+use rd_gen::Generator;
+use rd_io::Sink;
+use rd_walk::{Halt, Status, status_of, write_line};
+use std::alloc::Global;
+
+/// The status of a run that writes a text.
+pub fn text_status(written: Result<(), Halt>) -> Status
+    ensures { result ≡ text_status written }
+{
+    match written {
+        Ok(()) => Status::Clean,
+        Err(halt) => status_of(halt),
+    }
+}
+
+// The spelling of a line with its line feed.
+fn spelled(alloc: Global, line: Line) -> Result<Bytes, NoMemory>
+    requires { IsSpellable line }
+    ensures { IfOk result (λ text. text ≡ line_text line) }
+{
+    let mut text = spell(alloc, &line)?;
+    text.push(b'\n')?;
+    Ok(text)
+}
+
+// Writes a line with its line feed.
+fn write_spelled<S: Sink>(alloc: Global, line: Line, out: &mut S) -> Result<(), Halt>
+    requires { IsSpellable line }
+    ensures ok { OnOk result (Appends (S.written out.old) (S.written out.new) (line_text line)) }
+    ensures front { OnErr result (WritesFront (S.written out.old) (S.written out.new) []
+        (line_text line)) }
+    ensures fault { TellsFault (S.faults out.old) (S.faults out.new) (S.at_fault out.new)
+        (S.written out.new) result }
+{
+    let text = spelled(alloc, line)?;
+    write_line(out, text.items())
+}
+
+// Writes the lines that a generator has still to give, each by itself.
+fn write_rest<S: Sink>(alloc: Global, generator: &mut Generator, out: &mut S) -> Result<(), Halt>
+    ensures ok { OnOk result (Appends (S.written out.old) (S.written out.new)
+        (lines_text generator.old.lines)) }
+    ensures front { OnErr result (WritesFront (S.written out.old) (S.written out.new) []
+        (lines_text generator.old.lines)) }
+    ensures fault { TellsFault (S.faults out.old) (S.faults out.new) (S.at_fault out.new)
+        (S.written out.new) result }
+{
+    while let Some(line) = generator.next_line()? {
+        write_spelled(alloc, line, out)?;
+    }
+    Ok(())
+}
+
+/// `gen-text NUMBER COUNT`: writes the lines of the trace of this number with so many calls, each handed to the output by itself.
+pub fn gen_text<S: Sink>(alloc: Global, number: u64, count: u32, out: &mut S) -> Result<(), Halt>
+    requires { count ≤ MOST_CALLS }
+
+    // the whole is written, or a front of it where writing failed or memory ran out; and a failed write is told as one
+    ensures output { (part : List ℕ) × Appends (S.written out.old) (S.written out.new) part
+        × IsOutput (text_status result) part (gen_text_outcome number count) }
+    ensures fault { TellsFault (S.faults out.old) (S.faults out.new) (S.at_fault out.new)
+        (S.written out.new) result }
+{
+    let mut generator = Generator::new(alloc, number, count);
+    write_rest(alloc, &mut generator, out)
+}

@@ -1,0 +1,4 @@
+pub mod CauseLemmas
+pub mod KnownLemmas
+pub mod LineLemmas
+pub mod TurnLemmas

@@ -1,0 +1,6 @@
+//! What generated traces are.
+#![tactic(auto)]
+
+mod laws;
+
+pub use laws::law_of_generated_lines;

@@ -1,0 +1,5 @@
+//! Tests of generated traces.
+#![tactic(auto)]
+
+#[cfg(test)]
+mod traces;
