@@ -167,7 +167,10 @@ pub(crate) fn slots(alloc: Global, bytes: &[u8]) -> Result<Slots, LineRefused>
         (λ e. e ≡ LineRefused.NoMemory → (slots : List Value)
         × (slots_read 7 bytes.now ≡ Some slots)) }
 {
-    let mut values = Vec::new(alloc);
+    // most calls have at most three
+    let Ok(mut values) = Vec::with_capacity(alloc, 3) else {
+        return Err(want_of_memory(bytes));
+    };
     let mut rest = bytes;
     while values.len() < 7 {
         let (word, after) = cut_value(rest);

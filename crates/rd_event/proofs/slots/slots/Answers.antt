@@ -12,7 +12,7 @@ pub returns-then-bytes_are-clause-slots : goal.returns-then-bytes_are-clause-slo
 returns-then-bytes_are-clause-slots c =
     let room : length c.loop-rest.values.items < 7 = search rules in
     let arrow = rw c.cut_value.ensures.before at (sym c.bytes_are.ensures ∙ c.if-bytes_are.true) in
-    result_read _ _ _ _ c.loop-rest.invariant room arrow (rw c.cut_value.ensures.after at c.in-Ok.ensures.found)
+    result_read _ _ _ _ c.loop-rest.invariant room arrow (rw c.cut_value.ensures.after at c.in-Ok-read_value.ensures.found)
     ∙ ap (λ slots. Some slots) (sym (c.in-Ok-from_values.ensures ∙ c.in-Ok-push.ensures.items))
 
 pub returns-in-Err-NotAValue-read_value-clause-none : goal.returns-in-Err-NotAValue-read_value-clause-none
@@ -27,7 +27,7 @@ loop-rest-preserved c =
     let room : length c.loop-rest.values.items < 7 = search rules in
     let arrow = rw c.cut_value.ensures.before at (sym c.bytes_are.ensures ∙ c.if-bytes_are.false) in
     rw (c.in-Ok-push-2.ensures.items, c.cut_value.ensures.after)
-    (argument_read _ _ _ _ c.loop-rest.invariant room arrow (rw c.cut_value.ensures.before at c.in-Ok-read_value.ensures.found))
+    (argument_read _ _ _ _ c.loop-rest.invariant room arrow (rw c.cut_value.ensures.before at c.in-Ok-read_value-2.ensures.found))
 
 pub returns-clause-none : goal.returns-clause-none
 returns-clause-none c = λ bad.

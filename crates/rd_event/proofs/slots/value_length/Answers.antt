@@ -1,6 +1,5 @@
-use Rattle.std.proofs.Common.{arith, sym, ◌∙◌, ◌≡◌, refl, true, false, get_or, drop, suc, ◌+◌}
-use Rattle.rd_event.specs.declared.slots.Place.TheVariants.{Outside, Quoted}
-use Rattle.rd_event.specs.ReadingSlots.{ends_value, value_length}
+use Rattle.std.proofs.Common.{arith, ◌+◌}
+use Rattle.rd_event.specs.declared.slots.Place.TheVariants.{Outside}
 use Rattle.rd_event.proofs.CutLemmas.{at_quote, at_space, at_other, ends_behind, quoted_behind}
 use Rattle.rd_event.proofs.slots.value_length.Goals as goal
 
