@@ -6,6 +6,7 @@ mod forms;
 mod objects;
 mod races;
 mod refusals;
+mod strings;
 mod values;
 
 pub use endings::ending_json;

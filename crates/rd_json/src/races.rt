@@ -1,16 +1,17 @@
-//! A race as JSON.
+//! A race as JSON: as a value, or straight behind a text.
 ghost use Rattle.std.specs.Prelude.{◌≡◌, ◌≤◌, ◌<◌, ◌++◌, length, IfOk, OnOk};
 ghost use Rattle.serde_json.specs.View.{view};
 ghost use Rattle.rd_ecl.specs.Specified.{kind_at};
-ghost use Rattle.rd_json.specs.Json.{race_json};
+ghost use Rattle.rd_json.specs.Json.{failed_words, race_json, told_json};
 ghost use Rattle.rd_json.specs.Values.{IsPlainCall, told_value};
 ghost use Rattle.rd_report.specs.Races.{IsKnownRace, IsNamed, formula_line, formula_words, told_by};
-ghost use Rattle.rd_report.specs.Texts.{naming_in};
+ghost use Rattle.rd_report.specs.Texts.{Naming, naming_in};
 ghost use Rattle.rd_report.specs.Writing.{ArePlain};
 
 use crate::objects::{append_object, inside};
+use crate::strings::append_string;
 use crate::values::{call_value, race_value};
-use rd_base::{Bytes, NoMemory};
+use rd_base::{Bytes, NoMemory, append_number};
 use rd_ecl::{KindSpec, Spec};
 use rd_report::{call_text, clock_text, formula_line};
 use rd_store::{Race, Witness};
@@ -18,7 +19,7 @@ use rd_wf::Roster;
 use serde_json::Value;
 use std::alloc::Global;
 
-// What is told of a call.
+// What is told of a call, as a value.
 fn told_value(alloc: Global, told: &Witness, spec: &Spec, names: &Roster) -> Result<Value, NoMemory>
     requires { IsNamed spec.now (naming_in names.now) told.now.call }
     ensures value { IfOk result
@@ -28,6 +29,30 @@ fn told_value(alloc: Global, told: &Witness, spec: &Spec, names: &Roster) -> Res
     let call = call_text(alloc, &told.call, spec, names)?;
     let clock = clock_text(alloc, &told.stamp.clock, names)?;
     Ok(call_value(alloc, call.items(), clock.items(), told.line)?)
+}
+
+// Puts what is told of a call behind the text.
+#[tactic(auto, unfolding(crate::specs::Json::told_json))]
+fn append_told(
+    text: &mut Bytes,
+    alloc: Global,
+    told: &Witness,
+    spec: &Spec,
+    names: &Roster,
+) -> Result<(), NoMemory>
+    requires { IsNamed spec.now (naming_in names.now) told.now.call }
+    ensures { OnOk result (text.new ≡ text.old ++ told_json spec.now (naming_in names.now)
+        (told_by told.now)) }
+{
+    let call = call_text(alloc, &told.call, spec, names)?;
+    let clock = clock_text(alloc, &told.stamp.clock, names)?;
+    text.append(b"{\"call\":")?;
+    append_string(text, call.items())?;
+    text.append(b",\"clock\":")?;
+    append_string(text, clock.items())?;
+    text.append(b",\"line\":")?;
+    append_number(text, told.line)?;
+    text.push(b'}')
 }
 
 // The line of a formula, without its first word and its line feed.
@@ -40,6 +65,20 @@ fn formula_inside<'a>(kind: &KindSpec, first: u8, second: u8, line: &'a [u8]) ->
     // its clause says what is known of a kind
     let _methods = kind.methods();
     inside(line, b"formula ".len())
+}
+
+// The formula that the calls of a race fail, by its line.
+fn failed_formula<'a>(race: &Race, line: &'a [u8], spec: &Spec) -> &'a [u8]
+    requires known { (naming : Naming) × IsKnownRace spec.now naming race.now }
+    requires line { line.now ≡ formula_line
+        (kind_at spec.now race.now.kind) race.now.first race.now.second }
+    ensures words { result.now ≡ failed_words
+        spec.now race.now.later.value.call race.now.earlier.value.call }
+    ensures plain { ArePlain (failed_words
+        spec.now race.now.later.value.call race.now.earlier.value.call) }
+{
+    let kind = &spec.kinds()[race.kind as usize];
+    formula_inside(kind, race.first, race.second, line)
 }
 
 /// Puts a race behind the text as a line with one JSON object: `{"earlier":{"call":CALL,"clock":CLOCK,"line":N},"formula":FORMULA,
@@ -60,12 +99,14 @@ pub fn append_race_json(
         (text.new ≡ text.old ++ race_json spec.now (naming_in names.now)
         (told_by race.now.later.value) (told_by race.now.earlier.value)) }
 {
-    let kind = &spec.kinds()[race.kind as usize];
-    let formula = formula_inside(kind, race.first, race.second, formula);
-    let earlier = told_value(alloc, &race.earlier, spec, names)?;
-    let later = told_value(alloc, &race.later, spec, names)?;
-    let object = race_value(alloc, earlier, formula, later)?;
-    append_object(text, alloc, &object)
+    let words = failed_formula(race, formula, spec);
+    text.append(b"{\"earlier\":")?;
+    append_told(text, alloc, &race.earlier, spec, names)?;
+    text.append(b",\"formula\":")?;
+    append_string(text, words)?;
+    text.append(b",\"later\":")?;
+    append_told(text, alloc, &race.later, spec, names)?;
+    text.append(b"}\n")
 }
 
 /// A race as a line with one JSON object. The numbers in it are known to the specification and the roster.
@@ -76,8 +117,12 @@ pub fn race_json(alloc: Global, race: &Race, spec: &Spec, names: &Roster) -> Res
         (told_by race.now.earlier.value)) }
 {
     let kind = &spec.kinds()[race.kind as usize];
-    let formula = formula_line(alloc, kind, race.first, race.second)?;
+    let line = formula_line(alloc, kind, race.first, race.second)?;
+    let formula = failed_formula(race, line.items(), spec);
+    let earlier = told_value(alloc, &race.earlier, spec, names)?;
+    let later = told_value(alloc, &race.later, spec, names)?;
+    let object = race_value(alloc, earlier, formula, later)?;
     let mut text = Bytes::new(alloc);
-    append_race_json(&mut text, alloc, race, formula.items(), spec, names)?;
+    append_object(&mut text, alloc, &object)?;
     Ok(text)
 }

@@ -9,7 +9,7 @@ use rd_base::{Bytes, LimitName, Limits, Slots, Steps, Value};
 use rd_clock::{Clock, Stamp};
 use rd_ecl::Spec;
 use rd_event::Call;
-use rd_json::{ending_json, race_json};
+use rd_json::{append_race_json, ending_json, race_json};
 use rd_object::{Expected, ReplayEnd, Shape, ValueCounts, ValuePairs};
 use rd_print::{formula_text, print};
 use rd_report::{
@@ -51,13 +51,13 @@ fn clock_of<L: Ledger>(
 
 // What is told of a call of the first flag: the number of its line, its thread, its result, and how many events of three threads its
 // clock counts.
-type Told = (u64, u32, bool, (u32, u32, u32));
+type Told<'a> = (u64, u32, &'a str, (u32, u32, u32));
 
 // A call of the first flag.
 fn call_of<L: Ledger>(
     rt: &impl Abort,
     alloc: Global,
-    told: Told,
+    told: Told<'_>,
     steps: &mut Steps<L>,
 ) -> Rc<Witness>
     ensures { IsOfOne result.value.call }
@@ -68,7 +68,7 @@ fn call_of<L: Ledger>(
         object: 0,
         kind: 0,
         method: 0,
-        slots: slots(rt, alloc, if done { "true" } else { "false" }),
+        slots: slots(rt, alloc, done),
     };
     let stamp = Stamp {
         thread,
@@ -132,6 +132,18 @@ fn is_written(
     is_text(rt, text.items(), wanted);
 }
 
+// A text, and the same as JSON.
+type Wanted<'a> = (&'a str, &'a str);
+
+// This stands behind the text before.
+fn is_behind(rt: &impl Abort, text: &Bytes, wanted: &str) {
+    let told = text
+        .items()
+        .strip_prefix(b"before\n")
+        .expect(rt, "the text before");
+    is_text(rt, told, wanted);
+}
+
 // The same is put behind another text.
 fn is_appended(
     rt: &impl Abort,
@@ -139,7 +151,7 @@ fn is_appended(
     spec: &Spec,
     names: &Roster,
     race: &Race,
-    wanted: &str,
+    wanted: Wanted<'_>,
 )
     requires spec { HasOneMethod spec.now }
     requires race { IsKnownRace spec.now (naming_in names.now) race.now }
@@ -149,11 +161,11 @@ fn is_appended(
     let mut text = Bytes::new(alloc);
     text.append(b"before\n").expect(rt, "memory");
     append_race(&mut text, race, formula.items(), spec, names).expect(rt, "memory");
-    let told = text
-        .items()
-        .strip_prefix(b"before\n")
-        .expect(rt, "the text before");
-    is_text(rt, told, wanted);
+    is_behind(rt, &text, wanted.0);
+    let mut text = Bytes::new(alloc);
+    text.append(b"before\n").expect(rt, "memory");
+    append_race_json(&mut text, alloc, race, formula.items(), spec, names).expect(rt, "memory");
+    is_behind(rt, &text, wanted.1);
 }
 
 // So it is written as JSON.
@@ -163,9 +175,6 @@ fn is_object(rt: &impl Abort, alloc: Global, spec: &Spec, names: &Roster, race: 
     let text = race_json(alloc, race, spec, names).expect(rt, "memory");
     is_text(rt, text.items(), wanted);
 }
-
-// A text, and the same as JSON.
-type Wanted<'a> = (&'a str, &'a str);
 
 // The race of the two calls is told so.
 fn is_told(
@@ -183,7 +192,7 @@ fn is_told(
 {
     let race = race_of(rt, spec, names, later, earlier);
     is_written(rt, alloc, spec, names, &race, wanted.0);
-    is_appended(rt, alloc, spec, names, &race, wanted.0);
+    is_appended(rt, alloc, spec, names, &race, wanted);
     is_object(rt, alloc, spec, names, &race, wanted.1);
 }
 
@@ -192,8 +201,8 @@ fn both_calls<L: Ledger>(
     rt: &impl Abort,
     alloc: Global,
     blank: Blank,
-    first: Told,
-    second: Told,
+    first: Told<'_>,
+    second: Told<'_>,
 ) -> (Rc<Witness>, Rc<Witness>)
     requires name { blank.name ≡ L.name }
     requires parts { blank.parts ≡ L.parts }
@@ -211,7 +220,7 @@ fn is_race(
     rt: &impl Abort,
     alloc: Global,
     lines: &str,
-    (later, earlier): (Told, Told),
+    (later, earlier): (Told<'_>, Told<'_>),
     wanted: Wanted<'_>,
 ) {
     let (later, earlier) = both_calls::<Brand>(rt, alloc, Blank::new(1), later, earlier);
@@ -222,12 +231,12 @@ fn is_race(
 }
 
 // The lines of a trace, the later and the earlier of two calls, and how their race is told.
-type RaceRow<'a> = (&'a str, (Told, Told), Wanted<'a>);
+type RaceRow<'a> = (&'a str, (Told<'a>, Told<'a>), Wanted<'a>);
 
-const RACES: [RaceRow<'static>; 2] = [
+const RACES: [RaceRow<'static>; 3] = [
     (
         "rdtrace 1;thread p;thread q;object f flag",
-        ((6, 1, false, (0, 1, 0)), (5, 0, true, (1, 0, 0))),
+        ((6, 1, "false", (0, 1, 0)), (5, 0, "true", (1, 0, 0))),
         (
             "race line 6 q f set -> false clock q:1\nwith line 5 p f set -> true clock p:1\nformula flag set set when done@1 = true\n",
             "{\"earlier\":{\"call\":\"p f set -> true\",\"clock\":\"p:1\",\"line\":5},\"formula\":\"flag set set when done@1 = true\",\"later\":{\"call\":\"q f set -> false\",\"clock\":\"q:1\",\"line\":6}}\n",
@@ -236,10 +245,25 @@ const RACES: [RaceRow<'static>; 2] = [
     // the first and the last of three threads
     (
         "rdtrace 1;thread main;thread a;thread b;object g.1 flag",
-        ((4294967296, 2, true, (2, 0, 1)), (40, 0, true, (12, 7, 0))),
+        (
+            (4294967296, 2, "true", (2, 0, 1)),
+            (40, 0, "true", (12, 7, 0)),
+        ),
         (
             "race line 4294967296 b g.1 set -> true clock main:2,b:1\nwith line 40 main g.1 set -> true clock main:12,a:7\nformula flag set set when done@1 = true\n",
             "{\"earlier\":{\"call\":\"main g.1 set -> true\",\"clock\":\"main:12,a:7\",\"line\":40},\"formula\":\"flag set set when done@1 = true\",\"later\":{\"call\":\"b g.1 set -> true\",\"clock\":\"main:2,b:1\",\"line\":4294967296}}\n",
+        ),
+    ),
+    // quotes and backslashes
+    (
+        "rdtrace 1;thread p;thread q;object f flag",
+        (
+            (6, 1, "\"\\\"\"", (0, 1, 0)),
+            (5, 0, "\"a\\\\b\\xff\"", (1, 0, 0)),
+        ),
+        (
+            "race line 6 q f set -> \"\\\"\" clock q:1\nwith line 5 p f set -> \"a\\\\b\\xff\" clock p:1\nformula flag set set when done@1 = true\n",
+            "{\"earlier\":{\"call\":\"p f set -> \\\"a\\\\\\\\b\\\\xff\\\"\",\"clock\":\"p:1\",\"line\":5},\"formula\":\"flag set set when done@1 = true\",\"later\":{\"call\":\"q f set -> \\\"\\\\\\\"\\\"\",\"clock\":\"q:1\",\"line\":6}}\n",
         ),
     ),
 ];

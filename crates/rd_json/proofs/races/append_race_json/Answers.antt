@@ -1,33 +1,26 @@
-use Rattle.std.proofs.Common.{◌≡◌, ◌<◌, ◌++◌, ◌∙◌, ap, codes, get_or, length, subst, sym}
-use Rattle.std.proofs.lemmas.List.{get_or_default}
+use Rattle.std.proofs.Common.{◌≡◌, ℕ, List, ◌++◌, ◌∙◌, ap, append_assoc, codes}
 use Rattle.std.proofs.lemmas.Result.{on_ok_weaker}
-use Rattle.serde_json.specs.View.{view}
-use Rattle.serde_json.specs.Written.{compact_text}
-use Rattle.rd_ecl.specs.Specified.{kind_at, no_kind}
-use Rattle.rd_report.specs.Races.{formula_words, told_by}
+use Rattle.rd_report.specs.Races.{told_by}
 use Rattle.rd_report.specs.Texts.{naming_in}
-use Rattle.rd_report.specs.Writing.{ArePlain}
-use Rattle.rd_json.specs.Json.{failed_words}
-use Rattle.rd_json.specs.Values.{IsPlainCall, race_value, told_value}
-use Rattle.rd_json.proofs.ObjectLemmas.{race_text}
+use Rattle.rd_json.specs.Json.{failed_words, race_json, string_json, told_json}
 use Rattle.rd_json.proofs.races.append_race_json.Goals as goal
 
+seven : (text p1 s1 p2 s2 p3 s3 p4 : List ℕ)
+    → (((((((text ++ p1) ++ s1) ++ p2) ++ s2) ++ p3) ++ s3) ++ p4) ≡ text ++ (p1 ++ s1 ++ p2 ++ s2 ++ p3 ++ s3 ++ p4)
+seven text p1 s1 p2 s2 p3 s3 p4 = simp append_assoc
+
 pub returns : goal.returns
+unfolding race_json
 returns c =
     let kinds = c.args.spec.now in
     let naming = naming_in c.args.names.now in
     let race = c.args.race.now in
-    let known = c.requires.known in
-    let within : race.kind < length kinds = subst (λ k. k < length kinds) (sym known.kind) known.later.kind in
-    let kind : c.index-kinds-race.result ≡ kind_at kinds race.kind =
-    c.index-kinds-race.is ∙ ap (λ xs. get_or xs race.kind c.index-kinds-race.result) c.kinds.ensures.value
-    ∙ get_or_default kinds race.kind c.index-kinds-race.result no_kind within in
-    let words : formula_words c.index-kinds-race.result race.first race.second ≡ failed_words kinds race.later.value.call race.earlier.value.call =
-    λ i. formula_words ((kind ∙ ap (kind_at kinds) known.kind) i) (known.first i) (known.second i) in
-    let earlier = c.in_ok-earlier.ensures.value ∙ ap (λ w. told_value kinds naming (told_by w)) c.deref.ensures in
-    let later = c.in_ok-later.ensures.value ∙ ap (λ w. told_value kinds naming (told_by w)) c.deref-2.ensures in
-    let object = c.in_ok-object.ensures ∙ (λ i. race_value (earlier i) ((c.formula_inside-formula.ensures.words ∙ words) i) (later i)) in
-    let text = ap (λ d. compact_text d ++ codes "\n") object
-    ∙ race_text kinds naming (told_by race.later.value) (told_by race.earlier.value) (subst (λ w. IsPlainCall kinds naming (told_by w)) c.deref.ensures c.in_ok-earlier.ensures.plain)
-    (subst ArePlain words c.formula_inside-formula.ensures.plain) (subst (λ w. IsPlainCall kinds naming (told_by w)) c.deref-2.ensures c.in_ok-later.ensures.plain) in
-    on_ok_weaker c.append_object.result (λ is. is ∙ ap (λ t. c.args.text.now ++ t) text) c.append_object.ensures
+    let first = c.in_ok-append.ensures.ok in
+    let earlier = c.in_ok-append_told.ensures ∙ (λ i. first i ++ told_json kinds naming (told_by (c.deref.ensures i))) in
+    let second = c.in_ok-append-2.ensures.ok ∙ ap (λ t. t ++ codes ",\"formula\":") earlier in
+    let formula = c.in_ok-append_string.ensures ∙ (λ i. second i ++ string_json (c.failed_formula-words.ensures.words i)) in
+    let third = c.in_ok-append-3.ensures.ok ∙ ap (λ t. t ++ codes ",\"later\":") formula in
+    let later = c.in_ok-append_told-2.ensures ∙ (λ i. third i ++ told_json kinds naming (told_by (c.deref-2.ensures i))) in
+    on_ok_weaker c.append-4.result (λ is. is ∙ ap (λ t. t ++ codes "}\n") later
+    ∙ seven c.args.text.now (codes "{\"earlier\":") (told_json kinds naming (told_by race.earlier.value)) (codes ",\"formula\":")
+    (string_json (failed_words kinds race.later.value.call race.earlier.value.call)) (codes ",\"later\":") (told_json kinds naming (told_by race.later.value)) (codes "}\n")) c.append-4.ensures.ok

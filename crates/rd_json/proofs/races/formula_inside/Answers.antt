@@ -1,5 +1,4 @@
-use Rattle.std.proofs.Common.{◌∙◌, codes, refl, subst, sym}
-use Rattle.rd_ecl.specs.Specified.{SpecifiedKind}
+use Rattle.std.proofs.Common.{◌∙◌, codes, refl}
 use Rattle.rd_report.specs.Races.{formula_words}
 use Rattle.rd_report.proofs.PlainLemmas.{formula_plain}
 use Rattle.rd_json.proofs.PlainLemmas.{formula_split}

@@ -1,4 +1,4 @@
-use Rattle.std.proofs.Common.{◌∙◌, arith, subst, sym}
+use Rattle.std.proofs.Common.{arith, subst, sym}
 use Rattle.rd_reading.specs.RefusedTexts.{spec_cause_text}
 use Rattle.rd_report.specs.Writing.{ArePlain}
 use Rattle.rd_json.proofs.PlainLemmas.{other_plain, pair_plain, spec_limit_plain}
