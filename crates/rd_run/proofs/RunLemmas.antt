@@ -1,13 +1,17 @@
 -- What a run leaves without a command, and the number of a built-in kind.
-use Rattle.rd_run.specs.Commands.Command.{gen_text, kind}
+use Rattle.rd_run.specs.Commands.Command.{gen, gen_text, kind}
 use Rattle.rd_run.specs.Commands.{Command, usage_meaning, named_number, shipped_named, usage_outcome}
 use Rattle.rd_base.specs.declared.limits.Limits.{Limits}
 use Rattle.rd_ecl.specs.Specified.{SpecifiedKind}
 use Rattle.rd_io.specs.Inputs.{Source, fault_line}
 use Rattle.rd_json.specs.Forms.{fault_in}
 use Rattle.rd_kinds.specs.Shipped.{counter_kind, dictionary_kind, register_kind, set_kind, shipped_kinds}
-use Rattle.rd_walk.proofs.OutputLemmas.{has_outcome}
-use Rattle.rd_walk.specs.Output.{IsOutput}
+use Rattle.rd_walk.proofs.OutputLemmas.{halted_no_well, has_outcome}
+use Rattle.rd_walk.specs.Output.{IsOutput, IsWell, report_status}
+use Rattle.rd_walk.specs.declared.status.Status.TheVariants as status
+use Rattle.rd_walk.specs.declared.status.TraceStatus.TheVariants as trace
+use Rattle.rd_walk.specs.declared.status.TraceStatus.TheVariants.{InputFault}
+use Rattle.rd_walk.specs.declared.status.TraceStatus.{TraceStatus}
 use Rattle.either.specs.Either.{either}
 use Rattle.either.specs.declared.Either.{Either}
 use Rattle.rd_check.specs.Checked.{check_bound, check_outcome, race_texts}
@@ -23,7 +27,7 @@ use Rattle.std.specs.Result.{IsErr, IsErrAnd}
 use Rattle.rd_walk.specs.Meanings.{Runs}
 use Rattle.rd_walk.specs.declared.status.Status.{Status}
 use Rattle.rd_wf.specs.MayFollow.{same_name}
-use Rattle.std.proofs.Common.{◌≡◌, ℕ, zero, suc, ◌<◌, Bool, true, false, cond, List, [], Option, Some, None, Result, Ok, Err, refl, sym, subst, ◌∙◌, arith}
+use Rattle.std.proofs.Common.{◌≡◌, ◌≢◌, ℕ, zero, suc, ◌<◌, Bool, true, false, cond, List, [], Option, Some, None, Result, Ok, Err, refl, sym, subst, ◌∙◌, arith}
 use Rattle.std.specs.Option.{option_and_then}
 use Rattle.std.specs.Prelude.{codes, slice_get}
 
@@ -43,6 +47,26 @@ pub no_fault_told : {T : Type 0} (fault : T) (report : Result T Halt) → IsErr 
 no_fault_told fault (Ok answer) is inputs before point written = absurd is.1
 no_fault_told fault (Err e) is inputs before point written =
     subst (λ h. TellsFaults fault inputs inputs before before point written (Err h)) (sym is.1) (record { input = λ same. cc; calm = tt; output = refl })
+
+-- nor that an input failed, nor that a trace was walked to its end
+pub no_input_told : (report : Result TraceStatus Halt) → IsErr report × IsErrAnd report (λ e. e ≡ halt.NoMemory) → report ≢ Ok InputFault
+no_input_told (Ok answer) is same = absurd is.1
+no_input_told (Err e) is same = cc
+
+pub no_well_told : (report : Result TraceStatus Halt) → IsErr report × IsErrAnd report (λ e. e ≡ halt.NoMemory) → ¬ (IsWell (report_status report))
+no_well_told (Ok answer) is well = absurd is.1
+no_well_told (Err e) is well = halted_no_well e well
+
+-- where no input failed, the status doesn't say so
+pub calm_status : (report : Result TraceStatus Halt) → report ≢ Ok InputFault → report_status report ≢ status.InputFault
+calm_status (Ok trace.Clean) calm = λ e. cc
+calm_status (Ok trace.Raced) calm = λ e. cc
+calm_status (Ok trace.ReplayDiffers) calm = λ e. cc
+calm_status (Ok trace.Refused) calm = λ e. cc
+calm_status (Ok trace.LimitReached) calm = λ e. cc
+calm_status (Ok InputFault) calm = λ e. calm refl
+calm_status (Err halt.OutputFault) calm = λ e. cc
+calm_status (Err halt.NoMemory) calm = λ e. cc
 
 -- what one of the commands that walk over a trace writes, by what it does with each line
 abbrev pub part_texts : List Kind → Either Check ReplayAlone → ReportTexts
@@ -65,7 +89,11 @@ shipped_at (suc (suc (suc (suc number)))) few = absurd (omega (arith, few))
 pub same_kind : (a b : SpecifiedKind) → ◌≡◌ {A = Option Command} (Some (kind a)) (Some (kind b)) → a ≡ b
 same_kind a b e = cc
 
--- a generated trace is asked for by its number and how many calls it has
+-- a generated trace is checked by its number
+pub same_checked : (a b c d : ℕ) → ◌≡◌ {A = Option Command} (Some (gen a b)) (Some (gen c d)) → (a ≡ c) × (b ≡ d)
+same_checked a b c d e = (cc, cc)
+
+-- and its text is asked for by the same
 pub same_numbers : (a b c d : ℕ) → ◌≡◌ {A = Option Command} (Some (gen_text a b)) (Some (gen_text c d)) → (a ≡ c) × (b ≡ d)
 same_numbers a b c d e = (cc, cc)
 

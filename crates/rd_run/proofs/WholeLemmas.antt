@@ -1,7 +1,10 @@
 -- A run in which nothing failed and nothing is refused writes all.
 use Rattle.rd_run.specs.Commands.{meaning_of, said_text, Command, usage_outcome}
 use Rattle.rd_check.proofs.WholeLemmas.{whole_check}
-use Rattle.rd_gen_command.proofs.WholeLemmas.{whole_gen_text}
+use Rattle.rd_check.specs.Checked.{check_bound, check_outcome}
+use Rattle.rd_json.specs.declared.forms.Form.TheVariants.{EndingOnly}
+use Rattle.rd_kinds.specs.Shipped.{shipped_kinds}
+use Rattle.rd_gen_command.proofs.WholeLemmas.{whole_gen, whole_gen_text}
 use Rattle.rd_spec_commands.proofs.WholeLemmas.{whole_kind, whole_said}
 use Rattle.rd_replaying.proofs.ReplayLemmas.{whole_replay}
 use Rattle.rd_walk.proofs.WholeLemmas.{all_written}
@@ -9,7 +12,7 @@ use Rattle.rd_base.specs.declared.limits.Limits.{Limits}
 use Rattle.rd_io.specs.Inputs.{Source}
 use Rattle.rd_walk.specs.Output.{HasOutcome}
 use Rattle.rd_replaying.specs.States.{replay_texts, built_in_kinds}
-use Rattle.rd_run.specs.Commands.Command.{check, gen_text, kind, of_spec, replay}
+use Rattle.rd_run.specs.Commands.Command.{check, gen, gen_text, kind, of_spec, replay}
 use Rattle.rd_check.specs.Meanings.{IsCheckOutcome}
 use Rattle.rd_spec_commands.specs.Meanings.{IsJudged, IsUnread}
 use Rattle.rd_walk.specs.Traces.{IsTraceOutcome}
@@ -40,6 +43,8 @@ whole_run (Some (replay trace)) limits rose old new part status before after run
     (subst (λ r. HasOutcome (IsTraceOutcome (replay_texts built_in_kinds) built_in_kinds trace limits r old new) status part) calm runs.output) other
 whole_run (Some (kind built_in)) limits rose old new part status before after runs calm other some =
     whole_kind built_in limits old part status runs.output other
+whole_run (Some (gen number count)) limits rose old new part status before after runs calm other some =
+    whole_gen (check_outcome EndingOnly shipped_kinds) (check_bound shipped_kinds) built_in_kinds number count limits old part status runs.output other
 whole_run (Some (gen_text number count)) limits rose old new part status before after runs calm other some =
     whole_gen_text number count limits old part status runs.output other
 whole_run (Some (of_spec said file)) limits rose old new part status before after runs calm other some =

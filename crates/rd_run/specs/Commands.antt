@@ -1,22 +1,25 @@
 -- What the words of the command line ask for.
 use Rattle.rd_walk.specs.Meanings.{Meaning}
+use Rattle.rd_check.specs.Checked.{check_bound, check_outcome}
 use Rattle.rd_check.specs.Meanings.{check_meaning}
 use Rattle.rd_decimals.specs.Decimals.{number_read}
 use Rattle.rd_gen.specs.declared.counts.TheConstants.{MOST_CALLS}
 use Rattle.rd_gen_command.specs.GeneratedTexts.{gen_text_meaning}
+use Rattle.rd_gen_command.specs.GeneratedWalks.{gen_meaning}
 use Rattle.rd_points_command.specs.PointTexts.{points_text}
 use Rattle.rd_print.specs.Printed.{spec_text}
 use Rattle.rd_spec_commands.specs.Meanings.{kind_meaning, said_meaning}
 use Rattle.rd_replaying.specs.Meanings.{replay_meaning}
+use Rattle.rd_replaying.specs.States.{built_in_kinds}
 use Rattle.rd_ecl.specs.Specified.{SpecifiedKind}
 use Rattle.rd_json.specs.declared.forms.Form.{Form}
-use Rattle.rd_json.specs.declared.forms.Form.TheVariants.{Text, Json}
+use Rattle.rd_json.specs.declared.forms.Form.TheVariants.{Text, Json, EndingOnly}
 use Rattle.rd_kinds.specs.Shipped.{shipped_kinds}
 use Rattle.rd_walk.specs.Output.{Outcome}
 use Rattle.rd_walk.specs.declared.status.Status.TheVariants.{Usage}
 use Rattle.rd_run.specs.declared.commands.Said.TheVariants.{Spec, Points}
 use Rattle.rd_run.specs.declared.commands.Said.{Said}
-use Rattle.rd_run.specs.declared.commands.Command.TheVariants.{Check, CheckWith, Replay, OfSpec, Kind as BuiltIn, GenText}
+use Rattle.rd_run.specs.declared.commands.Command.TheVariants.{Check, CheckWith, Replay, OfSpec, Kind as BuiltIn, Gen, GenText}
 use Rattle.rd_run.specs.declared.commands.Command.{Command as Asked}
 use Rattle.rd_wf.specs.MayFollow.{same_name}
 use Rattle.std.specs.Prelude.{◌≡◌, ℕ, List, Option, Some, None, codes, option_and_then, option_map, slice_get, if◌then◌else◌, [], ◌∷◌, ⊤, find}
@@ -31,7 +34,9 @@ pub data Command : Type 0 where
   of_spec : Said → List ℕ → Command
   -- a kind that is built in
   kind : SpecifiedKind → Command
-  -- the text of the trace of a number with so many calls
+  -- what a check finds in the trace of a number with so many calls
+  gen : ℕ → ℕ → Command
+  -- the text of such a trace
   gen_text : ℕ → ℕ → Command
 
 -- the kind that is built in with this name
@@ -54,6 +59,7 @@ command_of (word ∷ name ∷ []) =
 command_of (word ∷ first ∷ second ∷ []) =
     if same_name word (codes "check") then Some (check Text first (Some second))
     else if same_name word (codes "check-json") then Some (check Json first (Some second))
+    else if same_name word (codes "gen") then option_map (λ numbers. gen numbers.0 numbers.1) (numbers_read first second)
     else if same_name word (codes "gen-text") then option_map (λ numbers. gen_text numbers.0 numbers.1) (numbers_read first second) else None
 command_of _ = None
 
@@ -77,6 +83,10 @@ abbrev pub said_text : Said → List SpecifiedKind → List ℕ
 said_text Spec kinds = spec_text kinds
 said_text Points kinds = points_text kinds
 
+-- `gen NUMBER COUNT`: the lines of the trace are checked by the kinds that are built in, and the ending alone is written
+abbrev pub gen_check_meaning : ℕ → ℕ → Meaning
+gen_check_meaning number count = gen_meaning (check_outcome EndingOnly shipped_kinds) (check_bound shipped_kinds) built_in_kinds number count
+
 -- what a command means
 abbrev pub meaning_of : Option Command → Meaning
 meaning_of None = usage_meaning
@@ -84,7 +94,13 @@ meaning_of (Some (check form trace file)) = check_meaning form trace file
 meaning_of (Some (replay trace)) = replay_meaning trace
 meaning_of (Some (of_spec said file)) = said_meaning (said_text said) file
 meaning_of (Some (kind built_in)) = kind_meaning built_in
+meaning_of (Some (gen number count)) = gen_check_meaning number count
 meaning_of (Some (gen_text number count)) = gen_text_meaning number count
+
+-- whether a command counts no steps, since it has no event to judge: one that names no file, but `gen`
+abbrev pub CountsNothing : Option Command → Type 0
+CountsNothing (Some (gen number count)) = ⊥
+CountsNothing command = (meaning_of command).files ≡ []
 
 -- ---- as the program has them
 
@@ -95,6 +111,7 @@ asked_command (Some (CheckWith asked file)) = Some (check asked.form asked.trace
 asked_command (Some (Replay trace)) = Some (replay trace.now)
 asked_command (Some (OfSpec said file)) = Some (of_spec said file.now)
 asked_command (Some (BuiltIn number)) = option_map kind (slice_get shipped_kinds number)
+asked_command (Some (Gen number count)) = Some (gen number count)
 asked_command (Some (GenText number count)) = Some (gen_text number count)
 
 -- the number of the built-in kind with this name

@@ -55,6 +55,8 @@ pub enum Command<'a> {
     OfSpec(Said, &'a Word),
     /// `kind NAME`, where a kind that is built in has the name, by its number
     Kind(u32),
+    /// `gen NUMBER COUNT`
+    Gen(u64, u32),
     /// `gen-text NUMBER COUNT`
     GenText(u64, u32),
 }
@@ -101,6 +103,9 @@ pub(crate) fn command_of(words: &[Word]) -> Option<Command<'_>>
     ensures few { IfSome result
         (λ command. (number count : ℕ) → command ≡ Command.GenText number count →
         count ≤ MOST_CALLS) }
+    ensures few_checked { IfSome result
+        (λ command. (number count : ℕ) → command ≡ Command.Gen number count →
+        count ≤ MOST_CALLS) }
 {
     match words {
         [word, trace] if word.items() == b"check".as_slice() => Some(Command::Check(ToCheck {
@@ -138,6 +143,12 @@ pub(crate) fn command_of(words: &[Word]) -> Option<Command<'_>>
                 trace,
             };
             Some(Command::CheckWith(asked, file))
+        }
+        [word, number, count] if word.items() == b"gen".as_slice() => {
+            match trace_numbers(number, count) {
+                Some((number, count)) => Some(Command::Gen(number, count)),
+                None => None,
+            }
         }
         [word, number, count] if word.items() == b"gen-text".as_slice() => {
             match trace_numbers(number, count) {

@@ -1,4 +1,4 @@
-//! A run of the program: `check`, `check-json` and `replay` over a trace, `spec` and `points` over a specification, `kind`, `gen-text`.
+//! A run of the program: `check`, `check-json` and `replay` over a trace, `spec` and `points` over a specification, `kind`, `gen`, `gen-text`.
 #![tactic(auto)]
 
 mod commands;

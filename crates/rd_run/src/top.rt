@@ -1,22 +1,26 @@
 //! The call that the program makes.
 ghost use Rattle.rd_check.specs.Meanings.{check_meaning};
 ghost use Rattle.rd_replaying.specs.Meanings.{replay_meaning};
-ghost use Rattle.std.specs.Prelude.{◌≡◌, ◌≢◌, ◌⊎◌, ℕ, ◌<◌, ◌≤◌, ◌^◌, nat_lt, List, [], ◌++◌, Option, Some, None, length, AllPairs, IfOk};
+ghost use Rattle.std.specs.Prelude.{◌≡◌, ◌≢◌, ◌⊎◌, ℕ, ◌+◌, ◌<◌, ◌≤◌, ◌^◌, nat_lt, List, [], ◌++◌, Option, Some, None, Ok, length, AllPairs, IfOk};
 ghost use Rattle.rd_base.specs.Limits.{AreUsable};
 ghost use Rattle.rd_ecl.specs.Kinds.{kind_names, kinds_of};
 ghost use Rattle.rd_ecl.specs.Specified.{SpecifiedKind};
 ghost use Rattle.rd_io.specs.Inputs.{Source, Rose};
 ghost use Rattle.rd_io.specs.Sinks.{Appends};
 ghost use Rattle.rd_kinds.specs.Shipped.{shipped_kinds};
-ghost use Rattle.rd_run.specs.Commands.{command_of, meaning_of, usage_outcome};
-ghost use Rattle.rd_walk.specs.Analysis.{TellsFaults};
-ghost use Rattle.rd_walk.specs.Output.{IsOutput, StatusTellsFault, report_status};
-ghost use Rattle.rd_check.specs.Checked.{check_texts};
+ghost use Rattle.rd_run.specs.Commands.{CountsNothing, command_of, meaning_of, usage_outcome};
+ghost use Rattle.rd_walk.specs.Analysis.{TellsFault, TellsFaults};
+ghost use Rattle.rd_walk.specs.Output.{IsOutput, IsWell, StatusTellsFault, report_status};
+ghost use Rattle.rd_walk.specs.Walk.{ending_of, entries_of, step_bound};
+ghost use Rattle.rd_check.specs.Checked.{check_bound, check_outcome, check_texts};
 ghost use Rattle.rd_replaying.specs.Replaying.{BeginWithBuiltIn};
+ghost use Rattle.rd_replaying.specs.States.{built_in_kinds};
 ghost use Rattle.rd_walk.specs.Traces.{ReportsTrace};
 ghost use Rattle.rd_walk.specs.Meanings.{Runs, WritesAll};
 ghost use Rattle.rd_gen_command.specs.GeneratedTexts.{gen_text_outcome};
-ghost use Rattle.rd_run.specs.Commands.Command.{check, gen_text, kind, replay};
+ghost use Rattle.rd_gen_command.specs.GeneratedWalks.{gen_outcome, generated_walk};
+ghost use Rattle.rd_gen.specs.declared.counts.TheConstants.{MOST_CALLS};
+ghost use Rattle.rd_run.specs.Commands.Command.{check, gen, gen_text, kind, replay};
 ghost use Rattle.rd_spec_commands.specs.Meanings.{kind_outcome};
 
 use crate::commands::{Command, ToCheck, command_of};
@@ -25,13 +29,14 @@ use rd_base::{Limits, NoMemory, Steps, Word};
 use rd_check::Check;
 use rd_ecl::Spec;
 use rd_event::Line;
-use rd_gen_command::{gen_text, text_status};
+use rd_gen_command::{gen_check, gen_text, text_status};
 use rd_io::{Inputs, Sink};
+use rd_json::Form;
 use rd_kinds::shipped;
 use rd_replaying::{ReplayAlone, Replaying};
 use rd_spec_commands::{kind, read_spec, refuse_unread, report_spec, spec_command_status};
 use rd_walk::{
-    Halt, Status, TraceStatus, Walker, report_status, report_trace, status_of, write_line,
+    Halt, Status, TraceStatus, WalkEnd, Walker, report_status, report_trace, status_of, write_line,
 };
 use rd_wf::Roster;
 use std::alloc::Global;
@@ -191,6 +196,46 @@ fn replay<I: Inputs, S: Sink, L: Ledger>(
     report_trace(&mut walker, trace, inputs, out, steps)
 }
 
+/// `gen NUMBER COUNT`: the lines of the trace are checked by the kinds that are built in, and the ending alone is written.
+fn generate<S: Sink, L: Ledger>(
+    alloc: Global,
+    number: u64,
+    count: u32,
+    out: &mut S,
+    limits: &Limits,
+    steps: &mut Steps<L>,
+) -> Result<TraceStatus, Halt>
+    requires usable { AreUsable limits.now }
+    requires few { count ≤ MOST_CALLS }
+
+    // what is written and the status, the steps, and that the trace was walked to its end where the status says so
+    ensures output { (part : List ℕ) × Appends (S.written out.old) (S.written out.new) part
+        × IsOutput (report_status result) part (gen_outcome (check_outcome Form.EndingOnly shipped_kinds) built_in_kinds limits.now number count) }
+    ensures cost { steps.new ≤ steps.old + step_bound (check_bound shipped_kinds)
+        (entries_of (generated_walk built_in_kinds limits.now number count)) }
+    ensures read { IsWell (report_status result) →
+        ending_of (generated_walk built_in_kinds limits.now number count) ≡ WalkEnd.End }
+
+    // no input failed, and a failed write is told as one
+    ensures input { result ≢ Ok TraceStatus.InputFault }
+    ensures fault { TellsFault (S.faults out.old) (S.faults out.new) (S.at_fault out.new)
+        (S.written out.new) result }
+{
+    let spec = shipped(alloc)?;
+    let roster = Roster::new(alloc, &spec)?;
+    let analysis = Check::new(alloc, Form::EndingOnly, &spec)?;
+    let part: Part<'_> = Either::Left(analysis);
+    let mut walker = Walker {
+        alloc,
+        limits: *limits,
+        roster,
+        analysis: Replaying::new(alloc, part),
+        line: Line::Skip,
+        refused: None,
+    };
+    gen_check(&mut walker, number, count, out, steps)
+}
+
 /// Says that the words match no command.
 fn refuse_usage<S: Sink>(out: &mut S) -> Status
     ensures output { (part : List ℕ) × Appends (S.written out.old) (S.written out.new) part
@@ -210,8 +255,9 @@ fn refuse_usage<S: Sink>(out: &mut S) -> Status
 /// recorded results are those of the objects; `check-json TRACE` and `check-json TRACE SPEC`, the same as lines with one JSON object each;
 /// `replay TRACE`, which says this alone, and where it is so what the objects hold in the end;
 /// `spec SPEC`, which writes the canonical text of a specification, and `points SPEC`, which writes the access points of its kinds, or where
-/// and why it is refused; `kind NAME`, which writes the canonical text of a kind that is built in; or `gen-text NUMBER COUNT`, which writes
-/// the trace of a number with so many calls. Any other words write `refused usage`. Each line is handed to the output by itself, with its line feed.
+/// and why it is refused; `kind NAME`, which writes the canonical text of a kind that is built in; `gen NUMBER COUNT`, which checks the
+/// trace of a number with so many calls and writes how many lines and calls it has and the ending of the report; or
+/// `gen-text NUMBER COUNT`, which writes that trace. Any other words write `refused usage`. Each line is handed to the output by itself, with its line feed.
 ///
 /// Whatever the inputs and the output tell: `Usage` comes exactly where the words match no command, unless writing failed;
 /// `InputFault` exactly where the inputs' count of faults rose in this call, unless writing failed or memory ran out; `OutputFault`
@@ -257,6 +303,10 @@ pub fn run<I: Inputs, S: Sink, L: Ledger>(
         command_of words.now ≡ Some (kind built_in) → (part : List ℕ)
         × Appends (S.written out.old) (S.written out.new) part
         × IsOutput result part (kind_outcome built_in) }
+    ensures generated { (number count : ℕ) → command_of words.now ≡ Some (gen number count) →
+        (part : List ℕ)
+        × Appends (S.written out.old) (S.written out.new) part
+        × IsOutput result part (gen_outcome (check_outcome Form.EndingOnly shipped_kinds) built_in_kinds limits.now number count) }
     ensures gen_text { (number count : ℕ) → command_of words.now ≡ Some (gen_text number count) →
         (part : List ℕ)
         × Appends (S.written out.old) (S.written out.new) part
@@ -266,8 +316,8 @@ pub fn run<I: Inputs, S: Sink, L: Ledger>(
     ensures usage { result ≡ Status.Usage → command_of words.now ≡ None }
     ensures no_command { command_of words.now ≡ None → (result ≡ Status.Usage)
         ⊎ (result ≡ Status.OutputFault) }
-    ensures untouched { (meaning_of (command_of words.now)).files ≡ [] → (inputs.new ≡ inputs.old)
-        × (steps.new ≡ steps.old) }
+    ensures untouched { (meaning_of (command_of words.now)).files ≡ [] → inputs.new ≡ inputs.old }
+    ensures uncounted { CountsNothing (command_of words.now) → steps.new ≡ steps.old }
     ensures spec_refused { result ≡ Status.SpecRefused → (name : List ℕ)
         × ((meaning_of (command_of words.now)).specification ≡ Some name) }
     ensures input_fault { result ≡ Status.InputFault →
@@ -295,6 +345,9 @@ pub fn run<I: Inputs, S: Sink, L: Ledger>(
             spec_command_status(report_spec(alloc, &said, file, inputs, out))
         }
         Some(Command::Kind(number)) => spec_command_status(kind(alloc, number, out)),
+        Some(Command::Gen(number, count)) => {
+            report_status(generate(alloc, number, count, out, limits, steps))
+        }
         Some(Command::GenText(number, count)) => text_status(gen_text(alloc, number, count, out)),
     }
 }

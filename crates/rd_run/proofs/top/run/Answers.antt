@@ -5,15 +5,20 @@ use Rattle.rd_walk.proofs.StatusLemmas.{report_calm, report_no_spec, report_no_u
 use Rattle.rd_spec_commands.specs.Meanings.{kind_outcome}
 use Rattle.rd_spec_commands.specs.Specifications.{spec_command_status}
 use Rattle.rd_spec_commands.proofs.StatusLemmas.{spec_calm, spec_failed, spec_no_usage, spec_wrote, written_no_input, written_no_spec}
-use Rattle.rd_run.specs.Commands.{asked_command, meaning_of}
+use Rattle.rd_run.specs.Commands.{CountsNothing, asked_command, meaning_of}
 use Rattle.rd_walk.specs.Meanings.{Runs, WritesAll}
-use Rattle.rd_run.specs.Commands.Command.{check, gen_text, kind, of_spec, replay}
+use Rattle.rd_run.specs.Commands.Command.{check, gen, gen_text, kind, of_spec, replay}
 use Rattle.rd_run.specs.declared.commands.Command.{Command as Asked}
 use Rattle.rd_spec_commands.proofs.WholeLemmas.{runs_kind}
 use Rattle.rd_gen_command.proofs.StatusLemmas.{text_no_input, text_no_spec, text_no_usage, text_wrote}
-use Rattle.rd_gen_command.proofs.WholeLemmas.{runs_gen_text}
+use Rattle.rd_gen_command.proofs.WholeLemmas.{runs_gen, runs_gen_text}
+use Rattle.rd_gen_command.specs.GeneratedWalks.{gen_outcome}
+use Rattle.rd_check.specs.Checked.{check_bound, check_outcome}
+use Rattle.rd_json.specs.declared.forms.Form.TheVariants.{EndingOnly}
+use Rattle.rd_kinds.specs.Shipped.{shipped_kinds}
+use Rattle.rd_replaying.specs.States.{built_in_kinds}
 use Rattle.rd_gen_command.specs.GeneratedTexts.{gen_text_outcome, text_status}
-use Rattle.rd_run.proofs.RunLemmas.{runs_usage, same_kind, same_numbers, shipped_at}
+use Rattle.rd_run.proofs.RunLemmas.{calm_status, runs_usage, same_checked, same_kind, same_numbers, shipped_at}
 use Rattle.rd_walk.proofs.WholeLemmas.{none_failed, not_risen}
 use Rattle.rd_run.proofs.WholeLemmas.{some_file, some≢none, usage_or_fault, whole_run}
 use Rattle.rd_run.proofs.top.run.Goals as goal
@@ -78,6 +83,11 @@ returns-in-Some-Check-clause-untouched g c = λ none.
     let words = ap (λ (command : Asked). asked_command (Some command)) (sym c.in-Some-Check.field-0-is) ∙ c.in-Some-Check.ensures.asked in
     absurd (some_file c.in-Some-Check.asked.trace.now [] (ap (λ command. (meaning_of command).files) words ∙ none))
 
+pub returns-in-Some-Check-clause-uncounted : goal.returns-in-Some-Check-clause-uncounted
+returns-in-Some-Check-clause-uncounted g c = λ none.
+    let words = ap (λ (command : Asked). asked_command (Some command)) (sym c.in-Some-Check.field-0-is) ∙ c.in-Some-Check.ensures.asked in
+    absurd (some_file c.in-Some-Check.asked.trace.now [] (subst CountsNothing (sym words) none))
+
 pub returns-in-Some-Check-clause-spec_refused : goal.returns-in-Some-Check-clause-spec_refused
 returns-in-Some-Check-clause-spec_refused g c = λ e. absurd (report_no_spec c.check_shipped.result (sym c.report_status.ensures ∙ e))
 
@@ -120,6 +130,11 @@ returns-in-Some-CheckWith-clause-untouched g c = λ none.
     let words = ap (λ (command : Asked). asked_command (Some command)) (sym c.in-Some-CheckWith.field-0-is) ∙ c.in-Some-CheckWith.ensures.asked in
     absurd (some_file c.in-Some-CheckWith.file.now (c.in-Some-CheckWith.asked.trace.now ∷ []) (ap (λ command. (meaning_of command).files) words ∙ none))
 
+pub returns-in-Some-CheckWith-clause-uncounted : goal.returns-in-Some-CheckWith-clause-uncounted
+returns-in-Some-CheckWith-clause-uncounted g c = λ none.
+    let words = ap (λ (command : Asked). asked_command (Some command)) (sym c.in-Some-CheckWith.field-0-is) ∙ c.in-Some-CheckWith.ensures.asked in
+    absurd (some_file c.in-Some-CheckWith.file.now (c.in-Some-CheckWith.asked.trace.now ∷ []) (subst CountsNothing (sym words) none))
+
 pub returns-in-Some-CheckWith-clause-spec_refused : goal.returns-in-Some-CheckWith-clause-spec_refused
 returns-in-Some-CheckWith-clause-spec_refused g c = λ refused.
     let words = ap (λ (command : Asked). asked_command (Some command)) (sym c.in-Some-CheckWith.field-0-is) ∙ c.in-Some-CheckWith.ensures.asked in
@@ -158,6 +173,11 @@ pub returns-in-Some-Replay-clause-untouched : goal.returns-in-Some-Replay-clause
 returns-in-Some-Replay-clause-untouched g c = λ none.
     let words = ap (λ (command : Asked). asked_command (Some command)) (sym c.in-Some-Replay.field-0-is) ∙ c.in-Some-Replay.ensures.asked in
     absurd (some_file c.in-Some-Replay.trace.now [] (ap (λ command. (meaning_of command).files) words ∙ none))
+
+pub returns-in-Some-Replay-clause-uncounted : goal.returns-in-Some-Replay-clause-uncounted
+returns-in-Some-Replay-clause-uncounted g c = λ none.
+    let words = ap (λ (command : Asked). asked_command (Some command)) (sym c.in-Some-Replay.field-0-is) ∙ c.in-Some-Replay.ensures.asked in
+    absurd (some_file c.in-Some-Replay.trace.now [] (subst CountsNothing (sym words) none))
 
 pub returns-in-Some-Replay-clause-spec_refused : goal.returns-in-Some-Replay-clause-spec_refused
 returns-in-Some-Replay-clause-spec_refused g c = λ e. absurd (report_no_spec c.replay.result (sym c.report_status-in-Some-Replay.ensures ∙ e))
@@ -206,6 +226,11 @@ pub returns-in-Some-OfSpec-clause-untouched : goal.returns-in-Some-OfSpec-clause
 returns-in-Some-OfSpec-clause-untouched g c = λ none.
     let words = ap (λ (command : Asked). asked_command (Some command)) (sym c.in-Some-OfSpec.field-0-is) ∙ c.in-Some-OfSpec.ensures.asked in
     absurd (some_file c.in-Some-OfSpec.file.now [] (ap (λ command. (meaning_of command).files) words ∙ none))
+
+pub returns-in-Some-OfSpec-clause-uncounted : goal.returns-in-Some-OfSpec-clause-uncounted
+returns-in-Some-OfSpec-clause-uncounted g c = λ none.
+    let words = ap (λ (command : Asked). asked_command (Some command)) (sym c.in-Some-OfSpec.field-0-is) ∙ c.in-Some-OfSpec.ensures.asked in
+    absurd (some_file c.in-Some-OfSpec.file.now [] (subst CountsNothing (sym words) none))
 
 pub returns-in-Some-OfSpec-clause-spec_refused : goal.returns-in-Some-OfSpec-clause-spec_refused
 returns-in-Some-OfSpec-clause-spec_refused g c = λ refused.
@@ -280,6 +305,72 @@ returns-in-Some-Kind-clause-input_fault g c = λ e. absurd (written_no_input c.k
 pub returns-in-Some-Kind-clause-output_fault : goal.returns-in-Some-Kind-clause-output_fault
 returns-in-Some-Kind-clause-output_fault g c =
     subst (StatusTellsFault _ _ _ _) (sym c.spec_command_status-in-Some-Kind.ensures) (spec_wrote _ _ _ _ c.kind.result c.kind.ensures.fault)
+
+pub returns-in-Some-Gen-clause-runs : goal.returns-in-Some-Gen-clause-runs
+returns-in-Some-Gen-clause-runs g c = λ old told few few_opens.
+    let number = c.in-Some-Gen.number in
+    let count = c.in-Some-Gen.count in
+    let (part, writes, output) = c.generate.ensures.output in
+    let faults = g.I.Inputs.faults c.args.inputs.now in
+    let words = ap (λ (command : Asked). asked_command (Some command)) (sym c.in-Some-Gen.field-0-is) ∙ c.in-Some-Gen.ensures.asked in (
+      old,
+      part,
+      told,
+      writes,
+      subst (λ command. Runs (meaning_of command) c.args.limits.now (nat_lt faults faults) old old part c.report_status-in-Some-Gen.result c.args.steps.now c.generate.new.steps) words
+          (subst (λ status. Runs (meaning_of (Some (gen number count))) c.args.limits.now (nat_lt faults faults) old old part status c.args.steps.now c.generate.new.steps) (sym c.report_status-in-Some-Gen.ensures)
+          (runs_gen (check_outcome EndingOnly shipped_kinds) (check_bound shipped_kinds) built_in_kinds number count c.args.limits.now (nat_lt faults faults) old part
+          (report_status c.generate.result) c.args.steps.now c.generate.new.steps output c.generate.ensures.cost c.generate.ensures.read)),
+    )
+
+pub returns-in-Some-Gen-clause-whole : goal.returns-in-Some-Gen-clause-whole
+returns-in-Some-Gen-clause-whole g c = λ old told few few_opens few_faults calm silent.
+    let number = c.in-Some-Gen.number in
+    let count = c.in-Some-Gen.count in
+    let (part, writes, output) = c.generate.ensures.output in
+    let faults = g.I.Inputs.faults c.args.inputs.now in
+    let status = report_status c.generate.result in
+    let words = ap (λ (command : Asked). asked_command (Some command)) (sym c.in-Some-Gen.field-0-is) ∙ c.in-Some-Gen.ensures.asked in (
+      part,
+      writes,
+      subst (λ command. WritesAll (meaning_of command) c.args.limits.now old part c.report_status-in-Some-Gen.result) words
+          (subst (λ status. WritesAll (meaning_of (Some (gen number count))) c.args.limits.now old part status) (sym c.report_status-in-Some-Gen.ensures)
+          (whole_run (Some (gen number count)) c.args.limits.now (nat_lt faults faults) old old part status c.args.steps.now c.generate.new.steps
+          (runs_gen (check_outcome EndingOnly shipped_kinds) (check_bound shipped_kinds) built_in_kinds number count c.args.limits.now (nat_lt faults faults) old part status
+          c.args.steps.now c.generate.new.steps output c.generate.ensures.cost c.generate.ensures.read) (not_risen faults faults refl)
+          (none_failed _ _ _ _ status (report_wrote _ _ _ _ c.generate.result c.generate.ensures.fault) few_faults silent) (λ none. absurd (some≢none none)))),
+    )
+
+pub returns-in-Some-Gen-clause-generated : goal.returns-in-Some-Gen-clause-generated
+returns-in-Some-Gen-clause-generated g c = λ number count is.
+    let (part, writes, output) = c.generate.ensures.output in
+    let words = ap (λ (command : Asked). asked_command (Some command)) (sym c.in-Some-Gen.field-0-is) ∙ c.in-Some-Gen.ensures.asked in
+    let (same, also) = same_checked c.in-Some-Gen.number c.in-Some-Gen.count number count (words ∙ is) in
+    let outcome = gen_outcome (check_outcome EndingOnly shipped_kinds) built_in_kinds c.args.limits.now in (
+      part,
+      writes,
+      subst (λ status. IsOutput status part (outcome number count)) (sym c.report_status-in-Some-Gen.ensures)
+          (subst (λ n. IsOutput (report_status c.generate.result) part (outcome n count)) same
+          (subst (λ m. IsOutput (report_status c.generate.result) part (outcome c.in-Some-Gen.number m)) also output)),
+    )
+
+pub returns-in-Some-Gen-clause-usage : goal.returns-in-Some-Gen-clause-usage
+returns-in-Some-Gen-clause-usage g c = λ e. absurd (report_no_usage c.generate.result (sym c.report_status-in-Some-Gen.ensures ∙ e))
+
+pub returns-in-Some-Gen-clause-uncounted : goal.returns-in-Some-Gen-clause-uncounted
+returns-in-Some-Gen-clause-uncounted g c = λ none.
+    let words = ap (λ (command : Asked). asked_command (Some command)) (sym c.in-Some-Gen.field-0-is) ∙ c.in-Some-Gen.ensures.asked in
+    absurd (subst CountsNothing (sym words) none)
+
+pub returns-in-Some-Gen-clause-spec_refused : goal.returns-in-Some-Gen-clause-spec_refused
+returns-in-Some-Gen-clause-spec_refused g c = λ e. absurd (report_no_spec c.generate.result (sym c.report_status-in-Some-Gen.ensures ∙ e))
+
+pub returns-in-Some-Gen-clause-input_fault : goal.returns-in-Some-Gen-clause-input_fault
+returns-in-Some-Gen-clause-input_fault g c = λ e. absurd (calm_status c.generate.result c.generate.ensures.input (sym c.report_status-in-Some-Gen.ensures ∙ e))
+
+pub returns-in-Some-Gen-clause-output_fault : goal.returns-in-Some-Gen-clause-output_fault
+returns-in-Some-Gen-clause-output_fault g c =
+    subst (StatusTellsFault _ _ _ _) (sym c.report_status-in-Some-Gen.ensures) (report_wrote _ _ _ _ c.generate.result c.generate.ensures.fault)
 
 pub returns-in-Some-GenText-clause-runs : goal.returns-in-Some-GenText-clause-runs
 returns-in-Some-GenText-clause-runs g c = λ old told few few_opens.
