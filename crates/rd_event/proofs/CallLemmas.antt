@@ -6,7 +6,7 @@ use Rattle.rd_base.specs.Names.{IsName}
 use Rattle.rd_base.proofs.FoundLemmas.{map_found, then_found}
 use Rattle.rd_event.specs.declared.items.LineEvent.{LineEvent}
 use Rattle.rd_event.specs.declared.items.LineEvent.TheVariants.{Call}
-use Rattle.rd_event.specs.Items.{IsEvent, AreSlots, words_apart, event_spelling, slots_spelling}
+use Rattle.rd_event.specs.Items.{IsEvent, HasEvent, AreSlots, words_apart, event_spelling, slots_spelling}
 use Rattle.rd_event.specs.Reading.{is_space, name_read, call_read}
 use Rattle.rd_event.specs.ReadingSlots.{slots_read}
 use Rattle.rd_event.proofs.SlotLemmas.{slots_found, slots_said}
@@ -24,7 +24,8 @@ said_apart bytes first second before behind some =
 
 -- What is found is said.
 abbrev pub CallSaid : List ℕ → LineEvent → Type 0
-CallSaid rest event = IsEvent event × (codes "call" ++ 32 ∷ rest ≡ event_spelling event) × (0 < length rest)
+CallSaid rest event =
+    IsEvent event × (codes "call" ++ 32 ∷ rest ≡ event_spelling event) × (0 < length rest) × ((version : ℕ) → HasEvent version event)
 
 parts_said : (rest names words thread object method : List ℕ) (slots : List Value)
     → names ≡ after_first is_space rest → words ≡ after_first is_space names
@@ -42,7 +43,7 @@ parts_said rest names words thread object method slots is_names is_words thread_
     let thread_on = said_apart rest thread names first.1 is_names object_on.1 in
     let whole : words_apart thread (words_apart object (words_apart method (slots_spelling slots))) ≡ rest =
     ap (λ more. words_apart thread (words_apart object more)) method_on.0 ∙ ap (words_apart thread) object_on.0 ∙ thread_on.0 in
-    ((first.0, second.0, third.0, values.0), ap (λ all. codes "call" ++ 32 ∷ all) (sym whole), thread_on.1)
+    ((first.0, second.0, third.0, values.0), ap (λ all. codes "call" ++ 32 ∷ all) (sym whole), thread_on.1, (λ version. tt))
 
 pub call_said : (rest : List ℕ) → IfSome (call_read rest) (CallSaid rest)
 unfolding call_read

@@ -1,5 +1,5 @@
 -- What a line of a trace says, and its spelling: this project's profile.
-use Rattle.std.specs.Prelude.{◌≡◌, ℕ, ◌≤◌, Bool, true, ◌==◌, List, [], ◌∷◌, ◌++◌, length, codes}
+use Rattle.std.specs.Prelude.{◌≡◌, ◌⊎◌, ℕ, ◌≤◌, Bool, true, ◌==◌, List, [], ◌∷◌, ◌++◌, length, codes, decimal}
 use Rattle.std.specs.List.{All}
 use Rattle.rd_base.specs.declared.values.Value.{Value}
 use Rattle.rd_base.specs.Names.{IsName}
@@ -7,7 +7,7 @@ use Rattle.rd_base.specs.Spelling.{IsValue, value_spelling}
 use Rattle.rd_event.specs.declared.items.Line.{Line}
 use Rattle.rd_event.specs.declared.items.Line.TheVariants.{Skip, Header, Thread, Object, Event}
 use Rattle.rd_event.specs.declared.items.LineEvent.{LineEvent}
-use Rattle.rd_event.specs.declared.items.LineEvent.TheVariants.{Fork, Join, Acquire, Release, Call}
+use Rattle.rd_event.specs.declared.items.LineEvent.TheVariants.{Fork, Join, Acquire, Release, Share, Unshare, Call}
 use Rattle.rd_base.specs.Bytes.{hash, space}
 
 -- the arguments of a call, at most 6, then its result
@@ -16,32 +16,40 @@ pub record AreSlots (slots : List Value) : Type 0 where
   pub few : length slots ≤ 7
   pub each : All IsValue slots
 
--- an item of a trace: its names are names, its values are values, and its version is 1
+-- an item of a trace: its names are names, its values are values, and its version is 1 or 2
 abbrev pub IsEvent : LineEvent → Type 0
 IsEvent (Fork thread child) = IsName thread × IsName child
 IsEvent (Join thread child) = IsName thread × IsName child
 IsEvent (Acquire thread lock) = IsName thread × IsName lock
 IsEvent (Release thread lock) = IsName thread × IsName lock
+IsEvent (Share thread lock) = IsName thread × IsName lock
+IsEvent (Unshare thread lock) = IsName thread × IsName lock
 IsEvent (Call thread object method slots) = IsName thread × IsName object × IsName method × AreSlots slots
+
+-- the versions of the text of a trace
+abbrev pub IsVersion : ℕ → Type 0
+IsVersion version = (version ≡ 1) ⊎ (version ≡ 2)
 
 abbrev pub LineInRange : Line → Type 0
 LineInRange Skip = Unit {0}
-LineInRange (Header version) = version ≡ 1
+LineInRange (Header version) = IsVersion version
 LineInRange (Thread thread) = IsName thread
 LineInRange (Object name kind) = IsName name × IsName kind
 LineInRange (Event event) = IsEvent event
 
--- what a line must be to have a spelling: its version is 1, and a call has 1 to 7 slots
+-- what a line must be to have a spelling: its version is 1 or 2, and a call has 1 to 7 slots
 abbrev pub HasFewSlots : LineEvent → Type 0
 HasFewSlots (Fork thread child) = Unit {0}
 HasFewSlots (Join thread child) = Unit {0}
 HasFewSlots (Acquire thread lock) = Unit {0}
 HasFewSlots (Release thread lock) = Unit {0}
+HasFewSlots (Share thread lock) = Unit {0}
+HasFewSlots (Unshare thread lock) = Unit {0}
 HasFewSlots (Call thread object method slots) = (1 ≤ length slots) × (length slots ≤ 7)
 
 abbrev pub IsSpellable : Line → Type 0
 IsSpellable Skip = Unit {0}
-IsSpellable (Header version) = version ≡ 1
+IsSpellable (Header version) = IsVersion version
 IsSpellable (Thread thread) = Unit {0}
 IsSpellable (Object name kind) = Unit {0}
 IsSpellable (Event event) = HasFewSlots event
@@ -65,12 +73,14 @@ event_spelling (Fork thread child) = codes "fork " ++ words_apart thread child
 event_spelling (Join thread child) = codes "join " ++ words_apart thread child
 event_spelling (Acquire thread lock) = codes "acquire " ++ words_apart thread lock
 event_spelling (Release thread lock) = codes "release " ++ words_apart thread lock
+event_spelling (Share thread lock) = codes "share " ++ words_apart thread lock
+event_spelling (Unshare thread lock) = codes "unshare " ++ words_apart thread lock
 event_spelling (Call thread object method slots) = codes "call " ++ call_text thread object method slots
 
 -- the one spelling of each item that isn't skipped
 abbrev pub line_spelling : Line → List ℕ
 line_spelling Skip = []
-line_spelling (Header version) = codes "rdtrace 1"
+line_spelling (Header version) = codes "rdtrace " ++ decimal version
 line_spelling (Thread thread) = codes "thread " ++ thread
 line_spelling (Object name kind) = codes "object " ++ words_apart name kind
 line_spelling (Event event) = event_spelling event
@@ -80,10 +90,21 @@ abbrev pub is_skipped : List ℕ → Bool
 is_skipped [] = true
 is_skipped (byte ∷ bytes) = byte == hash
 
--- the bytes are a spelling of the item
-abbrev pub Says : List ℕ → Line → Type 0
-Says bytes Skip = is_skipped bytes ≡ true
-Says bytes (Header version) = bytes ≡ line_spelling (Header version)
-Says bytes (Thread thread) = bytes ≡ line_spelling (Thread thread)
-Says bytes (Object name kind) = bytes ≡ line_spelling (Object name kind)
-Says bytes (Event event) = bytes ≡ line_spelling (Event event)
+-- the version has the event: version 2 alone has shares. In front of the header the version is 0
+abbrev pub HasEvent : ℕ → LineEvent → Type 0
+HasEvent version (Share thread lock) = version ≡ 2
+HasEvent version (Unshare thread lock) = version ≡ 2
+HasEvent version _ = Unit {0}
+
+-- the version has the item: each has both headers
+abbrev pub HasItem : ℕ → Line → Type 0
+HasItem version (Event event) = HasEvent version event
+HasItem version _ = Unit {0}
+
+-- the version has the item, and the bytes are a spelling of it
+abbrev pub Says : ℕ → List ℕ → Line → Type 0
+Says version bytes Skip = is_skipped bytes ≡ true
+Says version bytes (Header number) = bytes ≡ line_spelling (Header number)
+Says version bytes (Thread thread) = bytes ≡ line_spelling (Thread thread)
+Says version bytes (Object name kind) = bytes ≡ line_spelling (Object name kind)
+Says version bytes (Event event) = HasEvent version event × (bytes ≡ line_spelling (Event event))

@@ -7,7 +7,7 @@ use Rattle.rd_base.specs.Names.{is_name}
 use Rattle.rd_event.specs.declared.items.Line.{Line}
 use Rattle.rd_event.specs.declared.items.Line.TheVariants.{Skip, Header, Thread, Object, Event}
 use Rattle.rd_event.specs.declared.items.LineEvent.{LineEvent}
-use Rattle.rd_event.specs.declared.items.LineEvent.TheVariants.{Fork, Join, Acquire, Release, Call}
+use Rattle.rd_event.specs.declared.items.LineEvent.TheVariants.{Fork, Join, Acquire, Release, Share, Unshare, Call}
 use Rattle.rd_event.specs.declared.reading.Pair.{Pair}
 use Rattle.rd_event.specs.declared.reading.Pair.TheVariants.{Object as ObjectPair, Fork as ForkPair, Join as JoinPair, Acquire as AcquirePair, Release as ReleasePair}
 use Rattle.rd_event.specs.Items.{is_skipped}
@@ -48,30 +48,52 @@ pair_item JoinPair names = Event (Join names.0 names.1)
 pair_item AcquirePair names = Event (Acquire names.0 names.1)
 pair_item ReleasePair names = Event (Release names.0 names.1)
 
+-- the share that is spelled like an acquire, and the unshare that is spelled like a release
+abbrev pub shared_event : LineEvent → LineEvent
+shared_event (Acquire thread lock) = Share thread lock
+shared_event (Release thread lock) = Unshare thread lock
+shared_event event = event
+
+abbrev pub shared_item : Line → Line
+shared_item (Event event) = Event (shared_event event)
+shared_item item = item
+
 -- the keyword of a call
 abbrev pub is_call_keyword : List ℕ → Bool
 is_call_keyword keyword = bytes_eq keyword (codes "call")
 
--- the event of a line with this keyword and these bytes after the space behind it
-unfoldable pub event_with : List ℕ → List ℕ → Option LineEvent
-event_with keyword rest =
+-- the header with these bytes behind its keyword
+abbrev pub header_read : List ℕ → Option Line
+header_read rest = if bytes_eq rest (codes "1") then Some (Header 1) else if bytes_eq rest (codes "2") then Some (Header 2) else None
+
+-- the events that version 2 has besides
+unfoldable pub share_with : List ℕ → List ℕ → Option LineEvent
+share_with keyword rest =
+    if bytes_eq keyword (codes "share") then option_map (λ names. Share names.0 names.1) (names_read rest)
+    else if bytes_eq keyword (codes "unshare") then option_map (λ names. Unshare names.0 names.1) (names_read rest)
+    else None
+
+-- the event of a line of this version with this keyword and these bytes after the space behind it
+unfoldable pub event_with : ℕ → List ℕ → List ℕ → Option LineEvent
+event_with version keyword rest =
     if bytes_eq keyword (codes "fork") then option_map (λ names. Fork names.0 names.1) (names_read rest)
     else if bytes_eq keyword (codes "join") then option_map (λ names. Join names.0 names.1) (names_read rest)
     else if bytes_eq keyword (codes "acquire") then option_map (λ names. Acquire names.0 names.1) (names_read rest)
     else if bytes_eq keyword (codes "release") then option_map (λ names. Release names.0 names.1) (names_read rest)
     else if is_call_keyword keyword then call_read rest
+    else if version == 2 then share_with keyword rest
     else None
 
 -- the item of such a line
-unfoldable pub item_with : List ℕ → List ℕ → Option Line
-item_with keyword rest =
-    if bytes_eq keyword (codes "rdtrace") then (if bytes_eq rest (codes "1") then Some (Header 1) else None)
+unfoldable pub item_with : ℕ → List ℕ → List ℕ → Option Line
+item_with version keyword rest =
+    if bytes_eq keyword (codes "rdtrace") then header_read rest
     else if bytes_eq keyword (codes "thread") then option_map (λ name. Thread name) (name_read rest)
     else if bytes_eq keyword (codes "object") then option_map (λ names. Object names.0 names.1) (names_read rest)
-    else option_map (λ event. Event event) (event_with keyword rest)
+    else option_map (λ event. Event event) (event_with version keyword rest)
 
--- the item that the bytes spell
-unfoldable pub item_of : List ℕ → Option Line
-item_of bytes =
+-- the item of a version that the bytes spell
+unfoldable pub item_of : ℕ → List ℕ → Option Line
+item_of version bytes =
     if is_skipped bytes then Some Skip
-    else item_with (before_first is_space bytes) (after_first is_space bytes)
+    else item_with version (before_first is_space bytes) (after_first is_space bytes)

@@ -33,7 +33,7 @@ impl Call {
     }
 }
 
-/// An event of a trace, by numbers. A lock has the place, from 0, of the line that first acquired it among all such first lines.
+/// An event of a trace, by numbers. A lock has the place, from 0, of the line that first acquired or shared it among all such first lines.
 #[derive(Debug, Drop, PartialEq, Eq)]
 pub enum Event {
     /// the thread begins the child
@@ -44,6 +44,10 @@ pub enum Event {
     Acquire { thread: u32, lock: u32 },
     /// the thread gives the lock back
     Release { thread: u32, lock: u32 },
+    /// the thread takes a share of the lock
+    Share { thread: u32, lock: u32 },
+    /// the thread gives a share of the lock back
+    Unshare { thread: u32, lock: u32 },
     /// the thread calls a method of an object
     Call(Call),
 }
@@ -69,6 +73,14 @@ impl Event {
                 lock: *lock,
             },
             Event::Release { thread, lock } => Event::Release {
+                thread: *thread,
+                lock: *lock,
+            },
+            Event::Share { thread, lock } => Event::Share {
+                thread: *thread,
+                lock: *lock,
+            },
+            Event::Unshare { thread, lock } => Event::Unshare {
                 thread: *thread,
                 lock: *lock,
             },

@@ -25,6 +25,16 @@ pub enum LineEvent {
         thread: Name,
         lock: Name,
     },
+    /// `share T L`, of version 2: thread T takes lock L together with others that share it
+    Share {
+        thread: Name,
+        lock: Name,
+    },
+    /// `unshare T L`, of version 2: thread T gives its share of lock L back
+    Unshare {
+        thread: Name,
+        lock: Name,
+    },
     /// `call T O M A -> R`: thread T calls method M of object O with the arguments A, a space behind each, and has the result R
     Call {
         thread: Name,
@@ -40,7 +50,7 @@ pub enum LineEvent {
 pub enum Line {
     /// an empty line, or one whose first byte is `#`
     Skip,
-    /// `rdtrace 1`
+    /// `rdtrace 1` or `rdtrace 2`
     Header { version: u8 },
     /// `thread T`: a thread that no other begins
     Thread(Name),

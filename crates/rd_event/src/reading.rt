@@ -5,13 +5,14 @@ ghost use Rattle.std.specs.List.{AllPass, before_first, after_first, position};
 ghost use Rattle.rd_base.specs.Names.{IsName, is_name_byte};
 ghost use Rattle.rd_event.specs.declared.items.Line.{Line};
 ghost use Rattle.std.specs.Str.{bytes_eq};
-ghost use Rattle.rd_event.specs.Items.{is_skipped, LineInRange, Says, line_spelling};
-ghost use Rattle.rd_event.specs.Reading.{is_space, name_read, names_read, is_call_keyword, call_read, pair_item, event_with, item_with, item_of};
+ghost use Rattle.rd_event.specs.Items.{HasItem, is_skipped, LineInRange, Says, line_spelling};
+ghost use Rattle.rd_event.specs.Reading.{is_space, name_read, names_read, header_read, is_call_keyword, call_read, pair_item, shared_event, shared_item, share_with, event_with, item_with, item_of};
 
 use crate::items::{Line, LineEvent};
 use crate::slots::slots;
 use rd_base::{Name, name_length};
 use std::alloc::Global;
+use std::mem;
 use thiserror::Error;
 
 /// Why a line is refused.
@@ -204,12 +205,75 @@ fn read_call(alloc: Global, rest: &[u8], line: &mut Line) -> Result<(), LineRefu
     Ok(())
 }
 
-// Reads a line that is no call, with this keyword and these bytes after the space behind it. The frequent keywords come first.
+// Reads a header with these bytes after the space behind its keyword.
+fn read_header(rest: &[u8], line: &mut Line) -> Result<(), LineRefused>
+    ensures item { OnOk result (header_read rest.now ≡ Some line.new) }
+    ensures none { OnErr result (header_read rest.now ≡ None) }
+    ensures refused { IfErr result (λ e. e ≡ LineRefused.BadLine) }
+{
+    if bytes_are(rest, "1") {
+        *line = Line::Header { version: 1 };
+        return Ok(());
+    }
+    if bytes_are(rest, "2") {
+        *line = Line::Header { version: 2 };
+        return Ok(());
+    }
+    Err(LineRefused::BadLine)
+}
+
+// The share that is spelled like an acquire, and the unshare that is spelled like a release. So the lines of version 1 pay for no
+// further pair.
+fn shared_event(event: LineEvent) -> LineEvent
+    ensures { result ≡ shared_event event }
+{
+    match event {
+        LineEvent::Acquire { thread, lock } => LineEvent::Share { thread, lock },
+        LineEvent::Release { thread, lock } => LineEvent::Unshare { thread, lock },
+        other => other,
+    }
+}
+
+// Makes an acquire a share, and a release an unshare, with the same names.
+fn share(line: &mut Line)
+    ensures { line.new ≡ shared_item line.old }
+{
+    let read = mem::replace(line, Line::Skip);
+    *line = match read {
+        Line::Event(event) => Line::Event(shared_event(event)),
+        other => other,
+    };
+}
+
+// Reads what version 2 has besides, with this keyword and these bytes after the space behind it.
+#[tactic(auto, unfolding(crate::specs::Reading::share_with))]
+fn read_share(keyword: &[u8], rest: &[u8], line: &mut Line) -> Result<(), LineRefused>
+    ensures item { OnOk result
+        (option_map (λ event. Line.Event event) (share_with keyword.now rest.now) ≡ Some line.new) }
+    ensures none { OnErr result
+        (option_map (λ event. Line.Event event) (share_with keyword.now rest.now) ≡ None) }
+    ensures refused { IfErr result (λ e. e ≡ LineRefused.BadLine) }
+{
+    if bytes_are(keyword, "share") {
+        read_pair(Pair::Acquire, rest, line)?;
+        share(line);
+        return Ok(());
+    }
+    if bytes_are(keyword, "unshare") {
+        read_pair(Pair::Release, rest, line)?;
+        share(line);
+        return Ok(());
+    }
+    Err(LineRefused::BadLine)
+}
+
+// Reads a line of this version that is no call, with this keyword and these bytes after the space behind it. The frequent keywords come
+// first.
 #[tactic(auto, unfolding(crate::specs::Reading::event_with, crate::specs::Reading::item_with))]
-fn read_other(keyword: &[u8], rest: &[u8], line: &mut Line) -> Result<(), LineRefused>
+fn read_other(version: u8, keyword: &[u8], rest: &[u8], line: &mut Line) -> Result<(), LineRefused>
     requires { is_call_keyword keyword.now ≡ false }
-    ensures item { OnOk result (item_with keyword.now rest.now ≡ Some line.new) }
-    ensures none { OnErr result (item_with keyword.now rest.now ≡ None) }
+    ensures item { OnOk result (item_with version keyword.now rest.now ≡ Some line.new) }
+    ensures none { OnErr result (item_with version keyword.now rest.now ≡ None) }
     ensures refused { IfErr result (λ e. e ≡ LineRefused.BadLine) }
 {
     if bytes_are(keyword, "acquire") {
@@ -231,11 +295,10 @@ fn read_other(keyword: &[u8], rest: &[u8], line: &mut Line) -> Result<(), LineRe
         return read_thread(rest, line);
     }
     if bytes_are(keyword, "rdtrace") {
-        if bytes_are(rest, "1") {
-            *line = Line::Header { version: 1 };
-            return Ok(());
-        }
-        return Err(LineRefused::BadLine);
+        return read_header(rest, line);
+    }
+    if version == 2 {
+        return read_share(keyword, rest, line);
     }
     Err(LineRefused::BadLine)
 }
@@ -250,13 +313,13 @@ fn skip(line: &mut Line)
     }
 }
 
-// Reads a line. The most frequent keywords are asked for with their space, before the space is looked for.
+// Reads a line of this version. The most frequent keywords are asked for with their space, before the space is looked for.
 #[tactic(auto, using(crate::proofs::ReadingLemmas::call_item), unfolding(crate::specs::Reading::item_of))]
-fn read_item(alloc: Global, bytes: &[u8], line: &mut Line) -> Result<(), LineRefused>
-    ensures item { OnOk result (item_of bytes.now ≡ Some line.new) }
-    ensures none { IfErr result (λ e. e ≡ LineRefused.BadLine → item_of bytes.now ≡ None) }
+fn read_item(alloc: Global, bytes: &[u8], version: u8, line: &mut Line) -> Result<(), LineRefused>
+    ensures item { OnOk result (item_of version bytes.now ≡ Some line.new) }
+    ensures none { IfErr result (λ e. e ≡ LineRefused.BadLine → item_of version bytes.now ≡ None) }
     ensures memory { IfErr result
-        (λ e. e ≡ LineRefused.NoMemory → (item : Line) × (item_of bytes.now ≡ Some item)) }
+        (λ e. e ≡ LineRefused.NoMemory → (item : Line) × (item_of version bytes.now ≡ Some item)) }
     ensures call { IfErr result
         (λ e. e ≡ LineRefused.NoMemory →
         IsTrue (is_call_keyword (before_first is_space bytes.now))) }
@@ -281,67 +344,76 @@ fn read_item(alloc: Global, bytes: &[u8], line: &mut Line) -> Result<(), LineRef
     if bytes_are(keyword, "call") {
         return read_call(alloc, rest, line);
     }
-    read_other(keyword, rest, line)
+    read_other(version, keyword, rest, line)
 }
 
-/// Reads a line, given without its line feed, into `line`, which may be anything after an error. The answers are those of `read_line`.
-pub fn read_into(alloc: Global, bytes: &[u8], line: &mut Line) -> Result<(), LineRefused>
+/// Reads a line of this version, given without its line feed, into `line`, which may be anything after an error. The answers are those of
+/// `read_line`.
+pub fn read_into(
+    alloc: Global,
+    bytes: &[u8],
+    version: u8,
+    line: &mut Line,
+) -> Result<(), LineRefused>
     // the line is what the bytes say
-    ensures says { OnOk result (Says bytes.now line.new) }
+    ensures says { OnOk result (Says version bytes.now line.new) }
     ensures range { OnOk result (LineInRange line.new) }
     ensures only { IfErr result
         (λ e. e ≡ LineRefused.BadLine → (item : Line) → LineInRange item →
-        ¬ (Says bytes.now item)) }
+        ¬ (Says version bytes.now item)) }
 
     // as `item_of` tells too
-    ensures item { OnOk result (item_of bytes.now ≡ Some line.new) }
-    ensures none { IfErr result (λ e. e ≡ LineRefused.BadLine → item_of bytes.now ≡ None) }
+    ensures item { OnOk result (item_of version bytes.now ≡ Some line.new) }
+    ensures none { IfErr result (λ e. e ≡ LineRefused.BadLine → item_of version bytes.now ≡ None) }
 
     // memory runs out only at bytes that say an item and begin as a call
     ensures memory { IfErr result
-        (λ e. e ≡ LineRefused.NoMemory → (item : Line) × (item_of bytes.now ≡ Some item)) }
+        (λ e. e ≡ LineRefused.NoMemory → (item : Line) × (item_of version bytes.now ≡ Some item)) }
     ensures call { IfErr result
         (λ e. e ≡ LineRefused.NoMemory →
         IsTrue (is_call_keyword (before_first is_space bytes.now))) }
 {
-    read_item(alloc, bytes, line)
+    read_item(alloc, bytes, version, line)
 }
 
-/// Reads a line, given without its line feed. The answer is `BadLine` exactly if the bytes spell no
-/// item. Only the values of a call take memory, so `NoMemory` comes only for bytes that spell a call.
-pub fn read_line(alloc: Global, bytes: &[u8]) -> Result<Line, LineRefused>
+/// Reads a line, given without its line feed, of a trace whose header has this version, or 0 where none was read. The answer is
+/// `BadLine` exactly if the bytes spell no item of the version. Only the values of a call take memory, so `NoMemory` comes only for
+/// bytes that spell a call.
+pub fn read_line(alloc: Global, bytes: &[u8], version: u8) -> Result<Line, LineRefused>
     // the line is what the bytes say
-    ensures says { IfOk result (λ item. Says bytes.now item) }
+    ensures says { IfOk result (λ item. Says version bytes.now item) }
     ensures range { IfOk result LineInRange }
     ensures only { IfErr result
         (λ e. e ≡ LineRefused.BadLine → (item : Line) → LineInRange item →
-        ¬ (Says bytes.now item)) }
+        ¬ (Says version bytes.now item)) }
 
     // as `item_of` tells too
-    ensures item { IfOk result (λ item. item_of bytes.now ≡ Some item) }
-    ensures none { IfErr result (λ e. e ≡ LineRefused.BadLine → item_of bytes.now ≡ None) }
+    ensures item { IfOk result (λ item. item_of version bytes.now ≡ Some item) }
+    ensures none { IfErr result (λ e. e ≡ LineRefused.BadLine → item_of version bytes.now ≡ None) }
 
     // memory runs out only at bytes that say an item and begin as a call
     ensures memory { IfErr result
-        (λ e. e ≡ LineRefused.NoMemory → (item : Line) × (item_of bytes.now ≡ Some item)) }
+        (λ e. e ≡ LineRefused.NoMemory → (item : Line) × (item_of version bytes.now ≡ Some item)) }
     ensures call { IfErr result
         (λ e. e ≡ LineRefused.NoMemory →
         IsTrue (is_call_keyword (before_first is_space bytes.now))) }
 {
     let mut line = Line::Skip;
-    match read_into(alloc, bytes, &mut line) {
+    match read_into(alloc, bytes, version, &mut line) {
         Ok(()) => Ok(line),
         Err(refused) => Err(refused),
     }
 }
 
-/// The law of spelling: `item_of` gives exactly the items that the bytes say, each in its range, it gives each item again from
-/// the item's spelling, and no bytes say two.
+/// The law of spelling: in each version `item_of` gives exactly the items that the bytes say, each in its range, it gives each item that
+/// the version has again from the item's spelling, and no bytes say two.
 pub fn law_of_spelling()
-    ensures test { (bytes : List ℕ) (item : Line) → LineInRange item →
-        (item_of bytes ≡ Some item ↔ Says bytes item) }
-    ensures range { (bytes : List ℕ) (item : Line) → item_of bytes ≡ Some item → LineInRange item }
-    ensures again { (item : Line) → LineInRange item → item_of (line_spelling item) ≡ Some item }
-    ensures one_item { (bytes : List ℕ) (x y : Line) → LineInRange x → LineInRange y →
-        Says bytes x → Says bytes y → x ≡ y }
+    ensures test { (version : ℕ) (bytes : List ℕ) (item : Line) → LineInRange item →
+        (item_of version bytes ≡ Some item ↔ Says version bytes item) }
+    ensures range { (version : ℕ) (bytes : List ℕ) (item : Line) →
+        item_of version bytes ≡ Some item → LineInRange item }
+    ensures again { (version : ℕ) (item : Line) → LineInRange item → HasItem version item →
+        item_of version (line_spelling item) ≡ Some item }
+    ensures one_item { (version : ℕ) (bytes : List ℕ) (x y : Line) → LineInRange x → LineInRange y →
+        Says version bytes x → Says version bytes y → x ≡ y }
 {}

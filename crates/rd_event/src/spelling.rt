@@ -1,12 +1,12 @@
 //! Spelling a line.
-ghost use Rattle.std.specs.Prelude.{◌≡◌, [], ◌∷◌, ◌++◌, All, Some, OnOk, IfOk};
+ghost use Rattle.std.specs.Prelude.{◌≡◌, ℕ, [], ◌∷◌, ◌++◌, All, Some, OnOk, IfOk};
 ghost use Rattle.rd_base.specs.Names.{IsName};
 ghost use Rattle.rd_base.specs.Spelling.{IsValue};
-ghost use Rattle.rd_event.specs.Items.{LineInRange, IsEvent, IsSpellable, HasFewSlots, Says, call_text, words_apart, slots_spelling, event_spelling, line_spelling};
+ghost use Rattle.rd_event.specs.Items.{HasItem, LineInRange, IsEvent, IsSpellable, HasFewSlots, Says, call_text, words_apart, slots_spelling, event_spelling, line_spelling};
 ghost use Rattle.rd_event.specs.Reading.{item_of};
 
 use crate::items::{Line, LineEvent};
-use rd_base::{Bytes, Name, NoMemory, Slots, Value, append_value};
+use rd_base::{Bytes, Name, NoMemory, Slots, Value, append_number, append_value};
 use std::alloc::Global;
 
 // Puts the keyword and two names, a space apart, behind the text.
@@ -80,6 +80,8 @@ fn append_event(text: &mut Bytes, event: &LineEvent) -> Result<(), NoMemory>
         LineEvent::Join { thread, child } => append_names(text, b"join ", thread, child),
         LineEvent::Acquire { thread, lock } => append_names(text, b"acquire ", thread, lock),
         LineEvent::Release { thread, lock } => append_names(text, b"release ", thread, lock),
+        LineEvent::Share { thread, lock } => append_names(text, b"share ", thread, lock),
+        LineEvent::Unshare { thread, lock } => append_names(text, b"unshare ", thread, lock),
         LineEvent::Call {
             thread,
             object,
@@ -100,7 +102,10 @@ fn append_line(text: &mut Bytes, line: &Line) -> Result<(), NoMemory>
 {
     match line {
         Line::Skip => Ok(()),
-        Line::Header { .. } => text.append(b"rdtrace 1"),
+        Line::Header { version } => {
+            text.append(b"rdtrace ")?;
+            append_number(text, u64::from(*version))
+        }
         Line::Thread(name) => {
             text.append(b"thread ")?;
             text.append(name.items())
@@ -111,12 +116,14 @@ fn append_line(text: &mut Bytes, line: &Line) -> Result<(), NoMemory>
 }
 
 /// The spelling of a line, without a line feed. A skipped line is spelled as the empty line. What is spelled is read as the
-/// line again. The types keep names and values in their ranges; what is asked is version 1 in a header and 1 to 7 slots in a call.
+/// line again, in each version that has it. The types keep names and values in their ranges; what is asked is version 1 or 2 in a
+/// header and 1 to 7 slots in a call.
 pub fn spell(alloc: Global, line: &Line) -> Result<Bytes, NoMemory>
     requires { IsSpellable line.now }
     ensures value { IfOk result (λ text. text ≡ line_spelling line.now) }
-    ensures says { IfOk result (λ text. Says text line.now) }
-    ensures again { IfOk result (λ text. item_of text ≡ Some line.now) }
+    ensures says { IfOk result (λ text. (version : ℕ) → HasItem version line.now → Says version text line.now) }
+    ensures again { IfOk result (λ text. (version : ℕ) → HasItem version line.now →
+        item_of version text ≡ Some line.now) }
 {
     let mut text = Bytes::new(alloc);
     append_line(&mut text, line)?;
