@@ -7,9 +7,9 @@ use Rattle.std.proofs.lemmas.List.Sums.{sum_by-cons, sum_by-take-le, sum_by_push
 use Rattle.std.proofs.lemmas.Option.{none-some, same_Some}
 use Rattle.rd_event.specs.declared.events.Call.{Call as CallOf}
 use Rattle.rd_event.specs.declared.events.Event.{Event}
-use Rattle.rd_event.specs.declared.events.Event.TheVariants.{Fork, Join, Acquire, Release, Call}
+use Rattle.rd_event.specs.declared.events.Event.TheVariants.{Fork, Join, Acquire, Release, Share, Unshare, Call}
 use Rattle.rd_order.specs.Counts.{Counts}
-use Rattle.rd_order.specs.Order.{forked_thread, Hold, exclusive, Against}
+use Rattle.rd_order.specs.Order.{forked_thread, Hold, exclusive, shared, Against}
 use Rattle.rd_order.specs.OrderTests.{is_this}
 use Rattle.rd_order.specs.EventLists.{calls, forks, givings, joins, takings, IsKnownThread, MayHappen, Follow, IsBounded, WellFormed}
 use Rattle.rd_order.proofs.CountsLemmas.{counts_all, counts_below, counts_within}
@@ -187,11 +187,16 @@ may_call roots before call known running one_kind = record {
 -- the lock of a hold
 unfoldable pub lock_in : Hold → ℕ
 lock_in (exclusive lock) = lock
+lock_in (shared lock) = lock
+
+pub exclusive_not_shared : (lock other : ℕ) → ¬ (exclusive lock ≡ shared other)
+exclusive_not_shared lock other same = cc
 
 pub may_acquire : (roots : ℕ → Bool) (before : List Event) (t lock : ℕ) → IsKnownThread roots before t → joins before t ≡ 0
-    → ((u : ℕ) → u ≢ t → takings before u (exclusive lock) ≡ givings before u (exclusive lock)) → MayHappen roots before (Acquire t lock)
+    → ((u : ℕ) → u ≢ t → takings before u (exclusive lock) ≡ givings before u (exclusive lock))
+    → ((u : ℕ) → u ≢ t → takings before u (shared lock) ≡ givings before u (shared lock)) → MayHappen roots before (Acquire t lock)
 unfolding lock_in
-may_acquire roots before t lock known running others = record {
+may_acquire roots before t lock known running none_has none_shares = record {
   fresh = λ v is. absurd (none-some v is);
   known_actor = known;
   known_joined = λ v is. absurd (none-some v is);
@@ -204,7 +209,10 @@ may_acquire roots before t lock known running others = record {
   where
     free : (h k : Hold) → Some (exclusive lock) ≡ Some h → Against h k → (u : ℕ) → u ≢ t → takings before u k ≡ givings before u k
     free (exclusive a) (exclusive b) is against u other =
-        subst (λ m. takings before u (exclusive m) ≡ givings before u (exclusive m)) (ap lock_in (same_Some (exclusive lock) (exclusive a) is) ∙ against) (others u other)
+        subst (λ m. takings before u (exclusive m) ≡ givings before u (exclusive m)) (ap lock_in (same_Some (exclusive lock) (exclusive a) is) ∙ against) (none_has u other)
+    free (exclusive a) (shared b) is against u other =
+        subst (λ m. takings before u (shared m) ≡ givings before u (shared m)) (ap lock_in (same_Some (exclusive lock) (exclusive a) is) ∙ against) (none_shares u other)
+    free (shared a) k is against u other = absurd (exclusive_not_shared lock a (same_Some (exclusive lock) (shared a) is))
 
 pub may_release : (roots : ℕ → Bool) (before : List Event) (t lock : ℕ) → IsKnownThread roots before t → joins before t ≡ 0
     → givings before t (exclusive lock) < takings before t (exclusive lock) → MayHappen roots before (Release t lock)
@@ -216,5 +224,38 @@ may_release roots before t lock known running has = record {
   other_joined = λ v is. absurd (none-some v is);
   free = λ h k is. absurd (none-some h is);
   held = λ h is. subst (λ k. givings before t k < takings before t k) (same_Some (exclusive lock) h is) has;
+  one_kind = λ call is. absurd (none-some call is);
+}
+
+pub may_share : (roots : ℕ → Bool) (before : List Event) (t lock : ℕ) → IsKnownThread roots before t → joins before t ≡ 0
+    → ((u : ℕ) → u ≢ t → takings before u (exclusive lock) ≡ givings before u (exclusive lock)) → MayHappen roots before (Share t lock)
+unfolding lock_in
+may_share roots before t lock known running none_has = record {
+  fresh = λ v is. absurd (none-some v is);
+  known_actor = known;
+  known_joined = λ v is. absurd (none-some v is);
+  running = running;
+  other_joined = λ v is. absurd (none-some v is);
+  free = free;
+  held = λ h is. absurd (none-some h is);
+  one_kind = λ call is. absurd (none-some call is);
+}
+  where
+    free : (h k : Hold) → Some (shared lock) ≡ Some h → Against h k → (u : ℕ) → u ≢ t → takings before u k ≡ givings before u k
+    free (shared a) (exclusive b) is against u other =
+        subst (λ m. takings before u (exclusive m) ≡ givings before u (exclusive m)) (ap lock_in (same_Some (shared lock) (shared a) is) ∙ against) (none_has u other)
+    free (shared a) (shared b) is against u other = absurd against
+    free (exclusive a) k is against u other = absurd (exclusive_not_shared a lock (sym (same_Some (shared lock) (exclusive a) is)))
+
+pub may_unshare : (roots : ℕ → Bool) (before : List Event) (t lock : ℕ) → IsKnownThread roots before t → joins before t ≡ 0
+    → givings before t (shared lock) < takings before t (shared lock) → MayHappen roots before (Unshare t lock)
+may_unshare roots before t lock known running has = record {
+  fresh = λ v is. absurd (none-some v is);
+  known_actor = known;
+  known_joined = λ v is. absurd (none-some v is);
+  running = running;
+  other_joined = λ v is. absurd (none-some v is);
+  free = λ h k is. absurd (none-some h is);
+  held = λ h is. subst (λ k. givings before t k < takings before t k) (same_Some (shared lock) h is) has;
   one_kind = λ call is. absurd (none-some call is);
 }

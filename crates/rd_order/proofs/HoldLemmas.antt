@@ -7,10 +7,10 @@ use Rattle.std.proofs.lemmas.List.{append-nil, append_assoc, take-append-drop}
 use Rattle.std.proofs.lemmas.List.Sums.{sum_by_push}
 use Rattle.std.proofs.lemmas.Option.{none-some, same_Some}
 use Rattle.rd_event.specs.declared.events.Event.{Event}
-use Rattle.rd_event.specs.declared.events.Event.TheVariants.{Fork, Join, Acquire, Release, Call}
-use Rattle.rd_order.specs.Order.{thread_of, Hold, exclusive, Against, hold_taken, hold_given}
+use Rattle.rd_event.specs.declared.events.Event.TheVariants.{Fork, Join, Acquire, Release, Share, Unshare, Call}
+use Rattle.rd_order.specs.Order.{thread_of, Hold, exclusive, shared, Against, hold_taken, hold_given}
 use Rattle.rd_order.specs.EventLists.{is_hold, takings, givings, MayHappen, Follow, WellFormed}
-use Rattle.rd_order.proofs.EventListLemmas.{formed_front, lock_in}
+use Rattle.rd_order.proofs.EventListLemmas.{exclusive_not_shared, formed_front, lock_in}
 
 -- ---- holds
 
@@ -20,9 +20,16 @@ unfolding lock_in
 hold_decides None h = (λ e. cc, λ x. absurd (none-some h x))
 hold_decides (Some (exclusive other)) (exclusive lock) =
     Decides-like (other == lock) (ap (λ l. Some (exclusive l))) (λ x. ap lock_in (same_Some (exclusive other) (exclusive lock) x)) (Decides-eqb other lock)
+hold_decides (Some (shared other)) (shared lock) =
+    Decides-like (other == lock) (ap (λ l. Some (shared l))) (λ x. ap lock_in (same_Some (shared other) (shared lock) x)) (Decides-eqb other lock)
+hold_decides (Some (exclusive other)) (shared lock) = (λ e. cc, λ x. absurd (exclusive_not_shared other lock (same_Some (exclusive other) (shared lock) x)))
+hold_decides (Some (shared other)) (exclusive lock) = (λ e. cc, λ x. absurd (exclusive_not_shared lock other (sym (same_Some (shared other) (exclusive lock) x))))
 
 pub against_back : (h k : Hold) → Against h k → Against k h
 against_back (exclusive lock) (exclusive other) same = sym same
+against_back (exclusive lock) (shared other) same = sym same
+against_back (shared lock) (exclusive other) same = sym same
+against_back (shared lock) (shared other) none = none
 
 -- ---- one event more
 
@@ -74,6 +81,8 @@ gives_none (Fork thread child) h k takes gives = none-some k gives
 gives_none (Join thread child) h k takes gives = none-some k gives
 gives_none (Acquire thread lock) h k takes gives = none-some k gives
 gives_none (Release thread lock) h k takes gives = none-some h takes
+gives_none (Share thread lock) h k takes gives = none-some k gives
+gives_none (Unshare thread lock) h k takes gives = none-some h takes
 gives_none (Call call) h k takes gives = none-some k gives
 
 pub givings_none : (es : List Event) (e : Event) (t : ℕ) (h : Hold) → hold_taken e ≡ Some h → givings (es ++ e ∷ []) t h ≡ givings es t h

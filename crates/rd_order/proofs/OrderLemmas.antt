@@ -5,7 +5,7 @@ use Rattle.std.proofs.lemmas.Bool.{cases_lt}
 use Rattle.std.proofs.lemmas.Bool.Decides.{Decides-and, Decides-or, Decides-eqb, Decides-ltb, Decides-like}
 use Rattle.std.proofs.lemmas.Option.{slice_get_within, slice_get-get_or, same_Some, none-some}
 use Rattle.rd_event.specs.declared.events.Event.{Event}
-use Rattle.rd_order.specs.Order.{thread_of, forked_thread, joined_thread, Hold, exclusive, Against, hold_taken, hold_given, Linked, same_thread, begins, ends, spans, hands_over, Edge, Reaches}
+use Rattle.rd_order.specs.Order.{thread_of, forked_thread, joined_thread, Hold, exclusive, shared, Against, hold_taken, hold_given, Linked, same_thread, begins, ends, spans, hands_over, Edge, Reaches}
 use Rattle.rd_order.specs.OrderTests.{is_this, is_same, is_against, is_handed, is_linked, are_linked, is_edge, any_below, reaches_within, reaches}
 use Rattle.rd_order.proofs.PathLemmas.{leads_joined, leads_in, leads_rises, last_edge, leads_like}
 
@@ -101,6 +101,9 @@ same_decides (Some u) p =
 
 against_decides : (h k : Hold) → Decides (is_against h k) (Against h k)
 against_decides (exclusive lock) (exclusive other) = Decides-eqb lock other
+against_decides (exclusive lock) (shared other) = Decides-eqb lock other
+against_decides (shared lock) (exclusive other) = Decides-eqb lock other
+against_decides (shared lock) (shared other) = (λ h. cc, λ h. absurd h)
 
 -- a hold is given back and one against it is taken
 abbrev Handed : Option Hold → Option Hold → Type 0

@@ -4,7 +4,7 @@ use Rattle.rd_ecl.specs.Kinds.{Kind, methods_at, kind_slots_at}
 use Rattle.rd_event.specs.declared.events.Call.{Call as CallOf}
 use Rattle.rd_event.specs.declared.events.Event.{Event}
 use Rattle.rd_order.specs.Counts.{Counts}
-use Rattle.rd_order.specs.Order.{thread_of, forked_thread, joined_thread, call_in, Hold, exclusive, Against, hold_taken, hold_given}
+use Rattle.rd_order.specs.Order.{thread_of, forked_thread, joined_thread, call_in, Hold, exclusive, shared, Against, hold_taken, hold_given}
 use Rattle.rd_order.specs.OrderTests.{is_this}
 
 -- ---- how often the events of a list do something
@@ -13,6 +13,8 @@ use Rattle.rd_order.specs.OrderTests.{is_this}
 abbrev pub is_hold : Option Hold → Hold → Bool
 is_hold None h = false
 is_hold (Some (exclusive other)) (exclusive lock) = other == lock
+is_hold (Some (shared other)) (shared lock) = other == lock
+is_hold (Some _) _ = false
 
 -- it is a call of a method of this kind on this object
 abbrev pub is_call_on : Option CallOf → ℕ → ℕ → Bool

@@ -2,7 +2,7 @@
 use Rattle.std.specs.Prelude.{◌≡◌, ◌⊎◌, ℕ, ◌<◌, List, [], ◌∷◌, ◌++◌, Option, Some, None, slice_get}
 use Rattle.rd_event.specs.declared.events.Call.{Call as CallOf}
 use Rattle.rd_event.specs.declared.events.Event.{Event}
-use Rattle.rd_event.specs.declared.events.Event.TheVariants.{Fork, Join, Acquire, Release, Call}
+use Rattle.rd_event.specs.declared.events.Event.TheVariants.{Fork, Join, Acquire, Release, Share, Unshare, Call}
 
 -- ---- what an event says
 
@@ -12,6 +12,8 @@ thread_of (Fork thread child) = thread
 thread_of (Join thread child) = thread
 thread_of (Acquire thread lock) = thread
 thread_of (Release thread lock) = thread
+thread_of (Share thread lock) = thread
+thread_of (Unshare thread lock) = thread
 thread_of (Call call) = call.thread
 
 -- the thread that it begins
@@ -20,6 +22,8 @@ forked_thread (Fork thread child) = Some child
 forked_thread (Join thread child) = None
 forked_thread (Acquire thread lock) = None
 forked_thread (Release thread lock) = None
+forked_thread (Share thread lock) = None
+forked_thread (Unshare thread lock) = None
 forked_thread (Call call) = None
 
 -- the thread for whose end it waits
@@ -28,6 +32,8 @@ joined_thread (Fork thread child) = None
 joined_thread (Join thread child) = Some child
 joined_thread (Acquire thread lock) = None
 joined_thread (Release thread lock) = None
+joined_thread (Share thread lock) = None
+joined_thread (Unshare thread lock) = None
 joined_thread (Call call) = None
 
 -- the call that it is
@@ -36,15 +42,21 @@ call_in (Fork thread child) = None
 call_in (Join thread child) = None
 call_in (Acquire thread lock) = None
 call_in (Release thread lock) = None
+call_in (Share thread lock) = None
+call_in (Unshare thread lock) = None
 call_in (Call call) = Some call
 
--- what a thread takes, and later gives back: a lock for itself
+-- what a thread takes, and later gives back: a lock for itself, or a share of it
 pub data Hold : Type 0 where
   exclusive : ℕ → Hold
+  shared : ℕ → Hold
 
--- two holds that two threads can't have at once
+-- two holds that two threads can't have at once: they are of one lock, and not both shares
 abbrev pub Against : Hold → Hold → Type 0
 Against (exclusive lock) (exclusive other) = lock ≡ other
+Against (exclusive lock) (shared other) = lock ≡ other
+Against (shared lock) (exclusive other) = lock ≡ other
+Against (shared lock) (shared other) = ⊥
 
 -- the hold that an event takes: to acquire a lock is to take it for itself
 abbrev pub hold_taken : Event → Option Hold
@@ -52,6 +64,8 @@ hold_taken (Fork thread child) = None
 hold_taken (Join thread child) = None
 hold_taken (Acquire thread lock) = Some (exclusive lock)
 hold_taken (Release thread lock) = None
+hold_taken (Share thread lock) = Some (shared lock)
+hold_taken (Unshare thread lock) = None
 hold_taken (Call call) = None
 
 -- the hold that it gives back
@@ -60,6 +74,8 @@ hold_given (Fork thread child) = None
 hold_given (Join thread child) = None
 hold_given (Acquire thread lock) = None
 hold_given (Release thread lock) = Some (exclusive lock)
+hold_given (Share thread lock) = None
+hold_given (Unshare thread lock) = Some (shared lock)
 hold_given (Call call) = None
 
 -- the event takes the hold or gives it back

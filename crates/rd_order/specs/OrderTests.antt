@@ -1,7 +1,7 @@
 -- Edges and reaching by tests, for what has to be computed.
 use Rattle.std.specs.Prelude.{ℕ, zero, suc, ◌==◌, nat_lt, Bool, false, ◌&&◌, ◌||◌, List, Option, Some, None, slice_get}
 use Rattle.rd_event.specs.declared.events.Event.{Event}
-use Rattle.rd_order.specs.Order.{thread_of, forked_thread, joined_thread, Hold, exclusive, hold_taken, hold_given}
+use Rattle.rd_order.specs.Order.{thread_of, forked_thread, joined_thread, Hold, exclusive, shared, hold_taken, hold_given}
 
 -- the thread is this one
 abbrev pub is_this : Option ℕ → ℕ → Bool
@@ -16,6 +16,9 @@ is_same (Some u) other = is_this other u
 -- the holds are against one another
 abbrev pub is_against : Hold → Hold → Bool
 is_against (exclusive lock) (exclusive other) = lock == other
+is_against (exclusive lock) (shared other) = lock == other
+is_against (shared lock) (exclusive other) = lock == other
+is_against (shared lock) (shared other) = false
 
 -- the first hold is against the second
 abbrev pub is_handed : Option Hold → Option Hold → Bool

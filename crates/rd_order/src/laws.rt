@@ -2,7 +2,7 @@
 ghost use Rattle.std.specs.Prelude.{◌≡◌, ◌≢◌, ◌↔◌, ℕ, ◌<◌, ◌≤◌, ◌==◌, ◌||◌, Bool, true, List, [], ◌∷◌, ◌++◌, length, take, Some, IsTrue, slice_get};
 ghost use Rattle.rd_event.specs.declared.events.Call.{Call as CallOf};
 ghost use Rattle.rd_event.specs.declared.events.Event.{Event};
-ghost use Rattle.rd_event.specs.declared.events.Event.TheVariants.{Fork, Join, Acquire, Release, Call};
+ghost use Rattle.rd_event.specs.declared.events.Event.TheVariants.{Fork, Join, Acquire, Release, Share, Unshare, Call};
 ghost use Rattle.rd_order.specs.Order.{Against, Edge, Hold, Reaches, Unordered, Uses};
 ghost use Rattle.rd_order.specs.OrderTests.{reaches};
 ghost use Rattle.rd_order.specs.EventLists.{IsBounded, MayHappen, WellFormed, givings, implied_roots, takings};
@@ -44,8 +44,9 @@ pub fn law_of_lists()
         WellFormed roots es → WellFormed (implied_roots es) es }
 {}
 
-/// The lock rule: of two events that take or give back holds against one another, such as two on one lock, the earlier reaches the
-/// later. A hold is given back at most as often as it was taken, and while a thread has it no other thread has one against it.
+/// The lock rule: of two events that take or give back holds against one another, such as two on one lock of which one at least is
+/// no share, the earlier reaches the later. A hold is given back at most as often as it was taken, and while a thread has it no
+/// other thread has one against it.
 pub fn law_of_locks()
     ensures order { (roots : ℕ → Bool) (es : List Event) (i j : ℕ) (a b : Event) (h k : Hold) →
         WellFormed roots es → i < j →
@@ -69,6 +70,12 @@ pub fn examples_of_order()
     ensures hands_over { Edge (Release 0 5 ∷ Acquire 1 5 ∷ []) 0 1 }
     ensures another_lock { Unordered (Release 0 5 ∷ Acquire 1 6 ∷ []) 0 1 }
     ensures acquired_twice { Unordered (Acquire 0 5 ∷ Acquire 1 5 ∷ []) 0 1 }
+    // An unshare comes before the acquires of its lock behind it, and a release before the shares, but an unshare before no other
+    // thread's share.
+    ensures release_before_share { Edge (Release 0 5 ∷ Share 1 5 ∷ []) 0 1 }
+    ensures unshare_before_acquire { Edge (Unshare 0 5 ∷ Acquire 1 5 ∷ []) 0 1 }
+    ensures shares_apart { Unordered (Unshare 0 5 ∷ Share 1 5 ∷ []) 0 1 }
+    ensures another_shared { Unordered (Unshare 0 5 ∷ Acquire 1 6 ∷ []) 0 1 }
     ensures by_two_edges { Reaches (Fork 0 1 ∷ Fork 1 2 ∷ Join 2 3 ∷ []) 0 2 }
     ensures apart { Unordered (Fork 0 1 ∷ Fork 2 3 ∷ []) 0 1 }
     // The thread that joins is ordered behind the one that it joins, and not the other way round.
@@ -103,4 +110,19 @@ pub fn examples_of_order()
     ensures not_held { ¬ (WellFormed (λ t. t == 0) (Release 0 5 ∷ [])) }
     ensures released_twice { ¬ (WellFormed (λ t. t == 0)
         (Acquire 0 5 ∷ Release 0 5 ∷ Release 0 5 ∷ [])) }
+
+    // several threads share a lock, but none while another has it, and none takes it while another shares it
+    ensures two_sharers { WellFormed (λ t. (t == 0) || (t == 1))
+        (Share 0 5 ∷ Share 1 5 ∷ Unshare 0 5 ∷ Unshare 1 5 ∷ []) }
+    ensures shared_while_held { ¬ (WellFormed (λ t. (t == 0) || (t == 1))
+        (Acquire 0 5 ∷ Share 1 5 ∷ [])) }
+    ensures acquired_while_shared { ¬ (WellFormed (λ t. (t == 0) || (t == 1))
+        (Share 0 5 ∷ Acquire 1 5 ∷ [])) }
+    // The only sharer may acquire, and who has the lock may share it; each gives back what it took.
+    ensures upgrade { WellFormed (λ t. t == 0)
+        (Share 0 5 ∷ Acquire 0 5 ∷ Release 0 5 ∷ Unshare 0 5 ∷ []) }
+    ensures downgrade { WellFormed (λ t. t == 0)
+        (Acquire 0 5 ∷ Share 0 5 ∷ Release 0 5 ∷ Unshare 0 5 ∷ []) }
+    ensures not_shared { ¬ (WellFormed (λ t. t == 0) (Unshare 0 5 ∷ [])) }
+    ensures released_a_share { ¬ (WellFormed (λ t. t == 0) (Share 0 5 ∷ Release 0 5 ∷ [])) }
 {}
