@@ -120,42 +120,44 @@ shared_room threads t clock kept is = omega (arith, is.room, (kept.each t (share
 -- ---- all of it
 
 -- a thread more
-pub kept_push : (threads : List Tracked) (clocks : List (Option (List ℕ))) (releases : List (Option Stamp)) (x : Tracked) → AreKept threads clocks releases
+pub kept_push : (threads : List Tracked) (clocks : List (Option (List ℕ))) (releases : List (Option Stamp)) (unshares : List (Option (List ℕ))) (x : Tracked) → AreKept threads clocks releases unshares
     → length threads < 4294967295 → length threads < length x.clock → length x.clock ≤ length threads + 1 → x.events ≡ component x.clock (length threads)
-    → AreKept (threads ++ x ∷ []) clocks releases
-kept_push threads clocks releases x kept few own room events = record {
+    → AreKept (threads ++ x ∷ []) clocks releases unshares
+kept_push threads clocks releases unshares x kept few own room events = record {
   tracked = tracked_more threads x kept.tracked few own room events;
   shared = λ t clock at.
       let was = kept.shared t clock at in
       let inside : t < length threads = shared_inside threads t clock was in
       shared_like threads (threads ++ x ∷ []) t clock (ap (λ y. y.clock) (get_or_append_left threads (x ∷ []) no_thread t inside)) was;
   locks = λ lock stamp at. omega (arith, kept.locks lock stamp at, length-append threads (x ∷ []));
+  shares = λ lock. omega (arith, kept.shares lock, length-append threads (x ∷ []));
 }
 
 -- a thread is changed, and what is shared with it
-pub kept_set : (threads : List Tracked) (clocks new_clocks : List (Option (List ℕ))) (releases : List (Option Stamp)) (i : ℕ) (x : Tracked) → AreKept threads clocks releases
+pub kept_set : (threads : List Tracked) (clocks new_clocks : List (Option (List ℕ))) (releases : List (Option Stamp)) (unshares : List (Option (List ℕ))) (i : ℕ) (x : Tracked) → AreKept threads clocks releases unshares
     → i < length threads → i < length x.clock → length x.clock ≤ length threads → x.events ≡ component x.clock i
     → ((t : ℕ) → t ≢ i → slice_index_or new_clocks t None ≡ slice_index_or clocks t None)
     → ((clock : List ℕ) → slice_index_or new_clocks i None ≡ Some clock → IsShared (slice_set threads i x) i clock)
-    → AreKept (slice_set threads i x) new_clocks releases
-kept_set threads clocks new_clocks releases i x kept inside own room events others here = record {
+    → AreKept (slice_set threads i x) new_clocks releases unshares
+kept_set threads clocks new_clocks releases unshares i x kept inside own room events others here = record {
   tracked = tracked_changed threads i x kept.tracked inside own room events;
   shared = λ t clock at. elim (cases_eq t i) [
     | inl same ↦ subst (λ v. IsShared (slice_set threads i x) v clock) (sym same) (here clock (subst (λ v. slice_index_or new_clocks v None ≡ Some clock) same at))
     | inr other ↦ shared_like threads (slice_set threads i x) t clock (ap (λ y. y.clock) (set_other threads i t x other)) (kept.shared t clock (sym (others t other) ∙ at))
   ];
   locks = λ lock stamp at. omega (arith, kept.locks lock stamp at, length-set threads i x);
+  shares = λ lock. omega (arith, kept.shares lock, length-set threads i x);
 }
 
 -- a thread counts an event
-pub kept_count : (threads : List Tracked) (clocks : List (Option (List ℕ))) (releases : List (Option Stamp)) (i : ℕ) (old x : Tracked) → AreKept threads clocks releases
+pub kept_count : (threads : List Tracked) (clocks : List (Option (List ℕ))) (releases : List (Option Stamp)) (unshares : List (Option (List ℕ))) (i : ℕ) (old x : Tracked) → AreKept threads clocks releases unshares
     → i < length threads → old ≡ tracked_thread threads i → IsTick old.clock x.clock i → length x.clock ≡ length old.clock → x.events ≡ old.events + 1
-    → AreKept (slice_set threads i x) clocks releases
-kept_count threads clocks releases i old x kept inside is ticks room events =
+    → AreKept (slice_set threads i x) clocks releases unshares
+kept_count threads clocks releases unshares i old x kept inside is ticks room events =
     let was = kept.tracked.each i inside in
     let ticked = subst (λ y. IsTick y.clock x.clock i) is ticks in
     let total : length x.clock ≡ length (tracked_thread threads i).clock = room ∙ ap (λ y. length y.clock) is in
-    kept_set threads clocks clocks releases i x kept inside (omega (arith, was.own, total)) (omega (arith, was.room, total))
+    kept_set threads clocks clocks releases unshares i x kept inside (omega (arith, was.own, total)) (omega (arith, was.room, total))
     (events ∙ ap (λ y. y.events + 1) is ∙ ap (λ n. n + 1) was.events ∙ sym ticked.ticked)
     (λ t other. refl)
     (λ clock at.
@@ -163,24 +165,24 @@ kept_count threads clocks releases i old x kept inside is ticks room events =
     (ap (λ y. length y.clock) (set_same threads i i x inside refl) ∙ total) (kept.shared i clock at))
 
 -- a thread ends
-pub kept_end : (threads : List Tracked) (clocks : List (Option (List ℕ))) (releases : List (Option Stamp)) (i : ℕ) (old x : Tracked) → AreKept threads clocks releases
-    → i < length threads → old ≡ tracked_thread threads i → x.clock ≡ old.clock → x.events ≡ old.events → AreKept (slice_set threads i x) clocks releases
-kept_end threads clocks releases i old x kept inside is clock events =
+pub kept_end : (threads : List Tracked) (clocks : List (Option (List ℕ))) (releases : List (Option Stamp)) (unshares : List (Option (List ℕ))) (i : ℕ) (old x : Tracked) → AreKept threads clocks releases unshares
+    → i < length threads → old ≡ tracked_thread threads i → x.clock ≡ old.clock → x.events ≡ old.events → AreKept (slice_set threads i x) clocks releases unshares
+kept_end threads clocks releases unshares i old x kept inside is clock events =
     let was = kept.tracked.each i inside in
     let same : x.clock ≡ (tracked_thread threads i).clock = clock ∙ ap (λ y. y.clock) is in
-    kept_set threads clocks clocks releases i x kept inside (omega (arith, was.own, ap length same)) (omega (arith, was.room, ap length same))
+    kept_set threads clocks clocks releases unshares i x kept inside (omega (arith, was.own, ap length same)) (omega (arith, was.room, ap length same))
     (events ∙ ap (λ y. y.events) is ∙ was.events ∙ ap (λ c. component c i) (sym same))
     (λ t other. refl)
     (λ shared at. shared_like threads (slice_set threads i x) i shared (ap (λ y. y.clock) (set_same threads i i x inside refl) ∙ same) (kept.shared i shared at))
 
 -- a thread learns, and shares its clock no longer
-pub kept_learn : (threads : List Tracked) (clocks new_clocks : List (Option (List ℕ))) (releases : List (Option Stamp)) (i : ℕ) (old x : Tracked) → AreKept threads clocks releases
+pub kept_learn : (threads : List Tracked) (clocks new_clocks : List (Option (List ℕ))) (releases : List (Option Stamp)) (unshares : List (Option (List ℕ))) (i : ℕ) (old x : Tracked) → AreKept threads clocks releases unshares
     → i < length threads → old ≡ tracked_thread threads i → length x.clock ≡ length threads → component x.clock i ≡ known_to threads i i → x.events ≡ old.events
     → ((t : ℕ) → t ≢ i → slice_index_or new_clocks t None ≡ slice_index_or clocks t None) → slice_index_or new_clocks i None ≡ None
-    → AreKept (slice_set threads i x) new_clocks releases
-kept_learn threads clocks new_clocks releases i old x kept inside is room own events others none =
+    → AreKept (slice_set threads i x) new_clocks releases unshares
+kept_learn threads clocks new_clocks releases unshares i old x kept inside is room own events others none =
     let was = kept.tracked.each i inside in
-    kept_set threads clocks new_clocks releases i x kept inside (omega (arith, inside, room)) (omega (arith, room))
+    kept_set threads clocks new_clocks releases unshares i x kept inside (omega (arith, inside, room)) (omega (arith, room))
     (events ∙ ap (λ y. y.events) is ∙ was.events ∙ sym own)
     others
     (λ shared at. absurd (none-some shared (sym none ∙ at)))
@@ -190,10 +192,10 @@ pub others_set : (clocks : List (Option (List ℕ))) (i : ℕ) (x : Option (List
 others_set clocks i x t other = get_or-set_other clocks i t x None other
 
 -- a thread begins to share its clock
-pub kept_share : (threads : List Tracked) (clocks grown : List (Option (List ℕ))) (releases : List (Option Stamp)) (i : ℕ) (clock : List ℕ) → AreKept threads clocks releases
+pub kept_share : (threads : List Tracked) (clocks grown : List (Option (List ℕ))) (releases : List (Option Stamp)) (unshares : List (Option (List ℕ))) (i : ℕ) (clock : List ℕ) → AreKept threads clocks releases unshares
     → i < length grown → ((t : ℕ) → slice_index_or grown t None ≡ slice_index_or clocks t None) → IsShared threads i clock
-    → AreKept threads (slice_set grown i (Some clock)) releases
-kept_share threads clocks grown releases i clock kept inside same is = record {
+    → AreKept threads (slice_set grown i (Some clock)) releases unshares
+kept_share threads clocks grown releases unshares i clock kept inside same is = record {
   tracked = kept.tracked;
   shared = λ t other_clock at. elim (cases_eq t i) [
     | inl here ↦ subst (λ v. IsShared threads v other_clock) (sym here)
@@ -201,4 +203,5 @@ kept_share threads clocks grown releases i clock kept inside same is = record {
     | inr other ↦ kept.shared t other_clock (sym (same t) ∙ sym (others_set grown i (Some clock) t other) ∙ at)
   ];
   locks = kept.locks;
+  shares = kept.shares;
 }

@@ -4,7 +4,7 @@ use Rattle.std.specs.Prelude.{slice_get}
 use Rattle.std.proofs.lemmas.Bool.{cases_lt}
 use Rattle.std.proofs.lemmas.Option.{slice_get_within, same_Some}
 use Rattle.rd_event.specs.declared.events.Event.{Event}
-use Rattle.rd_order.specs.Order.{thread_of, forked_thread, joined_thread, exclusive, hold_taken, hold_given, Linked, same_thread, begins, ends, spans, hands_over, Reaches}
+use Rattle.rd_order.specs.Order.{thread_of, forked_thread, joined_thread, Against, Hold, exclusive, hold_taken, hold_given, Linked, same_thread, begins, ends, spans, hands_over, Reaches}
 use Rattle.rd_order.specs.EventLists.{WellFormed}
 use Rattle.rd_hb.specs.EventClocks.{IsOf}
 use Rattle.rd_hb.specs.Knows.{Carries, GivesBack, Knows}
@@ -46,29 +46,43 @@ carried_reaches es t m n l (inl of) of_n = own_reaches es t m n l of of_n
 carried_reaches es t m n l (inr x) of_n =
     edge_reaches es m n (record { rises = l; a = x.0; b = of_n.0; at_i = x.1; at_j = of_n.1; linked = begins (x.2 ∙ ap Some (sym of_n.2)) })
 
--- ---- places that give back a lock
+-- ---- places that give back a hold
 
-pub gives_within : (es : List Event) (lock m : ℕ) → GivesBack es lock m → m < length es
-gives_within es lock m x = slice_get_within es m x.0 x.1
+pub gives_within : (es : List Event) (hold : Hold) (m : ℕ) → GivesBack es hold m → m < length es
+gives_within es hold m x = slice_get_within es m x.0 x.1
 
-pub gives_longer : (es fs : List Event) (lock m : ℕ) → GivesBack es lock m → GivesBack (es ++ fs) lock m
-gives_longer es fs lock m x = (x.0, at_front es fs m (slice_get_within es m x.0 x.1) ∙ x.1, x.2)
+pub gives_longer : (es fs : List Event) (hold : Hold) (m : ℕ) → GivesBack es hold m → GivesBack (es ++ fs) hold m
+gives_longer es fs hold m x = (x.0, at_front es fs m (slice_get_within es m x.0 x.1) ∙ x.1, x.2)
 
-pub gives_shorter : (es fs : List Event) (lock m : ℕ) → m < length es → GivesBack (es ++ fs) lock m → GivesBack es lock m
-gives_shorter es fs lock m inside x = (x.0, sym (at_front es fs m inside) ∙ x.1, x.2)
+pub gives_shorter : (es fs : List Event) (hold : Hold) (m : ℕ) → m < length es → GivesBack (es ++ fs) hold m → GivesBack es hold m
+gives_shorter es fs hold m inside x = (x.0, sym (at_front es fs m inside) ∙ x.1, x.2)
 
-pub gives_last : (es : List Event) (e : Event) (lock : ℕ) → GivesBack (es ++ e ∷ []) lock (length es) → hold_given e ≡ Some (exclusive lock)
-gives_last es e lock x = ap hold_given (same_Some e x.0 (sym (at_end es e) ∙ x.1)) ∙ x.2
+pub gives_last : (es : List Event) (e : Event) (hold : Hold) → GivesBack (es ++ e ∷ []) hold (length es) → hold_given e ≡ Some hold
+gives_last es e hold x = ap hold_given (same_Some e x.0 (sym (at_end es e) ∙ x.1)) ∙ x.2
 
--- where another lock or none is given back last, it was given back before
-pub other_gives : (es : List Event) (e : Event) (lock : ℕ) → hold_given e ≢ Some (exclusive lock) → (m : ℕ) → GivesBack (es ++ e ∷ []) lock m → (m < length es) × GivesBack es lock m
-other_gives es e lock other m gives = elim (at_or_below es e m (gives_within (es ++ e ∷ []) lock m gives)) [
-  | inl last ↦ absurd (other (gives_last es e lock (subst (GivesBack (es ++ e ∷ []) lock) last gives)))
-  | inr before ↦ (before, gives_shorter es (e ∷ []) lock m before gives)
+-- where another hold or none is given back last, it was given back before
+pub other_gives : (es : List Event) (e : Event) (hold : Hold) → hold_given e ≢ Some hold → (m : ℕ) → GivesBack (es ++ e ∷ []) hold m → (m < length es) × GivesBack es hold m
+other_gives es e hold other m gives = elim (at_or_below es e m (gives_within (es ++ e ∷ []) hold m gives)) [
+  | inl last ↦ absurd (other (gives_last es e hold (subst (GivesBack (es ++ e ∷ []) hold) last gives)))
+  | inr before ↦ (before, gives_shorter es (e ∷ []) hold m before gives)
 ]
 
--- of two places that give back a lock the earlier reaches the later
-pub gives_reach : (roots : ℕ → Bool) (es : List Event) (lock m n : ℕ) → WellFormed roots es → m < n → GivesBack es lock m → GivesBack es lock n → Reaches es m n
+-- where it is given back last, that is the last place, or it was given back before
+pub given_again : (es : List Event) (e : Event) (hold : Hold) → hold_given e ≡ Some hold → (m : ℕ)
+    → (GivesBack es hold m ⊎ (m ≡ length es)) ↔ GivesBack (es ++ e ∷ []) hold m
+given_again es e hold gives m = (
+  λ x. elim x [
+    | inl before ↦ gives_longer es (e ∷ []) hold m before
+    | inr last ↦ subst (GivesBack (es ++ e ∷ []) hold) (sym last) (e, at_end es e, gives)
+  ],
+  λ back. elim (at_or_below es e m (gives_within (es ++ e ∷ []) hold m back)) [
+    | inl last ↦ inr last
+    | inr before ↦ inl (gives_shorter es (e ∷ []) hold m before back)
+  ],
+)
+
+-- of two places that release a lock the earlier reaches the later
+pub gives_reach : (roots : ℕ → Bool) (es : List Event) (lock m n : ℕ) → WellFormed roots es → m < n → GivesBack es (exclusive lock) m → GivesBack es (exclusive lock) n → Reaches es m n
 gives_reach roots es lock m n formed rises x y =
     holds_reach roots es m n x.0 y.0 (exclusive lock) (exclusive lock) formed rises x.1 y.1 (inr x.2) (inr y.2) refl
 
@@ -157,10 +171,10 @@ new_reaches es e k m link way =
       | inr before ↦ reaches_joined (es ++ e ∷ []) k m (length es) (reaches_longer es (e ∷ []) k m before) last
     ]
 
--- the event takes in what is known from a place: its thread joins one that carries on from there, or acquires a lock given back there
+-- the event takes in what is known from a place: its thread joins one that carries on from there, or takes a hold where one against it was given back
 abbrev pub Brings : List Event → Event → ℕ → Type 0
 Brings es e m =
-    ((w : ℕ) × (joined_thread e ≡ Some w) × Carries es w m) ⊎ ((lock : ℕ) × (hold_taken e ≡ Some (exclusive lock)) × GivesBack es lock m)
+    ((w : ℕ) × (joined_thread e ≡ Some w) × Carries es w m) ⊎ ((hold : Hold) × (other : Hold) × (hold_taken e ≡ Some other) × Against hold other × GivesBack es hold m)
 
 -- an event is linked to the places from which its thread carries on, and to those that bring it something
 pub carried_links : (es : List Event) (e : Event) (m : ℕ) → Carries es (thread_of e) m → LinksTo es e m
@@ -170,7 +184,7 @@ carried_links es e m (inr x) = (x.0, x.1, begins x.2)
 pub brought_links : (es : List Event) (e : Event) (m : ℕ) → Brings es e m → LinksTo es e m
 brought_links es e m (inl (w, join, inl of)) = (of.0, of.1, ends (join ∙ ap Some (sym of.2)))
 brought_links es e m (inl (w, join, inr x)) = (x.0, x.1, spans w x.2 join)
-brought_links es e m (inr (lock, takes, x)) = (x.0, x.1, hands_over (exclusive lock) (exclusive lock) x.2 takes refl)
+brought_links es e m (inr (hold, other, takes, against, x)) = (x.0, x.1, hands_over hold other x.2 takes against)
 
 -- and to no others
 pub links_carry : (es : List Event) (e : Event) (m : ℕ) → LinksTo es e m → Carries es (thread_of e) m ⊎ Brings es e m
@@ -178,8 +192,7 @@ links_carry es e m (a, at, same_thread same) = inl (inl (a, at, same))
 links_carry es e m (a, at, begins fork) = inl (inr (a, at, fork))
 links_carry es e m (a, at, ends join) = inr (inl (thread_of a, join, inl (a, at, refl)))
 links_carry es e m (a, at, spans w fork join) = inr (inl (w, join, inr (a, at, fork)))
-links_carry es e m (a, at, hands_over (exclusive lock) (exclusive other) back taking same) =
-    inr (inr (other, taking, (a, at, back ∙ ap (λ l. Some (exclusive l)) same)))
+links_carry es e m (a, at, hands_over hold other back taking against) = inr (inr (hold, other, taking, against, (a, at, back)))
 
 -- so it is reached by what its thread knew, and by what it takes in
 pub event_reached : (es : List Event) (e : Event) (k : ℕ)
@@ -235,16 +248,21 @@ child_knows es e w k fork fresh =
     ])
     k
 
--- and a lock that it gives back: the earlier releases reach this one
+-- and a lock that it releases: the earlier releases reach this one
 pub lock_knows : (roots : ℕ → Bool) (es : List Event) (e : Event) (lock k : ℕ) → WellFormed roots (es ++ e ∷ []) → hold_given e ≡ Some (exclusive lock)
-    → ((k ≡ length es) ⊎ Reaches (es ++ e ∷ []) k (length es)) ↔ Knows (es ++ e ∷ []) (GivesBack (es ++ e ∷ []) lock) k
+    → ((k ≡ length es) ⊎ Reaches (es ++ e ∷ []) k (length es)) ↔ Knows (es ++ e ∷ []) (GivesBack (es ++ e ∷ []) (exclusive lock)) k
 lock_knows roots es e lock k formed gives =
-    last_knows es e (GivesBack (es ++ e ∷ []) lock) (e, at_end es e, gives)
-    (λ m back. elim (at_or_below es e m (gives_within (es ++ e ∷ []) lock m back)) [
+    last_knows es e (GivesBack (es ++ e ∷ []) (exclusive lock)) (e, at_end es e, gives)
+    (λ m back. elim (at_or_below es e m (gives_within (es ++ e ∷ []) (exclusive lock) m back)) [
       | inl last ↦ inl last
       | inr before ↦ inr (gives_reach roots (es ++ e ∷ []) lock m (length es) formed before back (e, at_end es e, gives))
     ])
     k
+
+-- and it is known from its own place
+pub place_knows : (es : List Event) (e : Event) (k : ℕ)
+    → ((k ≡ length es) ⊎ Reaches (es ++ e ∷ []) k (length es)) ↔ Knows (es ++ e ∷ []) (λ m. m ≡ length es) k
+place_knows es e = last_knows es e (λ m. m ≡ length es) refl (λ m last. inl last)
 
 -- every other thread carries on from where it did
 pub other_carries : (es : List Event) (e : Event) (w : ℕ) → w ≢ thread_of e → forked_thread e ≢ Some w → (m : ℕ) → Carries (es ++ e ∷ []) w m → (m < length es) × Carries es w m

@@ -5,7 +5,7 @@ use Rattle.std.proofs.lemmas.Bool.{cases_eq, cases_lt}
 use Rattle.rd_event.specs.declared.events.Event.{Event}
 use Rattle.rd_order.specs.Counts.{Counts}
 use Rattle.rd_order.specs.EventLists.{IsKnownThread, WellFormed}
-use Rattle.rd_order.specs.Order.{forked_thread}
+use Rattle.rd_order.specs.Order.{exclusive, forked_thread}
 use Rattle.rd_order.proofs.CountsLemmas.{counts_le, covers}
 use Rattle.rd_order.proofs.EventListLemmas.{known_later, may_follow_at}
 use Rattle.rd_hb.specs.EventClocks.{IsOf, OwnNumber}
@@ -32,10 +32,10 @@ known_most es P Q u c d wider a b =
 -- ---- an acquire
 
 -- who knows the last release of a lock knows all that the lock does
-release_known : (roots : ℕ → Bool) (es : List Event) (P : ℕ → Type 0) (lock place : ℕ) → WellFormed roots es → GivesBack es lock place
-    → ((m : ℕ) → GivesBack es lock m → m ≤ place) → Knows es P place → (k : ℕ) → Knows es (GivesBack es lock) k → Knows es P k
+release_known : (roots : ℕ → Bool) (es : List Event) (P : ℕ → Type 0) (lock place : ℕ) → WellFormed roots es → GivesBack es (exclusive lock) place
+    → ((m : ℕ) → GivesBack es (exclusive lock) m → m ≤ place) → Knows es P place → (k : ℕ) → Knows es (GivesBack es (exclusive lock)) k → Knows es P k
 release_known roots es P lock place formed gives last knows =
-    known_wider es (GivesBack es lock) P
+    known_wider es (GivesBack es (exclusive lock)) P
     (λ m back. elim (cases_eq m place) [
       | inl same ↦ subst (Knows es P) (sym same) knows
       | inr other ↦ known_before es P m place knows (inr (gives_reach roots es lock m place formed (omega (arith, other, last m back)) back gives))
@@ -43,11 +43,11 @@ release_known roots es P lock place formed gives last knows =
 
 -- so the lock counts no more than a clock that covers the own number of that release
 pub lock_heard : (roots : ℕ → Bool) (es : List Event) (P : ℕ → Type 0) (lock : ℕ) (o : Option Stamp) (clock : List ℕ) → WellFormed roots es
-    → IsLastRelease es lock o → ((u : ℕ) → KnownCount es P u (component clock u)) → ((u : ℕ) → KnownCount es (GivesBack es lock) u (component (clock_of o) u))
+    → IsLastRelease es lock o → ((u : ℕ) → KnownCount es P u (component clock u)) → ((u : ℕ) → KnownCount es (GivesBack es (exclusive lock)) u (component (clock_of o) u))
     → IsHeard o clock → (u : ℕ) → component (clock_of o) u ≤ component clock u
 lock_heard roots es P lock None clock formed last known handed covered u = omega arith
 lock_heard roots es P lock (Some stamp) clock formed (place, is) known handed covered u =
-    known_most es (GivesBack es lock) P u (component stamp.clock u) (component clock u)
+    known_most es (GivesBack es (exclusive lock)) P u (component stamp.clock u) (component clock u)
     (release_known roots es P lock place formed is.gives is.last
     ((covers_known es P stamp.thread place stamp.number (component clock stamp.thread) is.thread is.number (known stamp.thread)).0 covered))
     (handed u) (known u)

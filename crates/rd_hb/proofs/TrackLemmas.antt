@@ -1,24 +1,25 @@
 -- The clock of an event that is appended, and what is known then, from what was known before.
-use Rattle.std.proofs.Common.{◌≡◌, ◌≢◌, ◌↔◌, ◌⊎◌, inl, inr, ℕ, ◌+◌, ◌<◌, ◌≤◌, ◌==◌, Bool, true, false, List, [], ◌∷◌, ◌++◌, length, refl, sym, ap, subst, arith}
+use Rattle.std.proofs.Common.{◌≡◌, ◌≢◌, ◌↔◌, ◌⊎◌, inl, inr, ℕ, ◌+◌, ◌<◌, ◌≤◌, ◌==◌, max, Bool, true, false, List, [], ◌∷◌, ◌++◌, length, Some, None, refl, sym, ◌∙◌, ap, subst, arith}
 use Rattle.std.specs.Prelude.{if◌then◌else◌}
 use Rattle.std.proofs.lemmas.Bool.{cases_eq, eq-eqb, ne_eqb}
 use Rattle.std.proofs.lemmas.Bool.Decides.{not_from_Decides}
 use Rattle.std.proofs.lemmas.Option.{none-some, same_Some}
 use Rattle.rd_event.specs.declared.events.Event.{Event}
-use Rattle.rd_event.specs.declared.events.Event.TheVariants.{Fork, Join, Acquire, Release, Call}
-use Rattle.rd_order.specs.Order.{thread_of, forked_thread, Hold, exclusive, hold_given, Reaches}
+use Rattle.rd_event.specs.declared.events.Event.TheVariants.{Fork, Join, Acquire, Release, Share, Unshare, Call}
+use Rattle.rd_order.specs.Order.{thread_of, forked_thread, joined_thread, Against, Hold, exclusive, shared, hold_taken, hold_given, Reaches}
 use Rattle.rd_order.specs.Counts.{Counts}
 use Rattle.rd_hb.specs.EventClocks.{IsOf, OwnNumber, IsClock}
 use Rattle.rd_hb.specs.Knows.{Carries, GivesBack, Knows, KnownCount}
-use Rattle.rd_hb.specs.TrackerParts.{news_of, known_with_news, clock_after, known_after, handed_after}
+use Rattle.rd_hb.specs.TrackerParts.{news_of, known_with_news, clock_after, gathered, known_after, handed_after}
 use Rattle.rd_order.proofs.CountsLemmas.{counts_bound, counts_cut, counts_like, counts_max, counts_more, counts_none, counts_same}
+use Rattle.rd_order.proofs.EventListLemmas.{exclusive_not_shared}
 use Rattle.rd_order.proofs.HoldLemmas.{hold_decides}
 use Rattle.rd_order.specs.OrderTests.{is_this}
 use Rattle.rd_order.specs.EventLists.{MayHappen, WellFormed, is_hold}
 use Rattle.rd_hb.proofs.CarryLemmas.{unknown_carries_nothing}
 use Rattle.rd_order.proofs.OrderLemmas.{length_more, this_decides}
 use Rattle.rd_hb.proofs.ClockLemmas.{is_of_longer, is_of_shorter}
-use Rattle.rd_hb.proofs.KnowsLemmas.{Brings, event_reached, actor_knows, child_knows, lock_knows, knows_front, knows_longer, knows_shorter, known_wider, last_is_of, last_thread, nothing_known, carries_longer, gives_longer, other_carries, other_gives}
+use Rattle.rd_hb.proofs.KnowsLemmas.{Brings, event_reached, actor_knows, child_knows, lock_knows, knows_front, knows_longer, knows_shorter, known_wider, last_is_of, last_thread, nothing_known, carries_longer, given_again, gives_longer, gives_within, known_by, known_from, other_carries, other_gives, place_knows}
 
 -- ---- one list of events
 
@@ -50,6 +51,24 @@ known_alike es P Q u c same =
       λ x. (x.0, known_wider es Q P (λ m has. inl ((same m).1 has)) k x.1),
     ))
 
+-- from the places of both the greater number is known
+known_union : (es : List Event) (P Q : ℕ → Type 0) (u c d : ℕ) → KnownCount es P u c → KnownCount es Q u d → KnownCount es (λ m. P m ⊎ Q m) u (max c d)
+known_union es P Q u c d a b =
+    counts_like (λ k. IsOf es u k × (Knows es P k ⊎ Knows es Q k)) (λ k. IsOf es u k × Knows es (λ m. P m ⊎ Q m) k) (length es) (max c d)
+    (λ k l. (λ x. (x.0, up k x.1), λ x. (x.0, down k x.1)))
+    (counts_max (IsOf es u) (Knows es P) (Knows es Q) (length es) c d (knows_front es u P) (knows_front es u Q) a b)
+  where
+    up : (k : ℕ) → Knows es P k ⊎ Knows es Q k → Knows es (λ m. P m ⊎ Q m) k
+    up k (inl x) = known_wider es P (λ m. P m ⊎ Q m) (λ m has. inl (inl has)) k x
+    up k (inr x) = known_wider es Q (λ m. P m ⊎ Q m) (λ m has. inl (inr has)) k x
+
+    down : (k : ℕ) → Knows es (λ m. P m ⊎ Q m) k → Knows es P k ⊎ Knows es Q k
+    down k x = let y = known_by es (λ m. P m ⊎ Q m) k x in by y.0 y.1 y.2
+      where
+        by : (m : ℕ) → P m ⊎ Q m → (k ≡ m) ⊎ Reaches es k m → Knows es P k ⊎ Knows es Q k
+        by m (inl has) way = inl (known_from es P k m has way)
+        by m (inr has) way = inr (known_from es Q k m has way)
+
 -- ---- the event that is appended
 
 -- what counts below the end of the list, and at the end for one thread alone
@@ -79,37 +98,75 @@ new_clock es e K reached u c counts =
 
 lock_in : Hold → ℕ
 lock_in (exclusive lock) = lock
+lock_in (shared lock) = lock
 
 pub same_lock : (lock other : ℕ) → exclusive lock ≡ exclusive other → lock ≡ other
 unfolding lock_in
 same_lock lock other same = ap lock_in same
 
--- what an event takes in is counted by what the joined thread or the acquired lock knew
-brought_count : (es : List Event) (e : Event) (f g : ℕ → ℕ → ℕ) → ((t u : ℕ) → KnownCount es (Carries es t) u (f t u)) → ((lock u : ℕ) → KnownCount es (GivesBack es lock) u (g lock u))
+pub same_share : (lock other : ℕ) → shared lock ≡ shared other → lock ≡ other
+unfolding lock_in
+same_share lock other same = ap lock_in same
+
+-- what is against a hold
+against_shared : (h k : Hold) (lock : ℕ) → shared lock ≡ k → Against h k → h ≡ exclusive lock
+against_shared (exclusive l) (shared m) lock same against = ap exclusive (against ∙ sym (same_share lock m same))
+against_shared (exclusive l) (exclusive m) lock same against = absurd (exclusive_not_shared m lock (sym same))
+against_shared (shared l) (exclusive m) lock same against = absurd (exclusive_not_shared m lock (sym same))
+against_shared (shared l) (shared m) lock same none = absurd none
+
+against_exclusive : (h k : Hold) (lock : ℕ) → exclusive lock ≡ k → Against h k → (h ≡ exclusive lock) ⊎ (h ≡ shared lock)
+against_exclusive (exclusive l) (exclusive m) lock same against = inl (ap exclusive (against ∙ sym (same_lock lock m same)))
+against_exclusive (shared l) (exclusive m) lock same against = inr (ap shared (against ∙ sym (same_lock lock m same)))
+against_exclusive h (shared m) lock same against = absurd (exclusive_not_shared lock m same)
+
+-- an event that joins no thread and takes no hold takes nothing in
+nothing_brought : (es : List Event) (e : Event) → joined_thread e ≡ None → hold_taken e ≡ None → (u : ℕ) → KnownCount es (Brings es e) u 0
+nothing_brought es e joins_none takes_none u =
+    known_nothing es (Brings es e) (λ m x. elim x [ inl y ↦ none-some y.0 (sym joins_none ∙ y.1) | inr y ↦ none-some y.1 (sym takes_none ∙ y.2) ]) u
+
+-- what an event takes in is counted by what the joined thread knew, or what was known where the lock was given back
+brought_count : (es : List Event) (e : Event) (f : ℕ → ℕ → ℕ) (g : Hold → ℕ → ℕ) → ((t u : ℕ) → KnownCount es (Carries es t) u (f t u)) → ((hold : Hold) (u : ℕ) → KnownCount es (GivesBack es hold) u (g hold u))
     → (u : ℕ) → KnownCount es (Brings es e) u (news_of e f g u)
-brought_count es (Fork thread child) f g threads locks u =
-    known_nothing es (Brings es (Fork thread child)) (λ m x. elim x [ inl y ↦ none-some y.0 y.1 | inr y ↦ none-some (exclusive y.0) y.1 ]) u
+brought_count es (Fork thread child) f g threads locks u = nothing_brought es (Fork thread child) refl refl u
 brought_count es (Join thread child) f g threads locks u =
     known_alike es (Carries es child) (Brings es (Join thread child)) u (f child u)
     (λ m. (
       λ has. inl (child, refl, has),
-      λ x. elim x [ inl y ↦ subst (λ w. Carries es w m) (sym (same_Some child y.0 y.1)) y.2 | inr y ↦ absurd (none-some (exclusive y.0) y.1) ],
+      λ x. elim x [ inl y ↦ subst (λ w. Carries es w m) (sym (same_Some child y.0 y.1)) y.2 | inr y ↦ absurd (none-some y.1 y.2) ],
     ))
     (threads child u)
 brought_count es (Acquire thread lock) f g threads locks u =
-    known_alike es (GivesBack es lock) (Brings es (Acquire thread lock)) u (g lock u)
+    known_alike es (λ m. GivesBack es (exclusive lock) m ⊎ GivesBack es (shared lock) m) (Brings es (Acquire thread lock)) u (max (g (exclusive lock) u) (g (shared lock) u))
+    (λ m. (up m, down m))
+    (known_union es (GivesBack es (exclusive lock)) (GivesBack es (shared lock)) u (g (exclusive lock) u) (g (shared lock) u) (locks (exclusive lock) u) (locks (shared lock) u))
+  where
+    up : (m : ℕ) → GivesBack es (exclusive lock) m ⊎ GivesBack es (shared lock) m → Brings es (Acquire thread lock) m
+    up m (inl has) = inr (exclusive lock, exclusive lock, refl, refl, has)
+    up m (inr has) = inr (shared lock, exclusive lock, refl, refl, has)
+
+    down : (m : ℕ) → Brings es (Acquire thread lock) m → GivesBack es (exclusive lock) m ⊎ GivesBack es (shared lock) m
+    down m (inl y) = absurd (none-some y.0 y.1)
+    down m (inr y) = elim (against_exclusive y.0 y.1 lock (same_Some (exclusive lock) y.1 y.2) y.3) [
+      | inl same ↦ inl (subst (λ h. GivesBack es h m) same y.4)
+      | inr same ↦ inr (subst (λ h. GivesBack es h m) same y.4)
+    ]
+brought_count es (Release thread lock) f g threads locks u = nothing_brought es (Release thread lock) refl refl u
+brought_count es (Share thread lock) f g threads locks u =
+    known_alike es (GivesBack es (exclusive lock)) (Brings es (Share thread lock)) u (g (exclusive lock) u)
     (λ m. (
-      λ has. inr (lock, refl, has),
-      λ x. elim x [ inl y ↦ absurd (none-some y.0 y.1) | inr y ↦ subst (λ l. GivesBack es l m) (sym (same_lock lock y.0 (same_Some (exclusive lock) (exclusive y.0) y.1))) y.2 ],
+      λ has. inr (exclusive lock, shared lock, refl, refl, has),
+      λ x. elim x [
+        | inl y ↦ absurd (none-some y.0 y.1)
+        | inr y ↦ subst (λ h. GivesBack es h m) (against_shared y.0 y.1 lock (same_Some (shared lock) y.1 y.2) y.3) y.4
+      ],
     ))
-    (locks lock u)
-brought_count es (Release thread lock) f g threads locks u =
-    known_nothing es (Brings es (Release thread lock)) (λ m x. elim x [ inl y ↦ none-some y.0 y.1 | inr y ↦ none-some (exclusive y.0) y.1 ]) u
-brought_count es (Call call) f g threads locks u =
-    known_nothing es (Brings es (Call call)) (λ m x. elim x [ inl y ↦ none-some y.0 y.1 | inr y ↦ none-some (exclusive y.0) y.1 ]) u
+    (locks (exclusive lock) u)
+brought_count es (Unshare thread lock) f g threads locks u = nothing_brought es (Unshare thread lock) refl refl u
+brought_count es (Call call) f g threads locks u = nothing_brought es (Call call) refl refl u
 
 -- the clock of an event is the greater of what its thread knew and what it takes in, and itself
-pub clock_step : (es : List Event) (e : Event) (f g : ℕ → ℕ → ℕ) → ((t u : ℕ) → KnownCount es (Carries es t) u (f t u)) → ((lock u : ℕ) → KnownCount es (GivesBack es lock) u (g lock u))
+pub clock_step : (es : List Event) (e : Event) (f : ℕ → ℕ → ℕ) (g : Hold → ℕ → ℕ) → ((t u : ℕ) → KnownCount es (Carries es t) u (f t u)) → ((hold : Hold) (u : ℕ) → KnownCount es (GivesBack es hold) u (g hold u))
     → (u : ℕ) → IsClock (es ++ e ∷ []) (length es) u (clock_after e f g u)
 clock_step es e f g threads locks u =
     new_clock es e (λ k. Knows es (Carries es (thread_of e)) k ⊎ Knows es (Brings es e) k) (event_reached es e) u (known_with_news e f g u)
@@ -156,8 +213,8 @@ known_other es e P Q u c longer shorter counts =
     down k l x = (is_of_shorter es (e ∷ []) u k l x.0, (knows_shorter es (e ∷ []) P Q shorter k x.1).1)
 
 -- what the threads know: the thread of the event and the one that it forks know what its clock counts, the others what they knew
-pub known_step : (roots : ℕ → Bool) (es : List Event) (e : Event) (f g : ℕ → ℕ → ℕ) → WellFormed roots es → MayHappen roots es e
-    → ((t u : ℕ) → KnownCount es (Carries es t) u (f t u)) → ((lock u : ℕ) → KnownCount es (GivesBack es lock) u (g lock u))
+pub known_step : (roots : ℕ → Bool) (es : List Event) (e : Event) (f : ℕ → ℕ → ℕ) (g : Hold → ℕ → ℕ) → WellFormed roots es → MayHappen roots es e
+    → ((t u : ℕ) → KnownCount es (Carries es t) u (f t u)) → ((hold : Hold) (u : ℕ) → KnownCount es (GivesBack es hold) u (g hold u))
     → (t u : ℕ) → KnownCount (es ++ e ∷ []) (Carries (es ++ e ∷ []) t) u (known_after e f g t u)
 known_step roots es e f g formed may threads locks t u =
     elim (cases_eq t (thread_of e)) [
@@ -176,16 +233,25 @@ known_step roots es e f g formed may threads locks t u =
         known_other es e (Carries es t) (Carries (es ++ e ∷ []) t) u (f t u) (carries_longer es (e ∷ []) t)
         (other_carries es e t other (not_from_Decides (is_this (forked_thread e) t) (this_decides (forked_thread e) t) fails)) (threads t u)
 
--- what the locks know: one that is given back knows what the clock of the event counts, the others what they knew
-pub handed_step : (roots : ℕ → Bool) (es : List Event) (e : Event) (f g : ℕ → ℕ → ℕ) → WellFormed roots (es ++ e ∷ [])
-    → ((t u : ℕ) → KnownCount es (Carries es t) u (f t u)) → ((lock u : ℕ) → KnownCount es (GivesBack es lock) u (g lock u))
-    → (lock u : ℕ) → KnownCount (es ++ e ∷ []) (GivesBack (es ++ e ∷ []) lock) u (handed_after e f g lock u)
-handed_step roots es e f g formed threads locks lock u = by (is_hold (hold_given e) (exclusive lock)) refl
+-- what is known where a hold was given back: where it is given back now, what the clock of the event counts too, else what was known
+pub handed_step : (roots : ℕ → Bool) (es : List Event) (e : Event) (f : ℕ → ℕ → ℕ) (g : Hold → ℕ → ℕ) → WellFormed roots (es ++ e ∷ [])
+    → ((t u : ℕ) → KnownCount es (Carries es t) u (f t u)) → ((hold : Hold) (u : ℕ) → KnownCount es (GivesBack es hold) u (g hold u))
+    → (hold : Hold) (u : ℕ) → KnownCount (es ++ e ∷ []) (GivesBack (es ++ e ∷ []) hold) u (handed_after e f g hold u)
+handed_step roots es e f g formed threads locks hold u = by (is_hold (hold_given e) hold) refl
   where
-    by : (b : Bool) → is_hold (hold_given e) (exclusive lock) ≡ b → KnownCount (es ++ e ∷ []) (GivesBack (es ++ e ∷ []) lock) u (if b then clock_after e f g u else g lock u)
-    by true holds =
-        known_as_clock es e (GivesBack (es ++ e ∷ []) lock) u (clock_after e f g u)
-        (λ k. lock_knows roots es e lock k formed ((hold_decides (hold_given e) (exclusive lock)).0 holds)) (clock_step es e f g threads locks u)
+    again : (h : Hold) → hold_given e ≡ Some h → KnownCount (es ++ e ∷ []) (GivesBack (es ++ e ∷ []) h) u (gathered h (g h u) (clock_after e f g u))
+    again (exclusive lock) gives =
+        known_as_clock es e (GivesBack (es ++ e ∷ []) (exclusive lock)) u (clock_after e f g u) (λ k. lock_knows roots es e lock k formed gives) (clock_step es e f g threads locks u)
+    again (shared lock) gives =
+        known_alike (es ++ e ∷ []) (λ m. GivesBack es (shared lock) m ⊎ (m ≡ length es)) (GivesBack (es ++ e ∷ []) (shared lock)) u (max (g (shared lock) u) (clock_after e f g u))
+        (given_again es e (shared lock) gives)
+        (known_union (es ++ e ∷ []) (GivesBack es (shared lock)) (λ m. m ≡ length es) u (g (shared lock) u) (clock_after e f g u)
+        (known_other es e (GivesBack es (shared lock)) (GivesBack es (shared lock)) u (g (shared lock) u) (λ m has. has) (λ m has. (gives_within es (shared lock) m has, has)) (locks (shared lock) u))
+        (known_as_clock es e (λ m. m ≡ length es) u (clock_after e f g u) (place_knows es e) (clock_step es e f g threads locks u)))
+
+    by : (b : Bool) → is_hold (hold_given e) hold ≡ b
+        → KnownCount (es ++ e ∷ []) (GivesBack (es ++ e ∷ []) hold) u (if b then gathered hold (g hold u) (clock_after e f g u) else g hold u)
+    by true holds = again hold ((hold_decides (hold_given e) hold).0 holds)
     by false fails =
-        known_other es e (GivesBack es lock) (GivesBack (es ++ e ∷ []) lock) u (g lock u) (gives_longer es (e ∷ []) lock)
-        (other_gives es e lock (not_from_Decides (is_hold (hold_given e) (exclusive lock)) (hold_decides (hold_given e) (exclusive lock)) fails)) (locks lock u)
+        known_other es e (GivesBack es hold) (GivesBack (es ++ e ∷ []) hold) u (g hold u) (gives_longer es (e ∷ []) hold)
+        (other_gives es e hold (not_from_Decides (is_hold (hold_given e) hold) (hold_decides (hold_given e) hold) fails)) (locks hold u)

@@ -8,26 +8,26 @@ use Rattle.std.proofs.lemmas.List.Sums.{sum_by_push}
 use Rattle.std.proofs.lemmas.Option.{none-some, same_Some}
 use Rattle.rd_event.specs.declared.events.Call.{Call as CallOf}
 use Rattle.rd_event.specs.declared.events.Event.{Event}
-use Rattle.rd_event.specs.declared.events.Event.TheVariants.{Fork, Join, Acquire, Release, Call}
+use Rattle.rd_event.specs.declared.events.Event.TheVariants.{Fork, Join, Acquire, Release, Share, Unshare, Call}
 use Rattle.rd_clock.specs.Clock.{component, IsTick}
 use Rattle.rd_clock.specs.declared.clock.Stamp.{Stamp}
 use Rattle.rd_order.specs.EventLists.{forks, joins, IsKnownThread, MayHappen, WellFormed, threads_after, is_hold}
-use Rattle.rd_order.specs.Order.{thread_of, forked_thread, joined_thread, exclusive, hold_given}
+use Rattle.rd_order.specs.Order.{thread_of, forked_thread, joined_thread, Hold, exclusive, shared, hold_given}
 use Rattle.rd_order.specs.OrderTests.{is_this}
 use Rattle.rd_order.proofs.CountsLemmas.{counts_all, counts_le}
-use Rattle.rd_order.proofs.EventListLemmas.{forks_more, formed_more, known_later, known_more, may_follow_at}
+use Rattle.rd_order.proofs.EventListLemmas.{exclusive_not_shared, forks_more, formed_more, known_later, known_more, may_follow_at}
 use Rattle.rd_order.proofs.HoldLemmas.{hold_decides}
 use Rattle.rd_order.proofs.OrderLemmas.{at_end}
 use Rattle.rd_hb.specs.EventClocks.{IsClock, IsOf, OwnNumber}
 use Rattle.rd_hb.specs.Knows.{Carries, GivesBack, Knows, KnownCount}
 use Rattle.rd_hb.specs.declared.tracker.Tracked.{Tracked}
-use Rattle.rd_hb.specs.Tracker.{Tracking, clock_of, handed_by, known_to, last_stamp, no_thread, last_release, tracked_thread, IsLastRelease, IsNextEvent, IsStamp, TrackerStandsFor}
-use Rattle.rd_hb.specs.TrackerParts.{news_of, clock_after, handed_after, known_after, IsAlike, IsBegun, IsCounted, IsHeard, IsLearnt, IsReleased}
+use Rattle.rd_hb.specs.Tracker.{TrackedLocks, Tracking, clock_of, handed_by, known_to, last_stamp, no_thread, last_release, tracked_thread, unshared, IsLastRelease, IsNextEvent, IsStamp, TrackerStandsFor}
+use Rattle.rd_hb.specs.TrackerParts.{news_of, clock_after, handed_after, heard_from, known_after, IsAlike, IsBegun, IsCounted, IsHeard, IsLearnt, IsReleased, IsUnshared}
 use Rattle.rd_hb.proofs.ClockLemmas.{is_of_longer, own_number_longer}
 use Rattle.rd_hb.proofs.KeptLemmas.{tracked_push}
 use Rattle.rd_hb.proofs.KnowsLemmas.{gives_longer, gives_within, last_is_of, other_gives}
 use Rattle.rd_hb.proofs.NewsLemmas.{child_heard, covers_known, lock_heard}
-use Rattle.rd_hb.proofs.TrackLemmas.{clock_step, handed_step, same_lock, known_step, known_bound, known_own, own_number_new}
+use Rattle.rd_hb.proofs.TrackLemmas.{clock_step, handed_step, same_lock, same_share, known_step, known_bound, known_own, own_number_new}
 
 -- ---- clocks
 
@@ -50,15 +50,19 @@ or_true true = refl
 or_true false = refl
 
 -- nothing is held at first
-pub no_threads : TrackerStandsFor (record { threads = []; locks = [] }) (λ t. false) []
+pub no_threads : TrackerStandsFor (record { threads = []; locks = record { releases = []; unshares = [] } }) (λ t. false) []
 unfolding forks joins
 no_threads = record {
   known = λ t. (λ inside. absurd (omega arith), λ known. elim known [ inl root ↦ absurd (cc) | inr begun ↦ absurd (omega (arith, begun)) ]);
   clocks = λ t u. refl;
   joined = λ t. (λ marked. absurd (cc), λ some. absurd (omega (arith, some)));
-  locks = λ lock u. refl;
+  locks = nothing_handed;
   releases = λ lock m gives. none-some gives.0 gives.1;
 }
+  where
+    nothing_handed : (hold : Hold) (u : ℕ) → KnownCount [] (GivesBack [] hold) u (handed_by (record { releases = []; unshares = [] }) hold u)
+    nothing_handed (exclusive lock) u = refl
+    nothing_handed (shared lock) u = refl
 
 -- a root more is held
 pub root_stands : (old new : Tracking) (roots : ℕ → Bool) (thread : ℕ) (x : Tracked) → thread ≡ length old.threads → new.threads ≡ old.threads ++ x ∷ [] → new.locks ≡ old.locks
@@ -74,8 +78,8 @@ root_stands old new roots thread x numbered pushed same nothing running stands =
     | inl last ↦ subst (λ b. IsTrue b ↔ (0 < joins [] t)) (sym (ap (λ y. y.joined) (at_last t last) ∙ running)) (λ marked. absurd (cc), λ some. absurd (omega (arith, some)))
     | inr other ↦ subst (λ b. IsTrue b ↔ (0 < joins [] t)) (sym (ap (λ y. y.joined) (at_other t other))) (stands.joined t)
   ];
-  locks = λ lock u. subst (λ l. KnownCount [] (GivesBack [] lock) u (handed_by l lock u)) (sym same) (stands.locks lock u);
-  releases = λ lock. subst (λ l. IsLastRelease [] lock (last_release l lock)) (sym same) (stands.releases lock);
+  locks = λ hold u. subst (λ l. KnownCount [] (GivesBack [] hold) u (handed_by l hold u)) (sym same) (stands.locks hold u);
+  releases = λ lock. subst (λ (l : TrackedLocks). IsLastRelease [] lock (last_release l.releases lock)) (sym same) (stands.releases lock);
 }
   where
     at : (t : ℕ) → tracked_thread new.threads t ≡ (if t == length old.threads then x else tracked_thread old.threads t)
@@ -131,6 +135,13 @@ weighed o n = if is_some o then n + 1 else n
 
 -- ---- what an event makes of it, by numbers
 
+-- what becomes of the locks, where the event has this stamp
+pub record LocksAfter (e : Event) (old new : TrackedLocks) (stamp : Stamp) : Type 0 where
+  pub released : (lock : ℕ) → hold_given e ≡ Some (exclusive lock) → (last : Stamp) × (last_release new.releases lock ≡ Some last) × IsAlike last stamp
+  pub others : (lock : ℕ) → hold_given e ≢ Some (exclusive lock) → last_release new.releases lock ≡ last_release old.releases lock
+  pub shares : (lock u : ℕ) → hold_given e ≡ Some (shared lock) → component (unshared new.unshares lock) u ≡ max (component (unshared old.unshares lock) u) (component stamp.clock u)
+  pub other_shares : (lock u : ℕ) → hold_given e ≢ Some (shared lock) → component (unshared new.unshares lock) u ≡ component (unshared old.unshares lock) u
+
 pub record Tracks (e : Event) (old new : Tracking) (stamp : Stamp) : Type 0 where
   pub thread : stamp.thread ≡ thread_of e
   pub number : stamp.number ≡ known_to old.threads (thread_of e) (thread_of e) + 1
@@ -138,25 +149,23 @@ pub record Tracks (e : Event) (old new : Tracking) (stamp : Stamp) : Type 0 wher
   pub known : (t u : ℕ) → known_to new.threads t u ≡ known_after e (known_to old.threads) (handed_by old.locks) t u
   pub count : length new.threads ≡ threads_after e (length old.threads)
   pub joined : (t : ℕ) → (tracked_thread new.threads t).joined ≡ ((tracked_thread old.threads t).joined || is_this (joined_thread e) t)
-  pub given : (lock : ℕ) → hold_given e ≡ Some (exclusive lock) → (last : Stamp) × (last_release new.locks lock ≡ Some last) × IsAlike last stamp
-  pub others : (lock : ℕ) → hold_given e ≢ Some (exclusive lock) → last_release new.locks lock ≡ last_release old.locks lock
+  pub locks : LocksAfter e old.locks new.locks stamp
 
--- what becomes of the locks
-abbrev pub LocksAfter : Event → List (Option Stamp) → List (Option Stamp) → Stamp → Type 0
-LocksAfter e old new stamp =
-    ((lock : ℕ) → hold_given e ≡ Some (exclusive lock) → (last : Stamp) × (last_release new lock ≡ Some last) × IsAlike last stamp)
-    × ((lock : ℕ) → hold_given e ≢ Some (exclusive lock) → last_release new lock ≡ last_release old lock)
-
--- nothing, where no lock is given back
-pub locks_stay : (e : Event) (old new : List (Option Stamp)) (stamp : Stamp) → hold_given e ≡ None → new ≡ old → LocksAfter e old new stamp
-locks_stay e old new stamp none same = (λ lock gives. absurd (none-some (exclusive lock) (sym none ∙ gives)), λ lock other. ap (λ l. last_release l lock) same)
+-- nothing, where no hold is given back
+pub locks_stay : (e : Event) (old new : TrackedLocks) (stamp : Stamp) → hold_given e ≡ None → new ≡ old → LocksAfter e old new stamp
+locks_stay e old new stamp none same = record {
+  released = λ lock gives. absurd (none-some (exclusive lock) (sym none ∙ gives));
+  others = λ lock other. ap (λ (l : TrackedLocks). last_release l.releases lock) same;
+  shares = λ lock u gives. absurd (none-some (shared lock) (sym none ∙ gives));
+  other_shares = λ lock u other. ap (λ (l : TrackedLocks). component (unshared l.unshares lock) u) same;
+}
 
 -- a thread learns what the event takes in, and counts the event, which forks no thread
-pub learnt_tracks : (e : Event) (old new : Tracking) (middle : List Tracked) (other : List ℕ) (stamp : Stamp) → forked_thread e ≡ None
-    → ((u : ℕ) → component other u ≡ news_of e (known_to old.threads) (handed_by old.locks) u) → component other (thread_of e) ≤ known_to old.threads (thread_of e) (thread_of e)
-    → IsLearnt (thread_of e) other (joined_thread e) old.threads middle → IsCounted (thread_of e) middle new.threads stamp → LocksAfter e old.locks new.locks stamp
+pub learnt_tracks : (e : Event) (old new : Tracking) (middle : List Tracked) (news : ℕ → ℕ) (stamp : Stamp) → forked_thread e ≡ None
+    → ((u : ℕ) → news u ≡ news_of e (known_to old.threads) (handed_by old.locks) u) → news (thread_of e) ≤ known_to old.threads (thread_of e) (thread_of e)
+    → IsLearnt (thread_of e) news (joined_thread e) old.threads middle → IsCounted (thread_of e) middle new.threads stamp → LocksAfter e old.locks new.locks stamp
     → Tracks e old new stamp
-learnt_tracks e old new middle other stamp alone brings less learnt is locks = record {
+learnt_tracks e old new middle news stamp alone brings less learnt is locks = record {
   thread = is.thread_is;
   number = is.number ∙ ap (λ n. n + 1) (learnt.own (thread_of e) ∙ omega (arith, less));
   clock = λ u. ticked (tracked_thread middle (thread_of e)).clock stamp.clock (thread_of e) u is.clock ∙ met_at u;
@@ -171,15 +180,14 @@ learnt_tracks e old new middle other stamp alone brings less learnt is locks = r
         ∙ ap (λ v. (tracked_thread old.threads v).joined || is_this (joined_thread e) v) (sym same)
     | inr apart ↦ ap (λ x. x.joined) (is.others t apart) ∙ learnt.joined t
   ];
-  given = locks.0;
-  others = locks.1;
+  locks = locks;
 }
   where
     met_at : (u : ℕ) → (if u == thread_of e then known_to middle (thread_of e) u + 1 else known_to middle (thread_of e) u) ≡ clock_after e (known_to old.threads) (handed_by old.locks) u
     met_at u = ap (λ n. if u == thread_of e then n + 1 else n) (learnt.own u ∙ ap (λ n. max (known_to old.threads (thread_of e) u) n) (brings u))
 
 -- nothing is learnt
-pub nothing_learnt : (thread : ℕ) (threads : List Tracked) → IsLearnt thread [] None threads threads
+pub nothing_learnt : (thread : ℕ) (threads : List Tracked) → IsLearnt thread (λ u. 0) None threads threads
 nothing_learnt thread threads = record {
   count = refl;
   own = λ u. omega arith;
@@ -206,8 +214,7 @@ fork_tracks thread child old new middle stamp inside numbered begun is locks = r
   ];
   count = is.count ∙ begun.count;
   joined = λ t. joined_at t ∙ or_false (tracked_thread old.threads t).joined;
-  given = (locks_stay (Fork thread child) old.locks new.locks stamp refl locks).0;
-  others = (locks_stay (Fork thread child) old.locks new.locks stamp refl locks).1;
+  locks = locks_stay (Fork thread child) old.locks new.locks stamp refl locks;
 }
   where
     met_at : (u : ℕ) → (if u == thread then known_to old.threads thread u + 1 else known_to old.threads thread u) ≡ clock_after (Fork thread child) (known_to old.threads) (handed_by old.locks) u
@@ -258,7 +265,7 @@ known_after_event roots es e threads known numbered t = (there (forked_thread e)
 -- ---- what the tracker stands for then
 
 pub stamp_after : (old new : Tracking) (es : List Event) (e : Event) (stamp : Stamp)
-    → ((t u : ℕ) → KnownCount es (Carries es t) u (known_to old.threads t u)) → ((lock u : ℕ) → KnownCount es (GivesBack es lock) u (handed_by old.locks lock u))
+    → ((t u : ℕ) → KnownCount es (Carries es t) u (known_to old.threads t u)) → ((hold : Hold) (u : ℕ) → KnownCount es (GivesBack es hold) u (handed_by old.locks hold u))
     → Tracks e old new stamp → IsStamp (es ++ e ∷ []) (length es) stamp
 stamp_after old new es e stamp threads locks is = record {
   thread = λ f at. is.thread ∙ ap (λ o. thread_of (unwrap_or o e)) (sym (at_end es e) ∙ at);
@@ -281,26 +288,31 @@ joined_more true c n m is more = (λ x. omega (arith, is.0 x, more), λ some. is
 joined_more false true n m is more = (λ x. omega (arith, more), λ some. search)
 joined_more false false n m is more = (λ x. omega (arith, is.0 x, more), λ some. is.1 (omega (arith, some, more)))
 
--- what the locks know, by numbers
+-- what is known where holds were given back, by numbers
 handed_is : (e : Event) (old new : Tracking) (stamp : Stamp) → Tracks e old new stamp
-    → (lock u : ℕ) → handed_by new.locks lock u ≡ handed_after e (known_to old.threads) (handed_by old.locks) lock u
-handed_is e old new stamp is lock u = elim (cases_Bool (is_hold (hold_given e) (exclusive lock))) [
+    → (hold : Hold) (u : ℕ) → handed_by new.locks hold u ≡ handed_after e (known_to old.threads) (handed_by old.locks) hold u
+handed_is e old new stamp is (exclusive lock) u = elim (cases_Bool (is_hold (hold_given e) (exclusive lock))) [
   | inl holds ↦
-      (let x = is.given lock ((hold_decides (hold_given e) (exclusive lock)).0 holds) in
+      (let x = is.locks.released lock ((hold_decides (hold_given e) (exclusive lock)).0 holds) in
       rw holds (ap (λ o. component (clock_of o) u) x.1 ∙ x.2.clock u ∙ is.clock u))
   | inr fails ↦ rw fails
-      (ap (λ o. component (clock_of o) u) (is.others lock (not_from_Decides (is_hold (hold_given e) (exclusive lock)) (hold_decides (hold_given e) (exclusive lock)) fails)))
+      (ap (λ o. component (clock_of o) u) (is.locks.others lock (not_from_Decides (is_hold (hold_given e) (exclusive lock)) (hold_decides (hold_given e) (exclusive lock)) fails)))
+]
+handed_is e old new stamp is (shared lock) u = elim (cases_Bool (is_hold (hold_given e) (shared lock))) [
+  | inl holds ↦ rw holds
+      (is.locks.shares lock u ((hold_decides (hold_given e) (shared lock)).0 holds) ∙ ap (λ n. max (component (unshared old.locks.unshares lock) u) n) (is.clock u))
+  | inr fails ↦ rw fails (is.locks.other_shares lock u (not_from_Decides (is_hold (hold_given e) (shared lock)) (hold_decides (hold_given e) (shared lock)) fails))
 ]
 
 -- the last release of a lock is still the last one where no event gives it back
 release_stays : (es : List Event) (e : Event) (lock : ℕ) (o : Option Stamp) → hold_given e ≢ Some (exclusive lock) → IsLastRelease es lock o → IsLastRelease (es ++ e ∷ []) lock o
-release_stays es e lock None other none = λ m gives. none m (other_gives es e lock other m gives).1
+release_stays es e lock None other none = λ m gives. none m (other_gives es e (exclusive lock) other m gives).1
 release_stays es e lock (Some stamp) other (place, is) =
-    let inside : place < length es = gives_within es lock place is.gives in (
+    let inside : place < length es = gives_within es (exclusive lock) place is.gives in (
       place,
       record {
-        gives = gives_longer es (e ∷ []) lock place is.gives;
-        last = λ m gives. is.last m (other_gives es e lock other m gives).1;
+        gives = gives_longer es (e ∷ []) (exclusive lock) place is.gives;
+        last = λ m gives. is.last m (other_gives es e (exclusive lock) other m gives).1;
         thread = is_of_longer es (e ∷ []) stamp.thread place is.thread;
         number = (own_number_longer es (e ∷ []) stamp.thread place stamp.number inside).0 is.number;
       },
@@ -313,25 +325,25 @@ release_is_last es e lock stamp gives same own = (
   length es,
   record {
     gives = (e, at_end es e, gives);
-    last = λ m back. (let inside : m < length (es ++ e ∷ []) = gives_within (es ++ e ∷ []) lock m back in omega (arith, inside, length-append es (e ∷ [])));
+    last = λ m back. (let inside : m < length (es ++ e ∷ []) = gives_within (es ++ e ∷ []) (exclusive lock) m back in omega (arith, inside, length-append es (e ∷ [])));
     thread = subst (λ t. IsOf (es ++ e ∷ []) t (length es)) (sym same) (last_is_of es e);
     number = own;
   },
 )
 
 releases_after : (old new : Tracking) (roots : ℕ → Bool) (es : List Event) (e : Event) (stamp : Stamp) → TrackerStandsFor old roots es → Tracks e old new stamp
-    → (lock : ℕ) → IsLastRelease (es ++ e ∷ []) lock (last_release new.locks lock)
+    → (lock : ℕ) → IsLastRelease (es ++ e ∷ []) lock (last_release new.locks.releases lock)
 releases_after old new roots es e stamp stands is lock = elim (cases_Bool (is_hold (hold_given e) (exclusive lock))) [
   | inl holds ↦
       (let gives = (hold_decides (hold_given e) (exclusive lock)).0 holds in
-      let x = is.given lock gives in
+      let x = is.locks.released lock gives in
       let own = (stamp_after old new es e stamp stands.clocks stands.locks is).number in
       subst (IsLastRelease (es ++ e ∷ []) lock) (sym x.1)
       (release_is_last es e lock x.0 gives (x.2.thread ∙ is.thread)
       (subst (λ t. OwnNumber (es ++ e ∷ []) t (length es) x.0.number) (sym x.2.thread) (subst (OwnNumber (es ++ e ∷ []) stamp.thread (length es)) (sym x.2.number) own))))
   | inr fails ↦
       (let other = not_from_Decides (is_hold (hold_given e) (exclusive lock)) (hold_decides (hold_given e) (exclusive lock)) fails in
-      subst (IsLastRelease (es ++ e ∷ []) lock) (sym (is.others lock other)) (release_stays es e lock (last_release old.locks lock) other (stands.releases lock)))
+      subst (IsLastRelease (es ++ e ∷ []) lock) (sym (is.locks.others lock other)) (release_stays es e lock (last_release old.locks.releases lock) other (stands.releases lock)))
 ]
 
 -- the list is well-formed before the next event, which may follow it
@@ -349,8 +361,8 @@ stands_after old new roots es e stamp next is = record {
       (known_step roots es e (known_to old.threads) (handed_by old.locks) (next_formed old roots es e next) (next_follows old roots es e next) next.stands.clocks next.stands.locks t u);
   joined = λ t. subst (λ b. IsTrue b ↔ (0 < joins (es ++ e ∷ []) t)) (sym (is.joined t))
       (joined_more (tracked_thread old.threads t).joined (is_this (joined_thread e) t) (joins es t) (joins (es ++ e ∷ []) t) (next.stands.joined t) (joins_more es e t));
-  locks = λ lock u. subst (KnownCount (es ++ e ∷ []) (GivesBack (es ++ e ∷ []) lock) u) (sym (handed_is e old new stamp is lock u))
-      (handed_step roots es e (known_to old.threads) (handed_by old.locks) next.formed next.stands.clocks next.stands.locks lock u);
+  locks = λ hold u. subst (KnownCount (es ++ e ∷ []) (GivesBack (es ++ e ∷ []) hold) u) (sym (handed_is e old new stamp is hold u))
+      (handed_step roots es e (known_to old.threads) (handed_by old.locks) next.formed next.stands.clocks next.stands.locks hold u);
   releases = releases_after old new roots es e stamp next.stands is;
 }
 
@@ -403,8 +415,12 @@ own_most old roots es P u c stands counts =
 pub child_most : (old : Tracking) (roots : ℕ → Bool) (es : List Event) (t u : ℕ) → TrackerStandsFor old roots es → known_to old.threads t u ≤ known_to old.threads u u
 child_most old roots es t u stands = own_most old roots es (Carries es t) u (known_to old.threads t u) stands (stands.clocks t u)
 
-pub lock_most : (old : Tracking) (roots : ℕ → Bool) (es : List Event) (lock u : ℕ) → TrackerStandsFor old roots es → handed_by old.locks lock u ≤ known_to old.threads u u
-lock_most old roots es lock u stands = own_most old roots es (GivesBack es lock) u (handed_by old.locks lock u) stands (stands.locks lock u)
+pub lock_most : (old : Tracking) (roots : ℕ → Bool) (es : List Event) (hold : Hold) (u : ℕ) → TrackerStandsFor old roots es → handed_by old.locks hold u ≤ known_to old.threads u u
+lock_most old roots es hold u stands = own_most old roots es (GivesBack es hold) u (handed_by old.locks hold u) stands (stands.locks hold u)
+
+pub both_most : (old : Tracking) (roots : ℕ → Bool) (es : List Event) (lock u : ℕ) → TrackerStandsFor old roots es → heard_from old.locks lock u ≤ known_to old.threads u u
+both_most old roots es lock u stands =
+    omega (arith, lock_most old roots es (exclusive lock) u stands, lock_most old roots es (shared lock) u stands)
 
 -- what brings no news
 pub child_no_news : (old : Tracking) (roots : ℕ → Bool) (es : List Event) (e : Event) (t w : ℕ) → IsNextEvent old roots es e
@@ -413,15 +429,15 @@ child_no_news old roots es e t w next =
     child_heard roots es (Carries es t) w (known_to old.threads t) (known_to old.threads w) (next_formed old roots es e next) (next.stands.clocks t) (next.stands.clocks w)
 
 pub lock_no_news : (old : Tracking) (roots : ℕ → Bool) (es : List Event) (e : Event) (t lock : ℕ) → IsNextEvent old roots es e
-    → IsHeard (last_release old.locks lock) (tracked_thread old.threads t).clock → (u : ℕ) → handed_by old.locks lock u ≤ known_to old.threads t u
+    → IsHeard (last_release old.locks.releases lock) (tracked_thread old.threads t).clock → (u : ℕ) → handed_by old.locks (exclusive lock) u ≤ known_to old.threads t u
 lock_no_news old roots es e t lock next =
-    lock_heard roots es (Carries es t) lock (last_release old.locks lock) (tracked_thread old.threads t).clock (next_formed old roots es e next)
-    (next.stands.releases lock) (next.stands.clocks t) (next.stands.locks lock)
+    lock_heard roots es (Carries es t) lock (last_release old.locks.releases lock) (tracked_thread old.threads t).clock (next_formed old roots es e next)
+    (next.stands.releases lock) (next.stands.clocks t) (next.stands.locks (exclusive lock))
 
 -- news comes from another thread, so there are two
 pub lock_news : (old : Tracking) (roots : ℕ → Bool) (es : List Event) (e : Event) (t lock : ℕ) → IsNextEvent old roots es e → t < length old.threads
-    → IsHeard (last_release old.locks lock) (tracked_thread old.threads t).clock ⊎ (2 ≤ length old.threads)
-lock_news old roots es e t lock next inside = by (last_release old.locks lock) (next.stands.releases lock)
+    → IsHeard (last_release old.locks.releases lock) (tracked_thread old.threads t).clock ⊎ (2 ≤ length old.threads)
+lock_news old roots es e t lock next inside = by (last_release old.locks.releases lock) (next.stands.releases lock)
   where
     by : (o : Option Stamp) → IsLastRelease es lock o → IsHeard o (tracked_thread old.threads t).clock ⊎ (2 ≤ length old.threads)
     by None none = inl tt
@@ -467,19 +483,38 @@ ok_stands old new e (Err error) is = tt
 pub call_taken : (old new : Tracking) (call : CallOf) → IsCounted call.thread old.threads new.threads (last_stamp new.threads call.thread)
     → new.locks ≡ old.locks → Taken old new (Call call)
 call_taken old new call is locks = λ roots es next.
-    learnt_tracks (Call call) old new old.threads [] (last_stamp new.threads call.thread) refl (λ u. refl) (omega arith) (nothing_learnt call.thread old.threads) is
+    learnt_tracks (Call call) old new old.threads (λ u. 0) (last_stamp new.threads call.thread) refl (λ u. refl) (omega arith) (nothing_learnt call.thread old.threads) is
     (locks_stay (Call call) old.locks new.locks (last_stamp new.threads call.thread) refl locks)
 
 pub ok_release : {A E : Type 0} (old new : Tracking) (thread lock : ℕ) (result : Result A E)
     → OnOk result (IsCounted thread old.threads new.threads (last_stamp new.threads thread))
-    → OnOk result (IsReleased lock old.locks new.locks (last_stamp new.threads thread)) → Answers old new (Release thread lock) result
-ok_release old new thread lock (Ok value) is gives = λ roots es next.
-    learnt_tracks (Release thread lock) old new old.threads [] (last_stamp new.threads thread) refl (λ u. refl) (omega arith) (nothing_learnt thread old.threads) is (
-      λ l same. subst (λ m. (last : Stamp) × (last_release new.locks m ≡ Some last) × IsAlike last (last_stamp new.threads thread))
-          (same_lock lock l (same_Some (exclusive lock) (exclusive l) same)) gives.given,
-      λ l other. gives.others l (λ same. other (ap (λ m. Some (exclusive m)) (sym same))),
-    )
-ok_release old new thread lock (Err error) is gives = tt
+    → OnOk result (IsReleased lock old.locks.releases new.locks.releases (last_stamp new.threads thread))
+    → new.locks.unshares ≡ old.locks.unshares → Answers old new (Release thread lock) result
+ok_release old new thread lock (Ok value) is gives same = λ roots es next.
+    learnt_tracks (Release thread lock) old new old.threads (λ u. 0) (last_stamp new.threads thread) refl (λ u. refl) (omega arith) (nothing_learnt thread old.threads) is
+    (record {
+      released = λ l this. subst (λ m. (last : Stamp) × (last_release new.locks.releases m ≡ Some last) × IsAlike last (last_stamp new.threads thread))
+          (same_lock lock l (same_Some (exclusive lock) (exclusive l) this)) gives.given;
+      others = λ l other. gives.others l (λ this. other (ap (λ m. Some (exclusive m)) (sym this)));
+      shares = λ l u this. absurd (exclusive_not_shared lock l (same_Some (exclusive lock) (shared l) this));
+      other_shares = λ l u other. ap (λ us. component (unshared us l) u) same;
+    })
+ok_release old new thread lock (Err error) is gives same = tt
+
+pub ok_unshare : {A E : Type 0} (old new : Tracking) (thread lock : ℕ) (result : Result A E)
+    → OnOk result (IsCounted thread old.threads new.threads (last_stamp new.threads thread))
+    → OnOk result (IsUnshared lock old.locks.unshares new.locks.unshares (tracked_thread new.threads thread).clock)
+    → new.locks.releases ≡ old.locks.releases → Answers old new (Unshare thread lock) result
+ok_unshare old new thread lock (Ok value) is gives same = λ roots es next.
+    learnt_tracks (Unshare thread lock) old new old.threads (λ u. 0) (last_stamp new.threads thread) refl (λ u. refl) (omega arith) (nothing_learnt thread old.threads) is
+    (record {
+      released = λ l this. absurd (exclusive_not_shared l lock (sym (same_Some (shared lock) (exclusive l) this)));
+      others = λ l other. ap (λ rs. last_release rs l) same;
+      shares = λ l u this. subst (λ m. component (unshared new.locks.unshares m) u ≡ max (component (unshared old.locks.unshares m) u) (component (tracked_thread new.threads thread).clock u))
+          (same_share lock l (same_Some (shared lock) (shared l) this)) (gives.given u);
+      other_shares = λ l u other. gives.others l u (λ this. other (ap (λ m. Some (shared m)) (sym this)));
+    })
+ok_unshare old new thread lock (Err error) is gives same = tt
 
 pub ok_fork : {A E : Type 0} (old new : Tracking) (thread child : ℕ) (result : Result A E)
     → OnOk result ((middle : List Tracked) × IsBegun thread child old.threads middle × IsCounted thread middle new.threads (last_stamp new.threads thread))
@@ -489,24 +524,34 @@ ok_fork old new thread child (Ok value) is locks = λ roots es next.
 ok_fork old new thread child (Err error) is locks = tt
 
 pub ok_join : {A E : Type 0} (old new : Tracking) (thread child : ℕ) (result : Result A E)
-    → OnOk result ((middle : List Tracked) × IsLearnt thread (tracked_thread old.threads child).clock (Some child) old.threads middle
+    → OnOk result ((middle : List Tracked) × IsLearnt thread (known_to old.threads child) (Some child) old.threads middle
     × IsCounted thread middle new.threads (last_stamp new.threads thread))
     → new.locks ≡ old.locks → Answers old new (Join thread child) result
 ok_join old new thread child (Ok value) is locks = λ roots es next.
-    learnt_tracks (Join thread child) old new is.0 (tracked_thread old.threads child).clock (last_stamp new.threads thread) refl (λ u. refl)
+    learnt_tracks (Join thread child) old new is.0 (known_to old.threads child) (last_stamp new.threads thread) refl (λ u. refl)
     (child_most old roots es child thread next.stands) is.1 is.2
     (locks_stay (Join thread child) old.locks new.locks (last_stamp new.threads thread) refl locks)
 ok_join old new thread child (Err error) is locks = tt
 
 pub ok_acquire : {A E : Type 0} (old new : Tracking) (thread lock : ℕ) (result : Result A E)
-    → OnOk result ((middle : List Tracked) × IsLearnt thread (clock_of (last_release old.locks lock)) None old.threads middle
+    → OnOk result ((middle : List Tracked) × IsLearnt thread (heard_from old.locks lock) None old.threads middle
     × IsCounted thread middle new.threads (last_stamp new.threads thread))
     → new.locks ≡ old.locks → Answers old new (Acquire thread lock) result
 ok_acquire old new thread lock (Ok value) is locks = λ roots es next.
-    learnt_tracks (Acquire thread lock) old new is.0 (clock_of (last_release old.locks lock)) (last_stamp new.threads thread) refl (λ u. refl)
-    (lock_most old roots es lock thread next.stands) is.1 is.2
+    learnt_tracks (Acquire thread lock) old new is.0 (heard_from old.locks lock) (last_stamp new.threads thread) refl (λ u. refl)
+    (both_most old roots es lock thread next.stands) is.1 is.2
     (locks_stay (Acquire thread lock) old.locks new.locks (last_stamp new.threads thread) refl locks)
 ok_acquire old new thread lock (Err error) is locks = tt
+
+pub ok_share : {A E : Type 0} (old new : Tracking) (thread lock : ℕ) (result : Result A E)
+    → OnOk result ((middle : List Tracked) × IsLearnt thread (handed_by old.locks (exclusive lock)) None old.threads middle
+    × IsCounted thread middle new.threads (last_stamp new.threads thread))
+    → new.locks ≡ old.locks → Answers old new (Share thread lock) result
+ok_share old new thread lock (Ok value) is locks = λ roots es next.
+    learnt_tracks (Share thread lock) old new is.0 (handed_by old.locks (exclusive lock)) (last_stamp new.threads thread) refl (λ u. refl)
+    (lock_most old roots es (exclusive lock) thread next.stands) is.1 is.2
+    (locks_stay (Share thread lock) old.locks new.locks (last_stamp new.threads thread) refl locks)
+ok_share old new thread lock (Err error) is locks = tt
 
 -- what is read of the thread makes up its stamp
 pub read_stamp : (threads : List Tracked) (thread t : ℕ) (own : Tracked) (clock : List ℕ) → own ≡ tracked_thread threads t → thread ≡ t → clock ≡ own.clock

@@ -1,7 +1,7 @@
 -- What is known after a list of events: what a clock counts that carries on from some places (Fidge 1988 and Mattern 1989).
 use Rattle.std.specs.Prelude.{◌≡◌, ◌⊎◌, ℕ, List, length, Some, slice_get}
 use Rattle.rd_event.specs.declared.events.Event.{Event}
-use Rattle.rd_order.specs.Order.{forked_thread, exclusive, hold_given, Reaches}
+use Rattle.rd_order.specs.Order.{forked_thread, Hold, hold_given, Reaches}
 use Rattle.rd_order.specs.Counts.{Counts}
 use Rattle.rd_hb.specs.EventClocks.{IsOf}
 
@@ -11,9 +11,9 @@ use Rattle.rd_hb.specs.EventClocks.{IsOf}
 abbrev pub Carries : List Event → ℕ → ℕ → Type 0
 Carries es t m = IsOf es t m ⊎ ((e : Event) × (slice_get es m ≡ Some e) × (forked_thread e ≡ Some t))
 
--- and a lock, where its event gives the lock back
-abbrev pub GivesBack : List Event → ℕ → ℕ → Type 0
-GivesBack es lock m = (e : Event) × (slice_get es m ≡ Some e) × (hold_given e ≡ Some (exclusive lock))
+-- and a hold, where its event gives the hold back
+abbrev pub GivesBack : List Event → Hold → ℕ → Type 0
+GivesBack es hold m = (e : Event) × (slice_get es m ≡ Some e) × (hold_given e ≡ Some hold)
 
 -- ---- what is known there
 

@@ -3,11 +3,11 @@ use Rattle.std.specs.Prelude.{◌≡◌, ◌≢◌, ℕ, ◌+◌, ◌<◌, ◌�
 use Rattle.rd_clock.specs.Clock.{component, IsTick, IsJoin}
 use Rattle.rd_clock.specs.declared.clock.Stamp.{Stamp}
 use Rattle.rd_event.specs.declared.events.Event.{Event}
-use Rattle.rd_event.specs.declared.events.Event.TheVariants.{Fork, Join, Acquire, Release, Call}
+use Rattle.rd_event.specs.declared.events.Event.TheVariants.{Fork, Join, Acquire, Release, Share, Unshare, Call}
 use Rattle.rd_order.specs.EventLists.{is_hold}
-use Rattle.rd_order.specs.Order.{thread_of, forked_thread, exclusive, hold_given}
+use Rattle.rd_order.specs.Order.{thread_of, forked_thread, Hold, exclusive, shared, hold_given}
 use Rattle.rd_order.specs.OrderTests.{is_this}
-use Rattle.rd_hb.specs.Tracker.{IsFloor, IsLive, tracked_thread, known_to, last_release}
+use Rattle.rd_hb.specs.Tracker.{IsFloor, IsLive, TrackedLocks, handed_by, tracked_thread, known_to, last_release, unshared}
 use Rattle.rd_hb.specs.declared.tracker.Tracked.{Tracked}
 
 -- ---- what holds between steps
@@ -32,48 +32,65 @@ pub record IsShared (threads : List Tracked) (t : ℕ) (clock : List ℕ) : Type
 
 -- the clocks that threads share with locks are such, where they share one
 abbrev pub AreShared : List Tracked → List (Option (List ℕ)) → Type 0
-AreShared threads shared = (t : ℕ) (clock : List ℕ) → slice_index_or shared t None ≡ Some clock → IsShared threads t clock
+AreShared threads clocks = (t : ℕ) (clock : List ℕ) → slice_index_or clocks t None ≡ Some clock → IsShared threads t clock
 
 -- no lock's clock has room for more threads than there are
 abbrev pub AreRoomy : List Tracked → List (Option Stamp) → Type 0
-AreRoomy threads locks = (lock : ℕ) (stamp : Stamp) → last_release locks lock ≡ Some stamp → length stamp.clock ≤ length threads
+AreRoomy threads releases = (lock : ℕ) (stamp : Stamp) → last_release releases lock ≡ Some stamp → length stamp.clock ≤ length threads
+
+-- nor has the clock of its unshares
+abbrev pub AreRoomyUnshares : List Tracked → List (Option (List ℕ)) → Type 0
+AreRoomyUnshares threads unshares = (lock : ℕ) → length (unshared unshares lock) ≤ length threads
 
 -- so it is with what a tracker holds
-pub record AreKept (threads : List Tracked) (clocks : List (Option (List ℕ))) (releases : List (Option Stamp)) : Type 0 where
+pub record AreKept (threads : List Tracked) (clocks : List (Option (List ℕ))) (releases : List (Option Stamp)) (unshares : List (Option (List ℕ))) : Type 0 where
   pub tracked : AreTracked threads
   pub shared : AreShared threads clocks
   pub locks : AreRoomy threads releases
+  pub shares : AreRoomyUnshares threads unshares
 
--- the clock covers the thread and own number of what is held of a lock, if that is something
+-- the clock covers the thread and own number of what is held of a lock's releases, if that is something
 abbrev pub IsHeard : Option Stamp → List ℕ → Type 0
 IsHeard None clock = Unit {0}
 IsHeard (Some stamp) clock = stamp.number ≤ component clock stamp.thread
 
--- ---- what an event makes of what is known, by numbers: thread t knows f t u of the events of u, lock l g l u
+-- what a thread takes in that takes a lock for itself: what its releases and its unshares hand on
+abbrev pub heard_from : TrackedLocks → ℕ → ℕ → ℕ
+heard_from locks lock u = max (handed_by locks (exclusive lock) u) (handed_by locks (shared lock) u)
 
--- what an event takes in: what the thread knows that it joins, or the lock that it acquires
-abbrev pub news_of : Event → (ℕ → ℕ → ℕ) → (ℕ → ℕ → ℕ) → ℕ → ℕ
+-- ---- what an event makes of what is known, by numbers: thread t knows f t u of the events of u, of the events that give hold h back g h u is known
+
+-- what an event takes in: what the thread knows that it joins, or what was known where the lock was given back that it acquires, or
+-- released that it shares
+abbrev pub news_of : Event → (ℕ → ℕ → ℕ) → (Hold → ℕ → ℕ) → ℕ → ℕ
 news_of (Fork thread child) f g u = 0
 news_of (Join thread child) f g u = f child u
-news_of (Acquire thread lock) f g u = g lock u
+news_of (Acquire thread lock) f g u = max (g (exclusive lock) u) (g (shared lock) u)
 news_of (Release thread lock) f g u = 0
+news_of (Share thread lock) f g u = g (exclusive lock) u
+news_of (Unshare thread lock) f g u = 0
 news_of (Call call) f g u = 0
 
 -- what its thread knew, with what it takes in
-abbrev pub known_with_news : Event → (ℕ → ℕ → ℕ) → (ℕ → ℕ → ℕ) → ℕ → ℕ
+abbrev pub known_with_news : Event → (ℕ → ℕ → ℕ) → (Hold → ℕ → ℕ) → ℕ → ℕ
 known_with_news e f g u = max (f (thread_of e) u) (news_of e f g u)
 
 -- the clock of an event, from what was known before it
-abbrev pub clock_after : Event → (ℕ → ℕ → ℕ) → (ℕ → ℕ → ℕ) → ℕ → ℕ
+abbrev pub clock_after : Event → (ℕ → ℕ → ℕ) → (Hold → ℕ → ℕ) → ℕ → ℕ
 clock_after e f g u = if u == thread_of e then known_with_news e f g u + 1 else known_with_news e f g u
 
 -- what the threads know after it: its own thread and the one that it forks know its clock
-abbrev pub known_after : Event → (ℕ → ℕ → ℕ) → (ℕ → ℕ → ℕ) → ℕ → ℕ → ℕ
+abbrev pub known_after : Event → (ℕ → ℕ → ℕ) → (Hold → ℕ → ℕ) → ℕ → ℕ → ℕ
 known_after e f g t u = if (t == thread_of e) || is_this (forked_thread e) t then clock_after e f g u else f t u
 
--- and the locks: one that it gives back knows its clock
-abbrev pub handed_after : Event → (ℕ → ℕ → ℕ) → (ℕ → ℕ → ℕ) → ℕ → ℕ → ℕ
-handed_after e f g lock u = if is_hold (hold_given e) (exclusive lock) then clock_after e f g u else g lock u
+-- what is known where a hold was given back, once it is given back again: the releases of a lock follow one another, its unshares needn't
+abbrev pub gathered : Hold → ℕ → ℕ → ℕ
+gathered (exclusive lock) before now = now
+gathered (shared lock) before now = max before now
+
+-- and the locks: the clock of one that it gives back is gathered there
+abbrev pub handed_after : Event → (ℕ → ℕ → ℕ) → (Hold → ℕ → ℕ) → Hold → ℕ → ℕ
+handed_after e f g hold u = if is_hold (hold_given e) hold then gathered hold (g hold u) (clock_after e f g u) else g hold u
 
 -- ---- the parts of a step
 
@@ -94,10 +111,10 @@ pub record IsBegun (thread child : ℕ) (old new : List Tracked) : Type 0 where
   pub clock : IsTick (tracked_thread old thread).clock (tracked_thread new child).clock thread
   pub joined : (tracked_thread new child).joined ≡ false
 
--- the thread knows what the other clock counts, and a thread has ended, if one is told
-pub record IsLearnt (thread : ℕ) (other : List ℕ) (ended : Option ℕ) (old new : List Tracked) : Type 0 where
+-- the thread knows so many events of each thread, where it didn't know more, and a thread has ended, if one is told
+pub record IsLearnt (thread : ℕ) (news : ℕ → ℕ) (ended : Option ℕ) (old new : List Tracked) : Type 0 where
   pub count : length new ≡ length old
-  pub own : IsJoin (tracked_thread old thread).clock other (tracked_thread new thread).clock
+  pub own : (u : ℕ) → known_to new thread u ≡ max (known_to old thread u) (news u)
   pub others : (t : ℕ) → t ≢ thread → (tracked_thread new t).clock ≡ (tracked_thread old t).clock
   pub joined : (t : ℕ) → (tracked_thread new t).joined ≡ ((tracked_thread old t).joined || is_this ended t)
 
@@ -107,10 +124,15 @@ pub record IsAlike (a b : Stamp) : Type 0 where
   pub number : a.number ≡ b.number
   pub clock : (u : ℕ) → component a.clock u ≡ component b.clock u
 
--- the stamp is held of the lock, and of each other lock what was
+-- the stamp is held of the lock's releases, and of each other lock what was
 pub record IsReleased (lock : ℕ) (old new : List (Option Stamp)) (stamp : Stamp) : Type 0 where
   pub given : (last : Stamp) × (last_release new lock ≡ Some last) × IsAlike last stamp
   pub others : (l : ℕ) → l ≢ lock → last_release new l ≡ last_release old l
+
+-- the clock of the lock's unshares counts what the other clock counts too, and that of each other lock what it did
+pub record IsUnshared (lock : ℕ) (old new : List (Option (List ℕ))) (clock : List ℕ) : Type 0 where
+  pub given : IsJoin (unshared old lock) clock (unshared new lock)
+  pub others : (l u : ℕ) → l ≢ lock → component (unshared new l) u ≡ component (unshared old l) u
 
 -- ---- the floor
 

@@ -3,17 +3,17 @@ ghost use Rattle.std.specs.Prelude.{◌≡◌, ◌≢◌, ◌⊎◌, ◌↔◌, 
 ghost use Rattle.rd_event.specs.declared.events.Event.{Event as EventOf};
 ghost use Rattle.rd_event.specs.declared.events.Event.TheVariants as event;
 ghost use Rattle.rd_order.specs.EventLists.{threads_after};
-ghost use Rattle.rd_order.specs.Order.{thread_of};
-ghost use Rattle.rd_clock.specs.Clock.{component, IsJoin, IsTick};
+ghost use Rattle.rd_order.specs.Order.{exclusive, shared, thread_of};
+ghost use Rattle.rd_clock.specs.Clock.{component, IsTick};
 ghost use Rattle.rd_clock.specs.Stamps.{lent_stamp};
-ghost use Rattle.rd_hb.specs.Tracker.{IsNextEvent, IsStamp, MayGrow, TrackerStandsFor, clock_of, event_bound, handed_by, known_to, last_stamp, last_release, tracked_thread};
-ghost use Rattle.rd_hb.specs.TrackerParts.{IsBegun, IsCounted, IsHeard, IsLearnt, IsReleased, IsShared};
+ghost use Rattle.rd_hb.specs.Tracker.{IsNextEvent, IsStamp, MayGrow, TrackerStandsFor, event_bound, handed_by, known_to, last_stamp, last_release, tracked_thread, unshared};
+ghost use Rattle.rd_hb.specs.TrackerParts.{IsBegun, IsCounted, IsHeard, IsLearnt, IsReleased, IsShared, IsUnshared, heard_from};
 ghost use Rattle.rd_hb.specs.declared.tracker.Tracked.{Tracked as TrackedOf};
 
 mod floor;
 mod locks;
 
-use locks::{Release, SharedClock};
+use locks::{Release, SharedClock, gather, join_release, join_unshares, reserve_in};
 use rd_base::{NoMemory, Steps};
 use rd_clock::{Clock, Stamp, StampRef};
 use rd_event::Event;
@@ -30,8 +30,8 @@ struct Tracked {
     joined: bool,
 }
 
-/// The clocks of all threads of a trace, root or forked, and of its locks, by their numbers. Contracts see it as the list
-/// of the threads and that of the stamps of the events that last gave back each lock.
+/// The clocks of all threads of a trace, root or forked, and of its locks, by their numbers. Contracts see it as the list of the
+/// threads, that of the stamps of the events that last released each lock, and that of the clocks of the events that unshared it.
 #[derive(Debug, Drop)]
 pub struct Tracker {
     alloc: Global,
@@ -39,6 +39,8 @@ pub struct Tracker {
     // the clock that a thread shares with the locks that it gave back since it learnt something, if it gave back one
     shared: Vec<Option<SharedClock>>,
     locks: Vec<Option<Release>>,
+    // what is known where shares of a lock were given back, up to the last lock of which one was
+    unshares: Vec<Option<Clock>>,
     // a clock that no thread shares and no lock has any more, kept for its memory
     spare: Option<SharedClock>,
 }
@@ -49,16 +51,17 @@ impl Model for Tracker {
 
     ghost Value = { Tracking };
 
-    ghost view = { λ t. record { threads = t.threads.items; locks = t.locks.items } };
+    ghost view = { λ t.
+        record { threads = t.threads.items; locks = record { releases = t.locks.items; unshares = t.unshares.items } } };
 
-    ghost invariant = { λ t. AreKept t.threads.items t.shared.items t.locks.items };
+    ghost invariant = { λ t. AreKept t.threads.items t.shared.items t.locks.items t.unshares.items };
 }
 
 impl Tracker {
     /// A tracker without a thread. It takes no memory.
     #[tactic(auto, using(crate::proofs::TrackerLemmas::no_threads))]
     pub fn new(alloc: Global) -> Tracker
-        ensures empty { result ≡ record { threads = []; locks = [] } }
+        ensures empty { result ≡ record { threads = []; locks = record { releases = []; unshares = [] } } }
         ensures stands { TrackerStandsFor result (λ t. false) [] }
     {
         Tracker {
@@ -66,6 +69,7 @@ impl Tracker {
             threads: Vec::new(alloc),
             shared: Vec::new(alloc),
             locks: Vec::new(alloc),
+            unshares: Vec::new(alloc),
             spare: None,
         }
     }
@@ -93,7 +97,7 @@ impl Tracker {
     /// Takes the next event of a well-formed list, in which a forked thread has the next number, and says where it
     /// stands. The stamp takes memory; where it isn't asked for, `pass` does the same without it. After want of memory all
     /// is as before. It takes at most 2 steps for each thread that is known once the event is done where it is a
-    /// call, and 4 where it is another.
+    /// call, and 6 where it is another.
     pub fn event<L: Ledger>(
         &mut self,
         event: &Event,
@@ -127,7 +131,8 @@ impl Tracker {
 
     /// Takes the next event, as `event` does, but makes no stamp of it: for the events whose stamps aren't asked for. It takes
     /// memory only where a thread begins, where one gives a lock back for the first time since it learnt something, or
-    /// where a clock or the list of locks has no room yet. After want of memory all is as before.
+    /// where a clock or a list of locks has no room yet. After want of memory all is as before.
+    #[inline(always)]
     pub fn pass<L: Ledger>(&mut self, event: &Event, steps: &mut Steps<L>) -> Result<(), NoMemory>
         requires next { (roots : ℕ → Bool) × (es : List EventOf)
             × IsNextEvent self.old roots es event.now }
@@ -157,6 +162,8 @@ impl Tracker {
             Event::Join { thread, child } => self.join(*thread, *child, steps),
             Event::Acquire { thread, lock } => self.acquire(*thread, *lock, steps),
             Event::Release { thread, lock } => self.release(*thread, *lock, steps),
+            Event::Share { thread, lock } => self.share_lock(*thread, *lock, steps),
+            Event::Unshare { thread, lock } => self.unshare(*thread, *lock, steps),
             Event::Call(call) => {
                 self.tick(call.thread, steps);
                 Ok(())
@@ -292,7 +299,7 @@ impl Tracker {
         // the thread learns the child's clock, and the locks stay
         ensures learnt { OnOk result
             (IsLearnt thread
-            (tracked_thread self.old.threads child).clock None self.old.threads self.new.threads) }
+            (known_to self.old.threads child) None self.old.threads self.new.threads) }
         ensures locks { self.new.locks ≡ self.old.locks }
 
         // after an error all is as before; the steps are bounded
@@ -365,11 +372,13 @@ impl Tracker {
         }
     }
 
-    /// Makes room for what is held of a lock.
+    /// Makes room for what is held of a lock's releases.
     fn make_room(&mut self, lock: u32) -> Result<(), NoMemory>
-        ensures room { OnOk result (lock < length self.new.locks) }
+        ensures room { OnOk result (lock < length self.new.locks.releases) }
         ensures threads { self.new.threads ≡ self.old.threads }
-        ensures locks { (l : ℕ) → last_release self.new.locks l ≡ last_release self.old.locks l }
+        ensures unshares { self.new.locks.unshares ≡ self.old.locks.unshares }
+        ensures locks { (l : ℕ) →
+            last_release self.new.locks.releases l ≡ last_release self.old.locks.releases l }
         ensures err { OnErr result (self.new ≡ self.old) }
     {
         let room = lock as usize + 1;
@@ -382,17 +391,18 @@ impl Tracker {
     /// An event of a thread gave a lock back: its clock is the shared one, with its own number at the thread. The clock that the
     /// lock had is spare if nothing else has it.
     fn hand(&mut self, lock: u32, shared: SharedClock, thread: u32, number: u32)
-        requires held { lock < length self.old.locks }
+        requires held { lock < length self.old.locks.releases }
         requires inside { thread < length shared }
         requires room { length shared ≤ length self.old.threads }
         requires rises { component shared thread ≤ number }
 
-        // the lock is given the clock; the threads and the other locks stay
+        // the lock is given the clock; the threads, the other locks and the unshares stay
         ensures threads { self.new.threads ≡ self.old.threads }
-        ensures given { last_release self.new.locks lock ≡ Some
+        ensures given { last_release self.new.locks.releases lock ≡ Some
             (record { thread = thread; number = number; clock = slice_set shared thread number }) }
         ensures others { (l : ℕ) → l ≢ lock →
-            last_release self.new.locks l ≡ last_release self.old.locks l }
+            last_release self.new.locks.releases l ≡ last_release self.old.locks.releases l }
+        ensures unshares { self.new.locks.unshares ≡ self.old.locks.unshares }
     {
         let last = Release::new(shared, thread, number);
         if let Some(old) = mem::replace(&mut self.locks[lock as usize], Some(last)) {
@@ -447,7 +457,7 @@ impl Tracker {
         // the thread learns the child's clock, and the locks stay
         ensures learnt { OnOk result
             (IsLearnt thread
-            (tracked_thread self.old.threads child).clock None self.old.threads self.new.threads) }
+            (known_to self.old.threads child) None self.old.threads self.new.threads) }
         ensures locks { self.new.locks ≡ self.old.locks }
 
         // after an error all is as before; the steps are bounded
@@ -462,7 +472,9 @@ impl Tracker {
         self.learn(thread, child, steps)
     }
 
-    /// The same for a lock, which brings no news where no event gave it back, or the thread knows the last one that did.
+    /// The same for the releases of a lock, which bring no news where no event released it, or the thread knows the last one that
+    /// did.
+    #[inline(always)]
     fn hear_lock<L: Ledger>(
         &mut self,
         thread: u32,
@@ -470,17 +482,17 @@ impl Tracker {
         steps: &mut Steps<L>,
     ) -> Result<(), NoMemory>
         requires known { thread < length self.old.threads }
-        requires own { handed_by self.old.locks lock thread ≤ known_to self.old.threads thread thread }
-        requires heard { IsHeard (last_release self.old.locks lock)
+        requires own { handed_by self.old.locks (exclusive lock) thread ≤ known_to self.old.threads thread thread }
+        requires heard { IsHeard (last_release self.old.locks.releases lock)
             (tracked_thread self.old.threads thread).clock →
-            (u : ℕ) → handed_by self.old.locks lock u ≤ known_to self.old.threads thread u }
-        requires news { IsHeard (last_release self.old.locks lock)
+            (u : ℕ) → handed_by self.old.locks (exclusive lock) u ≤ known_to self.old.threads thread u }
+        requires news { IsHeard (last_release self.old.locks.releases lock)
             (tracked_thread self.old.threads thread).clock ⊎ (2 ≤ length self.old.threads) }
 
-        // the thread learns the lock's clock, and the locks stay
+        // the thread learns the clock of the releases, and the locks stay
         ensures learnt { OnOk result
             (IsLearnt thread
-            (clock_of (last_release self.old.locks lock)) None self.old.threads self.new.threads) }
+            (handed_by self.old.locks (exclusive lock)) None self.old.threads self.new.threads) }
         ensures locks { self.new.locks ≡ self.old.locks }
 
         // after an error all is as before; the steps are bounded
@@ -503,6 +515,79 @@ impl Tracker {
         Ok(())
     }
 
+    /// Whether a share of a lock was given back.
+    fn was_unshared(&self, lock: u32) -> bool
+        ensures { result ≡ false → (u : ℕ) → handed_by self.now.locks (shared lock) u ≡ 0 }
+    {
+        matches!(self.unshares.get(lock as usize), Some(Some(_)))
+    }
+
+    /// A thread learns what was known where a lock was last released, and where shares of it were given back.
+    #[inline(never)]
+    fn hear_shares<L: Ledger>(
+        &mut self,
+        thread: u32,
+        lock: u32,
+        steps: &mut Steps<L>,
+    ) -> Result<(), NoMemory>
+        requires known { thread < length self.old.threads }
+        requires own { heard_from self.old.locks lock thread ≤ known_to self.old.threads thread thread }
+
+        // the thread learns both clocks of the lock, and the locks stay
+        ensures learnt { OnOk result
+            (IsLearnt thread (heard_from self.old.locks lock) None self.old.threads self.new.threads) }
+        ensures locks { self.new.locks ≡ self.old.locks }
+
+        // after an error all is as before; the steps are bounded
+        ensures err { OnErr result (self.new ≡ self.old) }
+        ensures memory { OnErr result
+            (length (tracked_thread self.old.threads thread).clock < length self.old.threads) }
+        ensures cost { steps.new ≤ steps.old + (4 * length self.old.threads + 1) }
+    {
+        let room = self.threads.len() as u32;
+        let place = thread as usize;
+        let own = &mut self.threads[place].clock;
+        own.reserve(room)?;
+        join_release(own, self.locks.as_slice(), lock, steps);
+        join_unshares(own, self.unshares.as_slice(), lock, steps);
+        forget(&mut self.shared, place, &mut self.spare);
+        Ok(())
+    }
+
+    /// A thread that takes a lock for itself learns what was known where it was last released, and where shares of it were given
+    /// back.
+    fn hear_both<L: Ledger>(
+        &mut self,
+        thread: u32,
+        lock: u32,
+        steps: &mut Steps<L>,
+    ) -> Result<(), NoMemory>
+        requires known { thread < length self.old.threads }
+        requires own { heard_from self.old.locks lock thread ≤ known_to self.old.threads thread thread }
+        requires heard { IsHeard (last_release self.old.locks.releases lock)
+            (tracked_thread self.old.threads thread).clock →
+            (u : ℕ) → handed_by self.old.locks (exclusive lock) u ≤ known_to self.old.threads thread u }
+        requires news { IsHeard (last_release self.old.locks.releases lock)
+            (tracked_thread self.old.threads thread).clock ⊎ (2 ≤ length self.old.threads) }
+
+        // the thread learns both clocks of the lock, and the locks stay
+        ensures learnt { OnOk result
+            (IsLearnt thread (heard_from self.old.locks lock) None self.old.threads self.new.threads) }
+        ensures locks { self.new.locks ≡ self.old.locks }
+
+        // after an error all is as before; the steps are bounded
+        ensures err { OnErr result (self.new ≡ self.old) }
+        ensures memory { OnErr result
+            (length (tracked_thread self.old.threads thread).clock < length self.old.threads) }
+        ensures cost { steps.new + 1 ≤ steps.old + 6 * length self.old.threads }
+    {
+        if self.was_unshared(lock) {
+            self.hear_shares(thread, lock, steps)
+        } else {
+            self.hear_lock(thread, lock, steps)
+        }
+    }
+
     /// A thread waits for the end of another, and from there on knows what that one knew.
     fn join<L: Ledger>(
         &mut self,
@@ -521,7 +606,7 @@ impl Tracker {
 
         // the thread learns the child's clock, and the locks stay
         ensures ok { OnOk result ((middle : List TrackedOf) ×
-            IsLearnt thread (tracked_thread self.old.threads child).clock
+            IsLearnt thread (known_to self.old.threads child)
             (Some child) self.old.threads middle ×
             IsCounted thread middle self.new.threads (last_stamp self.new.threads thread)) }
         ensures room { OnOk result
@@ -540,7 +625,8 @@ impl Tracker {
         Ok(())
     }
 
-    /// A thread takes a lock, and from there on knows what was known where the lock was last given back.
+    /// A thread takes a lock for itself, and from there on knows what was known where the lock was last released, and where shares
+    /// of it were given back.
     fn acquire<L: Ledger>(
         &mut self,
         thread: u32,
@@ -549,16 +635,51 @@ impl Tracker {
     ) -> Result<(), NoMemory>
         requires known { thread < length self.old.threads }
         requires below { known_to self.old.threads thread thread < 4294967295 }
-        requires own { handed_by self.old.locks lock thread ≤ known_to self.old.threads thread thread }
-        requires heard { IsHeard (last_release self.old.locks lock)
+        requires own { heard_from self.old.locks lock thread ≤ known_to self.old.threads thread thread }
+        requires heard { IsHeard (last_release self.old.locks.releases lock)
             (tracked_thread self.old.threads thread).clock →
-            (u : ℕ) → handed_by self.old.locks lock u ≤ known_to self.old.threads thread u }
-        requires news { IsHeard (last_release self.old.locks lock)
+            (u : ℕ) → handed_by self.old.locks (exclusive lock) u ≤ known_to self.old.threads thread u }
+        requires news { IsHeard (last_release self.old.locks.releases lock)
             (tracked_thread self.old.threads thread).clock ⊎ (2 ≤ length self.old.threads) }
 
-        // the thread learns the lock's clock, and the locks stay
+        // the thread learns both clocks of the lock, and the locks stay
         ensures ok { OnOk result ((middle : List TrackedOf) ×
-            IsLearnt thread (clock_of (last_release self.old.locks lock)) None self.old.threads middle ×
+            IsLearnt thread (heard_from self.old.locks lock) None self.old.threads middle ×
+            IsCounted thread middle self.new.threads (last_stamp self.new.threads thread)) }
+        ensures room { OnOk result
+            (length (tracked_thread self.new.threads thread).clock ≤ length self.old.threads) }
+        ensures locks { self.new.locks ≡ self.old.locks }
+
+        // after an error all is as before; the steps are bounded
+        ensures err { OnErr result (self.new ≡ self.old) }
+        ensures memory { OnErr result
+            (length (tracked_thread self.old.threads thread).clock < length self.old.threads) }
+        ensures cost { steps.new ≤ steps.old + 6 * length self.old.threads }
+    {
+        self.hear_both(thread, lock, steps)?;
+        self.tick(thread, steps);
+        Ok(())
+    }
+
+    /// A thread takes a share of a lock, and from there on knows what was known where the lock was last released.
+    fn share_lock<L: Ledger>(
+        &mut self,
+        thread: u32,
+        lock: u32,
+        steps: &mut Steps<L>,
+    ) -> Result<(), NoMemory>
+        requires known { thread < length self.old.threads }
+        requires below { known_to self.old.threads thread thread < 4294967295 }
+        requires own { handed_by self.old.locks (exclusive lock) thread ≤ known_to self.old.threads thread thread }
+        requires heard { IsHeard (last_release self.old.locks.releases lock)
+            (tracked_thread self.old.threads thread).clock →
+            (u : ℕ) → handed_by self.old.locks (exclusive lock) u ≤ known_to self.old.threads thread u }
+        requires news { IsHeard (last_release self.old.locks.releases lock)
+            (tracked_thread self.old.threads thread).clock ⊎ (2 ≤ length self.old.threads) }
+
+        // the thread learns the clock of the releases, and the locks stay
+        ensures ok { OnOk result ((middle : List TrackedOf) ×
+            IsLearnt thread (handed_by self.old.locks (exclusive lock)) None self.old.threads middle ×
             IsCounted thread middle self.new.threads (last_stamp self.new.threads thread)) }
         ensures room { OnOk result
             (length (tracked_thread self.new.threads thread).clock ≤ length self.old.threads) }
@@ -575,8 +696,8 @@ impl Tracker {
         Ok(())
     }
 
-    /// A thread gives a lock back, of which the stamp of this event is then held. The earlier events that gave it back
-    /// reach this one, so nothing of them is kept.
+    /// A thread releases a lock, of which the stamp of this event is then held. The earlier releases reach this one, so nothing of
+    /// them is kept.
     fn release<L: Ledger>(
         &mut self,
         thread: u32,
@@ -593,7 +714,9 @@ impl Tracker {
         ensures room { OnOk result
             (length (tracked_thread self.new.threads thread).clock ≤ length self.old.threads) }
         ensures given { OnOk result
-            (IsReleased lock self.old.locks self.new.locks (last_stamp self.new.threads thread)) }
+            (IsReleased lock self.old.locks.releases
+            self.new.locks.releases (last_stamp self.new.threads thread)) }
+        ensures unshares { self.new.locks.unshares ≡ self.old.locks.unshares }
 
         // after an error all is as before; the steps are bounded
         ensures err { OnErr result (self.new ≡ self.old) }
@@ -603,6 +726,78 @@ impl Tracker {
         self.make_room(lock)?;
         let number = self.tick(thread, steps);
         self.hand(lock, shared, thread, number);
+        Ok(())
+    }
+
+    /// Makes room for the clock of a lock's unshares, for all threads. The clock is as before.
+    #[inline(never)]
+    fn make_unshare_room(&mut self, lock: u32) -> Result<(), NoMemory>
+        ensures inside { OnOk result (lock < length self.new.locks.unshares) }
+        ensures room { OnOk result
+            (length self.old.threads ≤ length (unshared self.new.locks.unshares lock)) }
+        ensures kept { (l u : ℕ) →
+            handed_by self.new.locks (shared l) u ≡ handed_by self.old.locks (shared l) u }
+        ensures threads { self.new.threads ≡ self.old.threads }
+        ensures releases { self.new.locks.releases ≡ self.old.locks.releases }
+        ensures err { OnErr result (self.new ≡ self.old) }
+    {
+        let room = self.threads.len() as u32;
+        let place = lock as usize;
+        if place < self.unshares.len() {
+            return reserve_in(self.alloc, &mut self.unshares[place], room);
+        }
+        let mut clock = Clock::new(self.alloc);
+        clock.reserve(room)?;
+        grow(&mut self.unshares, place + 1)?;
+        self.unshares[place] = Some(clock);
+        Ok(())
+    }
+
+    /// An event of a thread gave a share of a lock back: the clock of the lock's unshares counts from here on what that of the
+    /// thread does.
+    fn gather_unshare<L: Ledger>(&mut self, lock: u32, thread: u32, steps: &mut Steps<L>)
+        requires known { thread < length self.old.threads }
+        requires inside { lock < length self.old.locks.unshares }
+        requires room { length self.old.threads ≤ length (unshared self.old.locks.unshares lock) }
+        ensures given { IsUnshared lock self.old.locks.unshares
+            self.new.locks.unshares (tracked_thread self.old.threads thread).clock }
+        ensures threads { self.new.threads ≡ self.old.threads }
+        ensures releases { self.new.locks.releases ≡ self.old.locks.releases }
+        ensures cost { steps.new ≤ steps.old + 2 * length self.old.threads }
+    {
+        let own = &self.threads[thread as usize].clock;
+        gather(&mut self.unshares[lock as usize], own, steps);
+    }
+
+    /// A thread gives a share of a lock back. The earlier events that did needn't reach this one, so the clock of the lock's
+    /// unshares keeps what they knew.
+    fn unshare<L: Ledger>(
+        &mut self,
+        thread: u32,
+        lock: u32,
+        steps: &mut Steps<L>,
+    ) -> Result<(), NoMemory>
+        requires known { thread < length self.old.threads }
+        requires below { known_to self.old.threads thread thread < 4294967295 }
+
+        // the event is counted, and its clock is gathered
+        ensures ok { OnOk result
+            (IsCounted thread self.old.threads self.new.threads
+            (last_stamp self.new.threads thread)) }
+        ensures room { OnOk result
+            (length (tracked_thread self.new.threads thread).clock ≤ length self.old.threads) }
+        ensures given { OnOk result
+            (IsUnshared lock self.old.locks.unshares
+            self.new.locks.unshares (tracked_thread self.new.threads thread).clock) }
+        ensures releases { self.new.locks.releases ≡ self.old.locks.releases }
+
+        // after an error all is as before; the steps are bounded
+        ensures err { OnErr result (self.new ≡ self.old) }
+        ensures cost { steps.new ≤ steps.old + (2 * length self.old.threads + 1) }
+    {
+        self.make_unshare_room(lock)?;
+        self.tick(thread, steps);
+        self.gather_unshare(lock, thread, steps);
         Ok(())
     }
 }
@@ -615,7 +810,9 @@ fn actor(event: &Event) -> u32
         Event::Fork { thread, .. }
         | Event::Join { thread, .. }
         | Event::Acquire { thread, .. }
-        | Event::Release { thread, .. } => *thread,
+        | Event::Release { thread, .. }
+        | Event::Share { thread, .. }
+        | Event::Unshare { thread, .. } => *thread,
         Event::Call(call) => call.thread,
     }
 }

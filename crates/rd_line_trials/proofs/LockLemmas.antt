@@ -5,11 +5,11 @@ use Rattle.std.proofs.lemmas.Bool.{cases_lt, ne_eqb}
 use Rattle.std.proofs.lemmas.List.Sums.{sum_by-cons}
 use Rattle.std.proofs.lemmas.Option.{none-some}
 use Rattle.rd_event.specs.declared.events.Event.{Event}
-use Rattle.rd_event.specs.declared.events.Event.TheVariants.{Acquire, Release}
-use Rattle.rd_order.specs.Order.{thread_of, forked_thread, Hold, exclusive, hold_taken, hold_given}
+use Rattle.rd_event.specs.declared.events.Event.TheVariants.{Acquire, Release, Share, Unshare}
+use Rattle.rd_order.specs.Order.{thread_of, forked_thread, Hold, exclusive, shared, hold_taken, hold_given}
 use Rattle.rd_order.specs.EventLists.{calls, forks, joins, takings, givings, is_hold, Follow, MayHappen}
 use Rattle.rd_order.specs.TestLists.{sample_call, two_roots, NextNumbers}
-use Rattle.rd_order.proofs.EventListLemmas.{may_acquire, may_call, may_release}
+use Rattle.rd_order.proofs.EventListLemmas.{may_acquire, may_call, may_release, may_share, may_unshare}
 use Rattle.rd_order.proofs.TestListLemmas.{few_by_numbers, numbered_call, two_below}
 use Rattle.rd_hb.specs.Tracker.{TrackerStandsFor, Tracking}
 use Rattle.rd_line_trials.specs.Traces.{MayTakeAll}
@@ -48,12 +48,21 @@ free_for_1 es h two same u other = elim (cases_lt u 2) [
   | inr past ↦ strangers_take es u h two past ∙ sym (strangers_give es u h two past)
 ]
 
--- thread 0 or 1 takes the lock, where the other has given it back
-acquire_0 : (es : List Event) (lock : ℕ) → OfTwo es → takings es 1 (exclusive lock) ≡ givings es 1 (exclusive lock) → joins es 0 ≡ 0 → MayHappen two_roots es (Acquire 0 lock)
-acquire_0 es lock two same running = may_acquire two_roots es 0 lock (inl refl) running (free_for_0 es (exclusive lock) two same)
+-- thread 0 or 1 takes the lock, where the other has given it and each share of it back
+acquire_0 : (es : List Event) (lock : ℕ) → OfTwo es → takings es 1 (exclusive lock) ≡ givings es 1 (exclusive lock) → takings es 1 (shared lock) ≡ givings es 1 (shared lock)
+    → joins es 0 ≡ 0 → MayHappen two_roots es (Acquire 0 lock)
+acquire_0 es lock two same shares running = may_acquire two_roots es 0 lock (inl refl) running (free_for_0 es (exclusive lock) two same) (free_for_0 es (shared lock) two shares)
 
-acquire_1 : (es : List Event) (lock : ℕ) → OfTwo es → takings es 0 (exclusive lock) ≡ givings es 0 (exclusive lock) → joins es 1 ≡ 0 → MayHappen two_roots es (Acquire 1 lock)
-acquire_1 es lock two same running = may_acquire two_roots es 1 lock (inl refl) running (free_for_1 es (exclusive lock) two same)
+acquire_1 : (es : List Event) (lock : ℕ) → OfTwo es → takings es 0 (exclusive lock) ≡ givings es 0 (exclusive lock) → takings es 0 (shared lock) ≡ givings es 0 (shared lock)
+    → joins es 1 ≡ 0 → MayHappen two_roots es (Acquire 1 lock)
+acquire_1 es lock two same shares running = may_acquire two_roots es 1 lock (inl refl) running (free_for_1 es (exclusive lock) two same) (free_for_1 es (shared lock) two shares)
+
+-- or a share of it, where the other has given it back
+share_0 : (es : List Event) (lock : ℕ) → OfTwo es → takings es 1 (exclusive lock) ≡ givings es 1 (exclusive lock) → joins es 0 ≡ 0 → MayHappen two_roots es (Share 0 lock)
+share_0 es lock two same running = may_share two_roots es 0 lock (inl refl) running (free_for_0 es (exclusive lock) two same)
+
+share_1 : (es : List Event) (lock : ℕ) → OfTwo es → takings es 0 (exclusive lock) ≡ givings es 0 (exclusive lock) → joins es 1 ≡ 0 → MayHappen two_roots es (Share 1 lock)
+share_1 es lock two same running = may_share two_roots es 1 lock (inl refl) running (free_for_1 es (exclusive lock) two same)
 
 -- and gives it back
 release_0 : (es : List Event) (lock : ℕ) → givings es 0 (exclusive lock) < takings es 0 (exclusive lock) → joins es 0 ≡ 0 → MayHappen two_roots es (Release 0 lock)
@@ -61,6 +70,12 @@ release_0 es lock has running = may_release two_roots es 0 lock (inl refl) runni
 
 release_1 : (es : List Event) (lock : ℕ) → givings es 1 (exclusive lock) < takings es 1 (exclusive lock) → joins es 1 ≡ 0 → MayHappen two_roots es (Release 1 lock)
 release_1 es lock has running = may_release two_roots es 1 lock (inl refl) running has
+
+unshare_0 : (es : List Event) (lock : ℕ) → givings es 0 (shared lock) < takings es 0 (shared lock) → joins es 0 ≡ 0 → MayHappen two_roots es (Unshare 0 lock)
+unshare_0 es lock has running = may_unshare two_roots es 0 lock (inl refl) running has
+
+unshare_1 : (es : List Event) (lock : ℕ) → givings es 1 (shared lock) < takings es 1 (shared lock) → joins es 1 ≡ 0 → MayHappen two_roots es (Unshare 1 lock)
+unshare_1 es lock has running = may_unshare two_roots es 1 lock (inl refl) running has
 
 -- ---- lists that fork no thread
 
@@ -91,13 +106,13 @@ guarded = Acquire 0 0 ∷ sample_call 0 ∷ Release 0 0 ∷ Acquire 1 0 ∷ samp
 guarded_follow : Follow two_roots [] guarded
 unfolding forks joins calls takings givings
 guarded_follow = (
-  acquire_0 [] 0 tt refl refl,
+  acquire_0 [] 0 tt refl refl refl,
   (
     may_call two_roots (Acquire 0 0 ∷ []) (numbered_call 0) (inl refl) refl (λ kind other. refl),
     (
       release_0 (Acquire 0 0 ∷ sample_call 0 ∷ []) 0 (lit< tt) refl,
       (
-        acquire_1 (Acquire 0 0 ∷ sample_call 0 ∷ Release 0 0 ∷ []) 0 (lit< tt, (lit< tt, (lit< tt, tt))) refl refl,
+        acquire_1 (Acquire 0 0 ∷ sample_call 0 ∷ Release 0 0 ∷ []) 0 (lit< tt, (lit< tt, (lit< tt, tt))) refl refl refl,
         (
           may_call two_roots (Acquire 0 0 ∷ sample_call 0 ∷ Release 0 0 ∷ Acquire 1 0 ∷ []) (numbered_call 1) (inl refl) refl (λ kind other. refl),
           tt,
@@ -118,19 +133,19 @@ rounds = Acquire 0 0 ∷ Release 0 0 ∷ Acquire 1 0 ∷ Release 1 0 ∷ Acquire
 rounds_follow : Follow two_roots [] rounds
 unfolding forks joins calls takings givings
 rounds_follow = (
-  acquire_0 [] 0 tt refl refl,
+  acquire_0 [] 0 tt refl refl refl,
   (
     release_0 (Acquire 0 0 ∷ []) 0 (lit< tt) refl,
     (
-      acquire_1 (Acquire 0 0 ∷ Release 0 0 ∷ []) 0 (lit< tt, (lit< tt, tt)) refl refl,
+      acquire_1 (Acquire 0 0 ∷ Release 0 0 ∷ []) 0 (lit< tt, (lit< tt, tt)) refl refl refl,
       (
         release_1 (Acquire 0 0 ∷ Release 0 0 ∷ Acquire 1 0 ∷ []) 0 (lit< tt) refl,
         (
-          acquire_0 (Acquire 0 0 ∷ Release 0 0 ∷ Acquire 1 0 ∷ Release 1 0 ∷ []) 0 (lit< tt, (lit< tt, (lit< tt, (lit< tt, tt)))) refl refl,
+          acquire_0 (Acquire 0 0 ∷ Release 0 0 ∷ Acquire 1 0 ∷ Release 1 0 ∷ []) 0 (lit< tt, (lit< tt, (lit< tt, (lit< tt, tt)))) refl refl refl,
           (
             release_0 (Acquire 0 0 ∷ Release 0 0 ∷ Acquire 1 0 ∷ Release 1 0 ∷ Acquire 0 0 ∷ []) 0 (lit< tt) refl,
             (
-              acquire_1 (Acquire 0 0 ∷ Release 0 0 ∷ Acquire 1 0 ∷ Release 1 0 ∷ Acquire 0 0 ∷ Release 0 0 ∷ []) 0 (lit< tt, (lit< tt, (lit< tt, (lit< tt, (lit< tt, (lit< tt, tt)))))) refl refl,
+              acquire_1 (Acquire 0 0 ∷ Release 0 0 ∷ Acquire 1 0 ∷ Release 1 0 ∷ Acquire 0 0 ∷ Release 0 0 ∷ []) 0 (lit< tt, (lit< tt, (lit< tt, (lit< tt, (lit< tt, (lit< tt, tt)))))) refl refl refl,
               tt,
             ),
           ),
@@ -151,15 +166,15 @@ reentrant = Acquire 0 0 ∷ Acquire 0 0 ∷ Release 0 0 ∷ Release 0 0 ∷ Acqu
 reentrant_follow : Follow two_roots [] reentrant
 unfolding forks joins calls takings givings
 reentrant_follow = (
-  acquire_0 [] 0 tt refl refl,
+  acquire_0 [] 0 tt refl refl refl,
   (
-    acquire_0 (Acquire 0 0 ∷ []) 0 (lit< tt, tt) refl refl,
+    acquire_0 (Acquire 0 0 ∷ []) 0 (lit< tt, tt) refl refl refl,
     (
       release_0 (Acquire 0 0 ∷ Acquire 0 0 ∷ []) 0 (lit< tt) refl,
       (
         release_0 (Acquire 0 0 ∷ Acquire 0 0 ∷ Release 0 0 ∷ []) 0 (lit< tt) refl,
         (
-          acquire_1 (Acquire 0 0 ∷ Acquire 0 0 ∷ Release 0 0 ∷ Release 0 0 ∷ []) 0 (lit< tt, (lit< tt, (lit< tt, (lit< tt, tt)))) refl refl,
+          acquire_1 (Acquire 0 0 ∷ Acquire 0 0 ∷ Release 0 0 ∷ Release 0 0 ∷ []) 0 (lit< tt, (lit< tt, (lit< tt, (lit< tt, tt)))) refl refl refl,
           tt,
         ),
       ),
@@ -178,21 +193,21 @@ no_news = Acquire 0 0 ∷ Release 0 0 ∷ Acquire 0 1 ∷ Release 0 1 ∷ Acquir
 no_news_follow : Follow two_roots [] no_news
 unfolding forks joins calls takings givings
 no_news_follow = (
-  acquire_0 [] 0 tt refl refl,
+  acquire_0 [] 0 tt refl refl refl,
   (
     release_0 (Acquire 0 0 ∷ []) 0 (lit< tt) refl,
     (
-      acquire_0 (Acquire 0 0 ∷ Release 0 0 ∷ []) 1 (lit< tt, (lit< tt, tt)) refl refl,
+      acquire_0 (Acquire 0 0 ∷ Release 0 0 ∷ []) 1 (lit< tt, (lit< tt, tt)) refl refl refl,
       (
         release_0 (Acquire 0 0 ∷ Release 0 0 ∷ Acquire 0 1 ∷ []) 1 (lit< tt) refl,
         (
-          acquire_1 (Acquire 0 0 ∷ Release 0 0 ∷ Acquire 0 1 ∷ Release 0 1 ∷ []) 1 (lit< tt, (lit< tt, (lit< tt, (lit< tt, tt)))) refl refl,
+          acquire_1 (Acquire 0 0 ∷ Release 0 0 ∷ Acquire 0 1 ∷ Release 0 1 ∷ []) 1 (lit< tt, (lit< tt, (lit< tt, (lit< tt, tt)))) refl refl refl,
           (
-            acquire_1 (Acquire 0 0 ∷ Release 0 0 ∷ Acquire 0 1 ∷ Release 0 1 ∷ Acquire 1 1 ∷ []) 0 (lit< tt, (lit< tt, (lit< tt, (lit< tt, (lit< tt, tt))))) refl refl,
+            acquire_1 (Acquire 0 0 ∷ Release 0 0 ∷ Acquire 0 1 ∷ Release 0 1 ∷ Acquire 1 1 ∷ []) 0 (lit< tt, (lit< tt, (lit< tt, (lit< tt, (lit< tt, tt))))) refl refl refl,
             (
               release_1 (Acquire 0 0 ∷ Release 0 0 ∷ Acquire 0 1 ∷ Release 0 1 ∷ Acquire 1 1 ∷ Acquire 1 0 ∷ []) 0 (lit< tt) refl,
               (
-                acquire_1 (Acquire 0 0 ∷ Release 0 0 ∷ Acquire 0 1 ∷ Release 0 1 ∷ Acquire 1 1 ∷ Acquire 1 0 ∷ Release 1 0 ∷ []) 0 (lit< tt, (lit< tt, (lit< tt, (lit< tt, (lit< tt, (lit< tt, (lit< tt, tt))))))) refl refl,
+                acquire_1 (Acquire 0 0 ∷ Release 0 0 ∷ Acquire 0 1 ∷ Release 0 1 ∷ Acquire 1 1 ∷ Acquire 1 0 ∷ Release 1 0 ∷ []) 0 (lit< tt, (lit< tt, (lit< tt, (lit< tt, (lit< tt, (lit< tt, (lit< tt, tt))))))) refl refl refl,
                 tt,
               ),
             ),
@@ -205,3 +220,72 @@ no_news_follow = (
 
 pub no_news_may : (tracking : Tracking) → TrackerStandsFor tracking two_roots [] → length tracking.threads ≡ 2 → MayTakeAll tracking two_roots no_news
 no_news_may tracking = may_take tracking no_news no_news_follow (refl, (refl, (refl, (refl, (refl, (refl, (refl, (refl, tt)))))))) (lit≤ tt)
+
+-- ---- a lock is shared
+
+abbrev pub sharers : List Event
+sharers = Acquire 0 0 ∷ Release 0 0 ∷ Share 1 0 ∷ Share 0 0 ∷ Unshare 1 0 ∷ Unshare 0 0 ∷ Acquire 0 0 ∷ Release 0 0 ∷ Share 1 0 ∷ []
+
+sharers_follow : Follow two_roots [] sharers
+unfolding forks joins calls takings givings
+sharers_follow = (
+  acquire_0 [] 0 tt refl refl refl,
+  (
+    release_0 (Acquire 0 0 ∷ []) 0 (lit< tt) refl,
+    (
+      share_1 (Acquire 0 0 ∷ Release 0 0 ∷ []) 0 (lit< tt, (lit< tt, tt)) refl refl,
+      (
+        share_0 (Acquire 0 0 ∷ Release 0 0 ∷ Share 1 0 ∷ []) 0 (lit< tt, (lit< tt, (lit< tt, tt))) refl refl,
+        (
+          unshare_1 (Acquire 0 0 ∷ Release 0 0 ∷ Share 1 0 ∷ Share 0 0 ∷ []) 0 (lit< tt) refl,
+          (
+            unshare_0 (Acquire 0 0 ∷ Release 0 0 ∷ Share 1 0 ∷ Share 0 0 ∷ Unshare 1 0 ∷ []) 0 (lit< tt) refl,
+            (
+              acquire_0 (Acquire 0 0 ∷ Release 0 0 ∷ Share 1 0 ∷ Share 0 0 ∷ Unshare 1 0 ∷ Unshare 0 0 ∷ []) 0 (lit< tt, (lit< tt, (lit< tt, (lit< tt, (lit< tt, (lit< tt, tt)))))) refl refl refl,
+              (
+                release_0 (Acquire 0 0 ∷ Release 0 0 ∷ Share 1 0 ∷ Share 0 0 ∷ Unshare 1 0 ∷ Unshare 0 0 ∷ Acquire 0 0 ∷ []) 0 (lit< tt) refl,
+                (
+                  share_1 (Acquire 0 0 ∷ Release 0 0 ∷ Share 1 0 ∷ Share 0 0 ∷ Unshare 1 0 ∷ Unshare 0 0 ∷ Acquire 0 0 ∷ Release 0 0 ∷ []) 0 (lit< tt, (lit< tt, (lit< tt, (lit< tt, (lit< tt, (lit< tt, (lit< tt, (lit< tt, tt)))))))) refl refl,
+                  tt,
+                ),
+              ),
+            ),
+          ),
+        ),
+      ),
+    ),
+  ),
+)
+
+pub sharers_may : (tracking : Tracking) → TrackerStandsFor tracking two_roots [] → length tracking.threads ≡ 2 → MayTakeAll tracking two_roots sharers
+sharers_may tracking = may_take tracking sharers sharers_follow (refl, (refl, (refl, (refl, (refl, (refl, (refl, (refl, (refl, tt))))))))) (lit≤ tt)
+
+-- ---- shares order nothing among themselves
+
+abbrev pub shares_apart : List Event
+shares_apart = Share 0 1 ∷ Unshare 0 1 ∷ Share 1 1 ∷ Unshare 1 1 ∷ Acquire 1 0 ∷ Acquire 1 1 ∷ []
+
+shares_apart_follow : Follow two_roots [] shares_apart
+unfolding forks joins calls takings givings
+shares_apart_follow = (
+  share_0 [] 1 tt refl refl,
+  (
+    unshare_0 (Share 0 1 ∷ []) 1 (lit< tt) refl,
+    (
+      share_1 (Share 0 1 ∷ Unshare 0 1 ∷ []) 1 (lit< tt, (lit< tt, tt)) refl refl,
+      (
+        unshare_1 (Share 0 1 ∷ Unshare 0 1 ∷ Share 1 1 ∷ []) 1 (lit< tt) refl,
+        (
+          acquire_1 (Share 0 1 ∷ Unshare 0 1 ∷ Share 1 1 ∷ Unshare 1 1 ∷ []) 0 (lit< tt, (lit< tt, (lit< tt, (lit< tt, tt)))) refl refl refl,
+          (
+            acquire_1 (Share 0 1 ∷ Unshare 0 1 ∷ Share 1 1 ∷ Unshare 1 1 ∷ Acquire 1 0 ∷ []) 1 (lit< tt, (lit< tt, (lit< tt, (lit< tt, (lit< tt, tt))))) refl refl refl,
+            tt,
+          ),
+        ),
+      ),
+    ),
+  ),
+)
+
+pub shares_apart_may : (tracking : Tracking) → TrackerStandsFor tracking two_roots [] → length tracking.threads ≡ 2 → MayTakeAll tracking two_roots shares_apart
+shares_apart_may tracking = may_take tracking shares_apart shares_apart_follow (refl, (refl, (refl, (refl, (refl, (refl, tt)))))) (lit≤ tt)

@@ -403,6 +403,57 @@ fn no_news<L: Ledger>(alloc: Global, steps: &mut Steps<L>) -> Result<bool, NoMem
     has_rows(&mut tracker, &events, &rows, steps)
 }
 
+/// A lock is released, shared by two threads at once, taken by one of them and shared by the other again: a share counts what was
+/// known where the lock was last released, and the acquire what was known where both shares were given back.
+fn sharers<L: Ledger>(alloc: Global, steps: &mut Steps<L>) -> Result<bool, NoMemory> {
+    let mut tracker = with_two_roots(alloc)?;
+    let events = [
+        Event::Acquire { thread: 0, lock: 0 },
+        Event::Release { thread: 0, lock: 0 },
+        Event::Share { thread: 1, lock: 0 },
+        Event::Share { thread: 0, lock: 0 },
+        Event::Unshare { thread: 1, lock: 0 },
+        Event::Unshare { thread: 0, lock: 0 },
+        Event::Acquire { thread: 0, lock: 0 },
+        Event::Release { thread: 0, lock: 0 },
+        Event::Share { thread: 1, lock: 0 },
+    ];
+    let rows = [
+        (0, 1, [1, 0, 0]),
+        (0, 2, [2, 0, 0]),
+        (1, 1, [2, 1, 0]),
+        (0, 3, [3, 0, 0]),
+        (1, 2, [2, 2, 0]),
+        (0, 4, [4, 0, 0]),
+        (0, 5, [5, 2, 0]),
+        (0, 6, [6, 2, 0]),
+        (1, 3, [6, 3, 0]),
+    ];
+    has_rows(&mut tracker, &events, &rows, steps)
+}
+
+/// A thread shares a lock behind another one that gave its share back, and knows nothing of it, until it acquires the lock.
+fn shares_apart<L: Ledger>(alloc: Global, steps: &mut Steps<L>) -> Result<bool, NoMemory> {
+    let mut tracker = with_two_roots(alloc)?;
+    let events = [
+        Event::Share { thread: 0, lock: 1 },
+        Event::Unshare { thread: 0, lock: 1 },
+        Event::Share { thread: 1, lock: 1 },
+        Event::Unshare { thread: 1, lock: 1 },
+        Event::Acquire { thread: 1, lock: 0 },
+        Event::Acquire { thread: 1, lock: 1 },
+    ];
+    let rows = [
+        (0, 1, [1, 0, 0]),
+        (0, 2, [2, 0, 0]),
+        (1, 1, [0, 1, 0]),
+        (1, 2, [0, 2, 0]),
+        (1, 3, [0, 3, 0]),
+        (1, 4, [2, 4, 0]),
+    ];
+    has_rows(&mut tracker, &events, &rows, steps)
+}
+
 /// The stamps of the trace are those of its rows.
 fn are_told(rt: &impl Abort, trace: &str, told: Result<bool, NoMemory>) {
     assert!(rt; told == Ok(true), "{trace}");
@@ -422,6 +473,8 @@ fn stamps_of_events<L: Ledger>(rt: &impl Abort, alloc: Global, blank: Blank)
     are_told(rt, "rounds", rounds(alloc, &mut steps));
     are_told(rt, "reentrant", reentrant(alloc, &mut steps));
     are_told(rt, "no news", no_news(alloc, &mut steps));
+    are_told(rt, "sharers", sharers(alloc, &mut steps));
+    are_told(rt, "shares apart", shares_apart(alloc, &mut steps));
 }
 
 #[test]

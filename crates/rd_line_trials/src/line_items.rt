@@ -5,15 +5,16 @@ use rd_event::{Call, Event, Line, LineEvent, LineRefused, read_into, read_line, 
 use std::alloc::Global;
 use std::process::Abort;
 
-// A line that the text spells.
-fn read(rt: &impl Abort, alloc: Global, text: &str) -> Line {
-    read_line(alloc, text.as_bytes()).expect(rt, "a line")
+// A line that the text spells in a version.
+fn read(rt: &impl Abort, alloc: Global, version: u8, text: &str) -> Line {
+    read_line(alloc, text.as_bytes(), version).expect(rt, "a line")
 }
 
 // The keyword of a line that is no call, and its words.
 fn words(line: &Line) -> (&str, &[u8], &[u8]) {
     match line {
         Line::Header { version: 1 } => ("rdtrace", b"1", b""),
+        Line::Header { version: 2 } => ("rdtrace", b"2", b""),
         Line::Thread(name) => ("thread", name.items(), b""),
         Line::Object { name, kind } => ("object", name.items(), kind.items()),
         Line::Event(LineEvent::Fork { thread, child }) => ("fork", thread.items(), child.items()),
@@ -24,13 +25,17 @@ fn words(line: &Line) -> (&str, &[u8], &[u8]) {
         Line::Event(LineEvent::Release { thread, lock }) => {
             ("release", thread.items(), lock.items())
         }
+        Line::Event(LineEvent::Share { thread, lock }) => ("share", thread.items(), lock.items()),
+        Line::Event(LineEvent::Unshare { thread, lock }) => {
+            ("unshare", thread.items(), lock.items())
+        }
         _ => ("", b"", b""),
     }
 }
 
-// Is the text read as what its words say?
-fn says_its_words(rt: &impl Abort, alloc: Global, text: &str) -> bool {
-    let line = read(rt, alloc, text);
+// Is the text read in a version as what its words say?
+fn says_its_words(rt: &impl Abort, alloc: Global, version: u8, text: &str) -> bool {
+    let line = read(rt, alloc, version, text);
     let (keyword, first, second) = words(&line);
     let (wanted, rest) = text.split_once(' ').unwrap_or((text, ""));
     let (wanted_first, wanted_second) = rest.split_once(' ').unwrap_or((rest, ""));
@@ -39,14 +44,37 @@ fn says_its_words(rt: &impl Abort, alloc: Global, text: &str) -> bool {
 
 // Lines that are a keyword and one word or two, with `|` between them. The last name has 64 bytes.
 const ITEMS: &str = "\
-    rdtrace 1|thread p|thread java.util.HashMap@1f2|object o register|fork a b|join a b|\
+    rdtrace 1|rdtrace 2|thread p|thread java.util.HashMap@1f2|object o register|fork a b|join a b|\
     acquire p l|release p l|\
     thread aaaaaaaaaaaaaaaaaaaaaaaaaaaaaaaaaaaaaaaaaaaaaaaaaaaaaaaaaaaaaaaa";
 
 #[test]
 fn reads_each_item(rt: HostRuntime) {
     for text in ITEMS.split('|') {
-        assert!(rt; says_its_words(&rt, rt.alloc(), text), "at {text}");
+        assert!(rt;
+            says_its_words(&rt, rt.alloc(), 0, text),
+            "before the header at {text}"
+        );
+        assert!(rt;
+            says_its_words(&rt, rt.alloc(), 1, text),
+            "in version 1 at {text}"
+        );
+        assert!(rt;
+            says_its_words(&rt, rt.alloc(), 2, text),
+            "in version 2 at {text}"
+        );
+    }
+}
+
+#[test]
+fn reads_shares_in_version_two_alone(rt: HostRuntime) {
+    for text in ["share p l", "unshare p l", "share java.util.HashMap@1f2 l"] {
+        assert!(rt; says_its_words(&rt, rt.alloc(), 2, text), "at {text}");
+        assert!(rt;
+            is_refused(rt.alloc(), 0, text),
+            "before the header at {text}"
+        );
+        assert!(rt; is_refused(rt.alloc(), 1, text), "in version 1 at {text}");
     }
 }
 
@@ -54,7 +82,7 @@ fn reads_each_item(rt: HostRuntime) {
 fn reads_lines_without_an_item(rt: HostRuntime) {
     for text in ["", "#", "#anything", "# fork a b"] {
         assert!(rt;
-            matches!(read(&rt, rt.alloc(), text), Line::Skip),
+            matches!(read(&rt, rt.alloc(), 1, text), Line::Skip),
             "at {text}"
         );
     }
@@ -62,14 +90,14 @@ fn reads_lines_without_an_item(rt: HostRuntime) {
 
 // Is the text read into the line as it is read anew?
 fn is_read_into(rt: &impl Abort, alloc: Global, text: &str, line: &mut Line) -> bool {
-    read_into(alloc, text.as_bytes(), line).expect(rt, "a line");
-    *line == read(rt, alloc, text)
+    read_into(alloc, text.as_bytes(), 2, line).expect(rt, "a line");
+    *line == read(rt, alloc, 2, text)
 }
 
 // The lines that are read one after another.
 const KEPT: &str = "\
     thread p|call p x put \"a\" -> nil|fork p q|# a comment|object o register|rdtrace 1|\
-    call p x read -> \"b\"|join p q|acquire p l|release p l";
+    call p x read -> \"b\"|join p q|acquire p l|release p l|share p l|unshare p l";
 
 #[test]
 fn reads_into_a_line_that_is_kept(rt: HostRuntime) {
@@ -77,18 +105,21 @@ fn reads_into_a_line_that_is_kept(rt: HostRuntime) {
     for text in KEPT.split('|') {
         assert!(rt; is_read_into(&rt, rt.alloc(), text, &mut line), "at {text}");
     }
-    let refused = read_into(rt.alloc(), b"fork p", &mut line);
+    let refused = read_into(rt.alloc(), b"fork p", 2, &mut line);
     assert!(rt; refused == Err(LineRefused::BadLine));
 }
 
-// Is the text no line?
-fn is_refused(alloc: Global, text: &str) -> bool {
-    matches!(read_line(alloc, text.as_bytes()), Err(LineRefused::BadLine))
+// Is the text no line of a version?
+fn is_refused(alloc: Global, version: u8, text: &str) -> bool {
+    matches!(
+        read_line(alloc, text.as_bytes(), version),
+        Err(LineRefused::BadLine)
+    )
 }
 
 // Texts that are no line, with `|` between them. The last name has 65 bytes.
 const NO_ITEMS: &str = "\
-    rdtrace 2|rdtrace 01|rdtrace  1|rdtrace 1 |rdtrace| thread p|thread p |thread|thread |\
+    rdtrace 0|rdtrace 3|rdtrace 12|rdtrace 01|rdtrace 02|rdtrace  1|rdtrace 1 |rdtrace| thread p|thread p |thread|thread |\
     thread  p|thread a/b|thread a\0|thread p\n|Thread p|threads p|object o|objectx y|fork a|\
     fork a b c|fork a  b|fork a b\r|join  b|acquire|acquire p|acquire p l m|acquire  p l|\
     acquire p  l|acquire p l |acquires p l|Acquire p l|release|release p|release p l m|\
@@ -98,7 +129,21 @@ const NO_ITEMS: &str = "\
 #[test]
 fn refuses_what_is_no_item(rt: HostRuntime) {
     for text in NO_ITEMS.split('|') {
-        assert!(rt; is_refused(rt.alloc(), text), "at {text:?}");
+        assert!(rt; is_refused(rt.alloc(), 1, text), "in version 1 at {text:?}");
+        assert!(rt; is_refused(rt.alloc(), 2, text), "in version 2 at {text:?}");
+    }
+}
+
+// Texts that are no line of version 2 either, with `|` between them.
+const NO_SHARES: &str = "\
+    share|share |share p|share p |share p l m|share  p l|share p  l|share p l |share p l/|\
+    share p/ l|shares p l|Share p l|unshare|unshare p|unshare p l m|unshare  p l|unshare p l |\
+    unshare p \"l\"|unshared p l|un share p l|Unshare p l|share\tp l";
+
+#[test]
+fn refuses_what_is_no_share(rt: HostRuntime) {
+    for text in NO_SHARES.split('|') {
+        assert!(rt; is_refused(rt.alloc(), 2, text), "at {text:?}");
     }
 }
 
@@ -117,7 +162,7 @@ fn is_call(
             method,
             slots,
         },
-    ) = read(rt, alloc, text)
+    ) = read(rt, alloc, 1, text)
     else {
         return false;
     };
@@ -186,21 +231,21 @@ const NO_CALLS: &str = "\
 #[test]
 fn refuses_what_is_no_call(rt: HostRuntime) {
     for text in NO_CALLS.split('|') {
-        assert!(rt; is_refused(rt.alloc(), text), "at {text:?}");
+        assert!(rt; is_refused(rt.alloc(), 1, text), "at {text:?}");
     }
 }
 
 // Is the line of the first text spelled as the second?
 fn is_spelled(rt: &impl Abort, alloc: Global, text: &str, wanted: &str) -> bool {
-    let line = read_line(alloc, text.as_bytes()).expect(rt, "a line");
+    let line = read_line(alloc, text.as_bytes(), 2).expect(rt, "a line");
     let spelled = spell(alloc, &line).expect(rt, "memory");
     spelled.items() == wanted.as_bytes()
 }
 
 // Lines as they are spelled.
 const SPELLED: &str = "\
-    |rdtrace 1|thread java.util.HashMap@1f2|object o register|fork a b|join a b|acquire p l|\
-    release p l|call a x write 7 -> nil|call main x read -> 7|\
+    |rdtrace 1|rdtrace 2|thread java.util.HashMap@1f2|object o register|fork a b|join a b|\
+    acquire p l|release p l|share p l|unshare p l|call a x write 7 -> nil|call main x read -> 7|\
     call a d put \"k -> \\\"x\" 1 -> nil|\
     call a d put -9223372036854775808 -> 9223372036854775807|\
     call a d put \"\\x00\\xff \\\\\" -> \"\"|call a d put 1 2 3 4 5 6 -> true|thread main|\
@@ -250,6 +295,8 @@ fn copies_are_equal(rt: HostRuntime) {
             Act::Call(0, 0, 0, &[Wanted::Text(b"x"), Wanted::Int(1), Wanted::Nil]),
         ),
         (1, Act::Release(0)),
+        (1, Act::Share(0)),
+        (1, Act::Unshare(0)),
         (
             2,
             Act::Call(0, 0, 0, &[Wanted::Text(b"y"), Wanted::Int(2), Wanted::Nil]),
@@ -267,4 +314,13 @@ fn an_acquire_is_no_release(rt: HostRuntime) {
     let acquire = event(&rt, rt.alloc(), 1, Act::Acquire(0));
     let release = event(&rt, rt.alloc(), 1, Act::Release(0));
     assert!(rt; acquire != release);
+}
+
+#[test]
+fn a_share_is_no_acquire(rt: HostRuntime) {
+    let acquire = event(&rt, rt.alloc(), 1, Act::Acquire(0));
+    let share = event(&rt, rt.alloc(), 1, Act::Share(0));
+    let unshare = event(&rt, rt.alloc(), 1, Act::Unshare(0));
+    assert!(rt; share != acquire);
+    assert!(rt; share != unshare);
 }

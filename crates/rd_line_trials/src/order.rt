@@ -110,6 +110,45 @@ fn a_release_comes_before_each_later_acquire(rt: HostRuntime) {
     are_ordered(&rt, rt.alloc(), &events, &edges, &paths);
 }
 
+/// p releases a lock, q and r share it at once, p acquires and releases it again, and q shares it
+#[test]
+fn shares_come_behind_releases_and_before_acquires(rt: HostRuntime) {
+    let acts = [
+        (0, Act::Acquire(0)),
+        (0, Act::Release(0)),
+        (1, Act::Share(0)),
+        (2, Act::Share(0)),
+        (1, Act::Unshare(0)),
+        (2, Act::Unshare(0)),
+        (0, Act::Acquire(0)),
+        (0, Act::Release(0)),
+        (1, Act::Share(0)),
+    ];
+    let edges = [
+        (0, 2, false),
+        (1, 2, true),
+        (1, 3, true),
+        (2, 3, false),
+        (3, 4, false),
+        (4, 5, false),
+        (3, 6, false),
+        (4, 6, true),
+        (5, 6, true),
+        (5, 7, false),
+        (5, 8, false),
+        (7, 8, true),
+    ];
+    let paths = [
+        (2, 6, [2, 4, 6].as_slice()),
+        (3, 6, &[3, 5, 6]),
+        (2, 5, &[]),
+        (4, 5, &[]),
+        (5, 8, &[5, 6, 7, 8]),
+    ];
+    let events = events(&rt, rt.alloc(), &acts);
+    are_ordered(&rt, rt.alloc(), &events, &edges, &paths);
+}
+
 #[test]
 fn places_are_kept_in_order(rt: HostRuntime) {
     let mut places = Places::new(rt.alloc());

@@ -64,6 +64,8 @@ pub enum Act<'a> {
     Join(u32),
     Acquire(u32),
     Release(u32),
+    Share(u32),
+    Unshare(u32),
     /// the object, the kind, the method and the slots
     Call(u32, u32, u8, &'a [Wanted<'a>]),
 }
@@ -75,6 +77,8 @@ pub fn event(rt: &impl Abort, alloc: Global, thread: u32, act: Act) -> Event {
         Act::Join(child) => Event::Join { thread, child },
         Act::Acquire(lock) => Event::Acquire { thread, lock },
         Act::Release(lock) => Event::Release { thread, lock },
+        Act::Share(lock) => Event::Share { thread, lock },
+        Act::Unshare(lock) => Event::Unshare { thread, lock },
         Act::Call(object, kind, method, wanted) => Event::Call(Call {
             thread,
             object,

@@ -1,6 +1,7 @@
 //! What is held of a lock.
-ghost use Rattle.std.specs.Prelude.{◌≡◌, ℕ, ◌+◌, ◌*◌, ◌<◌, ◌≤◌, ◌↔◌, length, slice_set, IfSome, IfOk, IsTrue};
+ghost use Rattle.std.specs.Prelude.{◌≡◌, ℕ, ◌+◌, ◌*◌, ◌<◌, ◌≤◌, ◌↔◌, max, length, slice_set, IfSome, IfOk, OnOk, OnErr, IsTrue};
 ghost use Rattle.rd_clock.specs.Clock.{component, IsJoin};
+ghost use Rattle.rd_hb.specs.Tracker.{clock_held, clock_of, last_release, unshared};
 
 use rd_base::{NoMemory, Steps};
 use rd_clock::Clock;
@@ -133,5 +134,70 @@ impl Release {
     {
         clock.join_reserved(&self.shared.clock, steps);
         clock.raise(self.thread, self.number, steps);
+    }
+}
+
+/// Sets each component of a clock to the greater of its own and that of the last release of a lock, if one is held. There is room
+/// for the threads of that clock.
+pub(crate) fn join_release<L: Ledger>(
+    clock: &mut Clock,
+    releases: &[Option<Release>],
+    lock: u32,
+    steps: &mut Steps<L>,
+)
+    requires { length (clock_of (last_release releases.now lock)) ≤ length clock.old }
+    ensures joined { IsJoin clock.old (clock_of (last_release releases.now lock)) clock.new }
+    ensures room { length clock.new ≡ length clock.old }
+    ensures cost { steps.new ≤ steps.old + (2 * length clock.old + 1) }
+{
+    if let Some(Some(last)) = releases.get(lock as usize) {
+        last.join_into(clock, steps);
+    }
+}
+
+/// The same of the clock of a lock's unshares.
+pub(crate) fn join_unshares<L: Ledger>(
+    clock: &mut Clock,
+    unshares: &[Option<Clock>],
+    lock: u32,
+    steps: &mut Steps<L>,
+)
+    requires { length (unshared unshares.now lock) ≤ length clock.old }
+    ensures joined { IsJoin clock.old (unshared unshares.now lock) clock.new }
+    ensures room { length clock.new ≡ length clock.old }
+    ensures cost { steps.new ≤ steps.old + 2 * length clock.old }
+{
+    if let Some(Some(other)) = unshares.get(lock as usize) {
+        clock.join_reserved(other, steps);
+    }
+}
+
+/// Makes room in the clock of a lock's unshares, or begins one. It counts what it did.
+pub(crate) fn reserve_in(alloc: Global, held: &mut Option<Clock>, room: u32) -> Result<(), NoMemory>
+    ensures room { OnOk result (length (clock_held held.new) ≡ max (length (clock_held held.old)) room) }
+    ensures kept { (u : ℕ) → component (clock_held held.new) u ≡ component (clock_held held.old) u }
+    ensures err { OnErr result (held.new ≡ held.old) }
+{
+    match held {
+        Some(clock) => clock.reserve(room),
+        None => {
+            let mut clock = Clock::new(alloc);
+            clock.reserve(room)?;
+            *held = Some(clock);
+            Ok(())
+        }
+    }
+}
+
+/// Sets each component of the clock of a lock's unshares to the greater of its own and that of another. There is room for the
+/// threads of the other.
+pub(crate) fn gather<L: Ledger>(held: &mut Option<Clock>, other: &Clock, steps: &mut Steps<L>)
+    requires { length other.now ≤ length (clock_held held.old) }
+    ensures joined { IsJoin (clock_held held.old) other.now (clock_held held.new) }
+    ensures room { length (clock_held held.new) ≡ length (clock_held held.old) }
+    ensures cost { steps.new ≤ steps.old + 2 * length other.now }
+{
+    if let Some(clock) = held {
+        clock.join_reserved(other, steps);
     }
 }

@@ -14,14 +14,14 @@ invariant_of-self-2 g c =
     let thread = c.args.thread in
     let inside : thread < length threads = subst (λ v. thread < length v.threads) (sym c.self.view_is) c.requires.known in
     let numbered : c.args.child ≡ length threads = c.requires.numbered ∙ ap (λ v. length v.threads) (sym c.self.view_is) in
-    let kept : AreKept threads c.self.inside.shared.items c.self.inside.locks.items = c.self.invariant in
+    let kept : AreKept threads c.self.inside.shared.items c.self.inside.locks.items c.self.inside.unshares.items = c.self.invariant in
     let child : Tracked = record { clock = c.in_ok-clock.clock; events = 0; joined = false } in
     let total : length c.in_ok-clock.clock ≡ length threads + 1 =
     omega (arith, c.in_ok-clock.ensures.room, ap (λ v. length (tracked_thread v.threads thread).clock) c.self.view_is, numbered, (kept.tracked.each thread inside).room) in
     let ticks : IsTick (tracked_thread threads thread).clock c.in_ok-clock.clock thread =
     subst (λ v. IsTick (tracked_thread v.threads thread).clock c.in_ok-clock.clock thread) (sym c.self.view_is) c.in_ok-clock.ensures.ticked in
-    subst (λ ts. AreKept ts c.self.inside.shared.items c.self.inside.locks.items) (sym {A = List Tracked} c.in_ok-push.ensures.items)
-    (kept_push threads c.self.inside.shared.items c.self.inside.locks.items child kept
+    subst (λ ts. AreKept ts c.self.inside.shared.items c.self.inside.locks.items c.self.inside.unshares.items) (sym {A = List Tracked} c.in_ok-push.ensures.items)
+    (kept_push threads c.self.inside.shared.items c.self.inside.locks.items c.self.inside.unshares.items child kept
     (omega (arith, numbered, c.requires.range)) (omega (arith, total)) (omega (arith, total))
     (sym (ticks.others (length threads) (λ last. absurd (omega (arith, last, inside))) ∙ get_or_past (tracked_thread threads thread).clock (length threads) 0 (kept.tracked.each thread inside).room)))
 

@@ -15,8 +15,8 @@ invariant_of-self-2 g c =
     ap (λ l. slice_index_or l c.args.lock None) (sym c.deref.ensures.value) ∙ sym (c.in-Some-Some.ensures.lookup.4 (omega arith) None) ∙ c.in-Some-Some.field-0-is in
     let less : component c.in-Some-Some.last.clock thread ≤ known_to threads thread thread =
     subst (λ v. component c.in-Some-Some.last.clock thread ≤ known_to v.threads thread thread) (sym c.self.view_is)
-    (subst (λ o. component (clock_of o) thread ≤ known_to c.args.self.now.threads thread thread) (ap (λ v. last_release v.locks c.args.lock) (sym c.self.view_is) ∙ at) c.requires.own) in
-    kept_learn threads c.self.inside.shared.items c.forget.new.list.items c.self.inside.locks.items thread c.index_mut.result.now _ c.self.invariant inside is
+    (subst (λ o. component (clock_of o) thread ≤ known_to c.args.self.now.threads thread thread) (ap (λ v. last_release v.locks.releases c.args.lock) (sym c.self.view_is) ∙ at) c.requires.own) in
+    kept_learn threads c.self.inside.shared.items c.forget.new.list.items c.self.inside.locks.items c.self.inside.unshares.items thread c.index_mut.result.now _ c.self.invariant inside is
     (omega (arith, c.join_into.ensures.room, c.in_ok-reserve.ensures.room, ap (λ x. length x.clock) is, (c.self.invariant.tracked.each thread inside).room))
     (c.join_into.ensures.joined thread ∙ omega (arith, c.reserve.ensures.kept thread, ap (λ x. component x.clock thread) is, less))
     refl c.forget.ensures.others c.forget.ensures.gone

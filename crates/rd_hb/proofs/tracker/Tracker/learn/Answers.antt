@@ -23,9 +23,9 @@ invariant_of-self-2 g c =
     read_again (slice_set threads thread roomy) thread empty c.index_mut-3.result.now (omega (arith, inside, total)) c.index_mut-3.ensures.value in
     let other : c.index.result.now ≡ tracked_thread threads c.args.child =
     read_besides (slice_set threads thread roomy) thread c.args.child empty c.index.result.now (omega (arith, awaited, total)) c.requires.apart c.index.ensures ∙ set_other threads thread c.args.child roomy c.requires.apart in
-    subst (λ ts. AreKept ts c.forget.new.list.items c.self.inside.locks.items)
+    subst (λ ts. AreKept ts c.forget.new.list.items c.self.inside.locks.items c.self.inside.unshares.items)
     (sym {A = List Tracked} (set-set (slice_set threads thread roomy) thread empty learnt ∙ set-set threads thread roomy learnt))
-    (kept_learn threads c.self.inside.shared.items c.forget.new.list.items c.self.inside.locks.items thread c.index_mut.result.now learnt c.self.invariant inside is
+    (kept_learn threads c.self.inside.shared.items c.forget.new.list.items c.self.inside.locks.items c.self.inside.unshares.items thread c.index_mut.result.now learnt c.self.invariant inside is
     (omega (
       arith,
       c.join_reserved.ensures.room,

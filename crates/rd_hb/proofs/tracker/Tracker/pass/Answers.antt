@@ -1,10 +1,10 @@
 use Rattle.std.proofs.Common.{◌≢◌, ◌<◌, ◌≤◌, ◌+◌, ℕ, Bool, List, [], ◌∷◌, ◌++◌, length, OnOk, sym, ap, subst, arith}
 use Rattle.rd_event.specs.declared.events.Event.{Event as EventOf}
 use Rattle.rd_event.specs.declared.events.Event.TheVariants as event
-use Rattle.rd_order.specs.Order.{thread_of, forked_thread, joined_thread}
+use Rattle.rd_order.specs.Order.{exclusive, thread_of, forked_thread, joined_thread}
 use Rattle.rd_order.specs.EventLists.{threads_after}
 use Rattle.rd_hb.specs.Tracker.{IsNextEvent, IsStamp, TrackerStandsFor, event_bound, last_stamp}
-use Rattle.rd_hb.proofs.TrackerLemmas.{call_taken, child_most, child_no_news, lock_most, lock_news, lock_no_news, next_apart, next_below, next_child, next_inside, next_joined, next_two, ok_acquire, ok_fork, ok_join, ok_release, ok_stamp, ok_stands, stamp_taken, stands_taken}
+use Rattle.rd_hb.proofs.TrackerLemmas.{both_most, call_taken, child_most, child_no_news, lock_most, lock_news, lock_no_news, next_apart, next_below, next_child, next_inside, next_joined, next_two, ok_acquire, ok_fork, ok_join, ok_release, ok_share, ok_unshare, ok_stamp, ok_stands, stamp_taken, stands_taken}
 use Rattle.rd_hb.proofs.tracker.Tracker.pass.Goals as goal
 
 pub fork-requires-clause-known : goal.fork-requires-clause-known
@@ -54,7 +54,7 @@ acquire-requires-clause-below g c =
 
 pub acquire-requires-clause-own : goal.acquire-requires-clause-own
 acquire-requires-clause-own g c =
-    lock_most c.args.self.now c.requires.next.0 c.requires.next.1 c.in-Acquire.lock c.in-Acquire.thread c.requires.next.2.stands
+    both_most c.args.self.now c.requires.next.0 c.requires.next.1 c.in-Acquire.lock c.in-Acquire.thread c.requires.next.2.stands
 
 pub acquire-requires-clause-heard : goal.acquire-requires-clause-heard
 acquire-requires-clause-heard g c =
@@ -128,14 +128,14 @@ returns-in-Release-clause-stamp g c =
     subst (λ e. OnOk c.release.result ((roots : ℕ → Bool) (es : List EventOf) → IsNextEvent c.args.self.now roots es e → IsStamp (es ++ e ∷ []) (length es) (last_stamp c.release.new.self.threads (thread_of e))))
     (sym c.in-Release.is)
     (ok_stamp c.args.self.now c.release.new.self (event.Release c.in-Release.thread c.in-Release.lock) c.release.result
-    (ok_release c.args.self.now c.release.new.self c.in-Release.thread c.in-Release.lock c.release.result c.release.ensures.ok c.release.ensures.given))
+    (ok_release c.args.self.now c.release.new.self c.in-Release.thread c.in-Release.lock c.release.result c.release.ensures.ok c.release.ensures.given c.release.ensures.unshares))
 
 pub returns-in-Release-clause-stands : goal.returns-in-Release-clause-stands
 returns-in-Release-clause-stands g c =
     subst (λ e. OnOk c.release.result ((roots : ℕ → Bool) (es : List EventOf) → IsNextEvent c.args.self.now roots es e → TrackerStandsFor c.release.new.self roots (es ++ e ∷ [])))
     (sym c.in-Release.is)
     (ok_stands c.args.self.now c.release.new.self (event.Release c.in-Release.thread c.in-Release.lock) c.release.result
-    (ok_release c.args.self.now c.release.new.self c.in-Release.thread c.in-Release.lock c.release.result c.release.ensures.ok c.release.ensures.given))
+    (ok_release c.args.self.now c.release.new.self c.in-Release.thread c.in-Release.lock c.release.result c.release.ensures.ok c.release.ensures.given c.release.ensures.unshares))
 
 pub returns-in-Call-clause-stamp : goal.returns-in-Call-clause-stamp
 returns-in-Call-clause-stamp g c =
@@ -168,3 +168,66 @@ returns-in-Call-clause-cost g c =
     let inside = next_inside c.args.self.now c.requires.next.0 c.requires.next.1 c.args.event.now c.requires.next.2 in
     subst (λ e. c.tick.new.steps ≤ c.args.steps.now + event_bound e (threads_after e (length c.args.self.now.threads))) (sym c.in-Call.is)
     (omega (arith, c.tick.ensures.cost, inside))
+
+pub share_lock-requires-clause-known : goal.share_lock-requires-clause-known
+share_lock-requires-clause-known g c =
+    subst (λ e. thread_of e < length c.args.self.now.threads) c.in-Share.is (next_inside c.args.self.now c.requires.next.0 c.requires.next.1 c.args.event.now c.requires.next.2)
+
+pub share_lock-requires-clause-below : goal.share_lock-requires-clause-below
+share_lock-requires-clause-below g c =
+    next_below c.args.self.now c.requires.next.0 c.requires.next.1 c.args.event.now c.in-Share.thread c.in-Share.thread c.requires.next.2
+
+pub share_lock-requires-clause-own : goal.share_lock-requires-clause-own
+share_lock-requires-clause-own g c =
+    lock_most c.args.self.now c.requires.next.0 c.requires.next.1 (exclusive c.in-Share.lock) c.in-Share.thread c.requires.next.2.stands
+
+pub share_lock-requires-clause-heard : goal.share_lock-requires-clause-heard
+share_lock-requires-clause-heard g c =
+    lock_no_news c.args.self.now c.requires.next.0 c.requires.next.1 c.args.event.now c.in-Share.thread c.in-Share.lock c.requires.next.2
+
+pub share_lock-requires-clause-news : goal.share_lock-requires-clause-news
+share_lock-requires-clause-news g c =
+    lock_news c.args.self.now c.requires.next.0 c.requires.next.1 c.args.event.now c.in-Share.thread c.in-Share.lock c.requires.next.2
+    (subst (λ e. thread_of e < length c.args.self.now.threads) c.in-Share.is (next_inside c.args.self.now c.requires.next.0 c.requires.next.1 c.args.event.now c.requires.next.2))
+
+pub returns-in-Share-clause-stamp : goal.returns-in-Share-clause-stamp
+returns-in-Share-clause-stamp g c =
+    subst (λ e. OnOk c.share_lock.result ((roots : ℕ → Bool) (es : List EventOf) → IsNextEvent c.args.self.now roots es e → IsStamp (es ++ e ∷ []) (length es) (last_stamp c.share_lock.new.self.threads (thread_of e))))
+    (sym c.in-Share.is)
+    (ok_stamp c.args.self.now c.share_lock.new.self (event.Share c.in-Share.thread c.in-Share.lock) c.share_lock.result
+    (ok_share c.args.self.now c.share_lock.new.self c.in-Share.thread c.in-Share.lock c.share_lock.result c.share_lock.ensures.ok c.share_lock.ensures.locks))
+
+pub returns-in-Share-clause-stands : goal.returns-in-Share-clause-stands
+returns-in-Share-clause-stands g c =
+    subst (λ e. OnOk c.share_lock.result ((roots : ℕ → Bool) (es : List EventOf) → IsNextEvent c.args.self.now roots es e → TrackerStandsFor c.share_lock.new.self roots (es ++ e ∷ [])))
+    (sym c.in-Share.is)
+    (ok_stands c.args.self.now c.share_lock.new.self (event.Share c.in-Share.thread c.in-Share.lock) c.share_lock.result
+    (ok_share c.args.self.now c.share_lock.new.self c.in-Share.thread c.in-Share.lock c.share_lock.result c.share_lock.ensures.ok c.share_lock.ensures.locks))
+
+pub unshare-requires-clause-known : goal.unshare-requires-clause-known
+unshare-requires-clause-known g c =
+    subst (λ e. thread_of e < length c.args.self.now.threads) c.in-Unshare.is (next_inside c.args.self.now c.requires.next.0 c.requires.next.1 c.args.event.now c.requires.next.2)
+
+pub unshare-requires-clause-below : goal.unshare-requires-clause-below
+unshare-requires-clause-below g c =
+    next_below c.args.self.now c.requires.next.0 c.requires.next.1 c.args.event.now c.in-Unshare.thread c.in-Unshare.thread c.requires.next.2
+
+pub returns-in-Unshare-clause-stamp : goal.returns-in-Unshare-clause-stamp
+returns-in-Unshare-clause-stamp g c =
+    subst (λ e. OnOk c.unshare.result ((roots : ℕ → Bool) (es : List EventOf) → IsNextEvent c.args.self.now roots es e → IsStamp (es ++ e ∷ []) (length es) (last_stamp c.unshare.new.self.threads (thread_of e))))
+    (sym c.in-Unshare.is)
+    (ok_stamp c.args.self.now c.unshare.new.self (event.Unshare c.in-Unshare.thread c.in-Unshare.lock) c.unshare.result
+    (ok_unshare c.args.self.now c.unshare.new.self c.in-Unshare.thread c.in-Unshare.lock c.unshare.result c.unshare.ensures.ok c.unshare.ensures.given c.unshare.ensures.releases))
+
+pub returns-in-Unshare-clause-stands : goal.returns-in-Unshare-clause-stands
+returns-in-Unshare-clause-stands g c =
+    subst (λ e. OnOk c.unshare.result ((roots : ℕ → Bool) (es : List EventOf) → IsNextEvent c.args.self.now roots es e → TrackerStandsFor c.unshare.new.self roots (es ++ e ∷ [])))
+    (sym c.in-Unshare.is)
+    (ok_stands c.args.self.now c.unshare.new.self (event.Unshare c.in-Unshare.thread c.in-Unshare.lock) c.unshare.result
+    (ok_unshare c.args.self.now c.unshare.new.self c.in-Unshare.thread c.in-Unshare.lock c.unshare.result c.unshare.ensures.ok c.unshare.ensures.given c.unshare.ensures.releases))
+
+pub returns-in-Unshare-clause-cost : goal.returns-in-Unshare-clause-cost
+returns-in-Unshare-clause-cost g c =
+    let inside = next_inside c.args.self.now c.requires.next.0 c.requires.next.1 c.args.event.now c.requires.next.2 in
+    subst (λ e. c.unshare.new.steps ≤ c.args.steps.now + event_bound e (threads_after e (length c.args.self.now.threads))) (sym c.in-Unshare.is)
+    (omega (arith, c.unshare.ensures.cost, inside))

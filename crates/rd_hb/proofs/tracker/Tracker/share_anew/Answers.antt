@@ -6,7 +6,7 @@ pub invariant_of-self-2 : goal.invariant_of-self-2
 invariant_of-self-2 c =
     let threads = c.self.inside.threads.items in
     let inside : c.args.thread < length threads = subst (λ v. c.args.thread < length v.threads) (sym c.self.view_is) c.requires in
-    kept_share threads c.self.inside.shared.items c.grow.new.list.items c.self.inside.locks.items c.args.thread c.in_ok-shared.shared c.self.invariant
+    kept_share threads c.self.inside.shared.items c.grow.new.list.items c.self.inside.locks.items c.self.inside.unshares.items c.args.thread c.in_ok-shared.shared c.self.invariant
     (omega (arith, c.in_ok-grow.ensures.room)) c.grow.ensures.kept
     (shared_copy threads c.args.thread c.in_ok-shared.shared (c.self.invariant.tracked.each c.args.thread inside)
     (c.in_ok-shared.ensures ∙ ap (λ x. x.clock) (read_at threads c.args.thread c.index.result.now inside c.index.ensures)))
