@@ -54,6 +54,8 @@ enum Numbered {
     Join(u32, u32),
     Acquire(u32, u32),
     Release(u32, u32),
+    Share(u32, u32),
+    Unshare(u32, u32),
 }
 
 fn accepted(numbered: Numbered) -> Accepted {
@@ -65,11 +67,13 @@ fn accepted(numbered: Numbered) -> Accepted {
         Numbered::Join(thread, child) => Accepted::Event(Event::Join { thread, child }),
         Numbered::Acquire(thread, lock) => Accepted::Event(Event::Acquire { thread, lock }),
         Numbered::Release(thread, lock) => Accepted::Event(Event::Release { thread, lock }),
+        Numbered::Share(thread, lock) => Accepted::Event(Event::Share { thread, lock }),
+        Numbered::Unshare(thread, lock) => Accepted::Event(Event::Unshare { thread, lock }),
     }
 }
 
 // Lines that are accepted, a line behind them, and what is answered to that.
-const ACCEPTED: [(&str, &str, Numbered); 15] = [
+const ACCEPTED: [(&str, &str, Numbered); 21] = [
     ("", "# skipped", Numbered::Nothing),
     ("# skipped", "rdtrace 1", Numbered::Nothing),
     ("rdtrace 1", "thread a", Numbered::Root(0)),
@@ -129,6 +133,33 @@ const ACCEPTED: [(&str, &str, Numbered); 15] = [
         "rdtrace 1;thread a;thread b;acquire a l;release a l;acquire b l;release b l",
         "acquire a l",
         Numbered::Acquire(0, 0),
+    ),
+    // shared by several, and taken both ways by one
+    ("rdtrace 2;thread a", "share a l", Numbered::Share(0, 0)),
+    (
+        "rdtrace 2;thread a;thread b;share a l;share a l",
+        "share b l",
+        Numbered::Share(1, 0),
+    ),
+    (
+        "rdtrace 2;thread a;thread b;share b l;share a l;unshare b l",
+        "acquire a l",
+        Numbered::Acquire(0, 0),
+    ),
+    (
+        "rdtrace 2;thread a;acquire a l",
+        "share a l",
+        Numbered::Share(0, 0),
+    ),
+    (
+        "rdtrace 2;thread a;share a l;acquire a m;share a m",
+        "unshare a m",
+        Numbered::Unshare(0, 1),
+    ),
+    (
+        "rdtrace 2;thread a;thread b;share a l;share a l;unshare a l;unshare a l",
+        "acquire b l",
+        Numbered::Acquire(1, 0),
     ),
 ];
 
@@ -313,8 +344,8 @@ const REFUSED: [(&str, &str, WfCause); 39] = [
     ),
 ];
 
-// The same of locks, which one thread holds.
-const HELD: [(&str, &str, WfCause); 10] = [
+// The same of locks, which one thread holds, or several share.
+const HELD: [(&str, &str, WfCause); 20] = [
     (
         "rdtrace 1;thread a;thread b;acquire a l",
         "acquire b l",
@@ -367,6 +398,54 @@ const HELD: [(&str, &str, WfCause); 10] = [
         "release a l",
         WfCause::NotHeld,
     ),
+    (
+        "rdtrace 2;thread a;thread b;share a l",
+        "acquire b l",
+        WfCause::LockHeld(0),
+    ),
+    (
+        "rdtrace 2;thread a;thread b;acquire b l",
+        "share a l",
+        WfCause::LockHeld(1),
+    ),
+    // of several sharers the least is told
+    (
+        "rdtrace 2;thread a;thread b;thread c;thread d;share d l;share b l;share c l",
+        "acquire a l",
+        WfCause::LockHeld(1),
+    ),
+    (
+        "rdtrace 2;thread a;thread b;thread c;share a l;share c l",
+        "acquire a l",
+        WfCause::LockHeld(2),
+    ),
+    // a thread that took it both ways, and gave back one
+    (
+        "rdtrace 2;thread a;thread b;share b l;acquire b l;unshare b l",
+        "share a l",
+        WfCause::LockHeld(1),
+    ),
+    (
+        "rdtrace 2;thread a;thread b;share b l;acquire b l;release b l",
+        "acquire a l",
+        WfCause::LockHeld(1),
+    ),
+    ("rdtrace 2;thread a", "unshare a l", WfCause::NotHeld),
+    (
+        "rdtrace 2;thread a;acquire a l",
+        "unshare a l",
+        WfCause::NotHeld,
+    ),
+    (
+        "rdtrace 2;thread a;share a l",
+        "release a l",
+        WfCause::NotHeld,
+    ),
+    (
+        "rdtrace 2;thread a;thread b;share a l;share b l;unshare a l",
+        "unshare a l",
+        WfCause::NotHeld,
+    ),
 ];
 
 fn are_refused(rt: &impl Abort, alloc: Global, rows: &[(&str, &str, WfCause)]) {
@@ -400,9 +479,27 @@ fn limits_of(rt: &impl Abort, bounds: Bounds) -> Limits
     }
 }
 
-// Where a line passes several limits, the first is told, and a broken rule of locks comes before. A lock is counted where it is acquired
-// first, and its depth by each acquire.
-const PASSED: [(Bounds, &str, &str, WfCause); 17] = [
+// Where a line passes several limits, the first is told, and a broken rule of locks comes before. A lock is counted where it is first
+// acquired or shared, and its depth by each acquire, and apart by each share.
+const PASSED: [(Bounds, &str, &str, WfCause); 20] = [
+    (
+        (9, 4096, 65536, 1, 1),
+        "rdtrace 2;thread a;share a l;acquire a l",
+        "share a l",
+        WfCause::Limit(LimitName::Depth, 1),
+    ),
+    (
+        (9, 4096, 65536, 1, 1),
+        "rdtrace 2;thread a;share a l;acquire a l",
+        "acquire a l",
+        WfCause::Limit(LimitName::Depth, 1),
+    ),
+    (
+        (9, 4096, 65536, 1, 9),
+        "rdtrace 2;thread a;share a l",
+        "share a m",
+        WfCause::Limit(LimitName::Locks, 1),
+    ),
     (
         (1, 4096, 65536, 0, 0),
         "rdtrace 1;thread a;fork a b",

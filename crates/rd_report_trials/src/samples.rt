@@ -81,9 +81,9 @@ pub fn has_slots(kind: &KindSpec, method: u8, count: usize) -> bool
     }
 }
 
-/// The line of a trace.
+/// The line of a trace of version 2.
 pub fn line(rt: &impl Abort, alloc: Global, text: &str) -> Line {
-    read_line(alloc, text.as_bytes()).expect(rt, "a line")
+    read_line(alloc, text.as_bytes(), 2).expect(rt, "a line")
 }
 
 /// The roster of no lines, over the kinds that a text says.

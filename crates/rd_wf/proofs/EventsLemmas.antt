@@ -16,19 +16,19 @@ use Rattle.rd_event.specs.declared.events.Event.TheVariants as numbered
 use Rattle.rd_event.specs.declared.items.Line.{Line}
 use Rattle.rd_event.specs.declared.items.Line.TheVariants.{Skip, Header, Thread, Object, Event}
 use Rattle.rd_event.specs.declared.items.LineEvent.{LineEvent}
-use Rattle.rd_event.specs.declared.items.LineEvent.TheVariants.{Fork, Join, Acquire, Release, Call}
-use Rattle.rd_order.proofs.EventListLemmas.{few_known, formed_more, may_acquire, may_call, may_fork, may_join, may_release}
-use Rattle.rd_order.specs.EventLists.{calls, Follow, forks, is_call_on, joins, IsBounded, IsCallOf, IsKnownThread, MayHappen, WellFormedWith}
-use Rattle.rd_order.specs.Order.{call_in, forked_thread, joined_thread}
+use Rattle.rd_event.specs.declared.items.LineEvent.TheVariants.{Fork, Join, Acquire, Release, Share, Unshare, Call}
+use Rattle.rd_order.proofs.EventListLemmas.{few_known, formed_more, may_acquire, may_call, may_fork, may_join, may_release, may_share, may_unshare}
+use Rattle.rd_order.specs.EventLists.{calls, Follow, forks, givings, is_call_on, joins, IsBounded, IsCallOf, IsKnownThread, MayHappen, takings, WellFormedWith}
+use Rattle.rd_order.specs.Order.{call_in, exclusive, forked_thread, joined_thread, shared}
 use Rattle.rd_order.specs.OrderTests.{is_this}
 use Rattle.rd_wf.proofs.FollowLemmas.{Meets, met}
-use Rattle.rd_wf.proofs.UseLemmas.{none_and, once, one_for, used_acquire, used_free, used_held, used_release, used_still, used_thread}
+use Rattle.rd_wf.proofs.UseLemmas.{held_free, held_more, none_and, once, one_for, used_acquire, used_release, used_share, used_still, used_thread, used_unshare}
 use Rattle.rd_wf.proofs.PlaceLemmas.{OnePlace, got_left, got_push, one_place_more, place_below, place_named, place_new}
 use Rattle.rd_wf.specs.declared.causes.Accepted.TheVariants as accepted
 use Rattle.rd_wf.specs.laws.NoLines.{told_none}
 use Rattle.rd_wf.specs.Events.{AreAccepted, AreAcceptedFrom, AreTold, AreUsed, IsTold, event_of, events_from, events_of, root_count, roots_of}
 use Rattle.rd_ecl.specs.Kinds.{Kind, KindMethod, kind_names, method_names}
-use Rattle.rd_wf.specs.MayFollow.{MayFollow, accepted_of, acquired_name, acquires, acting_name, begun_name, declared_kind, events, is_acquire_of, is_event, is_release_of, is_root, is_skip, joined_name, joined_of, kind_number, locks_of, method_number, methods_of, numbered_event, object_kinds, objects_of, passes, place, released_name, releases, same_name, threads_of, with_lock, with_locks}
+use Rattle.rd_wf.specs.MayFollow.{MayFollow, accepted_of, acquired_name, acquires, acting_name, begun_name, declared_kind, events, is_acquire_of, is_event, is_release_of, is_root, is_share_of, is_skip, is_unshare_of, joined_name, joined_of, kind_number, locks_of, method_number, methods_of, numbered_event, object_kinds, objects_of, passes, place, released_name, releases, same_name, shared_name, shares, taken_name, threads_of, unshared_name, unshares, with_lock, with_locks}
 
 -- ---- one more name, and one more join
 
@@ -368,12 +368,20 @@ module _ (lines : List Line) (line : Line) where
   unfolding releases
   releases_more thread lock = sum_by_push (λ l. cond (is_release_of thread lock l) 1 0) lines line
 
-  pub locks_more : locks_of (lines ++ line ∷ []) ≡ with_lock (locks_of lines) (acquired_name line)
+  pub shares_more : (thread lock : List ℕ) → shares (lines ++ line ∷ []) thread lock ≡ shares lines thread lock + cond (is_share_of thread lock line) 1 0
+  unfolding shares
+  shares_more thread lock = sum_by_push (λ l. cond (is_share_of thread lock l) 1 0) lines line
+
+  pub unshares_more : (thread lock : List ℕ) → unshares (lines ++ line ∷ []) thread lock ≡ unshares lines thread lock + cond (is_unshare_of thread lock line) 1 0
+  unfolding unshares
+  unshares_more thread lock = sum_by_push (λ l. cond (is_unshare_of thread lock l) 1 0) lines line
+
+  pub locks_more : locks_of (lines ++ line ∷ []) ≡ with_lock (locks_of lines) (taken_name line)
   locks_more = by [] lines
     where
-      by : (locks : List (List ℕ)) (before : List Line) → with_locks locks (before ++ line ∷ []) ≡ with_lock (with_locks locks before) (acquired_name line)
+      by : (locks : List (List ℕ)) (before : List Line) → with_locks locks (before ++ line ∷ []) ≡ with_lock (with_locks locks before) (taken_name line)
       by locks [] = refl
-      by locks (x ∷ xs) = by (with_lock locks (acquired_name x)) xs
+      by locks (x ∷ xs) = by (with_lock locks (taken_name x)) xs
 
 no_more : {X : Type 0} (xs : List X) (o : Option X) → o ≡ None → xs ++ cons_option o [] ≡ xs
 no_more xs o none = ap (λ p. xs ++ cons_option p []) none ∙ append-nil xs
@@ -382,7 +390,7 @@ abbrev ToldOf : List Kind → List Line → Type 0
 ToldOf kinds lines = IsTold (roots_of lines) (events_of kinds lines) (events lines) (threads_of lines) (joined_of lines) (object_kinds kinds lines)
 
 abbrev UsedOf : List Kind → List Line → Type 0
-UsedOf kinds lines = AreUsed (events_of kinds lines) (threads_of lines) (locks_of lines) (acquires lines) (releases lines)
+UsedOf kinds lines = AreUsed (events_of kinds lines) (threads_of lines) (locks_of lines) (acquires lines) (releases lines) (shares lines) (unshares lines)
 
 all_more : {X : Type 0} (P : X → Type 0) (xs : List X) (o : Option X) → All P xs → IfSome o P → All P (xs ++ cons_option o [])
 all_more P xs None all has = All-append P xs [] all (All-nil P)
@@ -408,30 +416,46 @@ module _ (kinds : List Kind) (lines : List Line) (line : Line) where
       declares
       told
 
-  used_as : (es : List Numbered) (threads locks : List (List ℕ)) (took gave : List ℕ → List ℕ → ℕ) → events_of kinds (lines ++ line ∷ []) ≡ es → threads_of (lines ++ line ∷ []) ≡ threads
-      → locks_of (lines ++ line ∷ []) ≡ locks → ((t l : List ℕ) → acquires (lines ++ line ∷ []) t l ≡ took t l) → ((t l : List ℕ) → releases (lines ++ line ∷ []) t l ≡ gave t l)
-      → AreUsed es threads locks took gave → UsedOf kinds (lines ++ line ∷ [])
-  used_as es threads locks took gave a b c d e used = subst (λ (T : Type 0). T) (λ i. AreUsed (sym a i) (sym b i) (sym c i) (λ t l. sym (d t l) i) (λ t l. sym (e t l) i)) used
+  used_as : (es : List Numbered) (threads locks : List (List ℕ)) (took gave sharing unsharing : List ℕ → List ℕ → ℕ) → events_of kinds (lines ++ line ∷ []) ≡ es
+      → threads_of (lines ++ line ∷ []) ≡ threads → locks_of (lines ++ line ∷ []) ≡ locks
+      → ((t l : List ℕ) → acquires (lines ++ line ∷ []) t l ≡ took t l) → ((t l : List ℕ) → releases (lines ++ line ∷ []) t l ≡ gave t l)
+      → ((t l : List ℕ) → shares (lines ++ line ∷ []) t l ≡ sharing t l) → ((t l : List ℕ) → unshares (lines ++ line ∷ []) t l ≡ unsharing t l)
+      → AreUsed es threads locks took gave sharing unsharing → UsedOf kinds (lines ++ line ∷ [])
+  used_as es threads locks took gave sharing unsharing a b c d e f g used =
+      subst (λ (T : Type 0). T) (λ i. AreUsed (sym a i) (sym b i) (sym c i) (λ t l. sym (d t l) i) (λ t l. sym (e t l) i) (λ t l. sym (f t l) i) (λ t l. sym (g t l) i)) used
 
-  -- with a line that acquires no lock the lines acquire as often, and with one that releases none they release as often
+  -- with a line that acquires no lock the lines acquire as often, and so it is with what it doesn't release, share or unshare
+  none_of : (o : Option (List ℕ)) → o ≡ None → (t l : List ℕ) → once (passes (acting_name line) (same_name t) && passes o (same_name l)) ≡ 0
+  none_of o none t l = ap (λ o. once (passes (acting_name line) (same_name t) && passes o (same_name l))) none ∙ none_and (passes (acting_name line) (same_name t)) false refl
+
   acquires_same : acquired_name line ≡ None → (t l : List ℕ) → acquires (lines ++ line ∷ []) t l ≡ acquires lines t l
-  acquires_same none t l =
-      let nothing : once (is_acquire_of t l line) ≡ 0 = ap (λ o. once (passes (acting_name line) (same_name t) && passes o (same_name l))) none ∙ none_and (passes (acting_name line) (same_name t)) false refl in
-      omega (arith, acquires_more lines line t l)
+  acquires_same none t l = omega (arith, acquires_more lines line t l, none_of (acquired_name line) none t l)
 
   releases_same : released_name line ≡ None → (t l : List ℕ) → releases (lines ++ line ∷ []) t l ≡ releases lines t l
-  releases_same none t l =
-      let nothing : once (is_release_of t l line) ≡ 0 = ap (λ o. once (passes (acting_name line) (same_name t) && passes o (same_name l))) none ∙ none_and (passes (acting_name line) (same_name t)) false refl in
-      omega (arith, releases_more lines line t l)
+  releases_same none t l = omega (arith, releases_more lines line t l, none_of (released_name line) none t l)
 
-  locks_same : acquired_name line ≡ None → locks_of (lines ++ line ∷ []) ≡ locks_of lines
+  shares_same : shared_name line ≡ None → (t l : List ℕ) → shares (lines ++ line ∷ []) t l ≡ shares lines t l
+  shares_same none t l = omega (arith, shares_more lines line t l, none_of (shared_name line) none t l)
+
+  unshares_same : unshared_name line ≡ None → (t l : List ℕ) → unshares (lines ++ line ∷ []) t l ≡ unshares lines t l
+  unshares_same none t l = omega (arith, unshares_more lines line t l, none_of (unshared_name line) none t l)
+
+  locks_same : taken_name line ≡ None → locks_of (lines ++ line ∷ []) ≡ locks_of lines
   locks_same none = locks_more lines line ∙ ap (with_lock (locks_of lines)) none
 
-  -- a line that does neither
-  used_apart : (es : List Numbered) (threads : List (List ℕ)) → acquired_name line ≡ None → released_name line ≡ None → events_of kinds (lines ++ line ∷ []) ≡ es
-      → threads_of (lines ++ line ∷ []) ≡ threads → AreUsed es threads (locks_of lines) (acquires lines) (releases lines) → UsedOf kinds (lines ++ line ∷ [])
-  used_apart es threads acquires_none releases_none es_are threads_are =
-      used_as es threads (locks_of lines) (acquires lines) (releases lines) es_are threads_are (locks_same acquires_none) (acquires_same acquires_none) (releases_same releases_none)
+  -- the line takes no lock and gives none back
+  record Apart : Type 0 where
+    takes : taken_name line ≡ None
+    acquired : acquired_name line ≡ None
+    released : released_name line ≡ None
+    shared : shared_name line ≡ None
+    unshared : unshared_name line ≡ None
+
+  used_apart : (es : List Numbered) (threads : List (List ℕ)) → Apart → events_of kinds (lines ++ line ∷ []) ≡ es → threads_of (lines ++ line ∷ []) ≡ threads
+      → AreUsed es threads (locks_of lines) (acquires lines) (releases lines) (shares lines) (unshares lines) → UsedOf kinds (lines ++ line ∷ [])
+  used_apart es threads apart es_are threads_are =
+      used_as es threads (locks_of lines) (acquires lines) (releases lines) (shares lines) (unshares lines) es_are threads_are (locks_same apart.takes)
+      (acquires_same apart.acquired) (releases_same apart.released) (shares_same apart.shared) (unshares_same apart.unshared)
 
   -- all is told of one line more, where the object that it declares and the call that it is are of the kinds
   grown : AreTold kinds lines → ToldOf kinds (lines ++ line ∷ []) → UsedOf kinds (lines ++ line ∷ []) → IfSome (declared_kind kinds line) (λ kind. kind < length kinds)
@@ -456,12 +480,12 @@ not_skipped : (line : Line) → is_skip line ≡ false → line ≢ Skip
 not_skipped line counted skip = true≢false (sym (ap is_skip skip) ∙ counted)
 
 -- a line that says nothing of threads, locks and objects, as one that is skipped, or the header
-told_quiet : (kinds : List Kind) (lines : List Line) (line : Line) → is_root line ≡ false → is_event line ≡ false → begun_name line ≡ None → joined_name line ≡ None → acquired_name line ≡ None
-    → released_name line ≡ None → event_of kinds lines line ≡ None → declared_kind kinds line ≡ None → AreTold kinds lines → AreTold kinds (lines ++ line ∷ [])
-told_quiet kinds lines line root event begins joins acquires_none releases_none numbers declares told = grown kinds lines line told
+told_quiet : (kinds : List Kind) (lines : List Line) (line : Line) → is_root line ≡ false → is_event line ≡ false → begun_name line ≡ None → joined_name line ≡ None → Apart kinds lines line
+    → event_of kinds lines line ≡ None → declared_kind kinds line ≡ None → AreTold kinds lines → AreTold kinds (lines ++ line ∷ [])
+told_quiet kinds lines line root event begins joins apart numbers declares told = grown kinds lines line told
     (told_silent kinds lines line (object_kinds kinds lines) root event begins joins numbers
     (objects_more kinds lines line ∙ no_more (object_kinds kinds lines) (declared_kind kinds line) declares) told.told)
-    (used_apart kinds lines line (events_of kinds lines) (threads_of lines) acquires_none releases_none
+    (used_apart kinds lines line (events_of kinds lines) (threads_of lines) apart
     (events_more kinds lines line ∙ no_more (events_of kinds lines) (event_of kinds lines line) numbers)
     (threads_more lines line ∙ no_more (threads_of lines) (begun_name line) begins) told.used)
     (subst (λ o. IfSome o (λ kind. kind < length kinds)) (sym declares) tt)
@@ -474,7 +498,7 @@ told_declared kinds limits lines name kind may told =
     grown kinds lines line told
     (told_silent kinds lines line (object_kinds kinds lines ++ place (kind_names kinds) kind ∷ []) refl refl refl refl refl (objects_more kinds lines line)
     (told_object (roots_of lines) (events_of kinds lines) (events lines) (threads_of lines) (joined_of lines) (object_kinds kinds lines) told.told (place (kind_names kinds) kind)))
-    (used_apart kinds lines line (events_of kinds lines) (threads_of lines) refl refl
+    (used_apart kinds lines line (events_of kinds lines) (threads_of lines) (record { takes = refl; acquired = refl; released = refl; shared = refl; unshared = refl })
     (events_more kinds lines line ∙ append-nil (events_of kinds lines)) (threads_more lines line ∙ append-nil (threads_of lines)) told.used)
     (omega (arith, below, length-map kinds (λ kind. kind.name)))
     tt
@@ -494,9 +518,9 @@ told_rooted kinds limits lines name may few told =
     (objects_more kinds lines line ∙ append-nil (object_kinds kinds lines))
     (told_root (root_count lines) (events_of kinds lines) (events lines) (threads_of lines) (joined_of lines) (object_kinds kinds lines) name
     (no_events kinds lines told (may.early_root refl)) told.told may.new_thread (omega arith)))
-    (used_apart kinds lines line (events_of kinds lines) (threads_of lines ++ name ∷ []) refl refl
+    (used_apart kinds lines line (events_of kinds lines) (threads_of lines ++ name ∷ []) (record { takes = refl; acquired = refl; released = refl; shared = refl; unshared = refl })
     (events_more kinds lines line ∙ append-nil (events_of kinds lines)) (threads_more lines line)
-    (used_thread (events_of kinds lines) (threads_of lines) (locks_of lines) (acquires lines) (releases lines) told.used name may.new_thread))
+    (used_thread (events_of kinds lines) (threads_of lines) (locks_of lines) (acquires lines) (releases lines) (shares lines) (unshares lines) told.used name may.new_thread))
     tt
     tt
 
@@ -528,9 +552,9 @@ told_forked kinds limits lines thread child usable may few told =
     (told_event kinds limits lines (Fork thread child) usable may (threads_of lines ++ child ∷ []) (joined_of lines) (threads_more lines line) (joined_more lines line ∙ append-nil (joined_of lines))
     (λ few_events. told_fork (roots_of lines) (events_of kinds lines) (events lines) (threads_of lines) (joined_of lines) (object_kinds kinds lines) told.told
     thread child may.known_actor may.running may.new_thread few_events (omega arith)))
-    (used_apart kinds lines line (events_of kinds lines ++ event ∷ []) (threads_of lines ++ child ∷ []) refl refl (events_more kinds lines line) (threads_more lines line)
-    (used_thread (events_of kinds lines ++ event ∷ []) (threads_of lines) (locks_of lines) (acquires lines) (releases lines)
-    (used_still (events_of kinds lines) (threads_of lines) (locks_of lines) (acquires lines) (releases lines) told.used event refl refl) child may.new_thread))
+    (used_apart kinds lines line (events_of kinds lines ++ event ∷ []) (threads_of lines ++ child ∷ []) (record { takes = refl; acquired = refl; released = refl; shared = refl; unshared = refl }) (events_more kinds lines line) (threads_more lines line)
+    (used_thread (events_of kinds lines ++ event ∷ []) (threads_of lines) (locks_of lines) (acquires lines) (releases lines) (shares lines) (unshares lines)
+    (used_still (events_of kinds lines) (threads_of lines) (locks_of lines) (acquires lines) (releases lines) (shares lines) (unshares lines) told.used event refl refl) child may.new_thread))
     tt
     tt
 
@@ -544,56 +568,116 @@ told_joined kinds limits lines thread child usable may told =
     (told_event kinds limits lines (Join thread child) usable may (threads_of lines) (joined_of lines ++ child ∷ []) begins (joined_more lines line)
     (told_join (roots_of lines) (events_of kinds lines) (events lines) (threads_of lines) (joined_of lines) (object_kinds kinds lines) told.told
     thread child may.known_actor may.running may.known_joined (λ same. may.other_joined (ap (λ name. Some name) (sym same)))))
-    (used_apart kinds lines line (events_of kinds lines ++ event ∷ []) (threads_of lines) refl refl (events_more kinds lines line) begins
-    (used_still (events_of kinds lines) (threads_of lines) (locks_of lines) (acquires lines) (releases lines) told.used event refl refl))
+    (used_apart kinds lines line (events_of kinds lines ++ event ∷ []) (threads_of lines) (record { takes = refl; acquired = refl; released = refl; shared = refl; unshared = refl }) (events_more kinds lines line) begins
+    (used_still (events_of kinds lines) (threads_of lines) (locks_of lines) (acquires lines) (releases lines) (shares lines) (unshares lines) told.used event refl refl))
     tt
     tt
 
-told_acquired : (kinds : List Kind) (limits : Limits) (lines : List Line) (thread lock : List ℕ) → AreUsable limits
-    → Meets kinds limits lines (Event (Acquire thread lock)) → AreTold kinds lines → AreTold kinds (lines ++ Event (Acquire thread lock) ∷ [])
-told_acquired kinds limits lines thread lock usable may told =
-    let line : Line = Event (Acquire thread lock) in
-    let t : ℕ = place (threads_of lines) thread in
-    let l : ℕ = place (locks_of lines) lock in
-    let begins : threads_of (lines ++ line ∷ []) ≡ threads_of lines = threads_more lines line ∙ append-nil (threads_of lines) in
-    let may_happen : MayHappen (roots_of lines) (events_of kinds lines) (numbered.Acquire t l) = may_acquire (roots_of lines) (events_of kinds lines) t l
-    (known_name (roots_of lines) (events_of kinds lines) (events lines) (threads_of lines) (joined_of lines) (object_kinds kinds lines) told.told thread may.known_actor)
-    (running (roots_of lines) (events_of kinds lines) (events lines) (threads_of lines) (joined_of lines) (object_kinds kinds lines) told.told thread may.known_actor may.running)
-    (used_free (events_of kinds lines) (threads_of lines) (locks_of lines) (acquires lines) (releases lines) told.used thread lock told.told.places free) in
-    grown kinds lines line told
-    (told_event kinds limits lines (Acquire thread lock) usable may (threads_of lines) (joined_of lines) begins (joined_more lines line ∙ append-nil (joined_of lines))
-    (told_still (roots_of lines) (events_of kinds lines) (events lines) (threads_of lines) (joined_of lines) (object_kinds kinds lines) told.told (numbered.Acquire t l) refl refl refl may_happen))
-    (used_as kinds lines line (events_of kinds lines ++ numbered.Acquire t l ∷ []) (threads_of lines) (with_lock (locks_of lines) (Some lock)) (λ u m. acquires lines u m + one_for thread lock u m) (releases lines)
-    (events_more kinds lines line) begins (locks_more lines line) (acquires_more lines line) (releases_same kinds lines line refl)
-    (used_acquire (events_of kinds lines) (threads_of lines) (locks_of lines) (acquires lines) (releases lines) thread lock told.used told.told.places may.known_actor))
-    tt
-    tt
-  where
-    free : (u : ℕ) (other : List ℕ) → slice_get (threads_of lines) u ≡ Some other → other ≢ thread → acquires lines other lock ≡ releases lines other lock
-    free u other at apart =
-        subst (λ o. IfSome o (λ name. Some thread ≢ Some name → acquires lines name lock ≡ releases lines name lock)) at (may.free u (slice_get_within (threads_of lines) u other at))
-        (λ same. apart (sym (same_Some thread other same)))
+module _ (kinds : List Kind) (limits : Limits) (lines : List Line) (thread lock : List ℕ) (usable : AreUsable limits) (told : AreTold kinds lines) where
+  -- the thread is known and runs
+  acting : Contains (threads_of lines) thread → IsKnownThread (roots_of lines) (events_of kinds lines) (place (threads_of lines) thread)
+  acting = known_name (roots_of lines) (events_of kinds lines) (events lines) (threads_of lines) (joined_of lines) (object_kinds kinds lines) told.told thread
 
-told_released : (kinds : List Kind) (limits : Limits) (lines : List Line) (thread lock : List ℕ) → AreUsable limits
-    → Meets kinds limits lines (Event (Release thread lock)) → AreTold kinds lines → AreTold kinds (lines ++ Event (Release thread lock) ∷ [])
-told_released kinds limits lines thread lock usable may told =
-    let line : Line = Event (Release thread lock) in
-    let t : ℕ = place (threads_of lines) thread in
-    let l : ℕ = place (locks_of lines) lock in
-    let begins : threads_of (lines ++ line ∷ []) ≡ threads_of lines = threads_more lines line ∙ append-nil (threads_of lines) in
-    let held = used_held (events_of kinds lines) (threads_of lines) (locks_of lines) (acquires lines) (releases lines) told.used thread lock may.known_actor may.held in
-    let may_happen : MayHappen (roots_of lines) (events_of kinds lines) (numbered.Release t l) = may_release (roots_of lines) (events_of kinds lines) t l
-    (known_name (roots_of lines) (events_of kinds lines) (events lines) (threads_of lines) (joined_of lines) (object_kinds kinds lines) told.told thread may.known_actor)
-    (running (roots_of lines) (events_of kinds lines) (events lines) (threads_of lines) (joined_of lines) (object_kinds kinds lines) told.told thread may.known_actor may.running)
-    held.1 in
-    grown kinds lines line told
-    (told_event kinds limits lines (Release thread lock) usable may (threads_of lines) (joined_of lines) begins (joined_more lines line ∙ append-nil (joined_of lines))
-    (told_still (roots_of lines) (events_of kinds lines) (events lines) (threads_of lines) (joined_of lines) (object_kinds kinds lines) told.told (numbered.Release t l) refl refl refl may_happen))
-    (used_as kinds lines line (events_of kinds lines ++ numbered.Release t l ∷ []) (threads_of lines) (locks_of lines) (acquires lines) (λ u m. releases lines u m + one_for thread lock u m)
-    (events_more kinds lines line) begins (locks_same kinds lines line refl) (acquires_same kinds lines line refl) (releases_more lines line)
-    (used_release (events_of kinds lines) (threads_of lines) (locks_of lines) (acquires lines) (releases lines) told.used thread lock told.told.places may.known_actor held.0))
-    tt
-    tt
+  still_runs : Contains (threads_of lines) thread → ¬ (Contains (joined_of lines) thread) → joins (events_of kinds lines) (place (threads_of lines) thread) ≡ 0
+  still_runs = running (roots_of lines) (events_of kinds lines) (events lines) (threads_of lines) (joined_of lines) (object_kinds kinds lines) told.told thread
+
+  -- an event of the thread that begins no thread, joins none and is no call
+  told_use : (event : LineEvent) → Meets kinds limits lines (Event event) → begun_name (Event event) ≡ None → joined_name (Event event) ≡ None
+      → forked_thread (numbered_event kinds lines event) ≡ None → joined_thread (numbered_event kinds lines event) ≡ None → call_in (numbered_event kinds lines event) ≡ None
+      → MayHappen (roots_of lines) (events_of kinds lines) (numbered_event kinds lines event) → ToldOf kinds (lines ++ Event event ∷ [])
+  told_use event may begins joins forks_none joins_none calls_none happens =
+      told_event kinds limits lines event usable may (threads_of lines) (joined_of lines)
+      (threads_more lines (Event event) ∙ no_more (threads_of lines) (begun_name (Event event)) begins)
+      (joined_more lines (Event event) ∙ no_more (joined_of lines) (joined_name (Event event)) joins)
+      (told_still (roots_of lines) (events_of kinds lines) (events lines) (threads_of lines) (joined_of lines) (object_kinds kinds lines) told.told (numbered_event kinds lines event)
+      forks_none joins_none calls_none happens)
+
+  -- each other thread gave the lock back as often as it took it
+  free_alone : (line : Line) → taken_name line ≡ Some lock → acting_name line ≡ Some thread → Meets kinds limits lines line
+      → (u : ℕ) → u ≢ place (threads_of lines) thread
+      → takings (events_of kinds lines) u (exclusive (place (locks_of lines) lock)) ≡ givings (events_of kinds lines) u (exclusive (place (locks_of lines) lock))
+  free_alone line takes acts may = held_free exclusive (events_of kinds lines) (threads_of lines) (locks_of lines) (acquires lines) (releases lines) told.used.alone thread lock told.told.places free
+    where
+      free : (u : ℕ) (other : List ℕ) → slice_get (threads_of lines) u ≡ Some other → other ≢ thread → acquires lines other lock ≡ releases lines other lock
+      free u other at apart =
+          let part : IfSome (taken_name line) (λ lock. IfSome (slice_get (threads_of lines) u) (λ thread. acting_name line ≢ Some thread → acquires lines thread lock ≡ releases lines thread lock)) =
+          (may.free u (slice_get_within (threads_of lines) u other at)).0 in
+          subst (λ o. IfSome o (λ lock. IfSome (Some other) (λ thread. acting_name line ≢ Some thread → acquires lines thread lock ≡ releases lines thread lock))) takes
+          (subst (λ o. IfSome (taken_name line) (λ lock. IfSome o (λ thread. acting_name line ≢ Some thread → acquires lines thread lock ≡ releases lines thread lock))) at part)
+          (λ same. apart (sym (same_Some thread other (sym acts ∙ same))))
+
+  told_acquired : Meets kinds limits lines (Event (Acquire thread lock)) → AreTold kinds (lines ++ Event (Acquire thread lock) ∷ [])
+  told_acquired may =
+      let line : Line = Event (Acquire thread lock) in
+      let t : ℕ = place (threads_of lines) thread in
+      let l : ℕ = place (locks_of lines) lock in
+      grown kinds lines line told
+      (told_use (Acquire thread lock) may refl refl refl refl refl
+      (may_acquire (roots_of lines) (events_of kinds lines) t l (acting may.known_actor) (still_runs may.known_actor may.running)
+      (free_alone line refl refl may)
+      (held_free shared (events_of kinds lines) (threads_of lines) (locks_of lines) (shares lines) (unshares lines) told.used.shares thread lock told.told.places free)))
+      (used_as kinds lines line (events_of kinds lines ++ numbered.Acquire t l ∷ []) (threads_of lines) (with_lock (locks_of lines) (Some lock))
+      (λ u m. acquires lines u m + one_for thread lock u m) (releases lines) (shares lines) (unshares lines)
+      (events_more kinds lines line) (threads_more lines line ∙ append-nil (threads_of lines)) (locks_more lines line)
+      (acquires_more lines line) (releases_same kinds lines line refl) (shares_same kinds lines line refl) (unshares_same kinds lines line refl)
+      (used_acquire (events_of kinds lines) (threads_of lines) (locks_of lines) (acquires lines) (releases lines) (shares lines) (unshares lines) thread lock told.used told.told.places may.known_actor))
+      tt
+      tt
+    where
+      free : (u : ℕ) (other : List ℕ) → slice_get (threads_of lines) u ≡ Some other → other ≢ thread → shares lines other lock ≡ unshares lines other lock
+      free u other at apart =
+          subst (λ o. IfSome o (λ name. Some thread ≢ Some name → shares lines name lock ≡ unshares lines name lock)) at (may.free u (slice_get_within (threads_of lines) u other at)).1
+          (λ same. apart (sym (same_Some thread other same)))
+
+  told_shared : Meets kinds limits lines (Event (Share thread lock)) → AreTold kinds (lines ++ Event (Share thread lock) ∷ [])
+  told_shared may =
+      let line : Line = Event (Share thread lock) in
+      let t : ℕ = place (threads_of lines) thread in
+      let l : ℕ = place (locks_of lines) lock in
+      grown kinds lines line told
+      (told_use (Share thread lock) may refl refl refl refl refl
+      (may_share (roots_of lines) (events_of kinds lines) t l (acting may.known_actor) (still_runs may.known_actor may.running) (free_alone line refl refl may)))
+      (used_as kinds lines line (events_of kinds lines ++ numbered.Share t l ∷ []) (threads_of lines) (with_lock (locks_of lines) (Some lock))
+      (acquires lines) (releases lines) (λ u m. shares lines u m + one_for thread lock u m) (unshares lines)
+      (events_more kinds lines line) (threads_more lines line ∙ append-nil (threads_of lines)) (locks_more lines line)
+      (acquires_same kinds lines line refl) (releases_same kinds lines line refl) (shares_more lines line) (unshares_same kinds lines line refl)
+      (used_share (events_of kinds lines) (threads_of lines) (locks_of lines) (acquires lines) (releases lines) (shares lines) (unshares lines) thread lock told.used told.told.places may.known_actor))
+      tt
+      tt
+
+  told_released : Meets kinds limits lines (Event (Release thread lock)) → AreTold kinds (lines ++ Event (Release thread lock) ∷ [])
+  told_released may =
+      let line : Line = Event (Release thread lock) in
+      let t : ℕ = place (threads_of lines) thread in
+      let l : ℕ = place (locks_of lines) lock in
+      let held = held_more exclusive (events_of kinds lines) (threads_of lines) (locks_of lines) (acquires lines) (releases lines) told.used.alone thread lock may.known_actor may.held.0 in
+      grown kinds lines line told
+      (told_use (Release thread lock) may refl refl refl refl refl
+      (may_release (roots_of lines) (events_of kinds lines) t l (acting may.known_actor) (still_runs may.known_actor may.running) held.1))
+      (used_as kinds lines line (events_of kinds lines ++ numbered.Release t l ∷ []) (threads_of lines) (locks_of lines)
+      (acquires lines) (λ u m. releases lines u m + one_for thread lock u m) (shares lines) (unshares lines)
+      (events_more kinds lines line) (threads_more lines line ∙ append-nil (threads_of lines)) (locks_same kinds lines line refl)
+      (acquires_same kinds lines line refl) (releases_more lines line) (shares_same kinds lines line refl) (unshares_same kinds lines line refl)
+      (used_release (events_of kinds lines) (threads_of lines) (locks_of lines) (acquires lines) (releases lines) (shares lines) (unshares lines) told.used thread lock told.told.places may.known_actor held.0))
+      tt
+      tt
+
+  told_unshared : Meets kinds limits lines (Event (Unshare thread lock)) → AreTold kinds (lines ++ Event (Unshare thread lock) ∷ [])
+  told_unshared may =
+      let line : Line = Event (Unshare thread lock) in
+      let t : ℕ = place (threads_of lines) thread in
+      let l : ℕ = place (locks_of lines) lock in
+      let held = held_more shared (events_of kinds lines) (threads_of lines) (locks_of lines) (shares lines) (unshares lines) told.used.shares thread lock may.known_actor may.held.1 in
+      grown kinds lines line told
+      (told_use (Unshare thread lock) may refl refl refl refl refl
+      (may_unshare (roots_of lines) (events_of kinds lines) t l (acting may.known_actor) (still_runs may.known_actor may.running) held.1))
+      (used_as kinds lines line (events_of kinds lines ++ numbered.Unshare t l ∷ []) (threads_of lines) (locks_of lines)
+      (acquires lines) (releases lines) (shares lines) (λ u m. unshares lines u m + one_for thread lock u m)
+      (events_more kinds lines line) (threads_more lines line ∙ append-nil (threads_of lines)) (locks_same kinds lines line refl)
+      (acquires_same kinds lines line refl) (releases_same kinds lines line refl) (shares_same kinds lines line refl) (unshares_more lines line)
+      (used_unshare (events_of kinds lines) (threads_of lines) (locks_of lines) (acquires lines) (releases lines) (shares lines) (unshares lines) told.used thread lock told.told.places may.known_actor held.0))
+      tt
+      tt
 
 -- each object has a kind, by its place
 pub kinds_placed : (kinds : List Kind) (lines : List Line) → length (object_kinds kinds lines) ≡ length (objects_of lines)
@@ -633,16 +717,16 @@ told_called kinds limits lines thread object method slots usable may told =
     (told_event kinds limits lines (Call thread object method slots) usable may (threads_of lines) (joined_of lines) begins (joined_more lines line ∙ append-nil (joined_of lines))
     (told_call (roots_of lines) (events_of kinds lines) (events lines) (threads_of lines) (joined_of lines) (object_kinds kinds lines) told.told
     thread call may.known_actor may.running refl at))
-    (used_apart kinds lines line (events_of kinds lines ++ numbered.Call call ∷ []) (threads_of lines) refl refl (events_more kinds lines line) begins
-    (used_still (events_of kinds lines) (threads_of lines) (locks_of lines) (acquires lines) (releases lines) told.used (numbered.Call call) refl refl))
+    (used_apart kinds lines line (events_of kinds lines ++ numbered.Call call ∷ []) (threads_of lines) (record { takes = refl; acquired = refl; released = refl; shared = refl; unshared = refl }) (events_more kinds lines line) begins
+    (used_still (events_of kinds lines) (threads_of lines) (locks_of lines) (acquires lines) (releases lines) (shares lines) (unshares lines) told.used (numbered.Call call) refl refl))
     tt
     (record { kind = kind; method = omega (arith, method_below, length-map methods (λ method. method.name)); slots = may.right_count })
 
 -- what is told of accepted lines is told of them with one line more
 pub told_more : (kinds : List Kind) (limits : Limits) (lines : List Line) (line : Line) → AreUsable limits → MayFollow kinds limits lines line
     → length (threads_of (lines ++ line ∷ [])) ≤ 4294967295 → AreTold kinds lines → AreTold kinds (lines ++ line ∷ [])
-told_more kinds limits lines Skip usable follows few told = told_quiet kinds lines Skip refl refl refl refl refl refl refl refl told
-told_more kinds limits lines (Header version) usable follows few told = told_quiet kinds lines (Header version) refl refl refl refl refl refl refl refl told
+told_more kinds limits lines Skip usable follows few told = told_quiet kinds lines Skip refl refl refl refl (record { takes = refl; acquired = refl; released = refl; shared = refl; unshared = refl }) refl refl told
+told_more kinds limits lines (Header version) usable follows few told = told_quiet kinds lines (Header version) refl refl refl refl (record { takes = refl; acquired = refl; released = refl; shared = refl; unshared = refl }) refl refl told
 told_more kinds limits lines (Object name kind) usable (inl skip) few told = absurd (not_skipped (Object name kind) refl skip)
 told_more kinds limits lines (Object name kind) usable (inr follows) few told = told_declared kinds limits lines name kind (met kinds limits lines (Object name kind) (λ h. cc) (inr follows)) told
 told_more kinds limits lines (Thread name) usable (inl skip) few told = absurd (not_skipped (Thread name) refl skip)
@@ -652,9 +736,13 @@ told_more kinds limits lines (Event (Fork thread child)) usable (inr follows) fe
 told_more kinds limits lines (Event (Join thread child)) usable (inl skip) few told = absurd (not_skipped (Event (Join thread child)) refl skip)
 told_more kinds limits lines (Event (Join thread child)) usable (inr follows) few told = told_joined kinds limits lines thread child usable (met kinds limits lines (Event (Join thread child)) (λ h. cc) (inr follows)) told
 told_more kinds limits lines (Event (Acquire thread lock)) usable (inl skip) few told = absurd (not_skipped (Event (Acquire thread lock)) refl skip)
-told_more kinds limits lines (Event (Acquire thread lock)) usable (inr follows) few told = told_acquired kinds limits lines thread lock usable (met kinds limits lines (Event (Acquire thread lock)) (λ h. cc) (inr follows)) told
+told_more kinds limits lines (Event (Acquire thread lock)) usable (inr follows) few told = told_acquired kinds limits lines thread lock usable told (met kinds limits lines (Event (Acquire thread lock)) (λ h. cc) (inr follows))
 told_more kinds limits lines (Event (Release thread lock)) usable (inl skip) few told = absurd (not_skipped (Event (Release thread lock)) refl skip)
-told_more kinds limits lines (Event (Release thread lock)) usable (inr follows) few told = told_released kinds limits lines thread lock usable (met kinds limits lines (Event (Release thread lock)) (λ h. cc) (inr follows)) told
+told_more kinds limits lines (Event (Release thread lock)) usable (inr follows) few told = told_released kinds limits lines thread lock usable told (met kinds limits lines (Event (Release thread lock)) (λ h. cc) (inr follows))
+told_more kinds limits lines (Event (Share thread lock)) usable (inl skip) few told = absurd (not_skipped (Event (Share thread lock)) refl skip)
+told_more kinds limits lines (Event (Share thread lock)) usable (inr follows) few told = told_shared kinds limits lines thread lock usable told (met kinds limits lines (Event (Share thread lock)) (λ h. cc) (inr follows))
+told_more kinds limits lines (Event (Unshare thread lock)) usable (inl skip) few told = absurd (not_skipped (Event (Unshare thread lock)) refl skip)
+told_more kinds limits lines (Event (Unshare thread lock)) usable (inr follows) few told = told_unshared kinds limits lines thread lock usable told (met kinds limits lines (Event (Unshare thread lock)) (λ h. cc) (inr follows))
 told_more kinds limits lines (Event (Call thread object method slots)) usable (inl skip) few told = absurd (not_skipped (Event (Call thread object method slots)) refl skip)
 told_more kinds limits lines (Event (Call thread object method slots)) usable (inr follows) few told = told_called kinds limits lines thread object method slots usable (met kinds limits lines (Event (Call thread object method slots)) (λ h. cc) (inr follows)) told
 
@@ -694,3 +782,8 @@ pub new_lock_next : (kinds : List Kind) (before : List Line) (thread lock : List
     → accepted_of kinds before (Event (Acquire thread lock)) ≡ accepted.Event (numbered.Acquire (place (threads_of before) thread) (length (locks_of before)))
 unfolding accepted_of
 new_lock_next kinds before thread lock fresh = ap (λ l. accepted.Event (numbered.Acquire (place (threads_of before) thread) l)) (place_new (locks_of before) lock fresh)
+
+pub shared_lock_next : (kinds : List Kind) (before : List Line) (thread lock : List ℕ) → ¬ (Contains (locks_of before) lock)
+    → accepted_of kinds before (Event (Share thread lock)) ≡ accepted.Event (numbered.Share (place (threads_of before) thread) (length (locks_of before)))
+unfolding accepted_of
+shared_lock_next kinds before thread lock fresh = ap (λ l. accepted.Event (numbered.Share (place (threads_of before) thread) l)) (place_new (locks_of before) lock fresh)

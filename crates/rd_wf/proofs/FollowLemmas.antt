@@ -12,11 +12,12 @@ use Rattle.rd_base.specs.declared.limits.Limits.{Limits}
 use Rattle.rd_base.specs.declared.limits.LimitName.TheVariants.{Events, Threads, Locks, Objects, Depth}
 use Rattle.rd_event.specs.declared.items.Line.{Line}
 use Rattle.rd_event.specs.declared.items.Line.TheVariants.{Skip, Thread, Object, Event}
-use Rattle.rd_event.specs.declared.items.LineEvent.TheVariants.{Fork, Join, Acquire, Release}
+use Rattle.rd_event.specs.declared.items.LineEvent.{LineEvent}
+use Rattle.rd_event.specs.declared.items.LineEvent.TheVariants.{Fork, Join}
 use Rattle.rd_wf.specs.declared.causes.WfCause.{WfCause}
 use Rattle.rd_wf.specs.declared.causes.WfCause.TheVariants.{HeaderFirst, LateRoot, NameTaken, UnknownThread, ThreadEnded, OwnThread, UnknownKind, UnknownObject, UnknownMethod, WrongCount, LockHeld, NotHeld, Limit}
 use Rattle.rd_ecl.specs.Kinds.{Kind, kind_names, method_names}
-use Rattle.rd_wf.specs.MayFollow.{SpelledCall, line_call, methods_of, slot_count_of, is_skip, is_header, is_root, is_event, begun_name, acting_name, joined_name, acquired_name, released_name, declared_name, kind_name, threads_of, joined_of, locks_of, objects_of, acquires, releases, headers, events, Rule, causes, holders, MayFollow, IsBrokenFirst, same_name, is_among, passes, is_broken, first_broken}
+use Rattle.rd_wf.specs.MayFollow.{SpelledCall, line_call, methods_of, slot_count_of, is_skip, is_header, is_root, is_event, actor_name, begun_name, acting_name, joined_name, acquired_name, released_name, shared_name, unshared_name, taken_name, declared_name, kind_name, threads_of, joined_of, locks_of, objects_of, acquires, releases, shares, unshares, headers, events, Rule, causes, holders, MayFollow, IsBrokenFirst, same_name, is_among, passes, is_broken, first_broken}
 
 -- ---- tests of names
 
@@ -160,17 +161,17 @@ module _ (kinds : List Kind) (before : List Line) where
 
 -- ---- locks
 
-module _ (before : List Line) (line : Line) where
-  held_decides : (lock thread : List ℕ) → Decides (not (passes (acting_name line) (same_name thread)) && not (acquires before thread lock == releases before thread lock))
-      ((acting_name line ≢ Some thread) × (acquires before thread lock ≢ releases before thread lock))
-  held_decides lock thread =
-      Decides-and _ _ (Decides-not _ (is_decides (acting_name line) thread)) (Decides-not _ (Decides-eqb (acquires before thread lock) (releases before thread lock)))
+module _ (line : Line) (took gave : List ℕ → ℕ) where
+  -- another thread took more often than it gave back
+  held_decides : (thread : List ℕ) → Decides (not (passes (acting_name line) (same_name thread)) && not (took thread == gave thread))
+      ((acting_name line ≢ Some thread) × (took thread ≢ gave thread))
+  held_decides thread = Decides-and _ _ (Decides-not _ (is_decides (acting_name line) thread)) (Decides-not _ (Decides-eqb (took thread) (gave thread)))
 
-  free_from : (lock thread : List ℕ) → (not (passes (acting_name line) (same_name thread)) && not (acquires before thread lock == releases before thread lock)) ≡ false
-      → acting_name line ≢ Some thread → acquires before thread lock ≡ releases before thread lock
-  free_from lock thread h other = elim (cases_eq (acquires before thread lock) (releases before thread lock)) [
+  free_from : (thread : List ℕ) → (not (passes (acting_name line) (same_name thread)) && not (took thread == gave thread)) ≡ false
+      → acting_name line ≢ Some thread → took thread ≡ gave thread
+  free_from thread h other = elim (cases_eq (took thread) (gave thread)) [
     | inl same ↦ same
-    | inr differ ↦ absurd (not_from_Decides _ (held_decides lock thread) h (other, differ))
+    | inr differ ↦ absurd (not_from_Decides _ (held_decides thread) h (other, differ))
   ]
 
 leb_decides : (m n : ℕ) → Decides (leb m n) (m ≤ n)
@@ -178,6 +179,30 @@ leb_decides m n = (λ h. grind (arith, nat_tests), λ h. grind (arith, nat_tests
 
 above : (m n : ℕ) → leb m n ≡ false → n < m
 above m n h = grind (arith, nat_tests)
+
+-- the parts of the rules on locks
+module _ (before : List Line) (line : Line) (o : Option (List ℕ)) where
+  module _ (holder : ℕ) (took gave : List ℕ → List ℕ → ℕ) where
+    abbrev Against : Type 0
+    Against = IsSomeAnd o (λ lock. IsSomeAnd (slice_get (threads_of before) holder) (λ thread. (acting_name line ≢ Some thread) × (took thread lock ≢ gave thread lock)))
+
+    against_decides : Decides
+        (passes o (λ lock. passes (slice_get (threads_of before) holder) (λ thread. not (passes (acting_name line) (same_name thread)) && not (took thread lock == gave thread lock))))
+        Against
+    against_decides = passes_decides o _ _ (λ lock. passes_decides (slice_get (threads_of before) holder) _ _ (held_decides line (λ t. took t lock) (λ t. gave t lock)))
+
+    against_fails : IfSome o (λ lock. IfSome (slice_get (threads_of before) holder) (λ thread. acting_name line ≢ Some thread → took thread lock ≡ gave thread lock)) → ¬ Against
+    against_fails = if_some_not o _ _ (λ lock free held. if_some_not (slice_get (threads_of before) holder) _ _ (λ thread same both. both.1 (same both.0)) free held)
+
+  module _ (low high : List ℕ → List ℕ → ℕ) where
+    abbrev Most : Type 0
+    Most = IsSomeAnd o (λ lock. IsSomeAnd (acting_name line) (λ thread. low thread lock ≤ high thread lock))
+
+    most_decides : Decides (passes o (λ lock. passes (acting_name line) (λ thread. leb (low thread lock) (high thread lock)))) Most
+    most_decides = passes_decides o _ _ (λ lock. passes_decides (acting_name line) _ _ (λ thread. leb_decides (low thread lock) (high thread lock)))
+
+    most_fails : IfSome o (λ lock. IfSome (acting_name line) (λ thread. high thread lock < low thread lock)) → ¬ Most
+    most_fails = if_some_not o _ _ (λ lock less most. if_some_not (acting_name line) _ _ (λ thread less not_less. omega arith) less most)
 
 -- where a name is counted, its count is below the limit
 new_below : (names : List (List ℕ)) (o : Option (List ℕ)) (limit count : ℕ) → (passes o (λ name. not (is_among names name)) && leb limit count) ≡ false
@@ -199,15 +224,26 @@ module _ (kinds : List Kind) (before : List Line) (line : Line) where
   rule_holds UnknownMethod h = none_passes (line_call line) _ _ (λ call e. (among_decides (method_names (methods_of kinds before call.object)) call.method).0 (not-false _ e)) h
   rule_holds WrongCount h = none_passes (line_call line) _ _ (λ call e. (Decides-eqb (length call.slots) (slot_count_of kinds before call)).0 (not-false _ e)) h
   rule_holds (LockHeld holder) h =
-      none_passes (acquired_name line) _ _ (λ lock e. none_passes (slice_get (threads_of before) holder) _ _ (λ thread f. free_from before line lock thread f) e) h
+      let parts = or_parts _ _ h in (
+        none_passes (taken_name line) _ _
+            (λ lock e. none_passes (slice_get (threads_of before) holder) _ _ (free_from line (λ t. acquires before t lock) (λ t. releases before t lock)) e) parts.0,
+        none_passes (acquired_name line) _ _
+            (λ lock e. none_passes (slice_get (threads_of before) holder) _ _ (free_from line (λ t. shares before t lock) (λ t. unshares before t lock)) e) parts.1,
+      )
   rule_holds NotHeld h =
-      none_passes (released_name line) _ _ (λ lock e. none_passes (acting_name line) _ _ (λ thread f. above (acquires before thread lock) (releases before thread lock) f) e) h
+      let parts = or_parts _ _ h in (
+        none_passes (released_name line) _ _ (λ lock e. none_passes (acting_name line) _ _ (λ thread f. above (acquires before thread lock) (releases before thread lock) f) e) parts.0,
+        none_passes (unshared_name line) _ _ (λ lock e. none_passes (acting_name line) _ _ (λ thread f. above (shares before thread lock) (unshares before thread lock) f) e) parts.1,
+      )
   rule_holds (Limit Events most) h = below_limit (is_event line) most (events before) h
   rule_holds (Limit Threads most) h = below_limit (is_some (begun_name line)) most (length (threads_of before)) h
-  rule_holds (Limit Locks most) h = new_below (locks_of before) (acquired_name line) most (length (locks_of before)) h
+  rule_holds (Limit Locks most) h = new_below (locks_of before) (taken_name line) most (length (locks_of before)) h
   rule_holds (Limit Objects most) h = below_limit (is_some (declared_name line)) most (length (objects_of before)) h
   rule_holds (Limit Depth most) h =
-      none_passes (acquired_name line) _ _ (λ lock e. none_passes (acting_name line) _ _ (λ thread f. above (most + releases before thread lock) (acquires before thread lock) f) e) h
+      let parts = or_parts _ _ h in (
+        none_passes (acquired_name line) _ _ (λ lock e. none_passes (acting_name line) _ _ (λ thread f. above (most + releases before thread lock) (acquires before thread lock) f) e) parts.0,
+        none_passes (shared_name line) _ _ (λ lock e. none_passes (acting_name line) _ _ (λ thread f. above (most + unshares before thread lock) (shares before thread lock) f) e) parts.1,
+      )
   rule_holds (Limit name most) h = tt
 
   -- and where it passes, the line breaks it
@@ -233,15 +269,15 @@ module _ (kinds : List Kind) (before : List Line) (line : Line) where
   rule_fails UnknownMethod h rule = if_some_not (line_call line) _ _ (λ call there lacks. lacks there) rule ((passes_decides (line_call line) _ _ (method_decides kinds before)).0 h)
   rule_fails WrongCount h rule = if_some_not (line_call line) _ _ (λ call same other. other same) rule ((passes_decides (line_call line) _ _ (count_decides kinds before)).0 h)
   rule_fails (LockHeld holder) h rule =
-      if_some_not (acquired_name line) _ _
-      (λ lock free held. if_some_not (slice_get (threads_of before) holder) _ _ (λ thread same both. both.1 (same both.0)) free held)
-      rule
-      ((passes_decides (acquired_name line) _ _ (λ lock. passes_decides (slice_get (threads_of before) holder) _ _ (λ thread. held_decides before line lock thread))).0 h)
+      elim ((Decides-or _ _ (against_decides before line (taken_name line) holder (acquires before) (releases before)) (against_decides before line (acquired_name line) holder (shares before) (unshares before))).0 h) [
+        | inl held ↦ against_fails before line (taken_name line) holder (acquires before) (releases before) rule.0 held
+        | inr held ↦ against_fails before line (acquired_name line) holder (shares before) (unshares before) rule.1 held
+      ]
   rule_fails NotHeld h rule =
-      if_some_not (released_name line) _ _
-      (λ lock held free. if_some_not (acting_name line) _ _ (λ thread less not_less. omega arith) held free)
-      rule
-      ((passes_decides (released_name line) _ _ (λ lock. passes_decides (acting_name line) _ _ (λ thread. leb_decides (acquires before thread lock) (releases before thread lock)))).0 h)
+      elim ((Decides-or _ _ (most_decides before line (released_name line) (acquires before) (releases before)) (most_decides before line (unshared_name line) (shares before) (unshares before))).0 h) [
+        | inl free ↦ most_fails before line (released_name line) (acquires before) (releases before) rule.0 free
+        | inr free ↦ most_fails before line (unshared_name line) (shares before) (unshares before) rule.1 free
+      ]
   rule_fails (Limit Events most) h rule =
       let both = (limit_decides (is_event line) most (events before)).0 h in
       let few : events before < most = rule both.0 in let many : most ≤ events before = both.1 in omega arith
@@ -249,17 +285,17 @@ module _ (kinds : List Kind) (before : List Line) (line : Line) where
       let both = (limit_decides (is_some (begun_name line)) most (length (threads_of before))).0 h in
       let few : length (threads_of before) < most = rule both.0 in let many : most ≤ length (threads_of before) = both.1 in omega arith
   rule_fails (Limit Locks most) h rule =
-      let both = (Decides-and _ _ (passes_decides (acquired_name line) _ _ (absent_decides (locks_of before))) (leb_decides most (length (locks_of before)))).0 h in
+      let both = (Decides-and _ _ (passes_decides (taken_name line) _ _ (absent_decides (locks_of before))) (leb_decides most (length (locks_of before)))).0 h in
       let many : most ≤ length (locks_of before) = both.1 in
-      if_some_not (acquired_name line) _ _ (λ lock below lacks. let few : length (locks_of before) < most = below lacks in omega arith) rule both.0
+      if_some_not (taken_name line) _ _ (λ lock below lacks. let few : length (locks_of before) < most = below lacks in omega arith) rule both.0
   rule_fails (Limit Objects most) h rule =
       let both = (limit_decides (is_some (declared_name line)) most (length (objects_of before))).0 h in
       let few : length (objects_of before) < most = rule both.0 in let many : most ≤ length (objects_of before) = both.1 in omega arith
   rule_fails (Limit Depth most) h rule =
-      if_some_not (acquired_name line) _ _
-      (λ lock shallow deep. if_some_not (acting_name line) _ _ (λ thread less not_less. omega arith) shallow deep)
-      rule
-      ((passes_decides (acquired_name line) _ _ (λ lock. passes_decides (acting_name line) _ _ (λ thread. leb_decides (most + releases before thread lock) (acquires before thread lock)))).0 h)
+      elim ((Decides-or _ _ (most_decides before line (acquired_name line) (λ t l. most + releases before t l) (acquires before)) (most_decides before line (shared_name line) (λ t l. most + unshares before t l) (shares before))).0 h) [
+        | inl deep ↦ most_fails before line (acquired_name line) (λ t l. most + releases before t l) (acquires before) rule.0 deep
+        | inr deep ↦ most_fails before line (shared_name line) (λ t l. most + unshares before t l) (shares before) rule.1 deep
+      ]
   rule_fails (Limit name most) h rule = true≢false (sym h)
 
 module _ (kinds : List Kind) (limits : Limits) (before : List Line) (line : Line) where
@@ -358,12 +394,12 @@ pub record Meets (kinds : List Kind) (limits : Limits) (before : List Line) (lin
   pub known_method : IfSome (line_call line) (λ call. Contains (method_names (methods_of kinds before call.object)) call.method)
   pub right_count : IfSome (line_call line) (λ call. length call.slots ≡ slot_count_of kinds before call)
   pub free : (holder : ℕ) → holder < length (threads_of before) → Rule kinds before line (LockHeld holder)
-  pub held : IfSome (released_name line) (λ lock. IfSome (acting_name line) (λ thread. releases before thread lock < acquires before thread lock))
+  pub held : Rule kinds before line NotHeld
   pub few_events : IsTrue (is_event line) → events before < limits.events
   pub few_threads : IsSome (begun_name line) → length (threads_of before) < limits.threads
-  pub few_locks : IfSome (acquired_name line) (λ lock. ¬ (Contains (locks_of before) lock) → length (locks_of before) < limits.locks)
+  pub few_locks : IfSome (taken_name line) (λ lock. ¬ (Contains (locks_of before) lock) → length (locks_of before) < limits.locks)
   pub few_objects : IsSome (declared_name line) → length (objects_of before) < limits.objects
-  pub shallow : IfSome (acquired_name line) (λ lock. IfSome (acting_name line) (λ thread. acquires before thread lock < limits.depth + releases before thread lock))
+  pub shallow : Rule kinds before line (Limit Depth limits.depth)
 
 pub met : (kinds : List Kind) (limits : Limits) (before : List Line) (line : Line) → line ≢ Skip → MayFollow kinds limits before line → Meets kinds limits before line
 met kinds limits before line counted follows =
@@ -412,12 +448,5 @@ module _ (kinds : List Kind) (limits : Limits) (before : List Line) where
   pub known_child : (thread child : List ℕ) → first_broken kinds limits before (Event (Join thread child)) ≡ None → is_among (threads_of before) child ≡ true
   known_child thread child e = (among_decides (threads_of before) child).1 (met kinds limits before (Event (Join thread child)) (λ h. cc) (follows_from_none kinds limits before (Event (Join thread child)) e)).known_joined
 
-  pub known_lock : (thread lock : List ℕ) → first_broken kinds limits before (Event (Acquire thread lock)) ≡ None → is_among (threads_of before) thread ≡ true
-  known_lock thread lock e = (among_decides (threads_of before) thread).1 (met kinds limits before (Event (Acquire thread lock)) (λ h. cc) (follows_from_none kinds limits before (Event (Acquire thread lock)) e)).known_actor
-
--- ---- what a line that may follow tells of the thread that releases
-
-pub known_releaser : (kinds : List Kind) (limits : Limits) (before : List Line) (thread lock : List ℕ) → first_broken kinds limits before (Event (Release thread lock)) ≡ None
-    → is_among (threads_of before) thread ≡ true
-known_releaser kinds limits before thread lock e =
-    (among_decides (threads_of before) thread).1 (met kinds limits before (Event (Release thread lock)) (λ h. cc) (follows_from_none kinds limits before (Event (Release thread lock)) e)).known_actor
+  pub known_thread : (event : LineEvent) → first_broken kinds limits before (Event event) ≡ None → is_among (threads_of before) (actor_name event) ≡ true
+  known_thread event e = (among_decides (threads_of before) (actor_name event)).1 (met kinds limits before (Event event) (λ h. cc) (follows_from_none kinds limits before (Event event) e)).known_actor

@@ -7,5 +7,6 @@ pub mod NextLemmas
 pub mod PlaceLemmas
 pub mod RangeLemmas
 pub mod RosterLemmas
+pub mod ShareLemmas
 pub mod TableLemmas
 pub mod UseLemmas

@@ -3,9 +3,9 @@ use Rattle.std.proofs.Common.{◌≡◌, inl, inr, ℕ, zero, suc, ◌+◌, ◌-
 use Rattle.std.specs.List.{IsDistinct}
 use Rattle.std.specs.Map.{lookup, keys_of}
 use Rattle.std.specs.Cmp.Lexicographic.{bytes_decides, nat_list_eq_equiv}
-use Rattle.std.proofs.lemmas.Bool.{cases_eq, cases_lt, not-false, false_from_ne_true}
+use Rattle.std.proofs.lemmas.Bool.{cases_eq, cases_lt, ne_eqb, not-false, false_from_ne_true}
 use Rattle.std.proofs.lemmas.Bool.Decides.{Decides-eqb, Decides-ltb, nat_tests}
-use Rattle.std.proofs.lemmas.List.{take-append-drop, length-take}
+use Rattle.std.proofs.lemmas.List.{append-nil, take-append-drop, length-take}
 use Rattle.std.proofs.lemmas.List.Folds.{prefix_len-append}
 use Rattle.std.proofs.lemmas.List.Sums.{prefix_len-le-length, prefix_len_stops, position_or_len_is, sum_by_push}
 use Rattle.std.proofs.lemmas.Map.Keys.{apart_from_distinct}
@@ -13,8 +13,9 @@ use Rattle.std.proofs.lemmas.Option.{none-some}
 use Rattle.indexmap.specs.Layout.{set_value_at}
 use Rattle.rd_event.specs.declared.items.Line.{Line}
 use Rattle.rd_wf.specs.declared.roster.Lock.{Lock}
-use Rattle.rd_wf.specs.MayFollow.{acquired_name, same_name, is_among, place, passes, with_lock, with_locks, locks_of, acquires, releases, is_acquire_of, is_release_of}
-use Rattle.rd_wf.specs.Roster.{depth_of, other_holder}
+use Rattle.rd_wf.specs.MayFollow.{taken_name, same_name, is_among, place, passes, with_lock, with_locks, locks_of, acquires, releases, shares, unshares, is_acquire_of, is_release_of, is_share_of, is_unshare_of}
+use Rattle.rd_wf.specs.Roster.{depth_of, is_other_holder, other_holder}
+use Rattle.rd_wf.specs.Sharers.{IsLeast}
 
 -- two tests of the same
 pub same_test : (a b : Bool) → (a ≡ true → b ≡ true) → (b ≡ true → a ≡ true) → a ≡ b
@@ -180,6 +181,10 @@ free_past lock count n begun past = by (n == lock.holder) refl lock.depth begun
         let below : lock.holder < count = begun (omega arith) in absurd (omega arith)
     by false e (suc depth) begun = ap (λ b. cond b (suc depth) 0) e
 
+-- a thread that has the lock is below the count
+pub holder_known : (lock : Lock) (count n : ℕ) → (0 < lock.depth → lock.holder < count) → 0 < depth_of lock n → n < count
+holder_known lock count n begun some = elim (cases_lt n count) [ inl below ↦ below | inr past ↦ absurd (omega (arith, free_past lock count n begun past)) ]
+
 -- more names change no depth
 pub depth_stays : (lock : Lock) (names more : List (List ℕ)) (name : List ℕ) → (0 < lock.depth → lock.holder < length names)
     → depth_of lock (place (names ++ more) name) ≡ depth_of lock (place names name)
@@ -234,6 +239,17 @@ module _ (lock : Lock) (thread : ℕ) where
           let back : (lock.holder == other) ≡ false = grind (arith, nat_tests) in
           ap (λ b. not (thread == other) && not (cond b lock.depth 0 == 0)) differ ∙ and-false (not (thread == other)) ∙ none (ltb 0 lock.depth && not (thread == lock.holder)) back
 
+  -- so it is the least that has it
+  pub holder_least : IsLeast (is_other_holder lock thread) (other_holder lock thread)
+  holder_least = by (other_holder lock thread) refl
+    where
+      by : (o : Option ℕ) → other_holder lock thread ≡ o → IsLeast (is_other_holder lock thread) o
+      by None e = λ n. holder_test n ∙ ap (λ o. passes o (λ holder. holder == n)) e
+      by (Some holder) e = (
+        holder_test holder ∙ ap (λ o. passes o (λ h. h == holder)) e ∙ (Decides-eqb holder holder).1 refl,
+        λ n below. holder_test n ∙ ap (λ o. passes o (λ h. h == n)) e ∙ ne_eqb holder n (omega arith),
+      )
+
   pub holder_below : (count : ℕ) → (0 < lock.depth → lock.holder < count) → IfSome (other_holder lock thread) (λ holder. holder < count)
   holder_below count begun = by (ltb 0 lock.depth) refl (not (thread == lock.holder))
     where
@@ -251,14 +267,46 @@ module _ (lock : Lock) (thread : ℕ) where
       by zero false e = refl
       by (suc depth) false e = absurd (none-some lock.holder (sym e ∙ ap (λ b. cond (b && true) (Some lock.holder) None) (let some : ltb 0 (suc depth) ≡ true = grind (arith, nat_tests) in some)))
 
+-- ---- what is known by two places
+
+module _ (f : ℕ → ℕ → ℕ) (names others : List (List ℕ)) (known : (n m : ℕ) → 0 < f n m → (n < length names) × (m < length others)) where
+  none_past : (n m : ℕ) → length names ≤ n → f n m ≡ 0
+  none_past n m past = elim (cases_eq (f n m) 0) [ inl none ↦ none | inr some ↦ (let below : n < length names = (known n m (omega arith)).0 in absurd (omega arith)) ]
+
+  none_past_others : (n m : ℕ) → length others ≤ m → f n m ≡ 0
+  none_past_others n m past = elim (cases_eq (f n m) 0) [ inl none ↦ none | inr some ↦ (let below : m < length others = (known n m (omega arith)).1 in absurd (omega arith)) ]
+
+  -- more names change nothing
+  pub both_stay : (more more_others : List (List ℕ)) (name other : List ℕ) → f (place (names ++ more) name) (place (others ++ more_others) other) ≡ f (place names name) (place others other)
+  both_stay more more_others name other = elim (cases_lt (place names name) (length names)) [
+    | inl below ↦ elim (cases_lt (place others other) (length others)) [
+      | inl under ↦ λ i. f (place_stays names name more below i) (place_stays others other more_others under i)
+      | inr past ↦ none_past_others _ _ (place_past others other more_others past) ∙ sym (none_past_others _ _ past)
+    ]
+    | inr past ↦ none_past _ _ (place_past names name more past) ∙ sym (none_past _ _ past)
+  ]
+
+-- the lock that is added
+abbrev pub added : List (List ℕ) → Option (List ℕ) → List (List ℕ)
+added locks None = []
+added locks (Some lock) = cond (is_among locks lock) [] (lock ∷ [])
+
+pub with_lock_more : (locks : List (List ℕ)) (taken : Option (List ℕ)) → with_lock locks taken ≡ locks ++ added locks taken
+with_lock_more locks None = sym (append-nil locks)
+with_lock_more locks (Some lock) = by (is_among locks lock)
+  where
+    by : (b : Bool) → cond b locks (locks ++ lock ∷ []) ≡ locks ++ cond b [] (lock ∷ [])
+    by true = sym (append-nil locks)
+    by false = refl
+
 -- ---- one line more
 
-pub locks_push : (lines : List Line) (line : Line) → locks_of (lines ++ line ∷ []) ≡ with_lock (locks_of lines) (acquired_name line)
+pub locks_push : (lines : List Line) (line : Line) → locks_of (lines ++ line ∷ []) ≡ with_lock (locks_of lines) (taken_name line)
 locks_push lines line = behind [] lines
   where
-    behind : (locks : List (List ℕ)) (lines : List Line) → with_locks locks (lines ++ line ∷ []) ≡ with_lock (with_locks locks lines) (acquired_name line)
+    behind : (locks : List (List ℕ)) (lines : List Line) → with_locks locks (lines ++ line ∷ []) ≡ with_lock (with_locks locks lines) (taken_name line)
     behind locks [] = refl
-    behind locks (first ∷ lines) = behind (with_lock locks (acquired_name first)) lines
+    behind locks (first ∷ lines) = behind (with_lock locks (taken_name first)) lines
 
 module _ (lines : List Line) (line : Line) (thread lock : List ℕ) where
   pub acquires_push : acquires (lines ++ line ∷ []) thread lock ≡ acquires lines thread lock + cond (is_acquire_of thread lock line) 1 0
@@ -268,3 +316,11 @@ module _ (lines : List Line) (line : Line) (thread lock : List ℕ) where
   pub releases_push : releases (lines ++ line ∷ []) thread lock ≡ releases lines thread lock + cond (is_release_of thread lock line) 1 0
   unfolding releases
   releases_push = sum_by_push _ lines line
+
+  pub shares_push : shares (lines ++ line ∷ []) thread lock ≡ shares lines thread lock + cond (is_share_of thread lock line) 1 0
+  unfolding shares
+  shares_push = sum_by_push _ lines line
+
+  pub unshares_push : unshares (lines ++ line ∷ []) thread lock ≡ unshares lines thread lock + cond (is_unshare_of thread lock line) 1 0
+  unfolding unshares
+  unshares_push = sum_by_push _ lines line

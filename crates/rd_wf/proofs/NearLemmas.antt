@@ -8,7 +8,7 @@ use Rattle.std.proofs.lemmas.Map.Keys.{IsDistinct-push}
 use Rattle.std.proofs.lemmas.Option.{same_Some, slice_get-map, slice_get_within, get_or_from_slice_get}
 use Rattle.rd_event.specs.declared.items.Line.{Line}
 use Rattle.rd_ecl.specs.Kinds.{Kind}
-use Rattle.rd_wf.specs.MayFollow.{acquired_name, threads_of, locks_of, same_name, is_among, place, with_lock, with_locks}
+use Rattle.rd_wf.specs.MayFollow.{taken_name, threads_of, locks_of, same_name, is_among, place, with_lock, with_locks}
 use Rattle.rd_wf.specs.Roster.{RosterStandsFor, thread_entry, found_thread}
 use Rattle.rd_wf.specs.declared.roster.Lock.{Lock}
 use Rattle.rd_wf.specs.declared.roster.Roster.{Roster}
@@ -55,7 +55,7 @@ lock_differs locks (Some lock) differ = by (is_among locks lock) refl
 
 locks_from_differ : (locks : List (List ℕ)) (lines : List Line) → IsDistinct same_name locks → IsDistinct same_name (with_locks locks lines)
 locks_from_differ locks [] differ = differ
-locks_from_differ locks (line ∷ lines) differ = locks_from_differ (with_lock locks (acquired_name line)) lines (lock_differs locks (acquired_name line) differ)
+locks_from_differ locks (line ∷ lines) differ = locks_from_differ (with_lock locks (taken_name line)) lines (lock_differs locks (taken_name line) differ)
 
 locks_differ : (lines : List Line) → IsDistinct same_name (locks_of lines)
 unfolding IsDistinct

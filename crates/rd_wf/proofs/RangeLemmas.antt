@@ -9,7 +9,7 @@ use Rattle.rd_event.specs.Items.{IsEvent, LineInRange}
 use Rattle.rd_event.specs.declared.items.Line.{Line}
 use Rattle.rd_event.specs.declared.items.Line.TheVariants.{Skip, Header, Thread, Object, Event}
 use Rattle.rd_event.specs.declared.items.LineEvent.{LineEvent}
-use Rattle.rd_event.specs.declared.items.LineEvent.TheVariants.{Fork, Join, Acquire, Release, Call}
+use Rattle.rd_event.specs.declared.items.LineEvent.TheVariants.{Fork, Join, Acquire, Release, Share, Unshare, Call}
 use Rattle.rd_ecl.specs.Kinds.{Kind, kind_names, method_names, methods_at}
 use Rattle.rd_wf.specs.declared.causes.Accepted.{Accepted}
 use Rattle.rd_wf.specs.declared.causes.WfRefused.{WfRefused}
@@ -70,6 +70,8 @@ module _ (kinds : List Kind) (roster : Roster) (lines : List Line) (stands : Ros
   event_fits (Join thread child) is = (thread_fits thread, thread_fits child)
   event_fits (Acquire thread lock) is = (thread_fits thread, lock_fits lock)
   event_fits (Release thread lock) is = (thread_fits thread, lock_fits lock)
+  event_fits (Share thread lock) is = (thread_fits thread, lock_fits lock)
+  event_fits (Unshare thread lock) is = (thread_fits thread, lock_fits lock)
   event_fits (Call thread object method slots) is = record {
     thread = thread_fits thread;
     object = object_fits object;

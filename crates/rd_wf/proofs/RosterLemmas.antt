@@ -3,9 +3,9 @@ use Rattle.std.proofs.Common.{◌≡◌, ℕ, zero, suc, ◌+◌, ◌<◌, ◌�
 use Rattle.std.specs.List.{list_any, position_or_len}
 use Rattle.std.specs.Map.{lookup, keys_of}
 use Rattle.std.specs.Cmp.Lexicographic.{bytes_decides, nat_list_eq_equiv}
-use Rattle.std.proofs.lemmas.Bool.Decides.{nat_tests}
+use Rattle.std.proofs.lemmas.Bool.Decides.{Decides-ltb, nat_tests}
 use Rattle.std.proofs.lemmas.List.{length-map}
-use Rattle.std.proofs.lemmas.List.Sums.{prefix_len-le-length}
+use Rattle.std.proofs.lemmas.List.Sums.{prefix_len-le-length, sum_by-cons}
 use Rattle.std.proofs.lemmas.Bool.{false_from_ne_true, ltb-false}
 use Rattle.std.proofs.Math.Bool.{not-not}
 use Rattle.indexmap.specs.IndexMap.{get_by, index_map_len, index_of_by, insert_entry}
@@ -16,7 +16,7 @@ use Rattle.rd_base.specs.declared.values.Value.{Value}
 use Rattle.rd_base.specs.declared.limits.LimitName.TheVariants.{Events, Threads, Locks, Objects, Depth}
 use Rattle.rd_event.specs.declared.items.Line.{Line}
 use Rattle.rd_event.specs.declared.items.Line.TheVariants.{Skip, Header, Thread, Object, Event}
-use Rattle.rd_event.specs.declared.items.LineEvent.TheVariants.{Fork, Join, Acquire, Release, Call}
+use Rattle.rd_event.specs.declared.items.LineEvent.TheVariants.{Fork, Join, Acquire, Release, Share, Unshare, Call}
 use Rattle.rd_wf.specs.declared.causes.WfCause.TheVariants.{HeaderFirst, LateRoot, NameTaken, UnknownThread, ThreadEnded, OwnThread, UnknownKind, UnknownObject, UnknownMethod, WrongCount, LockHeld, NotHeld, Limit}
 use Rattle.rd_wf.specs.declared.roster.Roster.{Roster}
 use Rattle.rd_wf.specs.declared.methods.FoundMethod.{FoundMethod}
@@ -28,11 +28,14 @@ use Rattle.std.specs.Prelude.{find}
 use Rattle.rd_wf.specs.declared.roster.Lock.{Lock}
 use Rattle.rd_wf.specs.declared.roster.judge.Broken.{Broken}
 use Rattle.rd_wf.specs.declared.roster.judge.FoundLock.{FoundLock}
-use Rattle.rd_wf.proofs.CauseLemmas.{same_found, none_holds}
-use Rattle.rd_wf.proofs.LockLemmas.{same_place, place_at, place_unknown, free_test, not_held_test, deep_test, holder_test, holder_below}
-use Rattle.rd_wf.specs.MayFollow.{threads_of, joined_of, locks_of, objects_of, acquires, releases, headers, events, same_name, is_among, passes, place, methods_of, object_kinds, holders, causes, is_broken, first_broken}
+use Rattle.rd_wf.proofs.CauseLemmas.{least_found, same_found, none_holds}
+use Rattle.rd_wf.proofs.LockLemmas.{and-false, same_place, place_at, place_unknown, free_test, not_held_test, deep_test, holder_below, holder_known, holder_least}
+use Rattle.rd_wf.proofs.ShareLemmas.{least_within}
+use Rattle.rd_wf.specs.MayFollow.{threads_of, joined_of, locks_of, objects_of, acquires, releases, shares, unshares, header_of, headers, is_header, events, same_name, is_among, passes, place, methods_of, object_kinds, holders, causes, is_broken, first_broken}
 use Rattle.rd_ecl.specs.Kinds.{Kind, KindMethod, kind_names, method_names, methods_at, kind_slots_at}
-use Rattle.rd_wf.specs.Roster.{RosterStandsFor, kind_entry, method_entry, methods_in, thread_entry, object_entry, thread_count, lock_count, object_count, lock_in, depth_of, other_holder, flag, found_method, found_thread, found_object, nothing_broken}
+use Rattle.rd_wf.specs.Shares.{is_other_sharer, share_depth}
+use Rattle.rd_wf.specs.Sharers.{IsLeast}
+use Rattle.rd_wf.specs.Roster.{RosterStandsFor, kind_entry, method_entry, methods_in, thread_entry, object_entry, thread_count, lock_count, object_count, lock_in, depth_of, is_other_holder, other_holder, flag, found_method, found_thread, found_object, nothing_broken}
 
 -- ---- look-ups
 
@@ -136,20 +139,33 @@ names-methods : (entries : List (List ℕ × ℕ)) → keys_of entries ≡ metho
 names-methods [] = refl
 names-methods (e ∷ es) = ap (λ names. e.0 ∷ names) (names-methods es)
 
+-- ---- headers
+
+-- there is a version exactly where there is a header
+pub header_test : (lines : List Line) → is_some (header_of lines) ≡ nat_lt 0 (headers lines)
+header_test [] = refl
+header_test (Header version ∷ lines) =
+    let more : headers (Header version ∷ lines) ≡ 1 + headers lines = sum_by-cons (λ line. cond (is_header line) 1 0) (Header version) lines in
+    sym ((Decides-ltb 0 (headers (Header version ∷ lines))).1 (omega arith))
+header_test (Skip ∷ lines) = header_test lines
+header_test (Thread name ∷ lines) = header_test lines
+header_test (Object name kind ∷ lines) = header_test lines
+header_test (Event event ∷ lines) = header_test lines
+
 -- ---- the flags that a line's look-ups set
 
-module _ (roster : Roster) (limits : Limits) where
+module _ (roster : Roster) (limits : Limits) (first : Bool) where
   abbrev pub root_flags : Bool → ℕ → Broken
   root_flags taken count =
-      record nothing_broken { header_first = not roster.header; late_root = nat_lt 0 roster.events; name_taken = taken; threads = nat_le limits.threads count }
+      record nothing_broken { header_first = first; late_root = nat_lt 0 roster.events; name_taken = taken; threads = nat_le limits.threads count }
 
   abbrev pub object_flags : Bool → Bool → ℕ → Broken
-  object_flags taken unknown count = record nothing_broken { header_first = not roster.header; name_taken = taken; unknown_kind = unknown; objects = nat_le limits.objects count }
+  object_flags taken unknown count = record nothing_broken { header_first = first; name_taken = taken; unknown_kind = unknown; objects = nat_le limits.objects count }
 
   -- those that each event sets
   abbrev pub event_flags : FoundThread → Broken
   event_flags actor =
-      record nothing_broken { header_first = not roster.header; unknown_thread = actor.unknown; thread_ended = actor.joined; events = nat_le limits.events roster.events }
+      record nothing_broken { header_first = first; unknown_thread = actor.unknown; thread_ended = actor.joined; events = nat_le limits.events roster.events }
 
   abbrev pub fork_flags : FoundThread → Bool → ℕ → Broken
   fork_flags actor taken count = record (event_flags actor) { name_taken = taken; threads = nat_le limits.threads count }
@@ -305,136 +321,215 @@ module _ (kinds : List Kind) (roster : Roster) (lines : List Line) (stands : Ros
   behind limits line broken same agree =
       same_found (is_broken kinds lines line) (flag broken) (late limits) same 0 (length (threads_of lines)) (λ holder below. agree holder (omega arith))
 
-  no_header : (headers lines == 0) ≡ not roster.header
-  no_header = by (headers lines) ∙ ap not (sym stands.has_header)
-    where
-      by : (n : ℕ) → (n == 0) ≡ not (nat_lt 0 n)
-      by zero = refl
-      by (suc n) = grind (arith, nat_tests)
+  has_header : nat_lt 0 (headers lines) ≡ is_some roster.header
+  has_header = sym (header_test lines) ∙ ap is_some (sym stands.header_version)
 
   unknown_thread : (name : List ℕ) (found : FoundThread) → found ≡ found_thread lines name → (not (is_among (threads_of lines) name) || false) ≡ found.unknown
   unknown_thread name found is = or-false _ ∙ ap (λ found. found.unknown) (sym is)
 
-  pub header_judged : (limits : Limits) (version : ℕ) → first_broken kinds limits lines (Header version) ≡ (if roster.header then Some HeaderFirst else None)
+  pub header_judged : (limits : Limits) (version : ℕ) → first_broken kinds limits lines (Header version) ≡ (if is_some roster.header then Some HeaderFirst else None)
   unfolding first_broken
   header_judged limits version =
-      λ i. cond (sym stands.has_header i) (Some HeaderFirst)
+      λ i. cond (has_header i) (Some HeaderFirst)
       ((behind limits (Header version) nothing_broken refl (λ holder below. refl) ∙ none_holds nothing_broken (late limits) refl 0 (length (threads_of lines))) i)
 
-  pub root_judged : (limits : Limits) (name : List ℕ) (taken : Bool) (count : ℕ) → taken ≡ is_some (get_by (same_name name) roster.threads)
-      → count ≡ thread_count roster → first_broken kinds limits lines (Thread name) ≡ find (flag (root_flags roster limits taken count)) (causes limits lines)
-  unfolding first_broken
-  root_judged limits name taken count is counts =
-      let test : (is_among (threads_of lines) name || false) ≡ taken = or-false _ ∙ sym (is ∙ thread_known name) in
-      let rest = behind limits (Thread name) (root_flags roster limits taken count)
-      (λ i. cond (leb limits.threads (sym (counts ∙ stands.thread_total) i)) (Some (Limit Threads limits.threads)) None) (λ holder below. refl) in
-      λ i. cond (no_header i) (Some HeaderFirst) (cond (ltb 0 (sym stands.event_count i)) (Some LateRoot) (cond (test i) (Some NameTaken) (rest i)))
-
-  pub object_judged : (limits : Limits) (name kind : List ℕ) (taken unknown : Bool) (count : ℕ) → taken ≡ is_some (get_by (same_name name) roster.objects)
-      → not unknown ≡ is_some (get_by (same_name kind) roster.kinds) → count ≡ object_count roster
-      → first_broken kinds limits lines (Object name kind) ≡ find (flag (object_flags roster limits taken unknown count)) (causes limits lines)
-  unfolding first_broken
-  object_judged limits name kind taken unknown count is known counts =
-      let test : is_among (objects_of lines) name ≡ taken = sym (is ∙ object_known name) in
-      let lacks : not (is_among (kind_names kinds) kind) ≡ unknown = ap not (sym (known ∙ kind_known kind)) ∙ not-not unknown in
-      let rest = behind limits (Object name kind) (object_flags roster limits taken unknown count)
-      (λ i. cond (leb limits.objects (sym (counts ∙ stands.object_total) i)) (Some (Limit Objects limits.objects)) None) (λ holder below. refl) in
-      λ i. cond (no_header i) (Some HeaderFirst) (cond (test i) (Some NameTaken) (cond (lacks i) (Some UnknownKind) (rest i)))
-
-  -- the part of the search that looks at the limit of events alone
-  events_alone : (limits : Limits) → cond (leb limits.events (events lines)) (Some (Limit Events limits.events)) None ≡ cond (leb limits.events roster.events) (Some (Limit Events limits.events)) None
-  events_alone limits = λ i. cond (leb limits.events (sym stands.event_count i)) (Some (Limit Events limits.events)) None
-
-  pub fork_judged : (limits : Limits) (thread child : List ℕ) (actor : FoundThread) (taken : Bool) (count : ℕ) → actor ≡ found_thread lines thread
-      → taken ≡ is_some (get_by (same_name child) roster.threads) → count ≡ thread_count roster
-      → first_broken kinds limits lines (Event (Fork thread child)) ≡ find (flag (fork_flags roster limits actor taken count)) (causes limits lines)
-  unfolding first_broken
-  fork_judged limits thread child actor taken count acts is counts =
-      let test : (is_among (threads_of lines) child || false) ≡ taken = or-false _ ∙ sym (is ∙ thread_known child) in
-      let rest = behind limits (Event (Fork thread child)) (fork_flags roster limits actor taken count)
-      (λ i. cond (leb limits.events (sym stands.event_count i)) (Some (Limit Events limits.events))
-      (cond (leb limits.threads (sym (counts ∙ stands.thread_total) i)) (Some (Limit Threads limits.threads)) None)) (λ holder below. refl) in
-      λ i. cond (no_header i) (Some HeaderFirst) (cond (test i) (Some NameTaken) (cond (unknown_thread thread actor acts i) (Some UnknownThread)
-      (cond (sym acts i).joined (Some ThreadEnded) (rest i))))
-
-  pub join_judged : (limits : Limits) (thread child : List ℕ) (actor awaited : FoundThread) (own : Bool) → actor ≡ found_thread lines thread
-      → awaited ≡ found_thread lines child → own ≡ same_name child thread
-      → first_broken kinds limits lines (Event (Join thread child)) ≡ find (flag (join_flags roster limits actor awaited own)) (causes limits lines)
-  unfolding first_broken
-  join_judged limits thread child actor awaited own acts waits is =
-      let rest = behind limits (Event (Join thread child)) (join_flags roster limits actor awaited own) (events_alone limits) (λ holder below. refl) in
-      λ i. cond (no_header i) (Some HeaderFirst) (cond ((sym acts i).unknown || (sym waits i).unknown) (Some UnknownThread)
-      (cond (sym acts i).joined (Some ThreadEnded) (cond (sym is i) (Some OwnThread) (rest i))))
-
-  pub called_method : (object method : List ℕ) (found : FoundObject) (m : FoundMethod) → found ≡ found_object kinds lines object
-      → m ≡ found_method (methods_at kinds found.kind) method → m ≡ found_method (methods_of kinds lines object) method
-  called_method object method found m declared is = is ∙ ap (λ found. found_method (methods_at kinds found.kind) method) declared
-
-  pub call_judged : (limits : Limits) (thread object method : List ℕ) (slots : List Value) (actor : FoundThread) (found : FoundObject) (m : FoundMethod) (items : List Value) (count : ℕ)
-      → actor ≡ found_thread lines thread → found ≡ found_object kinds lines object → m ≡ found_method (methods_at kinds found.kind) method → items ≡ slots → count ≡ m.slots
-      → first_broken kinds limits lines (Event (Call thread object method slots)) ≡ find (flag (call_flags roster limits actor found m (length items) count)) (causes limits lines)
-  unfolding first_broken
-  call_judged limits thread object method slots actor found m items count acts declared finds same counts =
-      let is = called_method object method found m declared finds in
-      let rest = behind limits (Event (Call thread object method slots)) (call_flags roster limits actor found m (length items) count) (events_alone limits) (λ holder below. refl) in
-      λ i. cond (no_header i) (Some HeaderFirst) (cond (unknown_thread thread actor acts i) (Some UnknownThread) (cond (sym acts i).joined (Some ThreadEnded)
-      (cond (sym declared i).unknown (Some UnknownObject) (cond (sym is i).unknown (Some UnknownMethod)
-      (cond (not (length (sym same i) == (sym (counts ∙ ap (λ m. m.slots) is) i))) (Some WrongCount) (rest i))))))
-
-  -- the holder that is told is the other thread that has the lock
-  holder_judged : (thread lock : List ℕ) (holder : ℕ) → holder < length (threads_of lines)
-      → is_broken kinds lines (Event (Acquire thread lock)) (LockHeld holder)
-      ≡ passes (other_holder (lock_in roster lock) (place (threads_of lines) thread)) (λ other. other == holder)
-  holder_judged thread lock holder below =
-      let threads = threads_of lines in
-      let name : List ℕ = get_or threads holder [] in
-      let at : place threads name ≡ holder = place_at threads stands.threads_differ holder below in
-      let known : place threads name < length threads = omega arith in
-      let same : same_name name thread ≡ (place threads thread == holder) =
-      nat_list_eq_equiv.symm name thread ∙ same_place threads thread name known ∙ ap (λ n. place threads thread == n) at in
-      let free : (acquires lines name lock == releases lines name lock) ≡ (depth_of (lock_in roster lock) holder == 0) =
-      free_test _ _ _ (stands.lock_depths lock name) ∙ ap (λ n. depth_of (lock_in roster lock) n == 0) at in
-      ap (λ o. passes o (λ other. not (same_name other thread) && not (acquires lines other lock == releases lines other lock))) (slice_get-get_or threads holder [] below)
-      ∙ (λ i. not (same i) && not (free i)) ∙ holder_test (lock_in roster lock) (place threads thread) holder
-
-  pub acquire_judged : (limits : Limits) (thread lock : List ℕ) (actor : FoundThread) (found : FoundLock) (held_by : Option ℕ) (depth : ℕ) → actor ≡ found_thread lines thread
-      → (found.number ≡ place (locks_of lines) lock) × (found.unknown ≡ not (is_among (locks_of lines) lock)) → found.lock ≡ lock_in roster lock
-      → held_by ≡ other_holder found.lock actor.number → depth ≡ depth_of found.lock actor.number
-      → first_broken kinds limits lines (Event (Acquire thread lock)) ≡ find (flag (acquire_flags roster limits actor found held_by depth)) (causes limits lines)
-  unfolding first_broken
-  acquire_judged limits thread lock actor found held_by depth acts numbers is holds counts =
-      let n : place (threads_of lines) thread ≡ actor.number = ap (λ found. found.number) (sym acts) in
-      let raised : (not (is_among (locks_of lines) lock) && leb limits.locks (length (locks_of lines))) ≡ (found.unknown && leb limits.locks found.number) =
-      counted (is_among (locks_of lines) lock) refl ∙ (λ i. sym numbers.1 i && leb limits.locks (sym numbers.0 i)) in
-      let deep : leb (limits.depth + releases lines thread lock) (acquires lines thread lock) ≡ leb limits.depth depth =
-      deep_test _ _ _ (stands.lock_depths lock thread) limits.depth ∙ (λ i. leb limits.depth (depth_of (sym is i) (n i))) ∙ ap (leb limits.depth) (sym counts) in
-      let rest = behind limits (Event (Acquire thread lock)) (acquire_flags roster limits actor found held_by depth)
-      (λ i. cond (leb limits.events (sym stands.event_count i)) (Some (Limit Events limits.events))
-      (cond (raised i) (Some (Limit Locks limits.locks)) (cond (deep i) (Some (Limit Depth limits.depth)) None)))
-      (λ holder below. holder_judged thread lock holder below ∙ (λ i. passes (other_holder (sym is i) (n i)) (λ other. other == holder))
-      ∙ ap (λ o. passes o (λ other. other == holder)) (sym holds)) in
-      λ i. cond (no_header i) (Some HeaderFirst) (cond (unknown_thread thread actor acts i) (Some UnknownThread) (cond (sym acts i).joined (Some ThreadEnded) (rest i)))
-    where
-      counted : (b : Bool) → is_among (locks_of lines) lock ≡ b
-          → (not (is_among (locks_of lines) lock) && leb limits.locks (length (locks_of lines))) ≡ (not (is_among (locks_of lines) lock) && leb limits.locks (place (locks_of lines) lock))
-      counted true there = (λ i. not (there i) && leb limits.locks (length (locks_of lines))) ∙ (λ i. not (sym there i) && leb limits.locks (place (locks_of lines) lock))
-      counted false lacks = ap (λ n. not (is_among (locks_of lines) lock) && leb limits.locks n) (sym (place_unknown (locks_of lines) lock lacks))
-
-  -- and it was begun
+  -- a thread with the lock, or with a share of it, was begun
   pub holder_within : (lock : List ℕ) (held : Lock) (held_by : Option ℕ) (thread : ℕ) → held ≡ lock_in roster lock → held_by ≡ other_holder held thread
       → IfSome held_by (λ holder. holder < length (threads_of lines))
   holder_within lock held held_by thread is holds =
       subst (λ o. IfSome o (λ holder. holder < length (threads_of lines))) (sym (holds ∙ ap (λ lock. other_holder lock thread) is))
       (holder_below (lock_in roster lock) thread (length (threads_of lines)) (stands.holders_begun lock))
 
-  pub release_judged : (limits : Limits) (thread lock : List ℕ) (actor : FoundThread) (held : Lock) (depth : ℕ) → actor ≡ found_thread lines thread → held ≡ lock_in roster lock
-      → depth ≡ depth_of held actor.number
-      → first_broken kinds limits lines (Event (Release thread lock)) ≡ find (flag (release_flags roster limits actor depth)) (causes limits lines)
-  unfolding first_broken
-  release_judged limits thread lock actor held depth acts is counts =
-      let n : place (threads_of lines) thread ≡ actor.number = ap (λ found. found.number) (sym acts) in
-      let lacks : leb (acquires lines thread lock) (releases lines thread lock) ≡ (depth == 0) =
-      not_held_test _ _ _ (stands.lock_depths lock thread) ∙ (λ i. depth_of (sym is i) (n i) == 0) ∙ ap (λ n. n == 0) (sym counts) in
-      let rest = behind limits (Event (Release thread lock)) (release_flags roster limits actor depth)
-      (λ i. cond (lacks i) (Some NotHeld) (events_alone limits i)) (λ holder below. refl) in
-      λ i. cond (no_header i) (Some HeaderFirst) (cond (unknown_thread thread actor acts i) (Some UnknownThread) (cond (sym acts i).joined (Some ThreadEnded) (rest i)))
+  -- what stands against an acquire of the lock that was found
+  abbrev pub stands_against : FoundLock → ℕ → ℕ → Bool
+  stands_against found thread other = is_other_holder found.lock thread other || is_other_sharer roster.shares found.number thread other
+
+  pub against_within : (lock : List ℕ) (found : FoundLock) (thread : ℕ) (held_by : Option ℕ) → found.lock ≡ lock_in roster lock
+      → IsLeast (stands_against found thread) held_by → IfSome held_by (λ holder. holder < length (threads_of lines))
+  against_within lock found thread held_by is least = least_within (stands_against found thread) held_by (length (threads_of lines)) least below
+    where
+      has : (own : Bool) (depth : ℕ) → (not own && not (depth == 0)) ≡ true → 0 < depth
+      has own zero h = absurd (true≢false (sym h ∙ and-false (not own)))
+      has own (suc depth) h = omega arith
+
+      begun : 0 < found.lock.depth → found.lock.holder < length (threads_of lines)
+      begun = subst (λ (l : Lock). 0 < l.depth → l.holder < length (threads_of lines)) (sym is) (stands.holders_begun lock)
+
+      below : (n : ℕ) → stands_against found thread n ≡ true → n < length (threads_of lines)
+      below n h = by (is_other_holder found.lock thread n) refl
+        where
+          by : (b : Bool) → is_other_holder found.lock thread n ≡ b → n < length (threads_of lines)
+          by true holds = holder_known found.lock (length (threads_of lines)) n begun (has (thread == n) (depth_of found.lock n) holds)
+          by false lacks =
+              let shares_it : is_other_sharer roster.shares found.number thread n ≡ true = sym (ap (λ b. b || is_other_sharer roster.shares found.number thread n) lacks) ∙ h in
+              (stands.sharers_begun found.number n (has (thread == n) (share_depth roster.shares found.number n) shares_it)).1
+
+  -- the part of the search that looks at the limit of events alone
+  events_alone : (limits : Limits) → cond (leb limits.events (events lines)) (Some (Limit Events limits.events)) None ≡ cond (leb limits.events roster.events) (Some (Limit Events limits.events)) None
+  events_alone limits = λ i. cond (leb limits.events (sym stands.event_count i)) (Some (Limit Events limits.events)) None
+
+  pub called_method : (object method : List ℕ) (found : FoundObject) (m : FoundMethod) → found ≡ found_object kinds lines object
+      → m ≡ found_method (methods_at kinds found.kind) method → m ≡ found_method (methods_of kinds lines object) method
+  called_method object method found m declared is = is ∙ ap (λ found. found_method (methods_at kinds found.kind) method) declared
+
+  -- a thread stands against a line by what it took and didn't give back
+  part_judged : (took gave : List ℕ → ℕ) (depth : ℕ → ℕ) → ((name : List ℕ) → took name ≡ gave name + depth (place (threads_of lines) name))
+      → (thread : List ℕ) (holder : ℕ) → holder < length (threads_of lines)
+      → passes (slice_get (threads_of lines) holder) (λ other. not (same_name other thread) && not (took other == gave other))
+      ≡ (not (place (threads_of lines) thread == holder) && not (depth holder == 0))
+  part_judged took gave depth so thread holder below =
+      let threads = threads_of lines in
+      let name : List ℕ = get_or threads holder [] in
+      let at : place threads name ≡ holder = place_at threads stands.threads_differ holder below in
+      let known : place threads name < length threads = omega arith in
+      let same : same_name name thread ≡ (place threads thread == holder) =
+      nat_list_eq_equiv.symm name thread ∙ same_place threads thread name known ∙ ap (λ n. place threads thread == n) at in
+      let free : (took name == gave name) ≡ (depth holder == 0) = free_test _ _ _ (so name) ∙ ap (λ n. depth n == 0) at in
+      ap (λ o. passes o (λ other. not (same_name other thread) && not (took other == gave other))) (slice_get-get_or threads holder [] below) ∙ (λ i. not (same i) && not (free i))
+
+  -- whether a thread has the lock, or a share of it
+  holder_judged : (thread lock : List ℕ) (holder : ℕ) → holder < length (threads_of lines)
+      → passes (slice_get (threads_of lines) holder) (λ other. not (same_name other thread) && not (acquires lines other lock == releases lines other lock))
+      ≡ is_other_holder (lock_in roster lock) (place (threads_of lines) thread) holder
+  holder_judged thread lock = part_judged (λ t. acquires lines t lock) (λ t. releases lines t lock) (depth_of (lock_in roster lock)) (stands.lock_depths lock) thread
+
+  sharer_judged : (thread lock : List ℕ) (holder : ℕ) → holder < length (threads_of lines)
+      → passes (slice_get (threads_of lines) holder) (λ other. not (same_name other thread) && not (shares lines other lock == unshares lines other lock))
+      ≡ is_other_sharer roster.shares (place (locks_of lines) lock) (place (threads_of lines) thread) holder
+  sharer_judged thread lock =
+      part_judged (λ t. shares lines t lock) (λ t. unshares lines t lock) (share_depth roster.shares (place (locks_of lines) lock)) (stands.share_depths lock) thread
+
+  -- a lock is counted where it is new
+  counted : (most : ℕ) (lock : List ℕ) (b : Bool) → is_among (locks_of lines) lock ≡ b
+      → (not (is_among (locks_of lines) lock) && leb most (length (locks_of lines))) ≡ (not (is_among (locks_of lines) lock) && leb most (place (locks_of lines) lock))
+  counted most lock true there = (λ i. not (there i) && leb most (length (locks_of lines))) ∙ (λ i. not (sym there i) && leb most (place (locks_of lines) lock))
+  counted most lock false lacks = ap (λ n. not (is_among (locks_of lines) lock) && leb most n) (sym (place_unknown (locks_of lines) lock lacks))
+
+  -- the search goes the same way among the threads where the one that is told is the least that stands against the line
+  behind_least : (limits : Limits) (line : Line) (broken : Broken) (test : ℕ → Bool) → find (is_broken kinds lines line) (late limits) ≡ find (flag broken) (late limits)
+      → ((n : ℕ) → n < length (threads_of lines) → is_broken kinds lines line (LockHeld n) ≡ test n)
+      → IsLeast test broken.held_by → IfSome broken.held_by (λ holder. holder < length (threads_of lines))
+      → find (is_broken kinds lines line) (holders lines ++ late limits) ≡ find (flag broken) (holders lines ++ late limits)
+  behind_least limits line broken test same = least_found (is_broken kinds lines line) broken (late limits) (length (threads_of lines)) same test
+
+  module _ (first : Bool) (lacks : is_some roster.header ≡ not first) where
+    no_header : (headers lines == 0) ≡ first
+    no_header = by (headers lines) ∙ ap not (has_header ∙ lacks) ∙ not-not first
+      where
+        by : (n : ℕ) → (n == 0) ≡ not (nat_lt 0 n)
+        by zero = refl
+        by (suc n) = grind (arith, nat_tests)
+
+    pub root_judged : (limits : Limits) (name : List ℕ) (taken : Bool) (count : ℕ) → taken ≡ is_some (get_by (same_name name) roster.threads)
+        → count ≡ thread_count roster → first_broken kinds limits lines (Thread name) ≡ find (flag (root_flags roster limits first taken count)) (causes limits lines)
+    unfolding first_broken
+    root_judged limits name taken count is counts =
+        let test : (is_among (threads_of lines) name || false) ≡ taken = or-false _ ∙ sym (is ∙ thread_known name) in
+        let rest = behind limits (Thread name) (root_flags roster limits first taken count)
+        (λ i. cond (leb limits.threads (sym (counts ∙ stands.thread_total) i)) (Some (Limit Threads limits.threads)) None) (λ holder below. refl) in
+        λ i. cond (no_header i) (Some HeaderFirst) (cond (ltb 0 (sym stands.event_count i)) (Some LateRoot) (cond (test i) (Some NameTaken) (rest i)))
+
+    pub object_judged : (limits : Limits) (name kind : List ℕ) (taken unknown : Bool) (count : ℕ) → taken ≡ is_some (get_by (same_name name) roster.objects)
+        → not unknown ≡ is_some (get_by (same_name kind) roster.kinds) → count ≡ object_count roster
+        → first_broken kinds limits lines (Object name kind) ≡ find (flag (object_flags roster limits first taken unknown count)) (causes limits lines)
+    unfolding first_broken
+    object_judged limits name kind taken unknown count is known counts =
+        let test : is_among (objects_of lines) name ≡ taken = sym (is ∙ object_known name) in
+        let lacks : not (is_among (kind_names kinds) kind) ≡ unknown = ap not (sym (known ∙ kind_known kind)) ∙ not-not unknown in
+        let rest = behind limits (Object name kind) (object_flags roster limits first taken unknown count)
+        (λ i. cond (leb limits.objects (sym (counts ∙ stands.object_total) i)) (Some (Limit Objects limits.objects)) None) (λ holder below. refl) in
+        λ i. cond (no_header i) (Some HeaderFirst) (cond (test i) (Some NameTaken) (cond (lacks i) (Some UnknownKind) (rest i)))
+
+    pub fork_judged : (limits : Limits) (thread child : List ℕ) (actor : FoundThread) (taken : Bool) (count : ℕ) → actor ≡ found_thread lines thread
+        → taken ≡ is_some (get_by (same_name child) roster.threads) → count ≡ thread_count roster
+        → first_broken kinds limits lines (Event (Fork thread child)) ≡ find (flag (fork_flags roster limits first actor taken count)) (causes limits lines)
+    unfolding first_broken
+    fork_judged limits thread child actor taken count acts is counts =
+        let test : (is_among (threads_of lines) child || false) ≡ taken = or-false _ ∙ sym (is ∙ thread_known child) in
+        let rest = behind limits (Event (Fork thread child)) (fork_flags roster limits first actor taken count)
+        (λ i. cond (leb limits.events (sym stands.event_count i)) (Some (Limit Events limits.events))
+        (cond (leb limits.threads (sym (counts ∙ stands.thread_total) i)) (Some (Limit Threads limits.threads)) None)) (λ holder below. refl) in
+        λ i. cond (no_header i) (Some HeaderFirst) (cond (test i) (Some NameTaken) (cond (unknown_thread thread actor acts i) (Some UnknownThread)
+        (cond (sym acts i).joined (Some ThreadEnded) (rest i))))
+
+    pub join_judged : (limits : Limits) (thread child : List ℕ) (actor awaited : FoundThread) (own : Bool) → actor ≡ found_thread lines thread
+        → awaited ≡ found_thread lines child → own ≡ same_name child thread
+        → first_broken kinds limits lines (Event (Join thread child)) ≡ find (flag (join_flags roster limits first actor awaited own)) (causes limits lines)
+    unfolding first_broken
+    join_judged limits thread child actor awaited own acts waits is =
+        let rest = behind limits (Event (Join thread child)) (join_flags roster limits first actor awaited own) (events_alone limits) (λ holder below. refl) in
+        λ i. cond (no_header i) (Some HeaderFirst) (cond ((sym acts i).unknown || (sym waits i).unknown) (Some UnknownThread)
+        (cond (sym acts i).joined (Some ThreadEnded) (cond (sym is i) (Some OwnThread) (rest i))))
+
+    pub call_judged : (limits : Limits) (thread object method : List ℕ) (slots : List Value) (actor : FoundThread) (found : FoundObject) (m : FoundMethod) (items : List Value) (count : ℕ)
+        → actor ≡ found_thread lines thread → found ≡ found_object kinds lines object → m ≡ found_method (methods_at kinds found.kind) method → items ≡ slots → count ≡ m.slots
+        → first_broken kinds limits lines (Event (Call thread object method slots)) ≡ find (flag (call_flags roster limits first actor found m (length items) count)) (causes limits lines)
+    unfolding first_broken
+    call_judged limits thread object method slots actor found m items count acts declared finds same counts =
+        let is = called_method object method found m declared finds in
+        let rest = behind limits (Event (Call thread object method slots)) (call_flags roster limits first actor found m (length items) count) (events_alone limits) (λ holder below. refl) in
+        λ i. cond (no_header i) (Some HeaderFirst) (cond (unknown_thread thread actor acts i) (Some UnknownThread) (cond (sym acts i).joined (Some ThreadEnded)
+        (cond (sym declared i).unknown (Some UnknownObject) (cond (sym is i).unknown (Some UnknownMethod)
+        (cond (not (length (sym same i) == (sym (counts ∙ ap (λ m. m.slots) is) i))) (Some WrongCount) (rest i))))))
+
+    pub acquire_judged : (limits : Limits) (thread lock : List ℕ) (actor : FoundThread) (found : FoundLock) (held_by : Option ℕ) (depth : ℕ) → actor ≡ found_thread lines thread
+        → (found.number ≡ place (locks_of lines) lock) × (found.unknown ≡ not (is_among (locks_of lines) lock)) → found.lock ≡ lock_in roster lock
+        → IsLeast (stands_against found actor.number) held_by → depth ≡ depth_of found.lock actor.number
+        → first_broken kinds limits lines (Event (Acquire thread lock)) ≡ find (flag (acquire_flags roster limits first actor found held_by depth)) (causes limits lines)
+    unfolding first_broken
+    acquire_judged limits thread lock actor found held_by depth acts numbers is least counts =
+        let n : place (threads_of lines) thread ≡ actor.number = ap (λ found. found.number) (sym acts) in
+        let raised : (not (is_among (locks_of lines) lock) && leb limits.locks (length (locks_of lines))) ≡ (found.unknown && leb limits.locks found.number) =
+        counted limits.locks lock (is_among (locks_of lines) lock) refl ∙ (λ i. sym numbers.1 i && leb limits.locks (sym numbers.0 i)) in
+        let deep : (leb (limits.depth + releases lines thread lock) (acquires lines thread lock) || false) ≡ leb limits.depth depth =
+        or-false _ ∙ deep_test _ _ _ (stands.lock_depths lock thread) limits.depth ∙ (λ i. leb limits.depth (depth_of (sym is i) (n i))) ∙ ap (leb limits.depth) (sym counts) in
+        let rest = behind_least limits (Event (Acquire thread lock)) (acquire_flags roster limits first actor found held_by depth) (stands_against found actor.number)
+        (λ i. cond (leb limits.events (sym stands.event_count i)) (Some (Limit Events limits.events))
+        (cond (raised i) (Some (Limit Locks limits.locks)) (cond (deep i) (Some (Limit Depth limits.depth)) None)))
+        (λ holder below. (λ i. holder_judged thread lock holder below i || sharer_judged thread lock holder below i)
+        ∙ (λ i. is_other_holder (sym is i) (n i) holder || is_other_sharer roster.shares (sym numbers.0 i) (n i) holder))
+        least (against_within lock found actor.number held_by is least) in
+        λ i. cond (no_header i) (Some HeaderFirst) (cond (unknown_thread thread actor acts i) (Some UnknownThread) (cond (sym acts i).joined (Some ThreadEnded) (rest i)))
+
+    pub share_judged : (limits : Limits) (thread lock : List ℕ) (actor : FoundThread) (found : FoundLock) (held_by : Option ℕ) (depth : ℕ) → actor ≡ found_thread lines thread
+        → (found.number ≡ place (locks_of lines) lock) × (found.unknown ≡ not (is_among (locks_of lines) lock)) → found.lock ≡ lock_in roster lock
+        → held_by ≡ other_holder found.lock actor.number → depth ≡ share_depth roster.shares found.number actor.number
+        → first_broken kinds limits lines (Event (Share thread lock)) ≡ find (flag (acquire_flags roster limits first actor found held_by depth)) (causes limits lines)
+    unfolding first_broken
+    share_judged limits thread lock actor found held_by depth acts numbers is holds counts =
+        let n : place (threads_of lines) thread ≡ actor.number = ap (λ found. found.number) (sym acts) in
+        let raised : (not (is_among (locks_of lines) lock) && leb limits.locks (length (locks_of lines))) ≡ (found.unknown && leb limits.locks found.number) =
+        counted limits.locks lock (is_among (locks_of lines) lock) refl ∙ (λ i. sym numbers.1 i && leb limits.locks (sym numbers.0 i)) in
+        let deep : leb (limits.depth + unshares lines thread lock) (shares lines thread lock) ≡ leb limits.depth depth =
+        deep_test _ _ _ (stands.share_depths lock thread) limits.depth ∙ (λ i. leb limits.depth (share_depth roster.shares (sym numbers.0 i) (n i))) ∙ ap (leb limits.depth) (sym counts) in
+        let rest = behind_least limits (Event (Share thread lock)) (acquire_flags roster limits first actor found held_by depth) (is_other_holder found.lock actor.number)
+        (λ i. cond (leb limits.events (sym stands.event_count i)) (Some (Limit Events limits.events))
+        (cond (raised i) (Some (Limit Locks limits.locks)) (cond (deep i) (Some (Limit Depth limits.depth)) None)))
+        (λ holder below. or-false _ ∙ holder_judged thread lock holder below ∙ (λ i. is_other_holder (sym is i) (n i) holder))
+        (subst (IsLeast (is_other_holder found.lock actor.number)) (sym holds) (holder_least found.lock actor.number))
+        (holder_within lock found.lock held_by actor.number is holds) in
+        λ i. cond (no_header i) (Some HeaderFirst) (cond (unknown_thread thread actor acts i) (Some UnknownThread) (cond (sym acts i).joined (Some ThreadEnded) (rest i)))
+
+    pub release_judged : (limits : Limits) (thread lock : List ℕ) (actor : FoundThread) (held : Lock) (depth : ℕ) → actor ≡ found_thread lines thread → held ≡ lock_in roster lock
+        → depth ≡ depth_of held actor.number
+        → first_broken kinds limits lines (Event (Release thread lock)) ≡ find (flag (release_flags roster limits first actor depth)) (causes limits lines)
+    unfolding first_broken
+    release_judged limits thread lock actor held depth acts is counts =
+        let n : place (threads_of lines) thread ≡ actor.number = ap (λ found. found.number) (sym acts) in
+        let lacks : (leb (acquires lines thread lock) (releases lines thread lock) || false) ≡ (depth == 0) =
+        or-false _ ∙ not_held_test _ _ _ (stands.lock_depths lock thread) ∙ (λ i. depth_of (sym is i) (n i) == 0) ∙ ap (λ n. n == 0) (sym counts) in
+        let rest = behind limits (Event (Release thread lock)) (release_flags roster limits first actor depth)
+        (λ i. cond (lacks i) (Some NotHeld) (events_alone limits i)) (λ holder below. refl) in
+        λ i. cond (no_header i) (Some HeaderFirst) (cond (unknown_thread thread actor acts i) (Some UnknownThread) (cond (sym acts i).joined (Some ThreadEnded) (rest i)))
+
+    pub unshare_judged : (limits : Limits) (thread lock : List ℕ) (actor : FoundThread) (number depth : ℕ) → actor ≡ found_thread lines thread → number ≡ place (locks_of lines) lock
+        → depth ≡ share_depth roster.shares number actor.number
+        → first_broken kinds limits lines (Event (Unshare thread lock)) ≡ find (flag (release_flags roster limits first actor depth)) (causes limits lines)
+    unfolding first_broken
+    unshare_judged limits thread lock actor number depth acts is counts =
+        let n : place (threads_of lines) thread ≡ actor.number = ap (λ found. found.number) (sym acts) in
+        let lacks : leb (shares lines thread lock) (unshares lines thread lock) ≡ (depth == 0) =
+        not_held_test _ _ _ (stands.share_depths lock thread) ∙ (λ i. share_depth roster.shares (sym is i) (n i) == 0) ∙ ap (λ n. n == 0) (sym counts) in
+        let rest = behind limits (Event (Unshare thread lock)) (release_flags roster limits first actor depth)
+        (λ i. cond (lacks i) (Some NotHeld) (events_alone limits i)) (λ holder below. refl) in
+        λ i. cond (no_header i) (Some HeaderFirst) (cond (unknown_thread thread actor acts i) (Some UnknownThread) (cond (sym acts i).joined (Some ThreadEnded) (rest i)))

@@ -8,11 +8,11 @@ use Rattle.rd_event.specs.declared.items.Line.TheVariants.{Event}
 use Rattle.rd_event.specs.Events.{EventInRange}
 use Rattle.rd_event.specs.declared.events.Event.{Event as Numbered}
 use Rattle.rd_order.specs.EventLists.{IsCallOf, IsKnownThread, WellFormed, calls, givings, joins, takings}
-use Rattle.rd_order.specs.Order.{call_in, exclusive}
+use Rattle.rd_order.specs.Order.{call_in, exclusive, Hold, shared}
 use Rattle.rd_ecl.specs.Kinds.{Kind}
 use Rattle.rd_wf.specs.declared.causes.Accepted.{Accepted}
 use Rattle.rd_wf.specs.declared.causes.Accepted.TheVariants as accepted
-use Rattle.rd_wf.specs.MayFollow.{MayFollow, acquires, events, is_root, joined_of, locks_of, numbered_event, object_kinds, place, releases, threads_of}
+use Rattle.rd_wf.specs.MayFollow.{MayFollow, acquires, events, is_root, joined_of, locks_of, numbered_event, object_kinds, place, releases, shares, threads_of, unshares}
 
 -- ---- roots and events
 
@@ -87,15 +87,20 @@ pub record Tally (count : ℕ → ℕ → ℕ) (threads locks : List (List ℕ))
   pub new_thread : (thread lock : List ℕ) → ¬ (Contains threads thread) → says thread lock ≡ 0
   pub new_lock : (thread lock : List ℕ) → ¬ (Contains locks lock) → says thread lock ≡ 0
 
--- each thread takes and gives back each lock as often as its lines say, and each lock's name has one place
-pub record AreUsed (es : List Numbered) (threads locks : List (List ℕ)) (took gave : List ℕ → List ℕ → ℕ) : Type 0 where
-  pub taken : Tally (λ t l. takings es t (exclusive l)) threads locks took
-  pub given : Tally (λ t l. givings es t (exclusive l)) threads locks gave
+-- each thread takes and gives back each hold of this sort as often as its lines say
+pub record AreHeld (hold : ℕ → Hold) (es : List Numbered) (threads locks : List (List ℕ)) (took gave : List ℕ → List ℕ → ℕ) : Type 0 where
+  pub taken : Tally (λ t l. takings es t (hold l)) threads locks took
+  pub given : Tally (λ t l. givings es t (hold l)) threads locks gave
+
+-- so it is with the locks that threads have for themselves and with their shares, and each lock's name has one place
+pub record AreUsed (es : List Numbered) (threads locks : List (List ℕ)) (took gave sharing unsharing : List ℕ → List ℕ → ℕ) : Type 0 where
+  pub alone : AreHeld exclusive es threads locks took gave
+  pub shares : AreHeld shared es threads locks sharing unsharing
   pub places : (l : ℕ) (lock : List ℕ) → slice_get locks l ≡ Some lock → place locks lock ≡ l
 
 -- so it is with the events of these lines; and the objects and the calls are of the kinds
 pub record AreTold (kinds : List Kind) (lines : List Line) : Type 0 where
   pub told : IsTold (roots_of lines) (events_of kinds lines) (events lines) (threads_of lines) (joined_of lines) (object_kinds kinds lines)
-  pub used : AreUsed (events_of kinds lines) (threads_of lines) (locks_of lines) (acquires lines) (releases lines)
+  pub used : AreUsed (events_of kinds lines) (threads_of lines) (locks_of lines) (acquires lines) (releases lines) (shares lines) (unshares lines)
   pub declared : All (λ kind. kind < length kinds) (object_kinds kinds lines)
   pub fit : All (λ e. IfSome (call_in e) (IsCallOf kinds)) (events_of kinds lines)

@@ -9,7 +9,7 @@ use Rattle.rd_base.specs.declared.limits.LimitName.TheVariants.{Events, Threads,
 use Rattle.rd_event.specs.declared.items.Line.{Line}
 use Rattle.rd_event.specs.declared.items.Line.TheVariants.{Skip, Header, Thread, Object, Event}
 use Rattle.rd_event.specs.declared.items.LineEvent.{LineEvent}
-use Rattle.rd_event.specs.declared.items.LineEvent.TheVariants.{Fork, Join, Acquire, Release, Call}
+use Rattle.rd_event.specs.declared.items.LineEvent.TheVariants.{Fork, Join, Acquire, Release, Share, Unshare, Call}
 use Rattle.rd_event.specs.declared.events.Event as event
 use Rattle.rd_event.specs.declared.events.Event.TheVariants as numbered
 use Rattle.rd_ecl.specs.Kinds.{Kind, KindMethod, kind_names, method_names, methods_at, kind_slots_at}
@@ -56,6 +56,8 @@ actor_name (Fork thread child) = thread
 actor_name (Join thread child) = thread
 actor_name (Acquire thread lock) = thread
 actor_name (Release thread lock) = thread
+actor_name (Share thread lock) = thread
+actor_name (Unshare thread lock) = thread
 actor_name (Call thread object method slots) = thread
 
 -- the lock that an event acquires
@@ -67,6 +69,22 @@ acquired_lock _ = None
 abbrev pub released_lock : LineEvent → Option (List ℕ)
 released_lock (Release thread lock) = Some lock
 released_lock _ = None
+
+-- the lock that an event shares
+abbrev pub shared_lock : LineEvent → Option (List ℕ)
+shared_lock (Share thread lock) = Some lock
+shared_lock _ = None
+
+-- the lock that an event unshares
+abbrev pub unshared_lock : LineEvent → Option (List ℕ)
+unshared_lock (Unshare thread lock) = Some lock
+unshared_lock _ = None
+
+-- the lock that an event acquires or shares
+abbrev pub taken_lock : LineEvent → Option (List ℕ)
+taken_lock (Acquire thread lock) = Some lock
+taken_lock (Share thread lock) = Some lock
+taken_lock _ = None
 
 -- a call, by the names of its object and method, and with its arguments and result
 pub record SpelledCall : Type 0 where
@@ -104,6 +122,21 @@ acquired_name _ = None
 abbrev pub released_name : Line → Option (List ℕ)
 released_name (Event event) = released_lock event
 released_name _ = None
+
+-- the lock that it shares
+abbrev pub shared_name : Line → Option (List ℕ)
+shared_name (Event event) = shared_lock event
+shared_name _ = None
+
+-- the lock that it unshares
+abbrev pub unshared_name : Line → Option (List ℕ)
+unshared_name (Event event) = unshared_lock event
+unshared_name _ = None
+
+-- the lock that it acquires or shares
+abbrev pub taken_name : Line → Option (List ℕ)
+taken_name (Event event) = taken_lock event
+taken_name _ = None
 
 -- the object that it declares
 abbrev pub declared_name : Line → Option (List ℕ)
@@ -153,17 +186,17 @@ threads_of before = filter_map begun_name before
 abbrev pub joined_of : List Line → List (List ℕ)
 joined_of before = filter_map joined_name before
 
--- these locks, and the one that the line acquires where it isn't among them
+-- these locks, and the one that the line takes where it isn't among them
 abbrev pub with_lock : List (List ℕ) → Option (List ℕ) → List (List ℕ)
 with_lock locks None = locks
 with_lock locks (Some lock) = if is_among locks lock then locks else locks ++ lock ∷ []
 
--- these locks, and those that lines acquire, in the order in which each is acquired first
+-- these locks, and those that lines acquire or share, in the order in which each is taken first
 abbrev pub with_locks : List (List ℕ) → List Line → List (List ℕ)
 with_locks locks [] = locks
-with_locks locks (line ∷ lines) = with_locks (with_lock locks (acquired_name line)) lines
+with_locks locks (line ∷ lines) = with_locks (with_lock locks (taken_name line)) lines
 
--- the locks, in the order of the lines that acquired each first
+-- the locks, in the order of the lines that acquired or shared each first
 abbrev pub locks_of : List Line → List (List ℕ)
 locks_of before = with_locks [] before
 
@@ -180,6 +213,20 @@ acquires before thread lock = count_by (is_acquire_of thread lock) before
 
 unfoldable pub releases : List Line → List ℕ → List ℕ → ℕ
 releases before thread lock = count_by (is_release_of thread lock) before
+
+-- a line of this thread that shares this lock, and one that unshares it
+abbrev pub is_share_of : List ℕ → List ℕ → Line → Bool
+is_share_of thread lock line = passes (acting_name line) (same_name thread) && passes (shared_name line) (same_name lock)
+
+abbrev pub is_unshare_of : List ℕ → List ℕ → Line → Bool
+is_unshare_of thread lock line = passes (acting_name line) (same_name thread) && passes (unshared_name line) (same_name lock)
+
+-- how often the thread shared the lock, and how often it unshared it
+unfoldable pub shares : List Line → List ℕ → List ℕ → ℕ
+shares before thread lock = count_by (is_share_of thread lock) before
+
+unfoldable pub unshares : List Line → List ℕ → List ℕ → ℕ
+unshares before thread lock = count_by (is_unshare_of thread lock) before
 
 -- the objects, in the order of their lines
 abbrev pub objects_of : List Line → List (List ℕ)
@@ -214,6 +261,16 @@ slot_count_of kinds before call = kind_slots_at (methods_of kinds before call.ob
 abbrev pub headers : List Line → ℕ
 headers before = count_by is_header before
 
+-- the version of the first header
+abbrev pub header_of : List Line → Option ℕ
+header_of [] = None
+header_of (Header version ∷ lines) = Some version
+header_of (_ ∷ lines) = header_of lines
+
+-- the version that the lines are of: that of the first header, 0 where there is none
+abbrev pub version_of : List Line → ℕ
+version_of before = unwrap_or (header_of before) 0
+
 -- how many events there are
 abbrev pub events : List Line → ℕ
 events before = count_by is_event before
@@ -246,23 +303,30 @@ Rule kinds before line UnknownKind = IfSome (kind_name line) (Contains (kind_nam
 Rule kinds before line UnknownObject = IfSome (line_call line) (λ call. Contains (objects_of before) call.object)
 Rule kinds before line UnknownMethod = IfSome (line_call line) (λ call. Contains (method_names (methods_of kinds before call.object)) call.method)
 Rule kinds before line WrongCount = IfSome (line_call line) (λ call. length call.slots ≡ slot_count_of kinds before call)
--- the thread with this number isn't another one that has the acquired lock: it released the lock as often as it acquired it
-Rule kinds before line (LockHeld holder) = IfSome (acquired_name line) (λ lock. IfSome (slice_get (threads_of before) holder) (λ thread.
+-- the thread with this number isn't another one that stands against the line: it released the lock that the line acquires or shares
+-- as often as it acquired it, and unshared the lock that the line acquires as often as it shared it
+Rule kinds before line (LockHeld holder) =
+    IfSome (taken_name line) (λ lock. IfSome (slice_get (threads_of before) holder) (λ thread.
     acting_name line ≢ Some thread → acquires before thread lock ≡ releases before thread lock))
--- the acting thread has the released lock: it acquired the lock more often than it released it
-Rule kinds before line NotHeld = IfSome (released_name line) (λ lock. IfSome (acting_name line) (λ thread.
-    releases before thread lock < acquires before thread lock))
--- no count that the line raises passes its limit. A lock is counted where it is acquired first, and depth is how often
--- the acting thread has acquired the lock and not released it
+    × IfSome (acquired_name line) (λ lock. IfSome (slice_get (threads_of before) holder) (λ thread.
+    acting_name line ≢ Some thread → shares before thread lock ≡ unshares before thread lock))
+-- the acting thread has what the line gives back: it acquired the released lock more often than it released it, and shared the
+-- unshared lock more often than it unshared it
+Rule kinds before line NotHeld =
+    IfSome (released_name line) (λ lock. IfSome (acting_name line) (λ thread. releases before thread lock < acquires before thread lock))
+    × IfSome (unshared_name line) (λ lock. IfSome (acting_name line) (λ thread. unshares before thread lock < shares before thread lock))
+-- no count that the line raises passes its limit. A lock is counted where it is first acquired or shared. Depth is how often the
+-- acting thread has acquired the lock and not released it, and by itself how often it has shared it and not unshared it
 Rule kinds before line (Limit Events most) = IsTrue (is_event line) → events before < most
 Rule kinds before line (Limit Threads most) = IsSome (begun_name line) → length (threads_of before) < most
-Rule kinds before line (Limit Locks most) = IfSome (acquired_name line) (λ lock. ¬ (Contains (locks_of before) lock) → length (locks_of before) < most)
+Rule kinds before line (Limit Locks most) = IfSome (taken_name line) (λ lock. ¬ (Contains (locks_of before) lock) → length (locks_of before) < most)
 Rule kinds before line (Limit Objects most) = IsSome (declared_name line) → length (objects_of before) < most
-Rule kinds before line (Limit Depth most) = IfSome (acquired_name line) (λ lock. IfSome (acting_name line) (λ thread.
-    acquires before thread lock < most + releases before thread lock))
+Rule kinds before line (Limit Depth most) =
+    IfSome (acquired_name line) (λ lock. IfSome (acting_name line) (λ thread. acquires before thread lock < most + releases before thread lock))
+    × IfSome (shared_name line) (λ lock. IfSome (acting_name line) (λ thread. shares before thread lock < most + unshares before thread lock))
 Rule kinds before line (Limit name most) = Unit {0}
 
--- that a thread has the lock, for each thread, in the order of their numbers
+-- that a thread stands against the line, for each thread, in the order of their numbers
 abbrev pub holders : List Line → List WfCause
 holders before = map LockHeld (range_with_len 0 (length (threads_of before)))
 
@@ -300,16 +364,21 @@ is_broken kinds before line UnknownKind = passes (kind_name line) (λ kind. not 
 is_broken kinds before line UnknownObject = passes (line_call line) (λ call. not (is_among (objects_of before) call.object))
 is_broken kinds before line UnknownMethod = passes (line_call line) (λ call. not (is_among (method_names (methods_of kinds before call.object)) call.method))
 is_broken kinds before line WrongCount = passes (line_call line) (λ call. not (length call.slots == slot_count_of kinds before call))
-is_broken kinds before line (LockHeld holder) = passes (acquired_name line) (λ lock. passes (slice_get (threads_of before) holder) (λ thread.
+is_broken kinds before line (LockHeld holder) =
+    passes (taken_name line) (λ lock. passes (slice_get (threads_of before) holder) (λ thread.
     not (passes (acting_name line) (same_name thread)) && not (acquires before thread lock == releases before thread lock)))
-is_broken kinds before line NotHeld = passes (released_name line) (λ lock. passes (acting_name line) (λ thread.
-    nat_le (acquires before thread lock) (releases before thread lock)))
+    || passes (acquired_name line) (λ lock. passes (slice_get (threads_of before) holder) (λ thread.
+    not (passes (acting_name line) (same_name thread)) && not (shares before thread lock == unshares before thread lock)))
+is_broken kinds before line NotHeld =
+    passes (released_name line) (λ lock. passes (acting_name line) (λ thread. nat_le (acquires before thread lock) (releases before thread lock)))
+    || passes (unshared_name line) (λ lock. passes (acting_name line) (λ thread. nat_le (shares before thread lock) (unshares before thread lock)))
 is_broken kinds before line (Limit Events most) = is_event line && nat_le most (events before)
 is_broken kinds before line (Limit Threads most) = is_some (begun_name line) && nat_le most (length (threads_of before))
-is_broken kinds before line (Limit Locks most) = passes (acquired_name line) (λ lock. not (is_among (locks_of before) lock)) && nat_le most (length (locks_of before))
+is_broken kinds before line (Limit Locks most) = passes (taken_name line) (λ lock. not (is_among (locks_of before) lock)) && nat_le most (length (locks_of before))
 is_broken kinds before line (Limit Objects most) = is_some (declared_name line) && nat_le most (length (objects_of before))
-is_broken kinds before line (Limit Depth most) = passes (acquired_name line) (λ lock. passes (acting_name line) (λ thread.
-    nat_le (most + releases before thread lock) (acquires before thread lock)))
+is_broken kinds before line (Limit Depth most) =
+    passes (acquired_name line) (λ lock. passes (acting_name line) (λ thread. nat_le (most + releases before thread lock) (acquires before thread lock)))
+    || passes (shared_name line) (λ lock. passes (acting_name line) (λ thread. nat_le (most + unshares before thread lock) (shares before thread lock)))
 is_broken kinds before line (Limit name most) = false
 
 -- the first cause whose rule the line breaks, if it breaks any
@@ -318,12 +387,14 @@ first_broken kinds limits before line = if is_skip line then None else find (is_
 
 -- ---- numbers
 
--- an event by numbers. The thread that it begins has the next one, and so has a lock that is acquired for the first time
+-- an event by numbers. The thread that it begins has the next one, and so has a lock that is acquired or shared for the first time
 abbrev pub numbered_event : List Kind → List Line → LineEvent → event.Event
 numbered_event kinds before (Fork thread child) = numbered.Fork (place (threads_of before) thread) (length (threads_of before))
 numbered_event kinds before (Join thread child) = numbered.Join (place (threads_of before) thread) (place (threads_of before) child)
 numbered_event kinds before (Acquire thread lock) = numbered.Acquire (place (threads_of before) thread) (place (locks_of before) lock)
 numbered_event kinds before (Release thread lock) = numbered.Release (place (threads_of before) thread) (place (locks_of before) lock)
+numbered_event kinds before (Share thread lock) = numbered.Share (place (threads_of before) thread) (place (locks_of before) lock)
+numbered_event kinds before (Unshare thread lock) = numbered.Unshare (place (threads_of before) thread) (place (locks_of before) lock)
 numbered_event kinds before (Call thread object method slots) =
     numbered.Call (record {
       thread = place (threads_of before) thread;
@@ -343,14 +414,16 @@ accepted_of kinds before (Event event) = accepted.Event (numbered_event kinds be
 
 -- ---- memory
 
--- to accept the event behind these lines takes memory: it begins a thread, acquires a lock for the first time, or is a call with slots
+-- to accept the event behind these lines may take memory: it begins a thread, acquires a lock for the first time, shares one, or is a
+-- call with slots
 abbrev pub EventTakesMemory : List Line → LineEvent → Type 0
 EventTakesMemory before (Fork thread child) = Unit {0}
 EventTakesMemory before (Acquire thread lock) = ¬ (Contains (locks_of before) lock)
+EventTakesMemory before (Share thread lock) = Unit {0}
 EventTakesMemory before (Call thread object method slots) = slots ≢ []
 EventTakesMemory before _ = ⊥
 
--- to accept the line takes memory: it names a thread, declares an object, or is such an event
+-- to accept the line may take memory: it names a thread, declares an object, or is such an event
 abbrev pub TakesMemory : List Line → Line → Type 0
 TakesMemory before (Thread thread) = Unit {0}
 TakesMemory before (Object name kind) = Unit {0}

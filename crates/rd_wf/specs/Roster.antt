@@ -16,9 +16,10 @@ use Rattle.rd_wf.specs.declared.roster.judge.Broken.{Broken}
 use Rattle.rd_wf.specs.declared.roster.Lock.{Lock}
 use Rattle.rd_wf.specs.declared.roster.judge.FoundObject.{FoundObject}
 use Rattle.rd_wf.specs.declared.roster.judge.FoundThread.{FoundThread}
+use Rattle.rd_wf.specs.Shares.{share_depth}
 use Rattle.rd_wf.specs.declared.methods.FoundMethod.{FoundMethod}
 use Rattle.rd_wf.specs.declared.methods.Methods.{Methods}
-use Rattle.rd_wf.specs.MayFollow.{threads_of, joined_of, locks_of, objects_of, acquires, releases, headers, events, is_among, passes, same_name, kind_number, place, first_broken, accepted_of, TakesMemory}
+use Rattle.rd_wf.specs.MayFollow.{threads_of, joined_of, locks_of, objects_of, acquires, releases, shares, unshares, header_of, events, is_among, passes, same_name, kind_number, place, first_broken, accepted_of, TakesMemory}
 use Rattle.rd_ecl.specs.Kinds.{Kind, KindMethod, kind_names, method_names, kind_slots_at}
 
 -- how many threads, locks and objects the roster numbers
@@ -56,13 +57,17 @@ free_lock = record { holder = 0; depth = 0 }
 abbrev pub lock_in : Roster → List ℕ → Lock
 lock_in roster name = unwrap_or (get_by (same_name name) roster.locks) free_lock
 
--- how often the thread with this number acquired the lock and didn't release it
+-- how often the thread with this number has acquired the lock and not released it
 abbrev pub depth_of : Lock → ℕ → ℕ
 depth_of lock thread = if thread == lock.holder then lock.depth else 0
 
 -- the thread that has the lock, if it is another one than that with this number
 abbrev pub other_holder : Lock → ℕ → Option ℕ
 other_holder lock thread = if nat_lt 0 lock.depth && not (thread == lock.holder) then Some lock.holder else None
+
+-- a second thread has the lock, and it is another one than the first
+abbrev pub is_other_holder : Lock → ℕ → ℕ → Bool
+is_other_holder lock thread other = not (thread == other) && not (depth_of lock other == 0)
 
 -- the methods that a roster's table says, and the kind that an entry of its kinds says
 abbrev pub method_entry : List ℕ × ℕ → KindMethod
@@ -155,16 +160,19 @@ kinds_in roster = map kind_entry roster.kinds.entries
 pub record RosterStandsFor (kinds : List Kind) (roster : Roster) (lines : List Line) : Type 0 where
   -- its kinds, each with its methods
   pub kind_entries : kinds_in roster ≡ kinds
-  -- whether there is a header, and how many events there are
-  pub has_header : roster.header ≡ nat_lt 0 (headers lines)
+  -- the version of the header, if there is one, and how many events there are
+  pub header_version : roster.header ≡ header_of lines
   pub event_count : roster.events ≡ events lines
   -- the threads in their order, each with whether it is joined, and the objects in theirs, each with its kind
   pub thread_entries : roster.threads.entries ≡ map (thread_entry lines) (threads_of lines)
   pub object_entries : roster.objects.entries ≡ filter_map (object_entry kinds) lines
-  -- the locks in their order; each, and none that isn't among them, with how often threads acquired it and didn't release it
+  -- the locks in their order; each, and none that isn't among them, with how often threads acquired it and didn't release it,
+  -- and how often they shared it and didn't unshare it
   pub lock_names : map (λ entry. entry.0) roster.locks.entries ≡ locks_of lines
   pub lock_depths : (lock thread : List ℕ) → acquires lines thread lock ≡ releases lines thread lock + depth_of (lock_in roster lock) (place (threads_of lines) thread)
   pub holders_begun : (lock : List ℕ) → 0 < (lock_in roster lock).depth → (lock_in roster lock).holder < length (threads_of lines)
+  pub share_depths : (lock thread : List ℕ) → shares lines thread lock ≡ unshares lines thread lock + share_depth roster.shares (place (locks_of lines) lock) (place (threads_of lines) thread)
+  pub sharers_begun : (lock thread : ℕ) → 0 < share_depth roster.shares lock thread → (lock < length (locks_of lines)) × (thread < length (threads_of lines))
   -- no two threads have one name, and each joined thread was begun
   pub threads_differ : IsDistinct same_name (threads_of lines)
   pub joined_begun : (name : List ℕ) → Contains (joined_of lines) name → Contains (threads_of lines) name

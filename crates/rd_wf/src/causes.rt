@@ -6,7 +6,7 @@ use std::alloc::AllocFailed;
 use thiserror::Error;
 
 /// What an accepted line is in numbers: threads, locks and objects from 0, in the order of the lines that
-/// began, first acquired or declared them, and kinds by their places among the kinds.
+/// began, first acquired or shared, or declared them, and kinds by their places among the kinds.
 #[derive(Debug, Drop, PartialEq, Eq)]
 pub enum Accepted {
     /// a skipped line, or the header
@@ -52,10 +52,10 @@ pub enum WfCause {
     /// the call has another number of slots than its method
     #[error("the number of arguments is wrong")]
     WrongCount,
-    /// the acquired lock is held by another thread, with this number
+    /// another thread stands against the line, that of least number: it has the acquired or shared lock, or a share of the acquired one
     #[error("another thread holds the lock")]
     LockHeld(u32),
-    /// the acting thread doesn't hold the released lock
+    /// the acting thread doesn't have the released lock, or no share of the unshared one
     #[error("the thread doesn't hold the lock")]
     NotHeld,
     /// one more would pass this limit, which is the number

@@ -6,11 +6,11 @@ ghost use Rattle.rd_event.specs.declared.items.Line.TheVariants as line;
 ghost use Rattle.rd_event.specs.declared.items.LineEvent.TheVariants as spelled;
 ghost use Rattle.rd_event.specs.declared.events.Event.TheVariants as event;
 ghost use Rattle.rd_order.specs.EventLists.{IsKnownThread, WellFormedWith, calls, givings, joins, takings};
-ghost use Rattle.rd_order.specs.Order.{exclusive};
+ghost use Rattle.rd_order.specs.Order.{exclusive, shared};
 ghost use Rattle.rd_wf.specs.declared.causes.Accepted.TheVariants as accepted;
 ghost use Rattle.rd_wf.specs.Events.{AreAccepted, events_of, roots_of};
 ghost use Rattle.rd_ecl.specs.Kinds.{Kind};
-ghost use Rattle.rd_wf.specs.MayFollow.{IsBrokenFirst, MayFollow, accepted_of, acquires, events, first_broken, joined_of, locks_of, object_kinds, place, releases, threads_of};
+ghost use Rattle.rd_wf.specs.MayFollow.{IsBrokenFirst, MayFollow, accepted_of, acquires, events, first_broken, joined_of, locks_of, object_kinds, place, releases, shares, threads_of, unshares};
 
 use crate::causes::WfCause;
 
@@ -33,7 +33,8 @@ pub fn law_of_following()
 /// event begins, as many as the lines of events. Its known threads are those of the lines, and its
 /// joined ones those that the lines join. All calls on an object are of the kind that its line
 /// declares. A thread takes and gives back a lock as often as the lines with their names acquire and
-/// release it, and a lock that is acquired for the first time has the next number.
+/// release it, and a share of it as often as they share and unshare it. A lock that is acquired or shared
+/// for the first time has the next number.
 pub fn law_of_events()
     // the events are well formed, and counted
     ensures formed { (kinds : List Kind) (lines : List LineOf) → AreAccepted kinds lines →
@@ -62,8 +63,20 @@ pub fn law_of_events()
         (t l : ℕ) (thread lock : List ℕ) →
         slice_get (threads_of lines) t ≡ Some thread → slice_get (locks_of lines) l ≡ Some lock →
         givings (events_of kinds lines) t (exclusive l) ≡ releases lines thread lock }
+    ensures shares_taken { (kinds : List Kind) (lines : List LineOf) → AreAccepted kinds lines →
+        (t l : ℕ) (thread lock : List ℕ) →
+        slice_get (threads_of lines) t ≡ Some thread → slice_get (locks_of lines) l ≡ Some lock →
+        takings (events_of kinds lines) t (shared l) ≡ shares lines thread lock }
+    ensures shares_given { (kinds : List Kind) (lines : List LineOf) → AreAccepted kinds lines →
+        (t l : ℕ) (thread lock : List ℕ) →
+        slice_get (threads_of lines) t ≡ Some thread → slice_get (locks_of lines) l ≡ Some lock →
+        givings (events_of kinds lines) t (shared l) ≡ unshares lines thread lock }
     ensures numbered { (kinds : List Kind) (before : List LineOf) (thread lock : List ℕ) →
         ¬ (Contains (locks_of before) lock) →
         accepted_of kinds before (line.Event (spelled.Acquire thread lock)) ≡ accepted.Event
         (event.Acquire (place (threads_of before) thread) (length (locks_of before))) }
+    ensures shared_first { (kinds : List Kind) (before : List LineOf) (thread lock : List ℕ) →
+        ¬ (Contains (locks_of before) lock) →
+        accepted_of kinds before (line.Event (spelled.Share thread lock)) ≡ accepted.Event
+        (event.Share (place (threads_of before) thread) (length (locks_of before))) }
 {}

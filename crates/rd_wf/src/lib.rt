@@ -5,6 +5,8 @@ mod causes;
 mod laws;
 mod methods;
 mod roster;
+mod sharers;
+mod shares;
 
 pub use causes::{Accepted, TraceCause, WfCause, WfRefused};
 pub use laws::{law_of_events, law_of_following};

@@ -6,8 +6,9 @@ mod judge;
 
 use crate::causes::{Accepted, WfCause, WfRefused};
 use crate::methods::Methods;
+use crate::shares::Shares;
 use indexmap::IndexMap;
-use judge::{Declared, near_place};
+use judge::{Declared, FREE, near_place};
 use rd_base::{Limits, Name, NoMemory, Slots};
 use rd_ecl::Spec;
 use rd_event::{Call, Event, Line, LineEvent};
@@ -30,11 +31,14 @@ struct Lock {
 pub struct Roster {
     alloc: Global,
     kinds: IndexMap<Name, Methods>,
-    header: bool,
+    /// the version of the header, if there was one
+    header: Option<u8>,
     events: u32,
     /// each with whether it was joined
     threads: IndexMap<Name, bool>,
     locks: IndexMap<Name, Lock>,
+    /// by the numbers of locks and threads
+    shares: Shares,
     /// each with the number of its kind
     objects: IndexMap<Name, u32>,
     /// numbers of threads, locks and objects, each where `near_place` puts its name, which is looked for there first
@@ -53,7 +57,7 @@ impl Roster {
     ghost use Rattle.rd_event.specs.Items.{LineInRange};
     ghost use Rattle.rd_event.specs.declared.items.Line.{Line as LineOf};
     ghost use Rattle.rd_wf.specs.Events.{AcceptedInRange};
-    ghost use Rattle.rd_wf.specs.MayFollow.{IsBrokenFirst, MayFollow, first_broken, accepted_of, same_name, threads_of, locks_of, objects_of, headers, events, TakesMemory};
+    ghost use Rattle.rd_wf.specs.MayFollow.{IsBrokenFirst, MayFollow, first_broken, accepted_of, same_name, threads_of, locks_of, objects_of, headers, events, version_of, TakesMemory};
     ghost use Rattle.std.specs.List.{AllPairs};
     ghost use Rattle.rd_ecl.specs.Kinds.{Kind, kind_names, kinds_of};
     ghost use Rattle.rd_wf.specs.Roster.{RosterStandsFor, Accepts, Refuses, names_in, object_names_in, thread_count, lock_count, object_count};
@@ -72,10 +76,11 @@ impl Roster {
         Ok(Roster {
             alloc,
             kinds,
-            header: false,
+            header: None,
             events: 0,
             threads: IndexMap::new(alloc),
             locks: IndexMap::new(alloc),
+            shares: Shares::new(alloc),
             objects: IndexMap::new(alloc),
             near_threads: [0; NEAR_LENGTH],
             near_locks: [0; NEAR_LENGTH],
@@ -91,10 +96,10 @@ impl Roster {
         ensures refused { IfErr result
             (Refuses self.old self.new limits.now (Line.Header version)) }
     {
-        if self.header {
+        if self.header.is_some() {
             return Err(WfRefused::Cause(WfCause::HeaderFirst));
         }
-        self.header = true;
+        self.header = Some(version);
         Ok(Accepted::Nothing)
     }
 
@@ -260,6 +265,75 @@ impl Roster {
     }
 
     #[inline(never)]
+    fn accept_share(
+        &mut self,
+        thread: &Name,
+        lock: &Name,
+        limits: &Limits,
+    ) -> Result<Accepted, WfRefused>
+        ensures ok { IfOk result
+            (Accepts self.old self.new limits.now
+            (Line.Event (LineEvent.Share thread.now lock.now))) }
+        ensures refused { IfErr result
+            (Refuses self.old self.new limits.now
+            (Line.Event (LineEvent.Share thread.now lock.now))) }
+    {
+        let near = near_place(thread);
+        let lock_near = near_place(lock);
+        let used = match self.judge_share(thread, near, lock, lock_near, limits) {
+            Ok(used) => used,
+            Err(cause) => return Err(WfRefused::Cause(cause)),
+        };
+        self.shares.add(used.lock, used.thread)?;
+        if used.unknown {
+            match FREE.put_last(lock, &mut self.locks) {
+                Ok(()) => {}
+                Err(error) => {
+                    self.shares.remove(used.lock, used.thread);
+                    return Err(error.into());
+                }
+            }
+        }
+        self.events += 1;
+        self.near_threads[near % NEAR_LENGTH] = used.thread;
+        self.near_locks[lock_near % NEAR_LENGTH] = used.lock;
+        Ok(Accepted::Event(Event::Share {
+            thread: used.thread,
+            lock: used.lock,
+        }))
+    }
+
+    #[inline(never)]
+    fn accept_unshare(
+        &mut self,
+        thread: &Name,
+        lock: &Name,
+        limits: &Limits,
+    ) -> Result<Accepted, WfRefused>
+        ensures ok { IfOk result
+            (Accepts self.old self.new limits.now
+            (Line.Event (LineEvent.Unshare thread.now lock.now))) }
+        ensures refused { IfErr result
+            (Refuses self.old self.new limits.now
+            (Line.Event (LineEvent.Unshare thread.now lock.now))) }
+    {
+        let near = near_place(thread);
+        let lock_near = near_place(lock);
+        let used = match self.judge_unshare(thread, near, lock, lock_near, limits) {
+            Ok(used) => used,
+            Err(cause) => return Err(WfRefused::Cause(cause)),
+        };
+        self.shares.remove(used.lock, used.thread);
+        self.events += 1;
+        self.near_threads[near % NEAR_LENGTH] = used.thread;
+        self.near_locks[lock_near % NEAR_LENGTH] = used.lock;
+        Ok(Accepted::Event(Event::Unshare {
+            thread: used.thread,
+            lock: used.lock,
+        }))
+    }
+
+    #[inline(never)]
     fn accept_call(
         &mut self,
         thread: &Name,
@@ -293,6 +367,7 @@ impl Roster {
         })))
     }
 
+    #[inline(always)]
     fn take(&mut self, line: &Line, limits: &Limits) -> Result<Accepted, WfRefused>
         ensures ok { IfOk result (Accepts self.old self.new limits.now line.now) }
         ensures refused { IfErr result (Refuses self.old self.new limits.now line.now) }
@@ -314,6 +389,12 @@ impl Roster {
             Line::Event(LineEvent::Release { thread, lock }) => self.accept_release(
                 thread, lock, limits,
             ),
+            Line::Event(LineEvent::Share { thread, lock }) => self.accept_share(
+                thread, lock, limits,
+            ),
+            Line::Event(LineEvent::Unshare { thread, lock }) => self.accept_unshare(
+                thread, lock, limits,
+            ),
             Line::Event(
                 LineEvent::Call {
                     thread,
@@ -327,8 +408,9 @@ impl Roster {
 
     /// Accepts the next line, if it may follow the accepted ones, and says what it is in numbers, each in its range. Else it refuses the
     /// line, by the cause that names the first rule that the line breaks, and nothing changes. Want of memory comes only for a line
-    /// that may follow, and that begins a thread, acquires a lock for the first time, declares an object or is a call with slots. The
-    /// roster then stands for the same lines as before.
+    /// that may follow, and that begins a thread, acquires a lock for the first time, shares a lock, declares an object or is a call
+    /// with slots. The roster then stands for the same lines as before.
+    #[inline(always)]
     pub fn accept(&mut self, line: &Line, limits: &Limits) -> Result<Accepted, WfRefused>
         requires { AreUsable limits.now }
 
@@ -391,11 +473,19 @@ impl Roster {
             × ((kinds : List Kind) (lines : List LineOf) → RosterStandsFor kinds self.now lines →
             headers lines ≡ 0)) }
     {
-        if self.header {
+        if self.header.is_some() {
             Ok(())
         } else {
             Err(WfCause::HeaderFirst)
         }
+    }
+
+    /// The version that the lines are of: that of their header, 0 where there is none. It takes no memory.
+    pub fn version(&self) -> u8
+        ensures { (kinds : List Kind) (lines : List LineOf) → RosterStandsFor kinds self.now lines →
+            result ≡ version_of lines }
+    {
+        self.header.unwrap_or(0)
     }
 
     /// The name of the thread with this number, which is below `threads()`. It takes no memory.
@@ -436,7 +526,7 @@ impl Roster {
         self.threads.len() as u32
     }
 
-    /// How many locks were acquired, each counted once. It takes no memory.
+    /// How many locks were acquired or shared, each counted once. It takes no memory.
     pub fn locks(&self) -> u32
         ensures count { result ≡ lock_count self.now }
         ensures history { (kinds : List Kind) (lines : List LineOf) →

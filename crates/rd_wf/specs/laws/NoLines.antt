@@ -8,7 +8,7 @@ use Rattle.rd_order.specs.Counts.{Counts}
 use Rattle.rd_order.specs.EventLists.{calls, forks, givings, IsCallOf, joins, IsKnownThread, takings}
 use Rattle.rd_order.specs.Order.{call_in}
 use Rattle.rd_wf.specs.Events.{AreTold, Tally, events_of, roots_of}
-use Rattle.rd_wf.specs.MayFollow.{acquires, releases}
+use Rattle.rd_wf.specs.MayFollow.{acquires, releases, shares, unshares}
 use Rattle.rd_ecl.specs.Kinds.{Kind}
 
 -- no thread is known
@@ -30,7 +30,7 @@ no_tally = record {
 
 -- nothing is told of no lines
 pub told_none : (kinds : List Kind) → AreTold kinds []
-unfolding calls forks joins takings givings acquires releases
+unfolding calls forks joins takings givings acquires releases shares unshares
 told_none kinds = record {
   told = record {
     formed = record {
@@ -48,7 +48,11 @@ told_none kinds = record {
     few = omega arith;
     one_kind = λ object kind some. absurd (omega arith);
   };
-  used = record { taken = no_tally; given = no_tally; places = λ l lock at. absurd (none-some lock at) };
+  used = record {
+    alone = record { taken = no_tally; given = no_tally };
+    shares = record { taken = no_tally; given = no_tally };
+    places = λ l lock at. absurd (none-some lock at);
+  };
   declared = All-nil (λ kind. kind < length kinds);
   fit = All-nil (λ e. IfSome (call_in e) (IsCallOf kinds));
 }

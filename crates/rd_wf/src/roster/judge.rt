@@ -4,6 +4,7 @@ ghost use Rattle.std.specs.Prelude.{◌≡◌, ◌<◌, false, IfNone};
 use super::{Lock, NEAR_LENGTH, Roster};
 use crate::causes::{Accepted, WfCause};
 use crate::methods::FoundMethod;
+use crate::sharers::lesser;
 use indexmap::IndexMap;
 use rd_base::{LimitName, Limits, Name, NoMemory, Slots};
 use rd_event::{Call, Event, Line, LineEvent};
@@ -25,7 +26,8 @@ pub(super) struct FoundObject {
     kind: u32,
 }
 
-/// What a look-up of a lock's name finds: its number, which is the next one where it was not acquired, and what is held of it.
+/// What a look-up of a lock's name finds: its number, which is the next one where it was neither acquired nor shared, and what is
+/// held of it.
 #[derive(Clone, Copy)]
 pub(super) struct FoundLock {
     number: u32,
@@ -34,12 +36,13 @@ pub(super) struct FoundLock {
 }
 
 /// A lock that no thread has.
-const FREE: Lock = Lock {
+pub(super) const FREE: Lock = Lock {
     holder: 0,
     depth: 0,
 };
 
-/// The numbers of a thread and of a lock, whether the lock is new, and how often the thread has acquired it and not released it.
+/// The numbers of a thread and of a lock, whether the lock is new, and how often the thread has acquired it and not released it, or
+/// shared it and not unshared it.
 #[derive(Clone, Copy)]
 pub(super) struct Used {
     pub(super) thread: u32,
@@ -125,7 +128,7 @@ pub(super) struct Broken {
     unknown_object: bool,
     unknown_method: bool,
     wrong_count: bool,
-    /// the other thread that has the acquired lock
+    /// the least of the other threads that stand against the line
     held_by: Option<u32>,
     not_held: bool,
     events: bool,
@@ -269,10 +272,12 @@ pub(super) fn near_place(name: &Name) -> usize {
 }
 
 impl Roster {
-    ghost use Rattle.std.specs.Prelude.{◌≡◌, ◌<◌, ◌^◌, ◌+◌, List, IfOk, IfErr, OnOk, false, true, not};
+    ghost use Rattle.std.specs.Prelude.{◌≡◌, ◌<◌, ◌^◌, ◌+◌, ◌||◌, List, None, IfOk, IfErr, OnOk, false, true, not};
     ghost use Rattle.rd_event.specs.declared.items.Line.{Line as LineOf};
     ghost use Rattle.rd_ecl.specs.Kinds.{Kind, methods_at};
-    ghost use Rattle.rd_wf.specs.Roster.{RosterStandsFor, Permits, Forbids, depth_of, found_method, found_object, found_thread, lock_in, thread_count, lock_count, object_count};
+    ghost use Rattle.rd_wf.specs.Roster.{RosterStandsFor, Permits, Forbids, depth_of, found_method, found_object, found_thread, is_other_holder, lock_in, other_holder, thread_count, lock_count, object_count};
+    ghost use Rattle.rd_wf.specs.Sharers.{IsLeast};
+    ghost use Rattle.rd_wf.specs.Shares.{is_other_sharer, share_depth};
     ghost use Rattle.rd_wf.specs.MayFollow.{is_among, locks_of, place, same_name};
     ghost use Rattle.std.specs.Prelude.{is_some};
     ghost use Rattle.indexmap.specs.IndexMap.{get_by, index_of_by};
@@ -410,6 +415,20 @@ impl Roster {
         }
     }
 
+    // The least of the threads but this one that have the lock or a share of it.
+    #[inline(always)]
+    fn least_other(&self, found: FoundLock, thread: u32) -> Option<u32>
+        ensures least { IsLeast
+            (λ other. is_other_holder found.lock thread other || is_other_sharer self.now.shares found.number thread other)
+            result }
+        ensures alone { IfNone result (other_holder found.lock thread ≡ None) }
+    {
+        lesser(
+            found.lock.held_by_other(thread),
+            self.shares.least_other(found.number, thread),
+        )
+    }
+
     fn find_method(&self, kind: u32, name: &Name) -> FoundMethod
         ensures { (kinds : List Kind) (lines : List LineOf) → RosterStandsFor kinds self.now lines →
             result ≡ found_method (methods_at kinds kind) name.now }
@@ -432,7 +451,7 @@ impl Roster {
     {
         let thread = self.threads.len() as u32;
         let broken = Broken {
-            header_first: !self.header,
+            header_first: self.header.is_none(),
             late_root: self.events > 0,
             name_taken: self.threads.contains_key(name),
             threads: limits.threads <= thread,
@@ -476,7 +495,7 @@ impl Roster {
         let found = self.find_kind(kind);
         let kind = found.unwrap_or(self.kinds.len());
         let broken = Broken {
-            header_first: !self.header,
+            header_first: self.header.is_none(),
             name_taken: self.objects.contains_key(name),
             unknown_kind: found.is_none(),
             objects: limits.objects <= object,
@@ -509,7 +528,7 @@ impl Roster {
         let actor = self.find_thread(thread, near);
         let new = self.threads.len() as u32;
         let broken = Broken {
-            header_first: !self.header,
+            header_first: self.header.is_none(),
             name_taken: self.threads.contains_key(child),
             unknown_thread: actor.unknown,
             thread_ended: actor.joined,
@@ -544,7 +563,7 @@ impl Roster {
         let actor = self.find_thread(thread, near);
         let awaited = self.find_thread(child, near_place(child));
         let broken = Broken {
-            header_first: !self.header,
+            header_first: self.header.is_none(),
             unknown_thread: actor.unknown | awaited.unknown,
             thread_ended: actor.joined,
             own_thread: child == thread,
@@ -595,10 +614,10 @@ impl Roster {
         let found = self.find_lock(lock, lock_near);
         let depth = found.lock.depth_of(actor.number);
         let broken = Broken {
-            header_first: !self.header,
+            header_first: self.header.is_none(),
             unknown_thread: actor.unknown,
             thread_ended: actor.joined,
-            held_by: found.lock.held_by_other(actor.number),
+            held_by: self.least_other(found, actor.number),
             events: limits.events <= self.events,
             locks: found.unknown & (limits.locks <= found.number),
             depth: limits.depth <= depth,
@@ -639,7 +658,7 @@ impl Roster {
         let found = self.find_lock(lock, lock_near);
         let depth = found.lock.depth_of(actor.number);
         let broken = Broken {
-            header_first: !self.header,
+            header_first: self.header.is_none(),
             unknown_thread: actor.unknown,
             thread_ended: actor.joined,
             not_held: depth == 0,
@@ -654,6 +673,97 @@ impl Roster {
             lock: found.number,
             unknown: found.unknown,
             depth,
+        })
+    }
+
+    pub(super) fn judge_share(
+        &self,
+        thread: &Name,
+        near: usize,
+        lock: &Name,
+        lock_near: usize,
+        limits: &Limits,
+    ) -> Result<Used, WfCause>
+        // the line is permitted
+        ensures ok { IfOk result
+            (λ used. Permits self.now limits.now
+            (Line.Event (LineEvent.Share thread.now lock.now))
+            (Accepted.Event (Event.Share used.thread used.lock))) }
+
+        // whether the lock is new
+        ensures unknown { IfOk result
+            (λ used. (kinds : List Kind) (lines : List LineOf) → RosterStandsFor kinds self.now lines →
+            used.unknown ≡ not (is_among (locks_of lines) lock.now)) }
+        ensures new { IfOk result (λ used. used.unknown ≡ true → lock_count self.now + 1 < 2 ^ 32) }
+
+        // its numbers fit; or the line is forbidden
+        ensures room { IfOk result
+            (λ used. (self.now.events + 1 < 2 ^ 32)
+            × (share_depth self.now.shares used.lock used.thread + 1 < 2 ^ 32)) }
+        ensures err { IfErr result
+            (Forbids self.now limits.now (Line.Event (LineEvent.Share thread.now lock.now))) }
+    {
+        let actor = self.find_thread(thread, near);
+        let found = self.find_lock(lock, lock_near);
+        let shared = self.shares.depth_of(found.number, actor.number);
+        let broken = Broken {
+            header_first: self.header.is_none(),
+            unknown_thread: actor.unknown,
+            thread_ended: actor.joined,
+            held_by: found.lock.held_by_other(actor.number),
+            events: limits.events <= self.events,
+            locks: found.unknown & (limits.locks <= found.number),
+            depth: limits.depth <= shared,
+            ..UNBROKEN
+        };
+        if let Some(cause) = broken.first(limits) {
+            return Err(cause);
+        }
+        Ok(Used {
+            thread: actor.number,
+            lock: found.number,
+            unknown: found.unknown,
+            depth: shared,
+        })
+    }
+
+    pub(super) fn judge_unshare(
+        &self,
+        thread: &Name,
+        near: usize,
+        lock: &Name,
+        lock_near: usize,
+        limits: &Limits,
+    ) -> Result<Used, WfCause>
+        ensures ok { IfOk result
+            (λ used. Permits self.now limits.now
+            (Line.Event (LineEvent.Unshare thread.now lock.now))
+            (Accepted.Event (Event.Unshare used.thread used.lock))) }
+        ensures held { IfOk result
+            (λ used. 0 < share_depth self.now.shares used.lock used.thread) }
+        ensures room { OnOk result (self.now.events + 1 < 2 ^ 32) }
+        ensures err { IfErr result
+            (Forbids self.now limits.now (Line.Event (LineEvent.Unshare thread.now lock.now))) }
+    {
+        let actor = self.find_thread(thread, near);
+        let found = self.find_lock(lock, lock_near);
+        let shared = self.shares.depth_of(found.number, actor.number);
+        let broken = Broken {
+            header_first: self.header.is_none(),
+            unknown_thread: actor.unknown,
+            thread_ended: actor.joined,
+            not_held: shared == 0,
+            events: limits.events <= self.events,
+            ..UNBROKEN
+        };
+        if let Some(cause) = broken.first(limits) {
+            return Err(cause);
+        }
+        Ok(Used {
+            thread: actor.number,
+            lock: found.number,
+            unknown: found.unknown,
+            depth: shared,
         })
     }
 
@@ -680,7 +790,7 @@ impl Roster {
         let object = self.find_object(object);
         let method = self.find_method(object.kind, method);
         let broken = Broken {
-            header_first: !self.header,
+            header_first: self.header.is_none(),
             unknown_thread: actor.unknown,
             thread_ended: actor.joined,
             unknown_object: object.unknown,

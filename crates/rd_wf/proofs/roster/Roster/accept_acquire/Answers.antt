@@ -5,10 +5,11 @@ use Rattle.indexmap.specs.Layout.{set_value_at}
 use Rattle.indexmap.proofs.CallerLemmas.{index_map_len-with_value_at}
 use Rattle.rd_ecl.specs.Kinds.{Kind}
 use Rattle.rd_event.specs.declared.items.Line.{Line}
+use Rattle.rd_event.specs.declared.items.LineEvent.TheVariants as spelled
 use Rattle.rd_wf.specs.declared.roster.Lock.{Lock}
 use Rattle.rd_wf.specs.MayFollow.{is_among, place, threads_of, locks_of, accepted_of}
 use Rattle.rd_wf.specs.Roster.{RosterStandsFor, depth_of, lock_in}
-use Rattle.rd_wf.proofs.FollowLemmas.{known_lock}
+use Rattle.rd_wf.proofs.FollowLemmas.{known_thread}
 use Rattle.rd_wf.proofs.PlaceLemmas.{not_known}
 use Rattle.rd_wf.proofs.NextLemmas.{IsWritten, written_new, written_known, after_acquire}
 use Rattle.rd_wf.proofs.roster.Roster.accept_acquire.Goals as goal
@@ -41,7 +42,7 @@ returns-clause-ok c = λ kinds lines stands.
     let lock = c.args.lock.now in
     let held : Lock = record { holder = c.in-Ok.used.thread; depth = c.in-Ok.used.depth + 1 } in
     let permitted = c.in-Ok.ensures.ok kinds lines stands in
-    let known = known_lock kinds c.args.limits.now lines c.args.thread.now lock permitted.0 in
+    let known = known_thread kinds c.args.limits.now lines (spelled.Acquire c.args.thread.now lock) permitted.0 in
     let thread : c.in-Ok.used.thread ≡ place (threads_of lines) c.args.thread.now = cc permitted.1 in
     let number : c.in-Ok.used.lock ≡ place (locks_of lines) lock = cc permitted.1 in
     let among : (b : Bool) → c.in-Ok.used.unknown ≡ b → is_among (locks_of lines) lock ≡ not b =
@@ -60,7 +61,7 @@ returns-clause-ok c = λ kinds lines stands.
     ap (depth_of (lock_in self lock)) (sym thread) ∙ c.in-Ok.ensures.own ∙ c.in-Ok.ensures.depth in (
       permitted.0,
       permitted.1,
-      after_acquire kinds self _ lines stands refl c.args.thread.now lock held refl refl refl refl known thread own written.0 written.1 (ap (λ n. n + 1) c.in-Ok.ensures.depth),
+      after_acquire kinds self _ lines stands refl refl c.args.thread.now lock held refl refl refl refl known thread own written.0 written.1 (ap (λ n. n + 1) c.in-Ok.ensures.depth),
     )
 
 pub returns-in_err-put_last-clause-refused : goal.returns-in_err-put_last-clause-refused

@@ -17,5 +17,5 @@ returns-clause-ok c = λ kinds lines stands.
         method = numbers.method;
         slots = c.in_ok-slots.ensures.value i;
       } in call))) ∙ permitted.1,
-      after_call kinds c.args.self.now _ lines stands refl refl c.args.thread.now c.args.object.now c.args.method.now c.args.slots.now refl refl refl refl,
+      after_call kinds c.args.self.now _ lines stands refl refl refl c.args.thread.now c.args.object.now c.args.method.now c.args.slots.now refl refl refl refl,
     )

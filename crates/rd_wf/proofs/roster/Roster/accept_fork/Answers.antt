@@ -12,7 +12,7 @@ returns-clause-ok c = λ kinds lines stands.
     let fresh = fresh_child kinds c.args.limits.now lines c.args.thread.now c.args.child.now permitted.0 in (
       permitted.0,
       permitted.1,
-      after_fork kinds c.args.self.now _ lines stands refl refl c.args.thread.now c.args.child.now fresh refl refl
+      after_fork kinds c.args.self.now _ lines stands refl refl refl c.args.thread.now c.args.child.now fresh refl refl
           (c.in_ok-insert.ensures.entries ∙ ap (λ key. insert_entry same_name c.args.self.now.threads.entries key false) c.copy.ensures
           ∙ inserted_thread kinds c.args.self.now lines stands c.args.child.now false fresh) refl,
     )

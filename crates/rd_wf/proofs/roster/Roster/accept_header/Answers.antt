@@ -1,17 +1,23 @@
-use Rattle.std.proofs.Common.{refl}
+use Rattle.std.proofs.Common.{◌≡◌, false, Some, None, is_some, if◌then◌else◌, refl, sym, ap, ◌∙◌}
+use Rattle.rd_wf.specs.declared.causes.WfCause.TheVariants.{HeaderFirst}
 use Rattle.rd_wf.specs.MayFollow.{accepted_of}
-use Rattle.rd_wf.proofs.RosterLemmas.{header_judged}
+use Rattle.rd_wf.proofs.RosterLemmas.{header_judged, none_is}
 use Rattle.rd_wf.proofs.NextLemmas.{after_header}
 use Rattle.rd_wf.proofs.roster.Roster.accept_header.Goals as goal
 
-pub returns-then-self-clause-refused : goal.returns-then-self-clause-refused
-returns-then-self-clause-refused c =
-    (λ kinds lines stands. rw (header_judged kinds c.args.self.now lines stands c.args.limits.now c.args.version) (rw c.if-self.true refl), refl)
+pub returns-then-is_some-clause-refused : goal.returns-then-is_some-clause-refused
+returns-then-is_some-clause-refused c = (
+  λ kinds lines stands.
+      header_judged kinds c.args.self.now lines stands c.args.limits.now c.args.version
+      ∙ ap (λ b. if b then Some HeaderFirst else None) (sym c.is_some.ensures ∙ c.if-is_some.true),
+  refl,
+)
 
 pub returns-clause-ok : goal.returns-clause-ok
 unfolding accepted_of
-returns-clause-ok c = λ kinds lines stands. (
-  rw (header_judged kinds c.args.self.now lines stands c.args.limits.now c.args.version) (rw c.if-self.false refl),
-  refl,
-  after_header kinds c.args.self.now _ lines stands refl refl c.args.version refl refl refl refl,
-)
+returns-clause-ok c = λ kinds lines stands.
+    let none : is_some c.args.self.now.header ≡ false = sym c.is_some.ensures ∙ c.if-is_some.false in (
+      header_judged kinds c.args.self.now lines stands c.args.limits.now c.args.version ∙ ap (λ b. if b then Some HeaderFirst else None) none,
+      refl,
+      after_header kinds c.args.self.now _ lines stands refl refl refl c.args.version (none_is _ none) refl refl refl refl,
+    )

@@ -18,6 +18,6 @@ returns-clause-ok c = λ kinds lines stands.
     let number : c.in-Ok.pair.child ≡ place (threads_of lines) c.args.child.now = cc permitted.1 in (
       permitted.0,
       permitted.1,
-      after_join kinds c.args.self.now _ lines stands refl refl c.args.thread.now c.args.child.now known refl refl
+      after_join kinds c.args.self.now _ lines stands refl refl refl c.args.thread.now c.args.child.now known refl refl
           (ap (λ i. set_value_at c.args.self.now.threads.entries i true) number) refl,
     )

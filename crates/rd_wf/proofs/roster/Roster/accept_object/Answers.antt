@@ -15,7 +15,7 @@ returns-clause-ok c = λ kinds lines stands.
     let number : c.in-Ok.new.kind ≡ place (kind_names kinds) c.args.kind.now = cc permitted.1 in (
       permitted.0,
       permitted.1,
-      after_object kinds c.args.self.now _ lines stands refl refl c.args.name.now c.args.kind.now refl refl refl
+      after_object kinds c.args.self.now _ lines stands refl refl refl c.args.name.now c.args.kind.now refl refl refl
           (c.in_ok-insert.ensures.entries ∙ ap (λ key. insert_entry same_name c.args.self.now.objects.entries key c.in-Ok.new.kind) c.copy.ensures
           ∙ inserted_object kinds c.args.self.now lines stands c.args.name.now c.in-Ok.new.kind fresh
           ∙ ap (λ kind. c.args.self.now.objects.entries ++ (c.args.name.now, kind) ∷ []) number),

@@ -12,7 +12,7 @@ returns-clause-ok c = λ kinds lines stands.
     let fresh = fresh_root kinds c.args.limits.now lines c.args.name.now permitted.0 in (
       permitted.0,
       permitted.1,
-      after_root kinds c.args.self.now _ lines stands refl refl c.args.name.now fresh refl refl
+      after_root kinds c.args.self.now _ lines stands refl refl refl c.args.name.now fresh refl refl
           (c.in_ok-insert.ensures.entries ∙ ap (λ key. insert_entry same_name c.args.self.now.threads.entries key false) c.copy.ensures
           ∙ inserted_thread kinds c.args.self.now lines stands c.args.name.now false fresh) refl,
     )

@@ -2,21 +2,21 @@ use Rattle.std.proofs.Common.{sym, ◌∙◌}
 use Rattle.rd_event.specs.declared.events.Event.TheVariants as numbered
 use Rattle.rd_wf.specs.declared.causes.Accepted.TheVariants as accepted
 use Rattle.rd_wf.specs.MayFollow.{accepted_of}
-use Rattle.rd_wf.proofs.RosterLemmas.{acquire_judged, holder_within}
+use Rattle.rd_wf.proofs.RosterLemmas.{acquire_judged, against_within}
 use Rattle.rd_wf.proofs.roster.Roster.judge_acquire.Goals as goal
 
 pub returns-in-Some-clause-err : goal.returns-in-Some-clause-err
 returns-in-Some-clause-err c = λ kinds lines stands.
-    acquire_judged kinds c.args.self.now lines stands c.args.limits.now c.args.thread.now c.args.lock.now _ c.find_lock-found.result _ _ (c.find_thread-actor.ensures.value kinds lines stands)
-    (c.find_lock-found.ensures.number kinds lines stands) c.find_lock-found.ensures.lock c.held_by_other.ensures c.depth_of-depth.ensures
-    ∙ sym (c.in-Some.ensures.first lines (holder_within kinds c.args.self.now lines stands c.args.lock.now _ _ _ c.find_lock-found.ensures.lock c.held_by_other.ensures))
+    acquire_judged kinds c.args.self.now lines stands _ c.is_none.ensures c.args.limits.now c.args.thread.now c.args.lock.now _ c.find_lock-found.result _ _ (c.find_thread-actor.ensures.value kinds lines stands)
+    (c.find_lock-found.ensures.number kinds lines stands) c.find_lock-found.ensures.lock c.least_other.ensures.least c.depth_of-depth.ensures
+    ∙ sym (c.in-Some.ensures.first lines (against_within kinds c.args.self.now lines stands c.args.lock.now c.find_lock-found.result _ _ c.find_lock-found.ensures.lock c.least_other.ensures.least))
 
 pub returns-clause-ok : goal.returns-clause-ok
 unfolding accepted_of
 returns-clause-ok c = λ kinds lines stands. (
-  acquire_judged kinds c.args.self.now lines stands c.args.limits.now c.args.thread.now c.args.lock.now _ c.find_lock-found.result _ _ (c.find_thread-actor.ensures.value kinds lines stands)
-      (c.find_lock-found.ensures.number kinds lines stands) c.find_lock-found.ensures.lock c.held_by_other.ensures c.depth_of-depth.ensures
-      ∙ sym (c.in_default.ensures.first lines (holder_within kinds c.args.self.now lines stands c.args.lock.now _ _ _ c.find_lock-found.ensures.lock c.held_by_other.ensures)),
+  acquire_judged kinds c.args.self.now lines stands _ c.is_none.ensures c.args.limits.now c.args.thread.now c.args.lock.now _ c.find_lock-found.result _ _ (c.find_thread-actor.ensures.value kinds lines stands)
+      (c.find_lock-found.ensures.number kinds lines stands) c.find_lock-found.ensures.lock c.least_other.ensures.least c.depth_of-depth.ensures
+      ∙ sym (c.in_default.ensures.first lines (against_within kinds c.args.self.now lines stands c.args.lock.now c.find_lock-found.result _ _ c.find_lock-found.ensures.lock c.least_other.ensures.least)),
   λ i. accepted.Event (numbered.Acquire (c.find_thread-actor.ensures.value kinds lines stands i).number ((c.find_lock-found.ensures.number kinds lines stands).0 i)),
 )
 

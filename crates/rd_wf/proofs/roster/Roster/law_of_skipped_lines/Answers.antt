@@ -9,9 +9,9 @@ returns-clause-follows c = λ kinds limits lines. refl
 
 pub returns-clause-stands : goal.returns-clause-stands
 returns-clause-stands c = λ kinds lines stands.
-    after_skip kinds c.args.self.now c.args.self.now lines stands refl refl refl refl refl refl
+    after_skip kinds c.args.self.now c.args.self.now lines stands refl refl refl refl refl refl refl
 
 pub returns-clause-few : goal.returns-clause-few
 returns-clause-few c = λ kinds lines stands.
-    let now = after_skip kinds c.args.self.now c.args.self.now lines stands refl refl refl refl refl refl in
+    let now = after_skip kinds c.args.self.now c.args.self.now lines stands refl refl refl refl refl refl refl in
     omega (arith, now.thread_total, c.args.self.now.few_threads)

@@ -26,4 +26,4 @@ pub returns : goal.returns
 returns c =
     let all : map kind_entry c.loop-kind.kinds.entries ≡ kinds_of c.args.spec.now =
     c.loop-kind.invariant ∙ ap (map kind_of) (take_all c.loop-kind.kind-index c.kinds-kind-items.result.now c.loop-kind-test.false ∙ c.kinds-kind-items.ensures.value) in
-    empty_stands (kinds_of c.args.spec.now) _ all refl refl c.new.ensures.empty c.new-2.ensures.empty c.new-3.ensures.empty
+    empty_stands (kinds_of c.args.spec.now) _ all refl refl c.new.ensures.empty c.new-2.ensures.empty c.new-4.ensures.empty c.new-3.ensures
