@@ -9,7 +9,7 @@ use Rattle.rd_event.specs.declared.items.Line.{Line}
 use Rattle.rd_wf.proofs.FollowLemmas.{follows_from_none}
 use Rattle.rd_wf.specs.Events.{AreAccepted, AreAcceptedFrom}
 use Rattle.rd_ecl.specs.Kinds.{Kind}
-use Rattle.rd_wf.specs.MayFollow.{MayFollow, first_broken}
+use Rattle.rd_wf.specs.MayFollow.{MayFollow, first_broken, version_of}
 use Rattle.rd_walk.specs.Walk.{accepted_or, entries_of, goes_or_ends, items, judgement_of, judgement_of_item, trace_of, walk}
 use Rattle.rd_wf.specs.declared.causes.TraceCause.{TraceCause}
 use Rattle.rd_wf.specs.declared.causes.WfCause.{WfCause}
@@ -32,7 +32,7 @@ module _ (kinds : List Kind) (limits : Limits) (before : List Line) (item : Line
   -- a line that is accepted may follow
   judged_follows : (bytes : List ℕ) → judgement_of kinds limits before bytes ≡ Ok item → MayFollow kinds limits before item
   unfolding judgement_of
-  judged_follows bytes e = found_follows (item_of bytes) e
+  judged_follows bytes e = found_follows (item_of (version_of before) bytes) e
 
 walk_accepted : (kinds : List Kind) (limits : Limits) → AreUsable limits → limits.threads < 2 ^ 32 → (before : List Line) (number : ℕ) (lines : Reading)
     → AreAcceptedFrom kinds before (items (entries_of (walk kinds limits before number lines)))

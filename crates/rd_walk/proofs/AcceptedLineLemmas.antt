@@ -10,7 +10,7 @@ use Rattle.rd_io.specs.Lines.{Stop, Reading, reading}
 use Rattle.rd_walk.specs.AcceptedLines.{IsAcceptedLine, IsRefusedLine, IsWalk, SaysItem}
 use Rattle.rd_walk.specs.Walk.{Walked, accepted_or, ending_of, entries_of, goes_or_ends, judgement_of, judgement_of_item, trace_of, walk}
 use Rattle.rd_wf.proofs.FollowLemmas.{broken_from_some, follows_from_none}
-use Rattle.rd_wf.specs.MayFollow.{first_broken}
+use Rattle.rd_wf.specs.MayFollow.{first_broken, version_of}
 use Rattle.rd_wf.specs.declared.causes.TraceCause.{TraceCause}
 use Rattle.rd_wf.specs.declared.causes.WfCause.{WfCause}
 
@@ -20,19 +20,19 @@ module _ (kinds : List Kind) (limits : Limits) (before : List Line) (bytes : Lis
   IsJudged (Ok item) = IsAcceptedLine kinds limits before bytes item
   IsJudged (Err cause) = IsRefusedLine kinds limits before bytes cause
 
-  judged_followed : (item : Line) (broken : Option WfCause) → first_broken kinds limits before item ≡ broken → SaysItem bytes item
+  judged_followed : (item : Line) (broken : Option WfCause) → first_broken kinds limits before item ≡ broken → SaysItem (version_of before) bytes item
       → IsJudged (accepted_or item broken)
   judged_followed item None is said = record { said = said; follows = follows_from_none kinds limits before item is }
   judged_followed item (Some cause) is said = (item, cause, said, broken_from_some kinds limits before item cause is, refl)
 
-  judged_found : (found : Option Line) → item_of bytes ≡ found → IsJudged (judgement_of_item kinds limits before found)
-  judged_found None is = none_said bytes is
+  judged_found : (found : Option Line) → item_of (version_of before) bytes ≡ found → IsJudged (judgement_of_item kinds limits before found)
+  judged_found None is = none_said (version_of before) bytes is
   judged_found (Some item) is =
-      judged_followed item (first_broken kinds limits before item) refl (record { range = (found_said bytes item is).0; says = (found_said bytes item is).1 })
+      judged_followed item (first_broken kinds limits before item) refl (record { range = (found_said (version_of before) bytes item is).0; says = (found_said (version_of before) bytes item is).1 })
 
   judged_is : IsJudged (judgement_of kinds limits before bytes)
   unfolding judgement_of
-  judged_is = judged_found (item_of bytes) refl
+  judged_is = judged_found (item_of (version_of before) bytes) refl
 
 walk_is : (kinds : List Kind) (limits : Limits) (before : List Line) (number : ℕ) (lines : Reading)
     → IsWalk kinds limits before number lines (entries_of (walk kinds limits before number lines)) (ending_of (walk kinds limits before number lines))

@@ -11,7 +11,7 @@ use Rattle.rd_event.specs.declared.items.Line.TheVariants.{Skip}
 use Rattle.rd_ecl.specs.Kinds.{Kind}
 use Rattle.rd_base.specs.Limits.{AreUsable}
 use Rattle.rd_walk.specs.Analysis.{IsNextEntry}
-use Rattle.rd_wf.specs.MayFollow.{accepted_of, first_broken, threads_of}
+use Rattle.rd_wf.specs.MayFollow.{accepted_of, first_broken, threads_of, version_of}
 use Rattle.rd_wf.specs.Roster.{RosterStandsFor}
 use Rattle.rd_wf.specs.declared.causes.Accepted.TheVariants.{Nothing}
 use Rattle.rd_wf.specs.declared.roster.Roster.{Roster}
@@ -22,7 +22,7 @@ use Rattle.rd_wf.specs.declared.causes.TraceCause.TheVariants.{Wf}
 use Rattle.rd_walk.specs.declared.walk.WalkEnd.TheVariants.{Refused}
 
 pub judged_broken : (kinds : List Kind) (limits : Limits) (before : List Line) (bytes : List ℕ) (item : Line) (cause : WfCause)
-    → item_of bytes ≡ Some item → first_broken kinds limits before item ≡ Some cause → judgement_of kinds limits before bytes ≡ Err (Wf cause)
+    → item_of (version_of before) bytes ≡ Some item → first_broken kinds limits before item ≡ Some cause → judgement_of kinds limits before bytes ≡ Err (Wf cause)
 unfolding judgement_of
 judged_broken kinds limits before bytes item cause says broken = ap (judgement_of_item kinds limits before) says ∙ ap (accepted_or item) broken
 

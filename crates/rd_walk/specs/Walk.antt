@@ -9,7 +9,7 @@ use Rattle.std.specs.List.{before_first}
 use Rattle.rd_event.specs.Reading.{is_call_keyword, is_space, item_of}
 use Rattle.rd_event.specs.declared.items.Line.{Line}
 use Rattle.rd_ecl.specs.Kinds.{Kind}
-use Rattle.rd_wf.specs.MayFollow.{first_broken, is_call, headers, is_event, threads_of}
+use Rattle.rd_wf.specs.MayFollow.{first_broken, is_call, headers, is_event, threads_of, version_of}
 use Rattle.rd_wf.specs.declared.causes.WfCause.{WfCause}
 use Rattle.rd_wf.specs.declared.causes.WfCause.TheVariants.{HeaderFirst}
 use Rattle.rd_wf.specs.declared.causes.TraceCause.{TraceCause}
@@ -51,10 +51,10 @@ judgement_of_item kinds limits before (Some item) = accepted_or item (first_brok
 abbrev pub IsCallLine : List ℕ → Type 0
 IsCallLine bytes = IsTrue (is_call_keyword (before_first is_space bytes))
 
--- what the bytes of a line behind the accepted ones say, or the first cause to refuse it: it says no item, or its item may not
--- follow
+-- what the bytes of a line behind the accepted ones say in the version of these, or the first cause to refuse it: it says no item, or
+-- its item may not follow
 unfoldable pub judgement_of : List Kind → Limits → List Line → List ℕ → Result Line TraceCause
-judgement_of kinds limits before bytes = judgement_of_item kinds limits before (item_of bytes)
+judgement_of kinds limits before bytes = judgement_of_item kinds limits before (item_of (version_of before) bytes)
 
 -- how a trace ends where its lines end so behind the accepted ones. The number is that of the next line
 abbrev pub trace_end_of : Limits → List Line → ℕ → LinesEnding → WalkEnd
@@ -84,11 +84,11 @@ after [] walked = walked
 after (entry ∷ entries) walked = goes entry (after entries walked)
 
 -- The bound on the steps on clocks for an accepted line behind others, where they are kept: for a call two for each thread that is known once
--- it is done, for another event four for each such thread, and none for what is no event
+-- it is done, for another event six for each such thread, and none for what is no event
 abbrev pub tracking_bound : List Line → Line → ℕ
 tracking_bound before item =
     if is_call item then 2 * length (threads_of (before ++ item ∷ []))
-    else if is_event item then 4 * length (threads_of (before ++ item ∷ [])) else 0
+    else if is_event item then 6 * length (threads_of (before ++ item ∷ [])) else 0
 
 -- the bound on the steps of lines behind others, by that of one line behind those before it
 unfoldable pub bound_from : (List Line → Line → ℕ) → List Line → List Entry → ℕ

@@ -36,6 +36,7 @@ impl<L: Analysis, R: Analysis> Analysis for Either<L, R> {
         (λ left. L.text kinds left [])
         (λ right. R.text kinds right []) (L.silent kinds) (R.silent kinds) start };
 
+    #[inline(always)]
     fn accept<S: Sink, T: Ledger>(
         &mut self,
         number: u64,

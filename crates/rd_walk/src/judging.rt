@@ -6,7 +6,7 @@ ghost use Rattle.rd_event.specs.declared.items.Line.{Line as Item};
 ghost use Rattle.rd_walk.specs.Walk.{judgement_of};
 ghost use Rattle.rd_ecl.specs.Kinds.{Kind};
 ghost use Rattle.rd_walk.specs.Walk.{IsCallLine};
-ghost use Rattle.rd_wf.specs.MayFollow.{MayFollow, TakesMemory, accepted_of, threads_of};
+ghost use Rattle.rd_wf.specs.MayFollow.{MayFollow, TakesMemory, accepted_of, threads_of, version_of};
 ghost use Rattle.rd_wf.specs.Roster.{RosterStandsFor};
 
 use rd_base::Limits;
@@ -23,7 +23,7 @@ pub enum Refusal {
     NoMemory,
 }
 
-/// Reads the bytes of a line into `line`, and asks the roster whether what they say may follow its lines. It then has it, and the
+/// Reads the bytes of a line, in the version of the roster's lines, into `line`, and asks the roster whether what they say may follow its lines. It then has it, and the
 /// answer says what it is in numbers. A refusal leaves the roster as it was, and the line may be anything. Want of memory comes only
 /// for bytes that say an item, which begin as a call, or whose item may follow and takes memory.
 #[tactic(auto, unfolding(crate::specs::Walk::judgement_of))]
@@ -37,7 +37,9 @@ pub fn judge(
     requires { AreUsable limits.now }
 
     // what the bytes say may follow, and is told in numbers
-    ensures says { OnOk result (item_of bytes.now ≡ Some line.new) }
+    ensures says { OnOk result
+        ((kinds : List Kind) (before : List Item) → RosterStandsFor kinds roster.old before →
+        item_of (version_of before) bytes.now ≡ Some line.new) }
     ensures judged { OnOk result
         ((kinds : List Kind) (before : List Item) → RosterStandsFor kinds roster.old before →
         judgement_of kinds limits.now before bytes.now ≡ Ok line.new) }
@@ -60,15 +62,15 @@ pub fn judge(
         (kinds : List Kind) (before : List Item) →
         RosterStandsFor kinds roster.old before → judgement_of kinds limits.now before bytes.now ≡ Err cause) }
     ensures memory { IfErr result
-        (λ e. e ≡ Refusal.NoMemory → (item : Item) × (item_of bytes.now ≡ Some item)
-        × (IsCallLine bytes.now ⊎ ((kinds : List Kind) (before : List Item) →
+        (λ e. e ≡ Refusal.NoMemory → (kinds : List Kind) (before : List Item) →
         RosterStandsFor kinds roster.old before →
-        MayFollow kinds limits.now before item × TakesMemory before item))) }
+        (item : Item) × (item_of (version_of before) bytes.now ≡ Some item)
+        × (IsCallLine bytes.now ⊎ (MayFollow kinds limits.now before item × TakesMemory before item))) }
     ensures same { OnErr result
         ((kinds : List Kind) (before : List Item) → RosterStandsFor kinds roster.old before →
         RosterStandsFor kinds roster.new before) }
 {
-    match read_into(alloc, bytes, line) {
+    match read_into(alloc, bytes, roster.version(), line) {
         Ok(()) => {}
         Err(LineRefused::BadLine) => return Err(Refusal::Cause(TraceCause::BadLine)),
         Err(LineRefused::NoMemory) => return Err(Refusal::NoMemory),

@@ -10,7 +10,7 @@ ghost use Rattle.rd_io.specs.Sinks.{Appends};
 ghost use Rattle.rd_walk.specs.Analysis.{TellsFault, WritesBetween, WritesFront};
 ghost use Rattle.rd_walk.specs.Output.{IsFront};
 ghost use Rattle.rd_walk.specs.Progress.{IsBegun, IsTakenOfTrace, WalksOn, WalksTo, ending_for};
-ghost use Rattle.rd_wf.specs.MayFollow.{MayFollow};
+ghost use Rattle.rd_wf.specs.MayFollow.{MayFollow, version_of};
 ghost use Rattle.rd_walk.specs.Walk.{Entry, IsCallLine, trace_end_of, items, judgement_of, step_bound};
 ghost use Rattle.rd_ecl.specs.Kinds.{Kind};
 ghost use Rattle.rd_wf.specs.Roster.{RosterStandsFor, kinds_in};
@@ -130,10 +130,10 @@ fn take_line<A: Analysis, S: Sink, L: Ledger>(
     // or memory runs out in reading it, or in what is done with it, or a write fails; memory runs out only where the bytes say an item,
     // and begin as a call or their item may follow
     ensures memory { IfErr result
-        (λ halt. halt ≡ Halt.NoMemory → (item : Item) × (item_of bytes.now ≡ Some item)
-        × (IsCallLine bytes.now ⊎ ((kinds : List Kind) (before : List Item) →
+        (λ halt. halt ≡ Halt.NoMemory → (kinds : List Kind) (before : List Item) →
         RosterStandsFor kinds walker.old.roster before →
-        MayFollow kinds walker.old.limits before item))) }
+        (item : Item) × (item_of (version_of before) bytes.now ≡ Some item)
+        × (IsCallLine bytes.now ⊎ MayFollow kinds walker.old.limits before item)) }
     ensures halted { OnErr result
         ((kinds : List Kind) (start : A) (before : List Entry) →
         RosterStandsFor kinds walker.old.roster (items before) →

@@ -58,13 +58,17 @@ returns-in-Err-clause-halted g c = λ kinds start before stands leads.
       c.in-Err.ensures.cost kinds start before leads next,
     )
 
+pub returns-in-Err-clause-memory : goal.returns-in-Err-clause-memory
+returns-in-Err-clause-memory g c = λ _ kinds before stands. (
+  c.judge.new.line,
+  c.in-Ok.ensures.says kinds before stands,
+  inr (c.in-Ok.ensures.follows kinds before stands),
+)
+
 pub returns-in-Err-NoMemory-clause-memory : goal.returns-in-Err-NoMemory-clause-memory
-returns-in-Err-NoMemory-clause-memory g c = λ _.
-    let (item, is, why) = c.in-Err-NoMemory.ensures.memory c.in-Err-NoMemory.field-0-is in (
+returns-in-Err-NoMemory-clause-memory g c = λ _ kinds before stands.
+    let (item, is, why) = c.in-Err-NoMemory.ensures.memory c.in-Err-NoMemory.field-0-is kinds before stands in (
       item,
       is,
-      elim why [
-        | inl call ↦ inl call
-        | inr follows ↦ inr (λ kinds before stands. (follows kinds before stands).0)
-      ],
+      elim why [ inl call ↦ inl call | inr follows ↦ inr follows.0 ],
     )
