@@ -12,7 +12,7 @@ use Rattle.rd_event.specs.declared.events.Event.TheVariants as numbered
 use Rattle.rd_event.specs.declared.items.Line.{Line}
 use Rattle.rd_event.specs.declared.items.Line.TheVariants.{Skip, Header, Thread, Object, Event}
 use Rattle.rd_event.specs.declared.items.LineEvent.{LineEvent}
-use Rattle.rd_event.specs.declared.items.LineEvent.TheVariants.{Fork, Join, Acquire, Release, Call}
+use Rattle.rd_event.specs.declared.items.LineEvent.TheVariants.{Fork, Join, Acquire, Release, Share, Unshare, Call}
 use Rattle.rd_order.specs.EventLists.{WellFormed, WellFormedWith, threads_after}
 use Rattle.rd_order.specs.Order.{forked_thread}
 use Rattle.rd_order.specs.Order.{thread_of}
@@ -125,6 +125,8 @@ module _ (kinds : List Kind) where
   forked_next before (Join thread child) u e = absurd (none-some u e)
   forked_next before (Acquire thread lock) u e = absurd (none-some u e)
   forked_next before (Release thread lock) u e = absurd (none-some u e)
+  forked_next before (Share thread lock) u e = absurd (none-some u e)
+  forked_next before (Unshare thread lock) u e = absurd (none-some u e)
   forked_next before (Call thread object method slots) u e = absurd (none-some u e)
 
   threads_event : (before : List Line) (event : LineEvent) → length (threads_of (before ++ Event event ∷ [])) ≡ threads_after (numbered_event kinds before event) (length (threads_of before))
@@ -132,6 +134,8 @@ module _ (kinds : List Kind) where
   threads_event before (Join thread child) = ap length (threads_more before (Event (Join thread child)) ∙ append-nil (threads_of before))
   threads_event before (Acquire thread lock) = ap length (threads_more before (Event (Acquire thread lock)) ∙ append-nil (threads_of before))
   threads_event before (Release thread lock) = ap length (threads_more before (Event (Release thread lock)) ∙ append-nil (threads_of before))
+  threads_event before (Share thread lock) = ap length (threads_more before (Event (Share thread lock)) ∙ append-nil (threads_of before))
+  threads_event before (Unshare thread lock) = ap length (threads_more before (Event (Unshare thread lock)) ∙ append-nil (threads_of before))
   threads_event before (Call thread object method slots) = ap length (threads_more before (Event (Call thread object method slots)) ∙ append-nil (threads_of before))
 
   -- the bound on the tracker's steps for an event behind lines
@@ -141,6 +145,8 @@ module _ (kinds : List Kind) where
   bound_event before (Join thread child) = omega arith
   bound_event before (Acquire thread lock) = omega arith
   bound_event before (Release thread lock) = omega arith
+  bound_event before (Share thread lock) = omega arith
+  bound_event before (Unshare thread lock) = omega arith
   bound_event before (Call thread object method slots) = omega arith
 
   module _ (tracker : Tracking) (before : List Line) (line : Line) (e : Numbered) (next : IsNextLine kinds tracker before line (accepted.Event e)) where
@@ -331,6 +337,8 @@ module _ (start now : Check) (tracker : Tracking) (before : List Entry) (entry :
       by (Event (Join thread child)) is = checks_other_event (Join thread child) is (λ call same. cc)
       by (Event (Acquire thread lock)) is = checks_other_event (Acquire thread lock) is (λ call same. cc)
       by (Event (Release thread lock)) is = checks_other_event (Release thread lock) is (λ call same. cc)
+      by (Event (Share thread lock)) is = checks_other_event (Share thread lock) is (λ call same. cc)
+      by (Event (Unshare thread lock)) is = checks_other_event (Unshare thread lock) is (λ call same. cc)
       by (Event (Call thread object method slots)) is =
           absurd (other _ (next.told_as ∙ ap (accepted_of kinds (items before)) is))
 
@@ -362,6 +370,8 @@ texts_quiet form kinds tracker before entry numbers next other = by entry.item r
     by (Event (Join thread child)) is = other_event (Join thread child) is (λ call same. cc)
     by (Event (Acquire thread lock)) is = other_event (Acquire thread lock) is (λ call same. cc)
     by (Event (Release thread lock)) is = other_event (Release thread lock) is (λ call same. cc)
+    by (Event (Share thread lock)) is = other_event (Share thread lock) is (λ call same. cc)
+    by (Event (Unshare thread lock)) is = other_event (Unshare thread lock) is (λ call same. cc)
     by (Event (Call thread object method slots)) is = absurd (other _ (next.told_as ∙ ap (accepted_of (kinds_of kinds) (items before)) is))
 
 -- ---- an event's place

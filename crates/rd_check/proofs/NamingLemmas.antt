@@ -14,7 +14,7 @@ use Rattle.rd_print.specs.Printed.{name_at}
 use Rattle.rd_event.specs.Items.{call_text}
 use Rattle.rd_event.specs.declared.events.Call.{Call as CallOf}
 use Rattle.rd_event.specs.declared.events.Event.{Event}
-use Rattle.rd_event.specs.declared.events.Event.TheVariants.{Fork, Join, Acquire, Release, Call}
+use Rattle.rd_event.specs.declared.events.Event.TheVariants.{Fork, Join, Acquire, Release, Share, Unshare, Call}
 use Rattle.rd_event.specs.declared.items.Line.{Line}
 use Rattle.rd_hb.specs.ClockTests.{clock_at}
 use Rattle.rd_hb.proofs.ClockLemmas.{clock_longer, clock_same}
@@ -146,11 +146,15 @@ same_calls F G (Some (Fork thread child)) earlier same = refl
 same_calls F G (Some (Join thread child)) earlier same = refl
 same_calls F G (Some (Acquire thread lock)) earlier same = refl
 same_calls F G (Some (Release thread lock)) earlier same = refl
+same_calls F G (Some (Share thread lock)) earlier same = refl
+same_calls F G (Some (Unshare thread lock)) earlier same = refl
 same_calls F G (Some (Call b)) None same = refl
 same_calls F G (Some (Call b)) (Some (Fork thread child)) same = refl
 same_calls F G (Some (Call b)) (Some (Join thread child)) same = refl
 same_calls F G (Some (Call b)) (Some (Acquire thread lock)) same = refl
 same_calls F G (Some (Call b)) (Some (Release thread lock)) same = refl
+same_calls F G (Some (Call b)) (Some (Share thread lock)) same = refl
+same_calls F G (Some (Call b)) (Some (Unshare thread lock)) same = refl
 same_calls F G (Some (Call b)) (Some (Call a)) same = same b a refl refl
 
 module _ (kinds : List SpecifiedKind) (lines : List Line) (told : AreTold (kinds_of kinds) lines) (line : Line) (numbers more : List ℕ) (fs : List Event)

@@ -41,7 +41,7 @@ pub record IsNextLine (kinds : List Kind) (tracker : Tracking) (before : List Li
 
 -- it has taken no line, and its detector is one of no call for the kinds of its specification
 pub record IsNew (start : Check) : Type 0 where
-  pub no_event : start.tracker ≡ record { threads = []; locks = [] }
+  pub no_event : start.tracker ≡ record { threads = []; locks = record { releases = []; unshares = [] } }
   pub no_call : (roots : ℕ → Bool) → WellFormedWith (kinds_of start.spec.now) roots [] → DetectorStandsFor start.spec.now start.detector roots [] []
   pub no_race : start.races ≡ 0
   pub formulas : start.formulas ≡ start.spec.now

@@ -187,6 +187,7 @@ impl<'a> Check<'a> {
 
     /// Hands the event at this place, which is the next one, to the tracker, and a call to the detector, and writes the race that it tells
     /// of.
+    #[inline(always)]
     fn event<S: Sink, L: Ledger>(
         &mut self,
         number: u64,
@@ -246,6 +247,7 @@ impl<'a> Analysis for Check<'a> {
 
     ghost silent = { λ _ start. no_text start };
 
+    #[inline(always)]
     fn accept<S: Sink, L: Ledger>(
         &mut self,
         number: u64,

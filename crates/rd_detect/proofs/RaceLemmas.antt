@@ -7,7 +7,7 @@ use Rattle.std.proofs.lemmas.Bool.Decides.{Decides-and, Decides-not, Decides-eqb
 use Rattle.std.proofs.lemmas.Option.{none-some, same_Some}
 use Rattle.rd_event.specs.declared.events.Call.{Call as CallOf}
 use Rattle.rd_event.specs.declared.events.Event.{Event}
-use Rattle.rd_event.specs.declared.events.Event.TheVariants.{Fork, Join, Acquire, Release, Call}
+use Rattle.rd_event.specs.declared.events.Event.TheVariants.{Fork, Join, Acquire, Release, Share, Unshare, Call}
 use Rattle.rd_order.proofs.OrderLemmas.{at_end, at_front, reaches_decides, reaches_longer, reaches_shorter}
 use Rattle.rd_detect.specs.RaceTests.{are_apart, is_racing, last_below, latest_of}
 use Rattle.rd_detect.specs.Races.{Racing, Reported, IsLatest}
@@ -81,11 +81,15 @@ module _ (Commuting : CallOf → CallOf → Type 0) (commuting : CallOf → Call
   apart_decides (Some (Join t u)) at_j = (λ h. absurd (true≢false (sym h)), λ h. let is = h.is_a in cc)
   apart_decides (Some (Acquire t l)) at_j = (λ h. absurd (true≢false (sym h)), λ h. let is = h.is_a in cc)
   apart_decides (Some (Release t l)) at_j = (λ h. absurd (true≢false (sym h)), λ h. let is = h.is_a in cc)
+  apart_decides (Some (Share t l)) at_j = (λ h. absurd (true≢false (sym h)), λ h. let is = h.is_a in cc)
+  apart_decides (Some (Unshare t l)) at_j = (λ h. absurd (true≢false (sym h)), λ h. let is = h.is_a in cc)
   apart_decides (Some (Call a)) None = (λ h. absurd (true≢false (sym h)), λ h. absurd (none-some _ h.is_b))
   apart_decides (Some (Call a)) (Some (Fork t u)) = (λ h. absurd (true≢false (sym h)), λ h. let is = h.is_b in cc)
   apart_decides (Some (Call a)) (Some (Join t u)) = (λ h. absurd (true≢false (sym h)), λ h. let is = h.is_b in cc)
   apart_decides (Some (Call a)) (Some (Acquire t l)) = (λ h. absurd (true≢false (sym h)), λ h. let is = h.is_b in cc)
   apart_decides (Some (Call a)) (Some (Release t l)) = (λ h. absurd (true≢false (sym h)), λ h. let is = h.is_b in cc)
+  apart_decides (Some (Call a)) (Some (Share t l)) = (λ h. absurd (true≢false (sym h)), λ h. let is = h.is_b in cc)
+  apart_decides (Some (Call a)) (Some (Unshare t l)) = (λ h. absurd (true≢false (sym h)), λ h. let is = h.is_b in cc)
 
   pub racing_decides : (es : List Event) (i j : ℕ) → Decides (is_racing commuting es i j) (Racing Commuting es i j)
   unfolding is_racing

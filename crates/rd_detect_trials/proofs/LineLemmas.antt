@@ -13,10 +13,11 @@ use Rattle.rd_event.specs.declared.events.Event.{Event as Numbered}
 use Rattle.rd_event.specs.declared.items.Line.{Line}
 use Rattle.rd_event.specs.declared.items.Line.TheVariants.{Skip, Header, Thread, Object, Event}
 use Rattle.rd_event.specs.declared.items.LineEvent.{LineEvent}
-use Rattle.rd_event.specs.declared.items.LineEvent.TheVariants.{Fork, Join, Acquire, Release, Call}
-use Rattle.rd_hb.specs.Tracker.{TrackerStandsFor, Tracking}
+use Rattle.rd_event.specs.declared.items.LineEvent.TheVariants.{Fork, Join, Acquire, Release, Share, Unshare, Call}
+use Rattle.rd_hb.specs.Knows.{GivesBack, KnownCount}
+use Rattle.rd_hb.specs.Tracker.{TrackerStandsFor, Tracking, handed_by}
 use Rattle.rd_order.specs.EventLists.{WellFormedWith, forks, joins, threads_after}
-use Rattle.rd_order.specs.Order.{forked_thread}
+use Rattle.rd_order.specs.Order.{Hold, exclusive, forked_thread, shared}
 use Rattle.rd_wf.specs.Events.{AreTold, event_of, events_of, root_count, roots_of}
 use Rattle.rd_wf.specs.MayFollow.{MayFollow, accepted_of, begun_name, events, is_root, is_skip, numbered_event, threads_of}
 use Rattle.rd_wf.specs.declared.causes.Accepted.{Accepted}
@@ -54,6 +55,8 @@ module _ (kinds : List Kind) where
   forked_next before (Join thread child) u e = absurd (none-some u e)
   forked_next before (Acquire thread lock) u e = absurd (none-some u e)
   forked_next before (Release thread lock) u e = absurd (none-some u e)
+  forked_next before (Share thread lock) u e = absurd (none-some u e)
+  forked_next before (Unshare thread lock) u e = absurd (none-some u e)
   forked_next before (Call thread object method slots) u e = absurd (none-some u e)
 
   threads_event : (before : List Line) (event : LineEvent) → length (threads_of (before ++ Event event ∷ [])) ≡ threads_after (numbered_event kinds before event) (length (threads_of before))
@@ -61,6 +64,8 @@ module _ (kinds : List Kind) where
   threads_event before (Join thread child) = ap length (threads_more before (Event (Join thread child)) ∙ append-nil (threads_of before))
   threads_event before (Acquire thread lock) = ap length (threads_more before (Event (Acquire thread lock)) ∙ append-nil (threads_of before))
   threads_event before (Release thread lock) = ap length (threads_more before (Event (Release thread lock)) ∙ append-nil (threads_of before))
+  threads_event before (Share thread lock) = ap length (threads_more before (Event (Share thread lock)) ∙ append-nil (threads_of before))
+  threads_event before (Unshare thread lock) = ap length (threads_more before (Event (Unshare thread lock)) ∙ append-nil (threads_of before))
   threads_event before (Call thread object method slots) = ap length (threads_more before (Event (Call thread object method slots)) ∙ append-nil (threads_of before))
 
 -- one number more is below
@@ -233,7 +238,13 @@ module _ (spec : List SpecifiedKind) (tracker : Tracking) (detector : Detecting)
 
 -- a tracker of no event
 abbrev none_tracked : Tracking
-none_tracked = record { threads = []; locks = [] }
+none_tracked = record { threads = []; locks = record { releases = []; unshares = [] } }
+
+-- no lock hands anything on
+none_handed : (kinds : List Kind) (hold : Hold) (u : ℕ)
+    → KnownCount (events_of kinds []) (GivesBack (events_of kinds []) hold) u (handed_by none_tracked.locks hold u)
+none_handed kinds (exclusive lock) u = refl
+none_handed kinds (shared lock) u = refl
 
 tracked_none : (kinds : List Kind) → TrackerStandsFor none_tracked (roots_of []) (events_of kinds [])
 unfolding forks joins
@@ -241,7 +252,7 @@ tracked_none kinds = record {
   known = λ t. (λ below. absurd (omega arith), λ known. ((told_none kinds).told.known t).0 known);
   clocks = λ t u. refl;
   joined = λ t. (λ h. absurd (true≢false (sym h)), λ some. absurd (omega arith));
-  locks = λ lock u. refl;
+  locks = none_handed kinds;
   releases = λ lock m gives. none-some gives.0 gives.1;
 }
 

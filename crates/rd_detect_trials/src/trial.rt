@@ -72,7 +72,7 @@ impl Trial {
 
     /// Takes a line, where it may follow.
     pub fn take<L: Ledger>(&mut self, rt: &impl Abort, text: &str, steps: &mut Steps<L>) -> Taken {
-        let line = read_line(self.alloc, text.as_bytes()).expect(rt, "a line");
+        let line = read_line(self.alloc, text.as_bytes(), 2).expect(rt, "a line");
         let number = self.lines.wrapping_add(1);
         let Some((accepted, told)) = self.course.take(rt, number, &line, steps) else {
             return Taken::Refused;

@@ -1,5 +1,5 @@
 -- What is known behind some of the lines of a generated trace.
-use Rattle.std.proofs.Common.{◌≡◌, ℕ, ◌+◌, Bool, true, false, List, [], ◌∷◌, ◌++◌, None, refl, ap, ◌∙◌, arith}
+use Rattle.std.proofs.Common.{◌≡◌, ℕ, ◌+◌, Bool, true, false, List, [], ◌∷◌, ◌++◌, Option, None, refl, sym, ap, ◌∙◌, arith}
 use Rattle.std.specs.Prelude.{codes, cond, count_by, ◌&&◌, ⊤}
 use Rattle.std.proofs.lemmas.List.{append-nil}
 use Rattle.std.proofs.lemmas.List.Elements.{filter_map-append}
@@ -8,7 +8,8 @@ use Rattle.rd_ecl.specs.Kinds.{Kind, kinds_of}
 use Rattle.rd_event.specs.declared.items.Line.{Line}
 use Rattle.rd_gen.specs.Generated.{opening}
 use Rattle.rd_kinds.specs.Shipped.{counter_kind, dictionary_kind, register_kind, set_kind, shipped_kinds}
-use Rattle.rd_wf.specs.MayFollow.{acquires, begun_name, declared_kind, declared_name, headers, is_acquire_of, is_header, is_release_of, joined_name, joined_of, object_kinds, objects_of, releases, same_name, threads_of}
+use Rattle.rd_wf.specs.MayFollow.{acquires, acting_name, begun_name, declared_kind, declared_name, headers, is_acquire_of, is_header, is_release_of, is_share_of, is_unshare_of, joined_name, joined_of, object_kinds, objects_of, passes, releases, same_name, shared_name, shares, threads_of, unshared_name, unshares}
+use Rattle.rd_wf.proofs.EventsLemmas.{shares_more, unshares_more}
 
 abbrev pub kinds : List Kind
 kinds = kinds_of shipped_kinds
@@ -16,7 +17,7 @@ kinds = kinds_of shipped_kinds
 abbrev pub threads : List (List ℕ)
 threads = codes "main" ∷ codes "w0" ∷ codes "w1" ∷ codes "w2" ∷ codes "w3" ∷ []
 
--- how much more often than released the lock was acquired by each thread
+-- how much more often than released the lock was acquired by each thread. No thread shares it
 pub record Knows (before : List Line) (joined : List (List ℕ)) (ahead : List ℕ → ℕ) : Type 0 where
   pub headers_are : headers before ≡ 1
   pub threads_are : threads_of before ≡ threads
@@ -24,6 +25,7 @@ pub record Knows (before : List Line) (joined : List (List ℕ)) (ahead : List �
   pub objects_are : objects_of before ≡ codes "d" ∷ []
   pub kinds_are : object_kinds kinds before ≡ 3 ∷ []
   pub lock_is : (thread : List ℕ) → acquires before thread (codes "l") ≡ releases before thread (codes "l") + ahead thread
+  pub unshared : (thread : List ℕ) → shares before thread (codes "l") ≡ unshares before thread (codes "l")
 
 abbrev pub nobody : List ℕ → ℕ
 nobody thread = 0
@@ -49,18 +51,31 @@ pub releases_more : (before : List Line) (line : Line) (thread lock : List ℕ)
 unfolding releases
 releases_more before line thread lock = sum_by_push (λ x. cond (is_release_of thread lock x) 1 0) before line
 
--- a line that begins no thread and declares no object
+module _ (before : List Line) (line : Line) (thread : List ℕ) where
+  none_of : (o : Option (List ℕ)) → o ≡ None → cond {A = ℕ} (passes (acting_name line) (same_name thread) && passes o (same_name (codes "l"))) 1 0 ≡ 0
+  none_of o none =
+      ap (λ o. cond {A = ℕ} (passes (acting_name line) (same_name thread) && passes o (same_name (codes "l"))) 1 0) none
+      ∙ ap (λ b. cond {A = ℕ} b 1 0) (and_none (passes (acting_name line) (same_name thread)))
+
+  shares_same : shared_name line ≡ None → shares (before ++ line ∷ []) thread (codes "l") ≡ shares before thread (codes "l")
+  shares_same none = omega (arith, shares_more before line thread (codes "l"), none_of (shared_name line) none)
+
+  unshares_same : unshared_name line ≡ None → unshares (before ++ line ∷ []) thread (codes "l") ≡ unshares before thread (codes "l")
+  unshares_same none = omega (arith, unshares_more before line thread (codes "l"), none_of (unshared_name line) none)
+
+-- a line that begins no thread, declares no object and shares no lock
 pub knows_more : (before : List Line) (joined more : List (List ℕ)) (ahead now : List ℕ → ℕ) (line : Line) → Knows before joined ahead → is_header line ≡ false
-    → begun_name line ≡ None → declared_name line ≡ None → declared_kind kinds line ≡ None → joined_of (line ∷ []) ≡ more
+    → begun_name line ≡ None → declared_name line ≡ None → declared_kind kinds line ≡ None → shared_name line ≡ None → unshared_name line ≡ None → joined_of (line ∷ []) ≡ more
     → ((thread : List ℕ) → acquires (before ++ line ∷ []) thread (codes "l") ≡ releases (before ++ line ∷ []) thread (codes "l") + now thread)
     → Knows (before ++ line ∷ []) (joined ++ more) now
-knows_more before joined more ahead now line k header begun declared of_kind joins lock = record {
+knows_more before joined more ahead now line k header begun declared of_kind shared unshared joins lock = record {
   headers_are = sum_by_push (λ x. cond (is_header x) 1 0) before line ∙ ap (λ b. headers before + cond b 1 0) header ∙ omega (arith, k.headers_are);
   threads_are = filter_map-append begun_name before (line ∷ []) ∙ rw begun (append-nil (threads_of before)) ∙ k.threads_are;
   joined_are = filter_map-append joined_name before (line ∷ []) ∙ rw (k.joined_are, joins) refl;
   objects_are = filter_map-append declared_name before (line ∷ []) ∙ rw declared (append-nil (objects_of before)) ∙ k.objects_are;
   kinds_are = filter_map-append (declared_kind kinds) before (line ∷ []) ∙ rw of_kind (append-nil (object_kinds kinds before)) ∙ k.kinds_are;
   lock_is = lock;
+  unshared = λ thread. shares_same before line thread shared ∙ k.unshared thread ∙ sym (unshares_same before line thread unshared);
 }
 
 -- behind the opening lines
@@ -87,6 +102,18 @@ none_released thread =
     let other = and_none (same_name thread (codes "main")) in
     none_counted (is_release_of thread (codes "l")) opening (refl, (refl, (refl, (other, (other, (other, (other, tt)))))))
 
+none_shared : (thread : List ℕ) → shares opening thread (codes "l") ≡ 0
+unfolding shares
+none_shared thread =
+    let other = and_none (same_name thread (codes "main")) in
+    none_counted (is_share_of thread (codes "l")) opening (refl, (refl, (refl, (other, (other, (other, (other, tt)))))))
+
+none_unshared : (thread : List ℕ) → unshares opening thread (codes "l") ≡ 0
+unfolding unshares
+none_unshared thread =
+    let other = and_none (same_name thread (codes "main")) in
+    none_counted (is_unshare_of thread (codes "l")) opening (refl, (refl, (refl, (other, (other, (other, (other, tt)))))))
+
 pub knows_opening : Knows opening [] nobody
 unfolding counter_kind dictionary_kind register_kind set_kind
 knows_opening = record {
@@ -96,4 +123,5 @@ knows_opening = record {
   objects_are = refl;
   kinds_are = refl;
   lock_is = λ thread. let first = none_acquired thread in let second = none_released thread in omega arith;
+  unshared = λ thread. none_shared thread ∙ sym (none_unshared thread);
 }

@@ -1,5 +1,5 @@
 -- The lines of a generated trace break no rule but limits.
-use Rattle.std.proofs.Common.{◌≡◌, ℕ, zero, suc, ◌<◌, true, false, List, [], ◌∷◌, ◌++◌, Option, Some, None, length, refl, ap, ◌∙◌, eq-eqb, arith}
+use Rattle.std.proofs.Common.{◌≡◌, ℕ, zero, suc, ◌<◌, true, false, leb, List, [], ◌∷◌, ◌++◌, Option, Some, None, length, refl, ap, ◌∙◌, eq-eqb, arith}
 use Rattle.std.specs.Prelude.{◌==◌, ◌&&◌, ◌||◌, not, codes, cond, slice_get, unwrap_or}
 use Rattle.std.proofs.lemmas.Bool.Decides.{nat_tests}
 use Rattle.rd_base.specs.declared.limits.Limits.{Limits}
@@ -12,7 +12,7 @@ use Rattle.rd_gen.specs.Generated.{arguments_for, method_name, worker_name}
 use Rattle.rd_kinds.specs.Shipped.{counter_kind, dictionary_kind, register_kind, set_kind}
 use Rattle.rd_gen_laws.proofs.CauseLemmas.{IsFine, fine_causes}
 use Rattle.rd_gen_laws.proofs.KnownLemmas.{Knows, acquires_more, and_none, and_true, held_by, kinds, knows_more, nobody, releases_more, threads}
-use Rattle.rd_wf.specs.MayFollow.{acquires, first_broken, is_among, is_broken, joined_of, methods_of, object_kinds, passes, place, releases, same_name, threads_of}
+use Rattle.rd_wf.specs.MayFollow.{acquires, first_broken, is_among, is_broken, joined_of, methods_of, object_kinds, passes, place, releases, same_name, shares, threads_of, unshares}
 
 -- ---- names
 
@@ -93,7 +93,8 @@ module _ (limits : Limits) (before : List Line) (joined : List (List ℕ)) (ahea
       (ap (λ n. n == 0) k.headers_are) refl refl (ap (λ b. b || false) (known thread among)) (running thread not_joined) refl refl refl refl refl (λ holder. refl)
       (let is = k.lock_is thread in
       let more : releases before thread (codes "l") < acquires before thread (codes "l") = omega (arith, is, one) in
-      grind (arith, nat_tests))
+      let held : leb (acquires before thread (codes "l")) (releases before thread (codes "l")) ≡ false = grind (arith, nat_tests) in
+      ap (λ b. b || false) held)
 
   pub acquire_fine : (thread : List ℕ) → is_among threads thread ≡ true → is_among joined thread ≡ false → ((other : List ℕ) → ahead other ≡ 0)
       → IsFine (first_broken kinds limits before (Event (Acquire thread (codes "l"))))
@@ -101,34 +102,37 @@ module _ (limits : Limits) (before : List Line) (joined : List (List ℕ)) (ahea
   acquire_fine thread among not_joined free =
       fine_causes (is_broken kinds before (Event (Acquire thread (codes "l")))) limits before
       (ap (λ n. n == 0) k.headers_are) refl refl (ap (λ b. b || false) (known thread among)) (running thread not_joined) refl refl refl refl refl
-      (λ holder. by (slice_get (threads_of before) holder)) refl
+      (λ holder.
+      ap (λ b. b || passes (slice_get (threads_of before) holder)
+      (λ other. not (same_name other thread) && not (shares before other (codes "l") == unshares before other (codes "l"))))
+      (none_against (slice_get (threads_of before) holder) (λ t. acquires before t (codes "l")) (λ t. releases before t (codes "l")) (λ t. omega (arith, k.lock_is t, free t)))
+      ∙ none_against (slice_get (threads_of before) holder) (λ t. shares before t (codes "l")) (λ t. unshares before t (codes "l")) k.unshared) refl
     where
-      by : (found : Option (List ℕ)) → passes found (λ other. not (same_name other thread) && not (acquires before other (codes "l") == releases before other (codes "l"))) ≡ false
-      by None = refl
-      by (Some other) =
-          let even : acquires before other (codes "l") ≡ releases before other (codes "l") = omega (arith, k.lock_is other, free other) in
-          ap (λ b. not (same_name other thread) && not b) (eq-eqb _ _ even) ∙ and_none (not (same_name other thread))
+      none_against : (found : Option (List ℕ)) (took gave : List ℕ → ℕ) → ((other : List ℕ) → took other ≡ gave other)
+          → passes found (λ other. not (same_name other thread) && not (took other == gave other)) ≡ false
+      none_against None took gave even = refl
+      none_against (Some other) took gave even = ap (λ b. not (same_name other thread) && not b) (eq-eqb _ _ (even other)) ∙ and_none (not (same_name other thread))
 
   -- ---- and what is known behind them
 
   pub call_knows : (thread method : List ℕ) (slots : List Value) → Knows (before ++ Event (Call thread (codes "d") method slots) ∷ []) (joined ++ []) ahead
   call_knows thread method slots =
       let line = Event (Call thread (codes "d") method slots) in
-      knows_more before joined [] ahead ahead line k refl refl refl refl refl
+      knows_more before joined [] ahead ahead line k refl refl refl refl refl refl refl
       (λ t. let none = ap {B = ℕ} (λ b. cond b 1 0) (and_none (same_name t thread)) in
       omega (arith, acquires_more before line t (codes "l"), releases_more before line t (codes "l"), k.lock_is t, none))
 
   pub join_knows : (child : List ℕ) → Knows (before ++ Event (Join (codes "main") child) ∷ []) (joined ++ child ∷ []) ahead
   join_knows child =
       let line = Event (Join (codes "main") child) in
-      knows_more before joined (child ∷ []) ahead ahead line k refl refl refl refl refl
+      knows_more before joined (child ∷ []) ahead ahead line k refl refl refl refl refl refl refl
       (λ t. let none = ap {B = ℕ} (λ b. cond b 1 0) (and_none (same_name t (codes "main"))) in
       omega (arith, acquires_more before line t (codes "l"), releases_more before line t (codes "l"), k.lock_is t, none))
 
   pub acquire_knows : (thread : List ℕ) → ((other : List ℕ) → ahead other ≡ 0) → Knows (before ++ Event (Acquire thread (codes "l")) ∷ []) (joined ++ []) (held_by thread)
   acquire_knows thread free =
       let line = Event (Acquire thread (codes "l")) in
-      knows_more before joined [] ahead (held_by thread) line k refl refl refl refl refl
+      knows_more before joined [] ahead (held_by thread) line k refl refl refl refl refl refl refl
       (λ t. let none = ap {B = ℕ} (λ b. cond b 1 0) (and_none (same_name t thread)) in
       let one = ap {B = ℕ} (λ b. cond b 1 0) (and_true (same_name t thread)) in
       omega (arith, acquires_more before line t (codes "l"), releases_more before line t (codes "l"), k.lock_is t, free t, none, one))
@@ -136,7 +140,7 @@ module _ (limits : Limits) (before : List Line) (joined : List (List ℕ)) (ahea
   pub release_knows : (thread : List ℕ) → ((other : List ℕ) → ahead other ≡ held_by thread other) → Knows (before ++ Event (Release thread (codes "l")) ∷ []) (joined ++ []) nobody
   release_knows thread held =
       let line = Event (Release thread (codes "l")) in
-      knows_more before joined [] ahead nobody line k refl refl refl refl refl
+      knows_more before joined [] ahead nobody line k refl refl refl refl refl refl refl
       (λ t. let none = ap {B = ℕ} (λ b. cond b 1 0) (and_none (same_name t thread)) in
       let one = ap {B = ℕ} (λ b. cond b 1 0) (and_true (same_name t thread)) in
       omega (arith, acquires_more before line t (codes "l"), releases_more before line t (codes "l"), k.lock_is t, held t, none, one))

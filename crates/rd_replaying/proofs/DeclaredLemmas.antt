@@ -9,7 +9,7 @@ use Rattle.std.proofs.lemmas.Option.{none-some, same_Some}
 use Rattle.rd_ecl.specs.Kinds.{Kind}
 use Rattle.rd_event.specs.declared.items.Line.{Line}
 use Rattle.rd_event.specs.declared.items.Line.TheVariants.{Skip, Header, Thread, Object, Event}
-use Rattle.rd_event.specs.declared.items.LineEvent.TheVariants.{Fork, Join, Acquire, Release, Call}
+use Rattle.rd_event.specs.declared.items.LineEvent.TheVariants.{Fork, Join, Acquire, Release, Share, Unshare, Call}
 use Rattle.rd_order.specs.Order.{call_in}
 use Rattle.rd_replay.specs.Replays.{Recorded}
 use Rattle.rd_wf.specs.Events.{AreAccepted, AreAcceptedFrom, IsAccepted, event_of}
@@ -48,6 +48,8 @@ module _ (kinds : List Kind) where
   declared_at number before (Event (Join thread child)) accepted recorded is = absurd (none-some recorded is)
   declared_at number before (Event (Acquire thread lock)) accepted recorded is = absurd (none-some recorded is)
   declared_at number before (Event (Release thread lock)) accepted recorded is = absurd (none-some recorded is)
+  declared_at number before (Event (Share thread lock)) accepted recorded is = absurd (none-some recorded is)
+  declared_at number before (Event (Unshare thread lock)) accepted recorded is = absurd (none-some recorded is)
   declared_at number before Skip accepted recorded is = absurd (none-some recorded is)
   declared_at number before (Header version) accepted recorded is = absurd (none-some recorded is)
   declared_at number before (Thread name) accepted recorded is = absurd (none-some recorded is)

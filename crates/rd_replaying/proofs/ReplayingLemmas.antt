@@ -15,7 +15,7 @@ use Rattle.rd_event.specs.declared.events.Event.{Event as Numbered}
 use Rattle.rd_event.specs.declared.events.Event.TheVariants as numbered
 use Rattle.rd_event.specs.declared.items.Line.{Line}
 use Rattle.rd_event.specs.declared.items.Line.TheVariants.{Skip, Header, Thread, Object, Event}
-use Rattle.rd_event.specs.declared.items.LineEvent.TheVariants.{Fork, Join, Acquire, Release, Call}
+use Rattle.rd_event.specs.declared.items.LineEvent.TheVariants.{Fork, Join, Acquire, Release, Share, Unshare, Call}
 use Rattle.rd_kinds.specs.Machines.{counter_machine, dictionary_machine, machine_of, register_machine, set_machine}
 use Rattle.rd_kinds.specs.Shipped.{shipped_kinds}
 use Rattle.rd_kinds.proofs.ShippedLemmas.{counter_is, dictionary_is, register_is, set_is}
@@ -162,6 +162,8 @@ module _ (kinds : List Kind) (before : List Entry) (entry : Entry) where
         by (Event (Join thread child)) is = event (Event (Join thread child)) is refl refl
         by (Event (Acquire thread lock)) is = event (Event (Acquire thread lock)) is refl refl
         by (Event (Release thread lock)) is = event (Event (Release thread lock)) is refl refl
+        by (Event (Share thread lock)) is = event (Event (Share thread lock)) is refl refl
+        by (Event (Unshare thread lock)) is = event (Event (Unshare thread lock)) is refl refl
         by (Event (Call thread object method slots)) is = absurd (no_call _ (next.numbers ∙ ap (accepted_of kinds (items before)) is))
 
     -- an object
@@ -237,6 +239,8 @@ module _ (kinds : List Kind) (before : List Entry) (entry : Entry) where
         by (Event (Join thread child)) line = (let other = sym is ∙ (next.numbers ∙ ap (accepted_of kinds (items before)) line) in cc)
         by (Event (Acquire thread lock)) line = (let other = sym is ∙ (next.numbers ∙ ap (accepted_of kinds (items before)) line) in cc)
         by (Event (Release thread lock)) line = (let other = sym is ∙ (next.numbers ∙ ap (accepted_of kinds (items before)) line) in cc)
+        by (Event (Share thread lock)) line = (let other = sym is ∙ (next.numbers ∙ ap (accepted_of kinds (items before)) line) in cc)
+        by (Event (Unshare thread lock)) line = (let other = sym is ∙ (next.numbers ∙ ap (accepted_of kinds (items before)) line) in cc)
         by Skip line = (let other = sym is ∙ (next.numbers ∙ ap (accepted_of kinds (items before)) line) in cc)
         by (Header version) line = (let other = sym is ∙ (next.numbers ∙ ap (accepted_of kinds (items before)) line) in cc)
         by (Thread name) line = (let other = sym is ∙ (next.numbers ∙ ap (accepted_of kinds (items before)) line) in cc)

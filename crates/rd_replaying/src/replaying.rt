@@ -53,6 +53,7 @@ impl<A: Analysis> Analysis for Replaying<A> {
 
     ghost silent = { λ kinds start. A.silent kinds start.inner };
 
+    #[inline(always)]
     fn accept<S: Sink, L: Ledger>(
         &mut self,
         number: u64,

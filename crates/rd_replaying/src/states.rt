@@ -238,6 +238,7 @@ impl Analysis for ReplayAlone {
 
     ghost silent = { λ _ _. refl };
 
+    #[inline(always)]
     fn accept<S: Sink, L: Ledger>(
         &mut self,
         _number: u64,

@@ -1,9 +1,11 @@
 -- What a check of no lines keeps and writes: the laws that it has as an analysis.
-use Rattle.std.specs.Prelude.{◌≡◌, List, [], length}
+use Rattle.std.specs.Prelude.{◌≡◌, ℕ, List, [], length}
 use Rattle.std.proofs.Common.{refl, sym, ap, subst, arith, true≢false}
 use Rattle.std.proofs.lemmas.Option.{none-some}
 use Rattle.rd_order.specs.EventLists.{WellFormedWith, forks, joins}
-use Rattle.rd_hb.specs.Tracker.{TrackerStandsFor, Tracking}
+use Rattle.rd_hb.specs.Knows.{GivesBack, KnownCount}
+use Rattle.rd_hb.specs.Tracker.{TrackerStandsFor, Tracking, handed_by}
+use Rattle.rd_order.specs.Order.{Hold, exclusive, shared}
 use Rattle.rd_wf.specs.Events.{events_of, roots_of}
 use Rattle.rd_ecl.specs.Kinds.{Kind, kinds_of}
 use Rattle.rd_wf.specs.laws.NoLines.{told_none}
@@ -13,7 +15,13 @@ use Rattle.rd_check.specs.declared.checking.Check.{Check}
 
 -- a tracker of no event
 abbrev none_tracked : Tracking
-none_tracked = record { threads = []; locks = [] }
+none_tracked = record { threads = []; locks = record { releases = []; unshares = [] } }
+
+-- no lock hands anything on
+none_handed : (kinds : List Kind) (hold : Hold) (u : ℕ)
+    → KnownCount (events_of kinds []) (GivesBack (events_of kinds []) hold) u (handed_by none_tracked.locks hold u)
+none_handed kinds (exclusive lock) u = refl
+none_handed kinds (shared lock) u = refl
 
 stands_none : (kinds : List Kind) → TrackerStandsFor none_tracked (roots_of []) (events_of kinds [])
 unfolding forks joins
@@ -21,7 +29,7 @@ stands_none kinds = record {
   known = λ t. (λ below. absurd (omega arith), λ known. ((told_none kinds).told.known t).0 known);
   clocks = λ t u. refl;
   joined = λ t. (λ h. absurd (true≢false (sym h)), λ some. absurd (omega arith));
-  locks = λ lock u. refl;
+  locks = none_handed kinds;
   releases = λ lock m gives. none-some gives.0 gives.1;
 }
 
