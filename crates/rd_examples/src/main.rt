@@ -34,7 +34,9 @@ const EXAMPLES: &str = "\
     check message.trace message.out\n\
     check message_by_a_lock.trace message_by_a_lock.out\n\
     check name_twice.trace name_twice.out\n\
+    check put_under_a_share.trace put_under_a_share.out\n\
     check read_after_join.trace read_after_join.out\n\
+    check readers_and_a_writer.trace readers_and_a_writer.out\n\
     check recorded_cpp.trace recorded_cpp.out\n\
     check recorded_go.trace recorded_go.out\n\
     check recorded_java.trace recorded_java.out\n\

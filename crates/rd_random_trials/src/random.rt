@@ -2,9 +2,9 @@
 //! tries all pairs of calls and all paths of edges between them, counts the events that come before a call one by one, and runs the
 //! calls by objects that are lists. The objects are of the kinds that are built in or of one that a specification adds, and their
 //! formulas are written here anew. The traces have two roots, up to five threads, two locks and up to 39 events: forks, joins, acquires,
-//! releases and calls with the values 0, 1, nil, true and false, and 9223372036854775807 to be added. In about half of them the results
-//! are those that the objects give, in the others they are random. A lock may be acquired again by the thread that has it. Traces that
-//! are refused, other values and longer traces are not covered here.
+//! releases, in half of the traces also shares and unshares, and calls with the values 0, 1, nil, true and false, and 9223372036854775807 to
+//! be added. In about half of them the results are those that the objects give, in the others they are random. A lock may be acquired and
+//! shared again by a thread that has it, either way. Traces that are refused, other values and longer traces are not covered here.
 ghost use Rattle.std.specs.Prelude.{◌<◌};
 
 use crate::checked::checked;
@@ -43,6 +43,14 @@ enum Step {
         thread: u32,
         lock: u32,
     },
+    Share {
+        thread: u32,
+        lock: u32,
+    },
+    Unshare {
+        thread: u32,
+        lock: u32,
+    },
     Call {
         thread: u32,
         object: u32,
@@ -57,6 +65,8 @@ impl Step {
             | Step::Join { thread, .. }
             | Step::Acquire { thread, .. }
             | Step::Release { thread, .. }
+            | Step::Share { thread, .. }
+            | Step::Unshare { thread, .. }
             | Step::Call { thread, .. } => *thread,
         }
     }
@@ -72,6 +82,10 @@ impl Step {
     fn takes(&self, wanted: u32) -> bool {
         matches!(self, Step::Acquire { lock, .. } if *lock == wanted)
     }
+
+    fn shares(&self, wanted: u32) -> bool {
+        matches!(self, Step::Share { lock, .. } if *lock == wanted)
+    }
 }
 
 /// An event comes before a later one by the rules alone.
@@ -84,7 +98,8 @@ fn is_edge(first: &Step, second: &Step) -> bool {
     }
     match first {
         Step::Fork { child, .. } => second.awaits(*child),
-        Step::Release { lock, .. } => second.takes(*lock),
+        Step::Release { lock, .. } => second.takes(*lock) || second.shares(*lock),
+        Step::Unshare { lock, .. } => second.takes(*lock),
         _ => false,
     }
 }
@@ -322,26 +337,85 @@ fn append_report(
     }
 }
 
-/// What may be done with a lock: who has it, and how often it was acquired and not released.
+/// What may be done with a lock: who has it, and how often it was acquired and not released, and how often each thread shared it and
+/// didn't unshare it.
 #[derive(Clone, Copy)]
 struct Held {
     holder: u32,
     depth: u32,
+    shares: [u32; 5],
+}
+
+/// What is done with a lock.
+#[derive(Clone, Copy)]
+enum Use {
+    Acquire,
+    Release,
+    Share,
+    Unshare,
 }
 
 impl Held {
-    /// Acquires the lock for the thread or releases it, where that may be done.
-    fn used(&mut self, thread: u32, lock: u32, acquires: bool) -> Option<Step> {
-        if acquires && (self.depth == 0 || (self.holder == thread && self.depth < 3)) {
-            self.holder = thread;
-            self.depth = self.depth.saturating_add(1);
-            return Some(Step::Acquire { thread, lock });
+    /// Another thread has a share of it.
+    fn is_shared_by_other(&self, thread: u32) -> bool {
+        let mut other = 0u32;
+        for depth in self.shares {
+            if depth > 0 && other != thread {
+                return true;
+            }
+            other = other.saturating_add(1);
         }
-        if self.depth > 0 && self.holder == thread {
-            self.depth = self.depth.saturating_sub(1);
-            return Some(Step::Release { thread, lock });
+        false
+    }
+
+    /// Another thread has it for itself.
+    fn is_held_by_other(&self, thread: u32) -> bool {
+        self.depth > 0 && self.holder != thread
+    }
+
+    fn acquired(&mut self, thread: u32, lock: u32) -> Option<Step> {
+        if self.is_held_by_other(thread) || self.is_shared_by_other(thread) || self.depth >= 3 {
+            return None;
         }
-        None
+        self.holder = thread;
+        self.depth = self.depth.saturating_add(1);
+        Some(Step::Acquire { thread, lock })
+    }
+
+    fn released(&mut self, thread: u32, lock: u32) -> Option<Step> {
+        if self.depth == 0 || self.holder != thread {
+            return None;
+        }
+        self.depth = self.depth.saturating_sub(1);
+        Some(Step::Release { thread, lock })
+    }
+
+    fn shared(&mut self, thread: u32, lock: u32) -> Option<Step> {
+        if self.is_held_by_other(thread) {
+            return None;
+        }
+        let depth = self.shares.get_mut(thread as usize)?;
+        *depth = depth.saturating_add(1);
+        Some(Step::Share { thread, lock })
+    }
+
+    fn unshared(&mut self, thread: u32, lock: u32) -> Option<Step> {
+        let depth = self.shares.get_mut(thread as usize)?;
+        if *depth == 0 {
+            return None;
+        }
+        *depth = depth.saturating_sub(1);
+        Some(Step::Unshare { thread, lock })
+    }
+
+    /// Uses the lock for the thread so, where that may be done.
+    fn used(&mut self, thread: u32, lock: u32, way: Use) -> Option<Step> {
+        match way {
+            Use::Acquire => self.acquired(thread, lock),
+            Use::Release => self.released(thread, lock),
+            Use::Share => self.shared(thread, lock),
+            Use::Unshare => self.unshared(thread, lock),
+        }
     }
 }
 
@@ -349,6 +423,7 @@ impl Held {
 #[derive(Drop)]
 struct Course {
     kinds: (Kind, Kind),
+    has_shares: bool,
     objects: Objects,
     threads: u32,
     ended: Vec<u32>,
@@ -357,13 +432,15 @@ struct Course {
 }
 
 impl Course {
-    fn new(alloc: Global, kinds: (Kind, Kind)) -> Course {
+    fn new(alloc: Global, kinds: (Kind, Kind), has_shares: bool) -> Course {
         let free = Held {
             holder: 0,
             depth: 0,
+            shares: [0; 5],
         };
         Course {
             kinds,
+            has_shares,
             objects: Objects::new(alloc),
             threads: ROOTS,
             ended: Vec::new(alloc),
@@ -383,11 +460,11 @@ impl Course {
         Step::Join { thread, child }
     }
 
-    fn used(&mut self, thread: u32, acquires: bool, lock: u32) -> Option<Step> {
+    fn used(&mut self, thread: u32, way: Use, lock: u32) -> Option<Step> {
         if lock == 0 {
-            self.first.used(thread, lock, acquires)
+            self.first.used(thread, lock, way)
         } else {
-            self.second.used(thread, lock, acquires)
+            self.second.used(thread, lock, way)
         }
     }
 
@@ -532,6 +609,16 @@ impl Random {
         course.called(rt, thread, object, call, is_given)
     }
 
+    /// What is done with a lock.
+    fn way(&mut self, has_shares: bool) -> Use {
+        match (has_shares, self.below(4)) {
+            (true, 0) => Use::Share,
+            (true, 1) => Use::Unshare,
+            (_, 0 | 2) => Use::Acquire,
+            _ => Use::Release,
+        }
+    }
+
     /// An event that may follow, or none where what is drawn may not. Its result is the one that the object gives, or random.
     fn step(&mut self, rt: &impl Abort, course: &mut Course, is_given: bool) -> Option<Step> {
         let thread = self.below(THREADS);
@@ -545,8 +632,8 @@ impl Random {
         } else if choice == 1 && child < course.threads && child != thread {
             Some(course.joined(rt, thread, child))
         } else if choice <= 3 {
-            let acquires = self.below(2) == 0;
-            course.used(thread, acquires, self.below(2))
+            let way = self.way(course.has_shares);
+            course.used(thread, way, self.below(2))
         } else {
             Some(self.called(rt, course, thread, is_given))
         }
@@ -587,6 +674,8 @@ fn append_step(rt: &impl Abort, text: &mut String, step: &Step) {
         Step::Join { thread, child } => append_pair(rt, text, "join", *thread, ("t", *child)),
         Step::Acquire { thread, lock } => append_pair(rt, text, "acquire", *thread, ("l", *lock)),
         Step::Release { thread, lock } => append_pair(rt, text, "release", *thread, ("l", *lock)),
+        Step::Share { thread, lock } => append_pair(rt, text, "share", *thread, ("l", *lock)),
+        Step::Unshare { thread, lock } => append_pair(rt, text, "unshare", *thread, ("l", *lock)),
         Step::Call {
             thread,
             object,
@@ -595,11 +684,17 @@ fn append_step(rt: &impl Abort, text: &mut String, step: &Step) {
     }
 }
 
-fn append_trace(rt: &impl Abort, text: &mut String, kinds: (Kind, Kind), steps: &[Step]) {
+fn append_trace(
+    rt: &impl Abort,
+    text: &mut String,
+    version: u32,
+    kinds: (Kind, Kind),
+    steps: &[Step],
+) {
     let (first, second) = (kinds.0.name(), kinds.1.name());
     write!(
         text,
-        "rdtrace 1\nthread t0\nthread t1\nobject x0 {first}\nobject x1 {second}\n"
+        "rdtrace {version}\nthread t0\nthread t1\nobject x0 {first}\nobject x1 {second}\n"
     )
     .expect(rt, "memory");
     for step in steps {
@@ -647,6 +742,7 @@ fn is_answered(rt: &impl Abort, alloc: Global, trace: &str, status: Status, text
 fn is_checked(
     rt: &impl Abort,
     alloc: Global,
+    version: u32,
     kinds: (Kind, Kind),
     steps: &[Step],
     tally: &mut Tally,
@@ -655,7 +751,7 @@ fn is_checked(
     let status = append_report(rt, alloc, &mut text, kinds, steps);
     tally.add(status, text.as_str());
     let mut trace = String::new(alloc);
-    append_trace(rt, &mut trace, kinds, steps);
+    append_trace(rt, &mut trace, version, kinds, steps);
     is_answered(rt, alloc, trace.as_str(), status, text.as_str());
 }
 
@@ -663,10 +759,12 @@ fn is_checked(
 fn tries(rt: &impl Abort, alloc: Global, random: &mut Random, tally: &mut Tally) {
     let kinds = (random.kind(), random.kind());
     let are_given = random.below(2) == 0;
-    let mut course = Course::new(alloc, kinds);
+    let has_shares = random.below(2) == 0;
+    let mut course = Course::new(alloc, kinds, has_shares);
     let mut steps = Vec::new(alloc);
     random.steps(rt, &mut course, are_given, &mut steps);
-    is_checked(rt, alloc, kinds, steps.as_slice(), tally);
+    let version = if has_shares { 2 } else { 1 };
+    is_checked(rt, alloc, version, kinds, steps.as_slice(), tally);
 }
 
 #[test]
