@@ -4,7 +4,7 @@ ghost use Rattle.std.specs.Prelude.{◌≡◌, ◌+◌, ◌≤◌, List, ◌∷�
 use rd_base::{Bytes, NoMemory, Steps};
 use rd_detect::Detector;
 use rd_ecl::Spec;
-use rd_event::{Call, Event, Line};
+use rd_event::{Call, Event};
 use rd_hb::Tracker;
 use rd_io::Sink;
 use rd_json::{Form, append_race};
@@ -251,7 +251,6 @@ impl<'a> Analysis for Check<'a> {
     fn accept<S: Sink, L: Ledger>(
         &mut self,
         number: u64,
-        _line: &Line,
         accepted: &Accepted,
         roster: &Roster,
         out: &mut S,

@@ -16,7 +16,7 @@ use Rattle.rd_event.specs.declared.items.Line.TheVariants.{Skip, Header, Thread,
 use Rattle.rd_event.specs.declared.items.LineEvent.{LineEvent}
 use Rattle.rd_event.specs.declared.items.LineEvent.TheVariants.{Fork, Join, Acquire, Release, Share, Unshare, Call}
 use Rattle.rd_event.specs.declared.reading.Pair.{Pair}
-use Rattle.rd_event.specs.declared.reading.Pair.TheVariants.{Join as JoinPair, Acquire as AcquirePair, Release as ReleasePair}
+use Rattle.rd_event.specs.declared.reading.Pair.TheVariants.{Object as ObjectPair, Join as JoinPair, Acquire as AcquirePair, Release as ReleasePair}
 use Rattle.rd_event.specs.declared.reading.LineRefused.{LineRefused}
 use Rattle.rd_event.specs.declared.reading.LineRefused.TheVariants.{BadLine}
 use Rattle.rd_event.specs.Items.{IsEvent, LineInRange, HasEvent, HasItem, words_apart, event_spelling, line_spelling, Says}
@@ -150,6 +150,10 @@ acquire_behind version bytes rest is = rw is (pair_behind AcquirePair (λ names.
 pub release_behind : (version : ℕ) (bytes rest : List ℕ) → bytes ≡ codes "release " ++ rest → item_of version bytes ≡ option_map (pair_item ReleasePair) (names_read rest)
 unfolding item_of item_with event_with
 release_behind version bytes rest is = rw is (pair_behind ReleasePair (λ names. Release names.0 names.1) (λ names. refl) (names_read rest))
+
+pub object_behind : (version : ℕ) (bytes rest : List ℕ) → bytes ≡ codes "object " ++ rest → item_of version bytes ≡ option_map (pair_item ObjectPair) (names_read rest)
+unfolding item_of item_with
+object_behind version bytes rest is = rw is refl
 
 pub join_behind : (version : ℕ) (bytes rest : List ℕ) → bytes ≡ codes "join " ++ rest → item_of version bytes ≡ option_map (pair_item JoinPair) (names_read rest)
 unfolding item_of item_with event_with

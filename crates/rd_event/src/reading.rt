@@ -327,14 +327,17 @@ fn read_item(alloc: Global, bytes: &[u8], version: u8, line: &mut Line) -> Resul
     if let Some(rest) = behind(bytes, b"call ") {
         return read_call(alloc, rest, line);
     }
+    if let Some(rest) = behind(bytes, b"join ") {
+        return read_pair(Pair::Join, rest, line);
+    }
+    if let Some(rest) = behind(bytes, b"object ") {
+        return read_pair(Pair::Object, rest, line);
+    }
     if let Some(rest) = behind(bytes, b"acquire ") {
         return read_pair(Pair::Acquire, rest, line);
     }
     if let Some(rest) = behind(bytes, b"release ") {
         return read_pair(Pair::Release, rest, line);
-    }
-    if let Some(rest) = behind(bytes, b"join ") {
-        return read_pair(Pair::Join, rest, line);
     }
     if is_skipped(bytes) {
         skip(line);

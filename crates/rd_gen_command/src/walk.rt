@@ -81,14 +81,9 @@ fn take_item<A: Analysis, S: Sink, L: Ledger>(
     keep(&mut walker.line, line);
     match walker.roster.accept(&walker.line, &walker.limits) {
         Ok(accepted) => {
-            let Err(halt) = walker.analysis.accept(
-                number,
-                &walker.line,
-                &accepted,
-                &walker.roster,
-                out,
-                steps,
-            )
+            let Err(halt) = walker
+                .analysis
+                .accept(number, &accepted, &walker.roster, out, steps)
             else {
                 return Ok(None);
             };

@@ -3,7 +3,6 @@ ghost use Rattle.std.specs.Prelude.{◌≡◌, ◌+◌, ◌≤◌, List, [], ◌
 
 use crate::following::follow;
 use rd_base::Steps;
-use rd_event::Line;
 use rd_io::Sink;
 use rd_replay::Replayer;
 use rd_walk::{Analysis, Halt};
@@ -57,16 +56,12 @@ impl<A: Analysis> Analysis for Replaying<A> {
     fn accept<S: Sink, L: Ledger>(
         &mut self,
         number: u64,
-        line: &Line,
         accepted: &Accepted,
         roster: &Roster,
         out: &mut S,
         steps: &mut Steps<L>,
     ) -> Result<(), Halt> {
-        match self
-            .inner
-            .accept(number, line, accepted, roster, out, steps)
-        {
+        match self.inner.accept(number, accepted, roster, out, steps) {
             Ok(()) => follow(&mut self.replayer, number, accepted),
             Err(halt) => Err(halt),
         }

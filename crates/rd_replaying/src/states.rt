@@ -14,7 +14,6 @@ ghost use Rattle.rd_wf.specs.Roster.{names_in, object_names_in};
 use crate::endings::{check_status, ending_of_report};
 use crate::reports::ReplayedReport;
 use rd_base::{Bytes, NoMemory, Steps};
-use rd_event::Line;
 use rd_io::Sink;
 use rd_object::ReplayEnd;
 use rd_replay::Replayer;
@@ -242,7 +241,6 @@ impl Analysis for ReplayAlone {
     fn accept<S: Sink, L: Ledger>(
         &mut self,
         _number: u64,
-        _line: &Line,
         _accepted: &Accepted,
         _roster: &Roster,
         _out: &mut S,

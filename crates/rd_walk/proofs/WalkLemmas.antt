@@ -12,7 +12,8 @@ use Rattle.rd_ecl.specs.Kinds.{Kind}
 use Rattle.rd_base.specs.Limits.{AreUsable}
 use Rattle.rd_walk.specs.Analysis.{IsNextEntry}
 use Rattle.rd_wf.specs.MayFollow.{accepted_of, first_broken, threads_of, version_of}
-use Rattle.rd_wf.specs.Roster.{RosterStandsFor}
+use Rattle.rd_wf.specs.Roster.{AcceptsAs, RosterStandsFor}
+use Rattle.rd_wf.specs.declared.causes.Accepted.{Accepted}
 use Rattle.rd_wf.specs.declared.causes.Accepted.TheVariants.{Nothing}
 use Rattle.rd_wf.specs.declared.roster.Roster.{Roster}
 use Rattle.rd_walk.specs.Walk.{Entry, Walked, accepted_or, after, bound_from, trace_end_of, ending_of, ends, entries_of, goes, goes_or_ends, items, judgement_of, judgement_of_item, walk}
@@ -25,6 +26,18 @@ pub judged_broken : (kinds : List Kind) (limits : Limits) (before : List Line) (
     → item_of (version_of before) bytes ≡ Some item → first_broken kinds limits before item ≡ Some cause → judgement_of kinds limits before bytes ≡ Err (Wf cause)
 unfolding judgement_of
 judged_broken kinds limits before bytes item cause says broken = ap (judgement_of_item kinds limits before) says ∙ ap (accepted_or item) broken
+
+-- what the roster accepts as an item is judged so
+pub judged_as : (kinds : List Kind) (limits : Limits) (before : List Line) (bytes : List ℕ) (item : Line) (accepted : Accepted) (roster : Roster)
+    → AcceptsAs kinds limits before bytes item accepted roster → judgement_of kinds limits before bytes ≡ Ok item
+unfolding judgement_of
+judged_as kinds limits before bytes item accepted roster is = ap (judgement_of_item kinds limits before) is.says ∙ ap (accepted_or item) is.unbroken
+
+-- and is the next entry
+pub next_as : (kinds : List Kind) (limits : Limits) (before : List Entry) (bytes : List ℕ) (item : Line) (accepted : Accepted) (roster : Roster) → AreUsable limits
+    → AcceptsAs kinds limits (items before) bytes item accepted roster → IsNextEntry kinds roster before item accepted
+next_as kinds limits before bytes item accepted roster usable is =
+    record { limits = limits; usable = usable; follows = is.follows; numbers = is.numbers; stands = is.stands; few = is.few }
 
 -- a line that is skipped is accepted
 pub skipped_judged : (kinds : List Kind) (limits : Limits) (before : List Line) (bytes : List ℕ) → is_skipped bytes ≡ true

@@ -4,7 +4,6 @@ ghost use Rattle.std.specs.Prelude.{◌≡◌, ◌+◌, ◌≤◌, List, [], ◌
 use crate::analysis::{Analysis, Halt};
 use either::Either;
 use rd_base::Steps;
-use rd_event::Line;
 use rd_io::Sink;
 use rd_wf::{Accepted, Roster};
 use std::sync::ledger::Ledger;
@@ -40,15 +39,14 @@ impl<L: Analysis, R: Analysis> Analysis for Either<L, R> {
     fn accept<S: Sink, T: Ledger>(
         &mut self,
         number: u64,
-        line: &Line,
         accepted: &Accepted,
         roster: &Roster,
         out: &mut S,
         steps: &mut Steps<T>,
     ) -> Result<(), Halt> {
         match self {
-            Either::Left(left) => left.accept(number, line, accepted, roster, out, steps),
-            Either::Right(right) => right.accept(number, line, accepted, roster, out, steps),
+            Either::Left(left) => left.accept(number, accepted, roster, out, steps),
+            Either::Right(right) => right.accept(number, accepted, roster, out, steps),
         }
     }
 

@@ -6,7 +6,6 @@ ghost use Rattle.rd_walk.specs.Walk.{Entry, items};
 ghost use Rattle.rd_ecl.specs.Kinds.{Kind};
 
 use rd_base::{NoMemory, Steps};
-use rd_event::Line;
 use rd_io::Sink;
 use rd_wf::{Accepted, Roster};
 use std::sync::ledger::Ledger;
@@ -49,43 +48,42 @@ pub trait Analysis {
     fn accept<S: Sink, L: Ledger>(
         &mut self,
         number: u64,
-        line: &Line,
         accepted: &Accepted,
         roster: &Roster,
         out: &mut S,
         steps: &mut Steps<L>,
     ) -> Result<(), Halt>
-        requires { (kinds : List Kind) × (start : Self) × (before : List Entry)
+        requires { (kinds : List Kind) × (start : Self) × (before : List Entry) × (item : Item)
             × leads kinds start before self.old
-            × IsNextEntry kinds roster.now before line.now accepted.now }
+            × IsNextEntry kinds roster.now before item accepted.now }
 
         // the lines lead on, and what is written for the line is written, or a front of it
         ensures leads { OnOk result
-            ((kinds : List Kind) (start : Self) (before : List Entry) →
+            ((kinds : List Kind) (start : Self) (before : List Entry) (item : Item) →
             leads kinds start before self.old →
-            IsNextEntry kinds roster.now before line.now accepted.now →
+            IsNextEntry kinds roster.now before item accepted.now →
             leads kinds start
-            (before ++ record { number = number; item = line.now } ∷ []) self.new) }
+            (before ++ record { number = number; item = item } ∷ []) self.new) }
         ensures written { OnOk result
-            ((kinds : List Kind) (start : Self) (before : List Entry) →
+            ((kinds : List Kind) (start : Self) (before : List Entry) (item : Item) →
             leads kinds start before self.old →
-            IsNextEntry kinds roster.now before line.now accepted.now →
+            IsNextEntry kinds roster.now before item accepted.now →
             WritesBetween (S.written out.old) (S.written out.new)
             (text kinds start before)
-            (text kinds start (before ++ record { number = number; item = line.now } ∷ []))) }
+            (text kinds start (before ++ record { number = number; item = item } ∷ []))) }
         ensures halted { OnErr result
-            ((kinds : List Kind) (start : Self) (before : List Entry) →
+            ((kinds : List Kind) (start : Self) (before : List Entry) (item : Item) →
             leads kinds start before self.old →
-            IsNextEntry kinds roster.now before line.now accepted.now →
+            IsNextEntry kinds roster.now before item accepted.now →
             WritesFront (S.written out.old) (S.written out.new)
             (text kinds start before)
-            (text kinds start (before ++ record { number = number; item = line.now } ∷ []))) }
+            (text kinds start (before ++ record { number = number; item = item } ∷ []))) }
 
         // the steps are bounded, and a failed write is told as one
-        ensures cost { (kinds : List Kind) (start : Self) (before : List Entry) →
+        ensures cost { (kinds : List Kind) (start : Self) (before : List Entry) (item : Item) →
             leads kinds start before self.old →
-            IsNextEntry kinds roster.now before line.now accepted.now →
-            steps.new ≤ steps.old + bound kinds start (items before) line.now }
+            IsNextEntry kinds roster.now before item accepted.now →
+            steps.new ≤ steps.old + bound kinds start (items before) item }
         ensures fault { TellsFault (S.faults out.old) (S.faults out.new) (S.at_fault out.new)
             (S.written out.new) result };
 

@@ -25,7 +25,7 @@ pub enum Refusal {
 
 /// Reads the bytes of a line, in the version of the roster's lines, into `line`, and asks the roster whether what they say may follow its lines. It then has it, and the
 /// answer says what it is in numbers. A refusal leaves the roster as it was, and the line may be anything. Want of memory comes only
-/// for bytes that say an item, which begin as a call, or whose item may follow and takes memory.
+/// for bytes that say an item, which begin as a call, or whose item may follow and may take memory.
 #[tactic(auto, unfolding(crate::specs::Walk::judgement_of))]
 pub fn judge(
     alloc: Global,

@@ -1,5 +1,5 @@
 //! The walk over the lines of a trace.
-ghost use Rattle.std.specs.Prelude.{◌≡◌, ◌≢◌, ◌⊎◌, ℕ, ◌+◌, ◌-◌, ◌<◌, ◌≤◌, ◌^◌, List, [], ◌∷◌, ◌++◌, Ok, Err, Some, IsSome, length, IfOk, IfErr, OnErr};
+ghost use Rattle.std.specs.Prelude.{◌≡◌, ◌≢◌, ◌⊎◌, ℕ, ◌+◌, ◌-◌, ◌<◌, ◌≤◌, ◌^◌, true, false, List, [], ◌∷◌, ◌++◌, Ok, Err, Some, IsSome, length, IfOk, IfErr, OnErr};
 ghost use Rattle.rd_base.specs.Limits.{AreUsable};
 ghost use Rattle.rd_event.specs.Reading.{item_of};
 ghost use Rattle.rd_event.specs.declared.items.Line.{Line as Item};
@@ -87,6 +87,74 @@ fn at_refusal(refused: ReadEnd, number: u64, limits: &Limits) -> WalkEnd
     }
 }
 
+// Whether the bytes may begin as a line that the roster accepts by its bytes alone.
+fn may_be_found(bytes: &[u8]) -> bool {
+    bytes
+        .first()
+        .is_some_and(|byte| *byte == b'a' || *byte == b'r')
+}
+
+/// Takes a line that the roster accepts by its bytes alone: it is handed on. The answer tells whether it is one. This doesn't stand in
+/// `take_line`: each line would make room for what it holds.
+#[inline(never)]
+fn take_found<A: Analysis, S: Sink, L: Ledger>(
+    walker: &mut Walker<A>,
+    number: u64,
+    bytes: &[u8],
+    out: &mut S,
+    steps: &mut Steps<L>,
+) -> Result<bool, Halt>
+    requires usable { AreUsable walker.old.limits }
+    requires stands { (kinds : List Kind) × (start : A) × (before : List Entry)
+        × RosterStandsFor kinds walker.old.roster (items before)
+        × A.leads kinds start before walker.old.analysis }
+    ensures limits { walker.new.limits ≡ walker.old.limits }
+
+    // the line is accepted and handed on; or it isn't, and all is as before
+    ensures taken { IfOk result
+        (λ taken. taken ≡ true → (kinds : List Kind) (start : A) (before : List Entry) →
+        RosterStandsFor kinds walker.old.roster (items before) →
+        A.leads kinds start before walker.old.analysis →
+        (item : Item) × (judgement_of kinds walker.old.limits (items before) bytes.now ≡ Ok item)
+        × RosterStandsFor kinds walker.new.roster (items before ++ item ∷ [])
+        × A.leads kinds start
+        (before ++ record { number = number; item = item } ∷ []) walker.new.analysis
+        × WritesBetween (S.written out.old) (S.written out.new)
+        (A.text kinds start before)
+        (A.text kinds start (before ++ record { number = number; item = item } ∷ []))
+        × (steps.new ≤ steps.old + A.bound kinds start (items before) item)) }
+    ensures same { IfOk result (λ taken. taken ≡ false →
+        (walker.new ≡ walker.old) × (out.new ≡ out.old) × (steps.new ≡ steps.old)) }
+
+    // or memory runs out in what is done with it, or a write fails; its item may follow
+    ensures memory { OnErr result
+        ((kinds : List Kind) (before : List Item) → RosterStandsFor kinds walker.old.roster before →
+        (item : Item) × (item_of (version_of before) bytes.now ≡ Some item)
+        × MayFollow kinds walker.old.limits before item) }
+    ensures halted { OnErr result
+        ((kinds : List Kind) (start : A) (before : List Entry) →
+        RosterStandsFor kinds walker.old.roster (items before) →
+        A.leads kinds start before walker.old.analysis →
+        (item : Item) × (judgement_of kinds walker.old.limits (items before) bytes.now ≡ Ok item)
+        × WritesFront (S.written out.old) (S.written out.new)
+        (A.text kinds start before)
+        (A.text kinds start (before ++ record { number = number; item = item } ∷ []))
+        × (steps.new ≤ steps.old + A.bound kinds start (items before) item)) }
+    ensures fault { TellsFault (S.faults out.old) (S.faults out.new) (S.at_fault out.new)
+        (S.written out.new) result }
+{
+    let Some(accepted) = walker.roster.accept_bytes(bytes, &walker.limits) else {
+        return Ok(false);
+    };
+    match walker
+        .analysis
+        .accept(number, &accepted, &walker.roster, out, steps)
+    {
+        Ok(()) => Ok(true),
+        Err(halt) => Err(halt),
+    }
+}
+
 /// Takes a line: it is judged, and what it says is handed on.
 fn take_line<A: Analysis, S: Sink, L: Ledger>(
     walker: &mut Walker<A>,
@@ -147,6 +215,13 @@ fn take_line<A: Analysis, S: Sink, L: Ledger>(
     ensures fault { TellsFault (S.faults out.old) (S.faults out.new) (S.at_fault out.new)
         (S.written out.new) result }
 {
+    if may_be_found(bytes) {
+        match take_found(walker, number, bytes, out, steps) {
+            Ok(true) => return Ok(Taken::Accepted),
+            Ok(false) => {}
+            Err(halt) => return Err(halt),
+        }
+    }
     match judge(
         walker.alloc,
         bytes,
@@ -155,14 +230,9 @@ fn take_line<A: Analysis, S: Sink, L: Ledger>(
         &walker.limits,
     ) {
         Ok(accepted) => {
-            let Err(halt) = walker.analysis.accept(
-                number,
-                &walker.line,
-                &accepted,
-                &walker.roster,
-                out,
-                steps,
-            )
+            let Err(halt) = walker
+                .analysis
+                .accept(number, &accepted, &walker.roster, out, steps)
             else {
                 return Ok(Taken::Accepted);
             };

@@ -1,6 +1,8 @@
+pub mod BytesLemmas
 pub mod CauseLemmas
 pub mod EventsLemmas
 pub mod FollowLemmas
+pub mod HeldLemmas
 pub mod LockLemmas
 pub mod NearLemmas
 pub mod NextLemmas

@@ -6,7 +6,7 @@ use Rattle.std.specs.Cmp.Lexicographic.{bytes_decides, nat_list_eq_equiv}
 use Rattle.std.proofs.lemmas.Bool.Decides.{Decides-ltb, nat_tests}
 use Rattle.std.proofs.lemmas.List.{length-map}
 use Rattle.std.proofs.lemmas.List.Sums.{prefix_len-le-length, sum_by-cons}
-use Rattle.std.proofs.lemmas.Bool.{false_from_ne_true, ltb-false}
+use Rattle.std.proofs.lemmas.Bool.{false_from_ne_true, ltb-false, or_parts}
 use Rattle.std.proofs.Math.Bool.{not-not}
 use Rattle.indexmap.specs.IndexMap.{get_by, index_map_len, index_of_by, insert_entry}
 use Rattle.indexmap.proofs.CallerLemmas.{insert_entry-new}
@@ -29,13 +29,19 @@ use Rattle.rd_wf.specs.declared.roster.Lock.{Lock}
 use Rattle.rd_wf.specs.declared.roster.judge.Broken.{Broken}
 use Rattle.rd_wf.specs.declared.roster.judge.FoundLock.{FoundLock}
 use Rattle.rd_wf.proofs.CauseLemmas.{least_found, same_found, none_holds}
-use Rattle.rd_wf.proofs.LockLemmas.{and-false, same_place, place_at, place_unknown, free_test, not_held_test, deep_test, holder_below, holder_known, holder_least}
+use Rattle.rd_wf.proofs.LockLemmas.{and-false, same_place, place_at, place_known, place_unknown, free_test, not_held_test, deep_test, holder_below, holder_known, holder_least}
 use Rattle.rd_wf.proofs.ShareLemmas.{least_within}
 use Rattle.rd_wf.specs.MayFollow.{threads_of, joined_of, locks_of, objects_of, acquires, releases, shares, unshares, header_of, headers, is_header, events, same_name, is_among, passes, place, methods_of, object_kinds, holders, causes, is_broken, first_broken}
 use Rattle.rd_ecl.specs.Kinds.{Kind, KindMethod, kind_names, method_names, methods_at, kind_slots_at}
 use Rattle.rd_wf.specs.Shares.{is_other_sharer, share_depth}
 use Rattle.rd_wf.specs.Sharers.{IsLeast}
 use Rattle.rd_wf.specs.Roster.{RosterStandsFor, kind_entry, method_entry, methods_in, thread_entry, object_entry, thread_count, lock_count, object_count, lock_in, depth_of, is_other_holder, other_holder, flag, found_method, found_thread, found_object, nothing_broken}
+
+-- where a part in front holds, what holds behind it isn't told
+behind_unknown : {X : Type 0} (unknown ended own other : Bool) (x y z w : Option X) → (unknown ≡ false → own ≡ other)
+    → cond unknown x (cond ended y (cond own z w)) ≡ cond unknown x (cond ended y (cond other z w))
+behind_unknown true ended own other x y z w same = refl
+behind_unknown false ended own other x y z w same = ap (λ b. cond ended y (cond b z w)) (same refl)
 
 -- ---- look-ups
 
@@ -452,14 +458,25 @@ module _ (kinds : List Kind) (roster : Roster) (lines : List Line) (stands : Ros
         λ i. cond (no_header i) (Some HeaderFirst) (cond (test i) (Some NameTaken) (cond (unknown_thread thread actor acts i) (Some UnknownThread)
         (cond (sym acts i).joined (Some ThreadEnded) (rest i))))
 
-    pub join_judged : (limits : Limits) (thread child : List ℕ) (actor awaited : FoundThread) (own : Bool) → actor ≡ found_thread lines thread
-        → awaited ≡ found_thread lines child → own ≡ same_name child thread
-        → first_broken kinds limits lines (Event (Join thread child)) ≡ find (flag (join_flags roster limits first actor awaited own)) (causes limits lines)
+    -- a thread joins itself where the numbers are the same, if both are known
+    own_judged : (thread child : List ℕ) (actor awaited : FoundThread) → actor ≡ found_thread lines thread → awaited ≡ found_thread lines child
+        → (actor.unknown || awaited.unknown) ≡ false → same_name child thread ≡ (awaited.number == actor.number)
+    own_judged thread child actor awaited acts waits known =
+        let there : is_among (threads_of lines) thread ≡ true =
+        sym (not-not _) ∙ ap not (ap (λ found. found.unknown) (sym acts) ∙ (or_parts _ _ known).0) in
+        same_place (threads_of lines) child thread (place_known (threads_of lines) thread there) ∙ (λ i. (sym waits i).number == (sym acts i).number)
+
+    pub join_judged : (limits : Limits) (thread child : List ℕ) (actor awaited : FoundThread) → actor ≡ found_thread lines thread → awaited ≡ found_thread lines child
+        → first_broken kinds limits lines (Event (Join thread child)) ≡ find (flag (join_flags roster limits first actor awaited (awaited.number == actor.number))) (causes limits lines)
     unfolding first_broken
-    join_judged limits thread child actor awaited own acts waits is =
+    join_judged limits thread child actor awaited acts waits =
+        let own = awaited.number == actor.number in
         let rest = behind limits (Event (Join thread child)) (join_flags roster limits first actor awaited own) (events_alone limits) (λ holder below. refl) in
-        λ i. cond (no_header i) (Some HeaderFirst) (cond ((sym acts i).unknown || (sym waits i).unknown) (Some UnknownThread)
-        (cond (sym acts i).joined (Some ThreadEnded) (cond (sym is i) (Some OwnThread) (rest i))))
+        (λ i. cond (no_header i) (Some HeaderFirst) (cond ((sym acts i).unknown || (sym waits i).unknown) (Some UnknownThread)
+        (cond (sym acts i).joined (Some ThreadEnded) (cond (same_name child thread) (Some OwnThread) (rest i)))))
+        ∙ ap (λ told. cond first (Some HeaderFirst) told)
+        (behind_unknown (actor.unknown || awaited.unknown) actor.joined (same_name child thread) own (Some UnknownThread) (Some ThreadEnded) (Some OwnThread)
+        (find (flag (join_flags roster limits first actor awaited own)) (holders lines ++ late limits)) (own_judged thread child actor awaited acts waits))
 
     pub call_judged : (limits : Limits) (thread object method : List ℕ) (slots : List Value) (actor : FoundThread) (found : FoundObject) (m : FoundMethod) (items : List Value) (count : ℕ)
         → actor ≡ found_thread lines thread → found ≡ found_object kinds lines object → m ≡ found_method (methods_at kinds found.kind) method → items ≡ slots → count ≡ m.slots

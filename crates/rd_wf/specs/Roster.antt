@@ -1,8 +1,9 @@
 -- What a roster holds of the accepted lines of a trace: this project's profile.
-use Rattle.std.specs.Prelude.{◌≡◌, ℕ, ◌+◌, ◌<◌, ◌==◌, Bool, false, nat_lt, ◌&&◌, not, if◌then◌else◌, List, [], ◌∷◌, ◌++◌, map, length, Contains, filter_map, Option, Some, None, unwrap_or}
+use Rattle.std.specs.Prelude.{◌≡◌, ℕ, ◌+◌, ◌<◌, ◌==◌, Bool, false, ◌≤◌, nat_lt, ◌&&◌, not, if◌then◌else◌, List, [], ◌∷◌, ◌++◌, map, length, Contains, filter_map, Option, Some, None, unwrap_or}
 use Rattle.std.specs.List.{IsDistinct}
 use Rattle.indexmap.specs.IndexMap.{get_by, index_map_len}
 use Rattle.rd_base.specs.declared.limits.Limits.{Limits}
+use Rattle.rd_event.specs.Reading.{item_of}
 use Rattle.rd_event.specs.declared.items.Line.{Line}
 use Rattle.rd_event.specs.declared.items.Line.TheVariants.{Object}
 use Rattle.rd_wf.specs.declared.causes.Accepted.{Accepted}
@@ -14,12 +15,14 @@ use Rattle.rd_wf.specs.declared.causes.WfRefused.TheVariants.{Cause, NoMemory}
 use Rattle.rd_wf.specs.declared.roster.Roster.{Roster}
 use Rattle.rd_wf.specs.declared.roster.judge.Broken.{Broken}
 use Rattle.rd_wf.specs.declared.roster.Lock.{Lock}
+use Rattle.rd_wf.specs.declared.roster.judge.FoundLock.{FoundLock}
 use Rattle.rd_wf.specs.declared.roster.judge.FoundObject.{FoundObject}
 use Rattle.rd_wf.specs.declared.roster.judge.FoundThread.{FoundThread}
+use Rattle.rd_wf.specs.Events.{AcceptedInRange}
 use Rattle.rd_wf.specs.Shares.{share_depth}
 use Rattle.rd_wf.specs.declared.methods.FoundMethod.{FoundMethod}
 use Rattle.rd_wf.specs.declared.methods.Methods.{Methods}
-use Rattle.rd_wf.specs.MayFollow.{threads_of, joined_of, locks_of, objects_of, acquires, releases, shares, unshares, header_of, events, is_among, passes, same_name, kind_number, place, first_broken, accepted_of, TakesMemory}
+use Rattle.rd_wf.specs.MayFollow.{threads_of, joined_of, locks_of, objects_of, acquires, releases, shares, unshares, header_of, events, is_among, passes, same_name, kind_number, place, version_of, first_broken, accepted_of, MayFollow, TakesMemory}
 use Rattle.rd_ecl.specs.Kinds.{Kind, KindMethod, kind_names, method_names, kind_slots_at}
 
 -- how many threads, locks and objects the roster numbers
@@ -181,6 +184,22 @@ pub record RosterStandsFor (kinds : List Kind) (roster : Roster) (lines : List L
   pub lock_total : lock_count roster ≡ length (locks_of lines)
   pub object_total : object_count roster ≡ length (objects_of lines)
 
+-- ---- what was found of a name
+
+-- what a look-up of a thread by this name finds
+abbrev pub IsFoundThread : Roster → List ℕ → FoundThread → Type 0
+IsFoundThread roster name found = (kinds : List Kind) (lines : List Line) → RosterStandsFor kinds roster lines → found ≡ found_thread lines name
+
+-- what a look-up of a lock by this name finds
+pub record IsFoundLock (roster : Roster) (name : List ℕ) (found : FoundLock) : Type 0 where
+  -- its number, which is the next one where it was neither acquired nor shared, and whether that is so
+  pub numbers : (kinds : List Kind) (lines : List Line) → RosterStandsFor kinds roster lines
+      → (found.number ≡ place (locks_of lines) name) × (found.unknown ≡ not (is_among (locks_of lines) name))
+  -- and what the roster holds of it
+  pub lock : found.lock ≡ lock_in roster name
+
+-- ---- what a roster says of a line
+
 -- after any lines that the roster stands for, this line may follow, and is this in numbers
 abbrev pub Permits : Roster → Limits → Line → Accepted → Type 0
 Permits roster limits line accepted = (kinds : List Kind) (lines : List Line) → RosterStandsFor kinds roster lines →
@@ -197,7 +216,18 @@ Accepts old new limits line accepted = (kinds : List Kind) (lines : List Line) �
     (first_broken kinds limits lines line ≡ None) × (accepted ≡ accepted_of kinds lines line)
     × RosterStandsFor kinds new (lines ++ line ∷ [])
 
--- A refusal by a cause changes nothing. Want of memory comes only for a line that may follow and takes memory, and the roster then
+-- Behind the lines the bytes say, in the version of these, this item. It may follow them within the limits, and is this in numbers, each
+-- in its range. The roster then stands for it too, and the threads fit 32 bits.
+pub record AcceptsAs (kinds : List Kind) (limits : Limits) (lines : List Line) (bytes : List ℕ) (item : Line) (accepted : Accepted) (roster : Roster) : Type 0 where
+  pub says : item_of (version_of lines) bytes ≡ Some item
+  pub unbroken : first_broken kinds limits lines item ≡ None
+  pub follows : MayFollow kinds limits lines item
+  pub numbers : accepted ≡ accepted_of kinds lines item
+  pub range : AcceptedInRange accepted
+  pub stands : RosterStandsFor kinds roster (lines ++ item ∷ [])
+  pub few : length (threads_of (lines ++ item ∷ [])) ≤ 4294967295
+
+-- A refusal by a cause changes nothing. Want of memory comes only for a line that may follow and may take memory, and the roster then
 -- stands for the same lines.
 abbrev pub Refuses : Roster → Roster → Limits → Line → WfRefused → Type 0
 Refuses old new limits line (Cause cause) = Forbids old limits line cause × (new ≡ old)

@@ -3,19 +3,18 @@ ghost use Rattle.std.specs.Prelude.{◌<◌, ◌^◌};
 ghost use Rattle.indexmap.specs.IndexMap.{index_map_len};
 
 mod judge;
+mod near;
 
 use crate::causes::{Accepted, WfCause, WfRefused};
 use crate::methods::Methods;
 use crate::shares::Shares;
 use indexmap::IndexMap;
-use judge::{Declared, FREE, near_place};
+use judge::{Declared, FREE};
+use near::{NEAR_LENGTH, near_place};
 use rd_base::{Limits, Name, NoMemory, Slots};
 use rd_ecl::Spec;
 use rd_event::{Call, Event, Line, LineEvent};
 use std::alloc::Global;
-
-/// The length of a table of near numbers.
-const NEAR_LENGTH: usize = 1024;
 
 /// What is held of a lock: the number of the thread that acquired it last, and how often that thread acquired it and hasn't
 /// released it.
@@ -209,25 +208,27 @@ impl Roster {
     {
         let near = near_place(thread);
         let lock_near = near_place(lock);
-        let used = match self.judge_acquire(thread, near, lock, lock_near, limits) {
-            Ok(used) => used,
+        let actor = self.find_thread(thread, near);
+        let found = self.find_lock(lock, lock_near);
+        let depth = match self.judge_acquire(actor, found, limits) {
+            Ok(depth) => depth,
             Err(cause) => return Err(WfRefused::Cause(cause)),
         };
         let held = Lock {
-            holder: used.thread,
-            depth: used.depth + 1,
+            holder: actor.number,
+            depth: depth + 1,
         };
-        if used.unknown {
+        if found.unknown {
             held.put_last(lock, &mut self.locks)?;
         } else {
-            *self.locks.get_index_mut(used.lock as usize).unwrap() = held;
+            *self.locks.get_index_mut(found.number as usize).unwrap() = held;
         }
         self.events += 1;
-        self.near_threads[near % NEAR_LENGTH] = used.thread;
-        self.near_locks[lock_near % NEAR_LENGTH] = used.lock;
+        self.near_threads[near % NEAR_LENGTH] = actor.number;
+        self.near_locks[lock_near % NEAR_LENGTH] = found.number;
         Ok(Accepted::Event(Event::Acquire {
-            thread: used.thread,
-            lock: used.lock,
+            thread: actor.number,
+            lock: found.number,
         }))
     }
 
@@ -247,20 +248,22 @@ impl Roster {
     {
         let near = near_place(thread);
         let lock_near = near_place(lock);
-        let used = match self.judge_release(thread, near, lock, lock_near, limits) {
-            Ok(used) => used,
+        let actor = self.find_thread(thread, near);
+        let found = self.find_lock(lock, lock_near);
+        let depth = match self.judge_release(actor, found, limits) {
+            Ok(depth) => depth,
             Err(cause) => return Err(WfRefused::Cause(cause)),
         };
-        *self.locks.get_index_mut(used.lock as usize).unwrap() = Lock {
-            holder: used.thread,
-            depth: used.depth - 1,
+        *self.locks.get_index_mut(found.number as usize).unwrap() = Lock {
+            holder: actor.number,
+            depth: depth - 1,
         };
         self.events += 1;
-        self.near_threads[near % NEAR_LENGTH] = used.thread;
-        self.near_locks[lock_near % NEAR_LENGTH] = used.lock;
+        self.near_threads[near % NEAR_LENGTH] = actor.number;
+        self.near_locks[lock_near % NEAR_LENGTH] = found.number;
         Ok(Accepted::Event(Event::Release {
-            thread: used.thread,
-            lock: used.lock,
+            thread: actor.number,
+            lock: found.number,
         }))
     }
 
@@ -357,7 +360,7 @@ impl Roster {
         let slots = slots.copy(self.alloc)?;
         self.events += 1;
         self.near_threads[near % NEAR_LENGTH] = numbers.thread;
-        self.near_objects[near_place(object) % NEAR_LENGTH] = numbers.object;
+        self.near_objects[numbers.object_near % NEAR_LENGTH] = numbers.object;
         Ok(Accepted::Event(Event::Call(Call {
             thread: numbers.thread,
             object: numbers.object,

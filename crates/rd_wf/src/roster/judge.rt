@@ -1,7 +1,8 @@
 //! Whether a line may follow the accepted lines, by what a roster holds of them.
 ghost use Rattle.std.specs.Prelude.{◌≡◌, ◌<◌, false, IfNone};
 
-use super::{Lock, NEAR_LENGTH, Roster};
+use super::near::{NEAR_LENGTH, near_place};
+use super::{Lock, Roster};
 use crate::causes::{Accepted, WfCause};
 use crate::methods::FoundMethod;
 use crate::sharers::lesser;
@@ -12,9 +13,9 @@ use rd_event::{Call, Event, Line, LineEvent};
 /// What a look-up of a thread's name finds: its number, which is the next one where it was not begun, and whether it was joined.
 #[derive(Clone, Copy)]
 pub(super) struct FoundThread {
-    number: u32,
-    unknown: bool,
-    joined: bool,
+    pub(super) number: u32,
+    pub(super) unknown: bool,
+    pub(super) joined: bool,
 }
 
 /// What a look-up of an object's name finds: its number, which is the next one where it was not
@@ -30,9 +31,9 @@ pub(super) struct FoundObject {
 /// held of it.
 #[derive(Clone, Copy)]
 pub(super) struct FoundLock {
-    number: u32,
-    unknown: bool,
-    lock: Lock,
+    pub(super) number: u32,
+    pub(super) unknown: bool,
+    pub(super) lock: Lock,
 }
 
 /// A lock that no thread has.
@@ -106,11 +107,12 @@ pub(super) struct Pair {
     pub(super) child: u32,
 }
 
-/// The numbers of a call.
+/// The numbers of a call, and where its object is looked for first.
 #[derive(Clone, Copy)]
 pub(super) struct Numbers {
     pub(super) thread: u32,
     pub(super) object: u32,
+    pub(super) object_near: usize,
     pub(super) kind: u32,
     pub(super) method: u8,
 }
@@ -259,23 +261,11 @@ impl Broken {
     }
 }
 
-/// Where the name is looked for first: its place in the tables of near numbers, modulo their length, by its last bytes.
-#[inline(always)]
-pub(super) fn near_place(name: &Name) -> usize {
-    match name.items() {
-        [.., third, second, last] => {
-            (usize::from(*third) * 10 + usize::from(*second)) * 10 + usize::from(*last)
-        }
-        [.., last] => usize::from(*last),
-        [] => 0,
-    }
-}
-
 impl Roster {
-    ghost use Rattle.std.specs.Prelude.{◌≡◌, ◌<◌, ◌^◌, ◌+◌, ◌||◌, List, None, IfOk, IfErr, OnOk, false, true, not};
+    ghost use Rattle.std.specs.Prelude.{◌≡◌, ◌<◌, ◌^◌, ◌+◌, ◌||◌, List, ℕ, None, IfOk, IfErr, OnOk, false, true, not};
     ghost use Rattle.rd_event.specs.declared.items.Line.{Line as LineOf};
     ghost use Rattle.rd_ecl.specs.Kinds.{Kind, methods_at};
-    ghost use Rattle.rd_wf.specs.Roster.{RosterStandsFor, Permits, Forbids, depth_of, found_method, found_object, found_thread, is_other_holder, lock_in, other_holder, thread_count, lock_count, object_count};
+    ghost use Rattle.rd_wf.specs.Roster.{RosterStandsFor, Permits, Forbids, IsFoundLock, IsFoundThread, depth_of, found_method, found_object, is_other_holder, lock_in, other_holder, thread_count, lock_count, object_count};
     ghost use Rattle.rd_wf.specs.Sharers.{IsLeast};
     ghost use Rattle.rd_wf.specs.Shares.{is_other_sharer, share_depth};
     ghost use Rattle.rd_wf.specs.MayFollow.{is_among, locks_of, place, same_name};
@@ -283,9 +273,8 @@ impl Roster {
     ghost use Rattle.indexmap.specs.IndexMap.{get_by, index_of_by};
 
     #[inline(always)]
-    fn find_thread(&self, name: &Name, near: usize) -> FoundThread
-        ensures value { (kinds : List Kind) (lines : List LineOf) → RosterStandsFor kinds self.now lines →
-            result ≡ found_thread lines name.now }
+    pub(super) fn find_thread(&self, name: &Name, near: usize) -> FoundThread
+        ensures found { IsFoundThread self.now name.now result }
         ensures within { result.unknown ≡ false → result.number < thread_count self.now }
     {
         let guess = self.near_threads[near % NEAR_LENGTH];
@@ -309,8 +298,7 @@ impl Roster {
 
     #[inline(never)]
     fn look_up_thread(&self, name: &Name) -> FoundThread
-        ensures value { (kinds : List Kind) (lines : List LineOf) → RosterStandsFor kinds self.now lines →
-            result ≡ found_thread lines name.now }
+        ensures found { IsFoundThread self.now name.now result }
         ensures within { result.unknown ≡ false → result.number < thread_count self.now }
     {
         match self.threads.get_full(name) {
@@ -328,12 +316,8 @@ impl Roster {
     }
 
     #[inline(always)]
-    fn find_lock(&self, name: &Name, near: usize) -> FoundLock
-        ensures number { (kinds : List Kind) (lines : List LineOf) →
-            RosterStandsFor kinds self.now lines →
-            (result.number ≡ place (locks_of lines) name.now)
-            × (result.unknown ≡ not (is_among (locks_of lines) name.now)) }
-        ensures lock { result.lock ≡ lock_in self.now name.now }
+    pub(super) fn find_lock(&self, name: &Name, near: usize) -> FoundLock
+        ensures found { IsFoundLock self.now name.now result }
         ensures within { result.unknown ≡ false → result.number < lock_count self.now }
         ensures new { result.unknown ≡ true → (result.number ≡ lock_count self.now)
             × (result.lock.depth ≡ 0) }
@@ -353,11 +337,7 @@ impl Roster {
 
     #[inline(never)]
     fn look_up_lock(&self, name: &Name) -> FoundLock
-        ensures number { (kinds : List Kind) (lines : List LineOf) →
-            RosterStandsFor kinds self.now lines →
-            (result.number ≡ place (locks_of lines) name.now)
-            × (result.unknown ≡ not (is_among (locks_of lines) name.now)) }
-        ensures lock { result.lock ≡ lock_in self.now name.now }
+        ensures found { IsFoundLock self.now name.now result }
         ensures within { result.unknown ≡ false → result.number < lock_count self.now }
         ensures new { result.unknown ≡ true → (result.number ≡ lock_count self.now)
             × (result.lock.depth ≡ 0) }
@@ -377,13 +357,13 @@ impl Roster {
     }
 
     #[inline(always)]
-    fn find_object(&self, name: &Name) -> FoundObject
+    fn find_object(&self, name: &Name, near: usize) -> FoundObject
         ensures { (kinds : List Kind) (lines : List LineOf) → RosterStandsFor kinds self.now lines →
             result ≡ found_object kinds lines name.now }
     {
         // `len` is called for its clause that no two objects have one name.
         let _count = self.objects.len();
-        let guess = self.near_objects[near_place(name) % NEAR_LENGTH];
+        let guess = self.near_objects[near % NEAR_LENGTH];
         if let Some((known, kind)) = self.objects.get_index(guess as usize)
             && known == name
         {
@@ -566,7 +546,8 @@ impl Roster {
             header_first: self.header.is_none(),
             unknown_thread: actor.unknown | awaited.unknown,
             thread_ended: actor.joined,
-            own_thread: child == thread,
+            // where one is unknown, that is told first
+            own_thread: awaited.number == actor.number,
             events: limits.events <= self.events,
             ..UNBROKEN
         };
@@ -579,39 +560,34 @@ impl Roster {
         })
     }
 
+    // By what was found of the names of the line's thread and lock.
+    #[inline(always)]
     pub(super) fn judge_acquire(
         &self,
-        thread: &Name,
-        near: usize,
-        lock: &Name,
-        lock_near: usize,
+        actor: FoundThread,
+        found: FoundLock,
         limits: &Limits,
-    ) -> Result<Used, WfCause>
-        // the line is permitted, and the depth is that of the lock
-        ensures ok { IfOk result
-            (λ used. Permits self.now limits.now
-            (Line.Event (LineEvent.Acquire thread.now lock.now))
-            (Accepted.Event (Event.Acquire used.thread used.lock))) }
-        ensures depth { IfOk result (λ used. used.depth ≡ (lock_in self.now lock.now).depth) }
-        ensures own { IfOk result
-            (λ used. depth_of (lock_in self.now lock.now) used.thread ≡ used.depth) }
+    ) -> Result<u32, WfCause>
+        // the line is permitted
+        ensures ok { OnOk result
+            ((thread lock : List ℕ) →
+            IsFoundThread self.now thread actor → IsFoundLock self.now lock found →
+            Permits self.now limits.now (Line.Event (LineEvent.Acquire thread lock))
+            (Accepted.Event (Event.Acquire actor.number found.number))) }
 
-        // whether the lock is new
-        ensures unknown { IfOk result
-            (λ used. (kinds : List Kind) (lines : List LineOf) → RosterStandsFor kinds self.now lines →
-            used.unknown ≡ not (is_among (locks_of lines) lock.now)) }
-        ensures known { IfOk result
-            (λ used. used.unknown ≡ false → used.lock < lock_count self.now) }
-        ensures new { IfOk result (λ used. used.unknown ≡ true → lock_count self.now + 1 < 2 ^ 32) }
+        // no other thread has the lock, and the answer is how often this one has it
+        ensures depth { IfOk result (λ depth. depth ≡ found.lock.depth) }
+        ensures own { IfOk result (λ depth. depth_of found.lock actor.number ≡ depth) }
 
         // its numbers fit; or the line is forbidden
         ensures room { IfOk result
-            (λ used. (self.now.events + 1 < 2 ^ 32) × (used.depth + 1 < 2 ^ 32)) }
+            (λ depth. (self.now.events + 1 < 2 ^ 32) × (depth + 1 < 2 ^ 32)) }
+        ensures new { OnOk result (found.unknown ≡ true → found.number + 1 < 2 ^ 32) }
         ensures err { IfErr result
-            (Forbids self.now limits.now (Line.Event (LineEvent.Acquire thread.now lock.now))) }
+            (λ cause. (thread lock : List ℕ) →
+            IsFoundThread self.now thread actor → IsFoundLock self.now lock found →
+            Forbids self.now limits.now (Line.Event (LineEvent.Acquire thread lock)) cause) }
     {
-        let actor = self.find_thread(thread, near);
-        let found = self.find_lock(lock, lock_near);
         let depth = found.lock.depth_of(actor.number);
         let broken = Broken {
             header_first: self.header.is_none(),
@@ -626,36 +602,36 @@ impl Roster {
         if let Some(cause) = broken.first(limits) {
             return Err(cause);
         }
-        Ok(Used {
-            thread: actor.number,
-            lock: found.number,
-            unknown: found.unknown,
-            depth,
-        })
+        Ok(depth)
     }
 
+    // By what was found of the names of the line's thread and lock.
+    #[inline(always)]
     pub(super) fn judge_release(
         &self,
-        thread: &Name,
-        near: usize,
-        lock: &Name,
-        lock_near: usize,
+        actor: FoundThread,
+        found: FoundLock,
         limits: &Limits,
-    ) -> Result<Used, WfCause>
-        ensures ok { IfOk result
-            (λ used. Permits self.now limits.now
-            (Line.Event (LineEvent.Release thread.now lock.now))
-            (Accepted.Event (Event.Release used.thread used.lock))) }
-        ensures depth { IfOk result (λ used. used.depth ≡ (lock_in self.now lock.now).depth) }
-        ensures own { IfOk result
-            (λ used. depth_of (lock_in self.now lock.now) used.thread ≡ used.depth) }
-        ensures held { IfOk result (λ used. (used.lock < lock_count self.now) × (0 < used.depth)) }
+    ) -> Result<u32, WfCause>
+        // the line is permitted
+        ensures ok { OnOk result
+            ((thread lock : List ℕ) →
+            IsFoundThread self.now thread actor → IsFoundLock self.now lock found →
+            Permits self.now limits.now (Line.Event (LineEvent.Release thread lock))
+            (Accepted.Event (Event.Release actor.number found.number))) }
+
+        // the thread has the lock, so often as the answer says
+        ensures depth { IfOk result (λ depth. depth ≡ found.lock.depth) }
+        ensures own { IfOk result (λ depth. depth_of found.lock actor.number ≡ depth) }
+        ensures held { IfOk result (λ depth. 0 < depth) }
+
+        // its number fits; or the line is forbidden
         ensures room { OnOk result (self.now.events + 1 < 2 ^ 32) }
         ensures err { IfErr result
-            (Forbids self.now limits.now (Line.Event (LineEvent.Release thread.now lock.now))) }
+            (λ cause. (thread lock : List ℕ) →
+            IsFoundThread self.now thread actor → IsFoundLock self.now lock found →
+            Forbids self.now limits.now (Line.Event (LineEvent.Release thread lock)) cause) }
     {
-        let actor = self.find_thread(thread, near);
-        let found = self.find_lock(lock, lock_near);
         let depth = found.lock.depth_of(actor.number);
         let broken = Broken {
             header_first: self.header.is_none(),
@@ -668,12 +644,7 @@ impl Roster {
         if let Some(cause) = broken.first(limits) {
             return Err(cause);
         }
-        Ok(Used {
-            thread: actor.number,
-            lock: found.number,
-            unknown: found.unknown,
-            depth,
-        })
+        Ok(depth)
     }
 
     pub(super) fn judge_share(
@@ -787,7 +758,8 @@ impl Roster {
             (Line.Event (LineEvent.Call thread.now object.now method.now slots.now))) }
     {
         let actor = self.find_thread(thread, near);
-        let object = self.find_object(object);
+        let object_near = near_place(object);
+        let object = self.find_object(object, object_near);
         let method = self.find_method(object.kind, method);
         let broken = Broken {
             header_first: self.header.is_none(),
@@ -805,6 +777,7 @@ impl Roster {
         Ok(Numbers {
             thread: actor.number,
             object: object.number,
+            object_near,
             kind: object.kind,
             method: method.number,
         })

@@ -15,7 +15,7 @@ accept-requires-in-Ok g c =
       stands = okay.2;
       few = c.in-Ok.ensures.few kinds (items before) stands;
     } in
-    (kinds, start, before, leads, next)
+    (kinds, start, before, c.keep.new.last, leads, next)
 
 pub returns-in_default-clause-taken : goal.returns-in_default-clause-taken
 returns-in_default-clause-taken g c = λ none kinds start before stands leads.
@@ -30,9 +30,9 @@ returns-in_default-clause-taken g c = λ none kinds start before stands leads.
     } in (
       rw c.keep.ensures at okay.0,
       rw c.keep.ensures at okay.2,
-      rw c.keep.ensures at (c.in_default.ensures.leads kinds start before leads next),
-      rw c.keep.ensures at (c.in_default.ensures.written kinds start before leads next),
-      rw c.keep.ensures at (c.in_default.ensures.cost kinds start before leads next),
+      rw c.keep.ensures at (c.in_default.ensures.leads kinds start before c.keep.new.last leads next),
+      rw c.keep.ensures at (c.in_default.ensures.written kinds start before c.keep.new.last leads next),
+      rw c.keep.ensures at (c.in_default.ensures.cost kinds start before c.keep.new.last leads next),
     )
 
 pub returns-in-Err-clause-halted : goal.returns-in-Err-clause-halted
@@ -48,8 +48,8 @@ returns-in-Err-clause-halted g c = λ kinds start before stands leads.
     } in
     inr (
       rw c.keep.ensures at okay.0,
-      rw c.keep.ensures at (c.in-Err.ensures.halted kinds start before leads next),
-      rw c.keep.ensures at (c.in-Err.ensures.cost kinds start before leads next),
+      rw c.keep.ensures at (c.in-Err.ensures.halted kinds start before c.keep.new.last leads next),
+      rw c.keep.ensures at (c.in-Err.ensures.cost kinds start before c.keep.new.last leads next),
     )
 
 pub returns-in-Err-Cause-clause-refused : goal.returns-in-Err-Cause-clause-refused

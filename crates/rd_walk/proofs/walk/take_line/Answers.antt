@@ -1,51 +1,96 @@
-use Rattle.std.proofs.Common.{◌≡◌, ◌∙◌, ap, Err, inl, inr}
+use Rattle.std.proofs.Common.{◌≡◌, ◌∙◌, ap, Err, inl, inr, sym, subst}
+use Rattle.rd_base.specs.Limits.{AreUsable}
+use Rattle.rd_wf.specs.MayFollow.{MayFollow}
+use Rattle.rd_wf.specs.Roster.{RosterStandsFor}
 use Rattle.rd_walk.specs.Analysis.{IsNextEntry}
 use Rattle.rd_walk.specs.Walk.{items}
 use Rattle.rd_walk.proofs.walk.take_line.Goals as goal
+use Rattle.rd_walk.proofs.walk.take_line.Goals.{then-may_be_found+in-Ok-false, else-may_be_found}
 
-pub returns-in-Err-Cause-clause-refused : goal.returns-in-Err-Cause-clause-refused
-returns-in-Err-Cause-clause-refused g c = λ is cause told kinds before stands.
-    let same : c.in-Err-Cause.cause ≡ cause = cc in (
-      c.in-Err-Cause.ensures.refused c.in-Err-Cause.cause c.in-Err-Cause.field-0-is kinds (items before) stands ∙ ap Err same,
-      c.in-Err-Cause.ensures.same kinds (items before) stands,
-    )
+pub returns-in-Err-clause-memory : goal.returns-in-Err-clause-memory
+returns-in-Err-clause-memory g c = λ _ kinds before stands. let (item, says, follows) = c.in-Err.ensures.memory kinds before stands in (item, says, inr follows)
+
+-- where the roster didn't find the line by its bytes alone, all is as before
 
 pub accept-requires : goal.accept-requires
 accept-requires g c =
-    let (kinds, start, before, stands, leads) = c.requires.stands in
+    let same : c.if-may_be_found.walker ≡ c.args.walker.now = elim c.if-may_be_found.branch [
+      | then-may_be_found+in-Ok-false w ↦ w.walker-is ∙ (w.in-Ok-false.ensures.same w.in-Ok-false.field-0-test).0
+      | else-may_be_found w ↦ w.walker-is
+    ] in
+    let roster : c.if-may_be_found.walker.roster ≡ c.args.walker.now.roster = cc in
+    let analysis : c.if-may_be_found.walker.analysis ≡ c.args.walker.now.analysis = cc in
+    let limits : c.if-may_be_found.walker.limits ≡ c.args.walker.now.limits = cc in
+    let (kinds, start, before, was, led) = c.requires.stands in
+    let stands = subst (λ r. RosterStandsFor kinds r (items before)) (sym roster) was in
+    let leads = subst (g.A.Analysis.leads kinds start before) (sym analysis) led in
     let next : IsNextEntry kinds c.judge.new.roster before c.judge.new.line c.in-Ok.accepted = record {
-      limits = c.args.walker.now.limits;
-      usable = c.requires.usable;
+      limits = c.if-may_be_found.walker.limits;
+      usable = subst AreUsable (sym limits) c.requires.usable;
       follows = c.in-Ok.ensures.follows kinds (items before) stands;
       numbers = c.in-Ok.ensures.numbers kinds (items before) stands;
       stands = c.in-Ok.ensures.stands kinds (items before) stands;
       few = c.in-Ok.ensures.few kinds (items before) stands;
     } in
-    (kinds, start, before, leads, next)
+    (kinds, start, before, c.judge.new.line, leads, next)
 
 pub returns-in_default-clause-taken : goal.returns-in_default-clause-taken
-returns-in_default-clause-taken g c = λ none kinds start before stands leads.
+returns-in_default-clause-taken g c = λ none kinds start before was led.
+    let same : c.if-may_be_found.walker ≡ c.args.walker.now = elim c.if-may_be_found.branch [
+      | then-may_be_found+in-Ok-false w ↦ w.walker-is ∙ (w.in-Ok-false.ensures.same w.in-Ok-false.field-0-test).0
+      | else-may_be_found w ↦ w.walker-is
+    ] in
+    let out : c.if-may_be_found.out ≡ c.args.out.now = elim c.if-may_be_found.branch [
+      | then-may_be_found+in-Ok-false w ↦ w.out-is ∙ (w.in-Ok-false.ensures.same w.in-Ok-false.field-0-test).1
+      | else-may_be_found w ↦ w.out-is
+    ] in
+    let steps : c.if-may_be_found.steps ≡ c.args.steps.now = elim c.if-may_be_found.branch [
+      | then-may_be_found+in-Ok-false w ↦ w.steps-is ∙ (w.in-Ok-false.ensures.same w.in-Ok-false.field-0-test).2
+      | else-may_be_found w ↦ w.steps-is
+    ] in
+    let roster : c.if-may_be_found.walker.roster ≡ c.args.walker.now.roster = cc in
+    let analysis : c.if-may_be_found.walker.analysis ≡ c.args.walker.now.analysis = cc in
+    let limits : c.if-may_be_found.walker.limits ≡ c.args.walker.now.limits = cc in
+    let stands = subst (λ r. RosterStandsFor kinds r (items before)) (sym roster) was in
+    let leads = subst (g.A.Analysis.leads kinds start before) (sym analysis) led in
     let next : IsNextEntry kinds c.judge.new.roster before c.judge.new.line c.in-Ok.accepted = record {
-      limits = c.args.walker.now.limits;
-      usable = c.requires.usable;
+      limits = c.if-may_be_found.walker.limits;
+      usable = subst AreUsable (sym limits) c.requires.usable;
       follows = c.in-Ok.ensures.follows kinds (items before) stands;
       numbers = c.in-Ok.ensures.numbers kinds (items before) stands;
       stands = c.in-Ok.ensures.stands kinds (items before) stands;
       few = c.in-Ok.ensures.few kinds (items before) stands;
     } in (
       c.judge.new.line,
-      c.in-Ok.ensures.judged kinds (items before) stands,
+      rw limits at (c.in-Ok.ensures.judged kinds (items before) stands),
       c.in-Ok.ensures.stands kinds (items before) stands,
-      c.in_default.ensures.leads kinds start before leads next,
-      c.in_default.ensures.written kinds start before leads next,
-      c.in_default.ensures.cost kinds start before leads next,
+      c.in_default.ensures.leads kinds start before c.judge.new.line leads next,
+      rw out at (c.in_default.ensures.written kinds start before c.judge.new.line leads next),
+      rw steps at (c.in_default.ensures.cost kinds start before c.judge.new.line leads next),
     )
 
-pub returns-in-Err-clause-halted : goal.returns-in-Err-clause-halted
-returns-in-Err-clause-halted g c = λ kinds start before stands leads.
+pub returns-in-Err-accept-clause-halted : goal.returns-in-Err-accept-clause-halted
+returns-in-Err-accept-clause-halted g c = λ kinds start before was led.
+    let same : c.if-may_be_found.walker ≡ c.args.walker.now = elim c.if-may_be_found.branch [
+      | then-may_be_found+in-Ok-false w ↦ w.walker-is ∙ (w.in-Ok-false.ensures.same w.in-Ok-false.field-0-test).0
+      | else-may_be_found w ↦ w.walker-is
+    ] in
+    let out : c.if-may_be_found.out ≡ c.args.out.now = elim c.if-may_be_found.branch [
+      | then-may_be_found+in-Ok-false w ↦ w.out-is ∙ (w.in-Ok-false.ensures.same w.in-Ok-false.field-0-test).1
+      | else-may_be_found w ↦ w.out-is
+    ] in
+    let steps : c.if-may_be_found.steps ≡ c.args.steps.now = elim c.if-may_be_found.branch [
+      | then-may_be_found+in-Ok-false w ↦ w.steps-is ∙ (w.in-Ok-false.ensures.same w.in-Ok-false.field-0-test).2
+      | else-may_be_found w ↦ w.steps-is
+    ] in
+    let roster : c.if-may_be_found.walker.roster ≡ c.args.walker.now.roster = cc in
+    let analysis : c.if-may_be_found.walker.analysis ≡ c.args.walker.now.analysis = cc in
+    let limits : c.if-may_be_found.walker.limits ≡ c.args.walker.now.limits = cc in
+    let stands = subst (λ r. RosterStandsFor kinds r (items before)) (sym roster) was in
+    let leads = subst (g.A.Analysis.leads kinds start before) (sym analysis) led in
     let next : IsNextEntry kinds c.judge.new.roster before c.judge.new.line c.in-Ok.accepted = record {
-      limits = c.args.walker.now.limits;
-      usable = c.requires.usable;
+      limits = c.if-may_be_found.walker.limits;
+      usable = subst AreUsable (sym limits) c.requires.usable;
       follows = c.in-Ok.ensures.follows kinds (items before) stands;
       numbers = c.in-Ok.ensures.numbers kinds (items before) stands;
       stands = c.in-Ok.ensures.stands kinds (items before) stands;
@@ -53,22 +98,47 @@ returns-in-Err-clause-halted g c = λ kinds start before stands leads.
     } in
     inr (
       c.judge.new.line,
-      c.in-Ok.ensures.judged kinds (items before) stands,
-      c.in-Err.ensures.halted kinds start before leads next,
-      c.in-Err.ensures.cost kinds start before leads next,
+      rw limits at (c.in-Ok.ensures.judged kinds (items before) stands),
+      rw out at (c.in-Err-accept.ensures.halted kinds start before c.judge.new.line leads next),
+      rw steps at (c.in-Err-accept.ensures.cost kinds start before c.judge.new.line leads next),
     )
 
-pub returns-in-Err-clause-memory : goal.returns-in-Err-clause-memory
-returns-in-Err-clause-memory g c = λ _ kinds before stands. (
-  c.judge.new.line,
-  c.in-Ok.ensures.says kinds before stands,
-  inr (c.in-Ok.ensures.follows kinds before stands),
-)
+pub returns-in-Err-accept-clause-memory : goal.returns-in-Err-accept-clause-memory
+returns-in-Err-accept-clause-memory g c = λ _ kinds before was.
+    let same : c.if-may_be_found.walker ≡ c.args.walker.now = elim c.if-may_be_found.branch [
+      | then-may_be_found+in-Ok-false w ↦ w.walker-is ∙ (w.in-Ok-false.ensures.same w.in-Ok-false.field-0-test).0
+      | else-may_be_found w ↦ w.walker-is
+    ] in
+    let roster : c.if-may_be_found.walker.roster ≡ c.args.walker.now.roster = cc in
+    let limits : c.if-may_be_found.walker.limits ≡ c.args.walker.now.limits = cc in
+    let stands = subst (λ r. RosterStandsFor kinds r before) (sym roster) was in
+    (c.judge.new.line, c.in-Ok.ensures.says kinds before stands, inr (subst (λ l. MayFollow kinds l before c.judge.new.line) limits (c.in-Ok.ensures.follows kinds before stands)))
+
+pub returns-in-Err-Cause-clause-refused : goal.returns-in-Err-Cause-clause-refused
+returns-in-Err-Cause-clause-refused g c = λ is cause told kinds before was.
+    let one : c.in-Err-Cause.cause ≡ cause = cc in
+    let same : c.if-may_be_found.walker ≡ c.args.walker.now = elim c.if-may_be_found.branch [
+      | then-may_be_found+in-Ok-false w ↦ w.walker-is ∙ (w.in-Ok-false.ensures.same w.in-Ok-false.field-0-test).0
+      | else-may_be_found w ↦ w.walker-is
+    ] in
+    let roster : c.if-may_be_found.walker.roster ≡ c.args.walker.now.roster = cc in
+    let limits : c.if-may_be_found.walker.limits ≡ c.args.walker.now.limits = cc in
+    let stands = subst (λ r. RosterStandsFor kinds r (items before)) (sym roster) was in (
+      (rw limits at (c.in-Err-Cause.ensures.refused c.in-Err-Cause.cause c.in-Err-Cause.field-0-is kinds (items before) stands)) ∙ ap Err one,
+      c.in-Err-Cause.ensures.same kinds (items before) stands,
+    )
 
 pub returns-in-Err-NoMemory-clause-memory : goal.returns-in-Err-NoMemory-clause-memory
-returns-in-Err-NoMemory-clause-memory g c = λ _ kinds before stands.
+returns-in-Err-NoMemory-clause-memory g c = λ _ kinds before was.
+    let same : c.if-may_be_found.walker ≡ c.args.walker.now = elim c.if-may_be_found.branch [
+      | then-may_be_found+in-Ok-false w ↦ w.walker-is ∙ (w.in-Ok-false.ensures.same w.in-Ok-false.field-0-test).0
+      | else-may_be_found w ↦ w.walker-is
+    ] in
+    let roster : c.if-may_be_found.walker.roster ≡ c.args.walker.now.roster = cc in
+    let limits : c.if-may_be_found.walker.limits ≡ c.args.walker.now.limits = cc in
+    let stands = subst (λ r. RosterStandsFor kinds r before) (sym roster) was in
     let (item, is, why) = c.in-Err-NoMemory.ensures.memory c.in-Err-NoMemory.field-0-is kinds before stands in (
       item,
       is,
-      elim why [ inl call ↦ inl call | inr follows ↦ inr follows.0 ],
+      elim why [ inl call ↦ inl call | inr follows ↦ inr (subst (λ l. MayFollow kinds l before item) limits follows.0) ],
     )

@@ -8,13 +8,13 @@ use Rattle.rd_wf.proofs.roster.Roster.judge_join.Goals as goal
 
 pub returns-in-Some-clause-err : goal.returns-in-Some-clause-err
 returns-in-Some-clause-err c = λ kinds lines stands.
-    join_judged kinds c.args.self.now lines stands _ c.is_none.ensures c.args.limits.now c.args.thread.now c.args.child.now _ _ _ (c.find_thread-actor.ensures.value kinds lines stands) (c.find_thread-awaited.ensures.value kinds lines stands) c.eq.ensures ∙ sym (c.in-Some.ensures.first lines tt)
+    join_judged kinds c.args.self.now lines stands _ c.is_none.ensures c.args.limits.now c.args.thread.now c.args.child.now _ _ (c.find_thread-actor.ensures.found kinds lines stands) (c.find_thread-awaited.ensures.found kinds lines stands) ∙ sym (c.in-Some.ensures.first lines tt)
 
 pub returns-clause-ok : goal.returns-clause-ok
 unfolding accepted_of
 returns-clause-ok c = λ kinds lines stands. (
-  join_judged kinds c.args.self.now lines stands _ c.is_none.ensures c.args.limits.now c.args.thread.now c.args.child.now _ _ _ (c.find_thread-actor.ensures.value kinds lines stands) (c.find_thread-awaited.ensures.value kinds lines stands) c.eq.ensures ∙ sym (c.in_default.ensures.first lines tt),
-  λ i. accepted.Event (numbered.Join (c.find_thread-actor.ensures.value kinds lines stands i).number (c.find_thread-awaited.ensures.value kinds lines stands i).number),
+  join_judged kinds c.args.self.now lines stands _ c.is_none.ensures c.args.limits.now c.args.thread.now c.args.child.now _ _ (c.find_thread-actor.ensures.found kinds lines stands) (c.find_thread-awaited.ensures.found kinds lines stands) ∙ sym (c.in_default.ensures.first lines tt),
+  λ i. accepted.Event (numbered.Join (c.find_thread-actor.ensures.found kinds lines stands i).number (c.find_thread-awaited.ensures.found kinds lines stands i).number),
 )
 
 pub returns-clause-room : goal.returns-clause-room

@@ -7,18 +7,18 @@ use Rattle.rd_wf.proofs.roster.Roster.judge_share.Goals as goal
 
 pub returns-in-Some-clause-err : goal.returns-in-Some-clause-err
 returns-in-Some-clause-err c = λ kinds lines stands.
-    share_judged kinds c.args.self.now lines stands _ c.is_none.ensures c.args.limits.now c.args.thread.now c.args.lock.now _ c.find_lock-found.result _ _ (c.find_thread-actor.ensures.value kinds lines stands)
-    (c.find_lock-found.ensures.number kinds lines stands) c.find_lock-found.ensures.lock c.held_by_other.ensures c.depth_of-shared.ensures
-    ∙ sym (c.in-Some.ensures.first lines (holder_within kinds c.args.self.now lines stands c.args.lock.now _ _ _ c.find_lock-found.ensures.lock c.held_by_other.ensures))
+    share_judged kinds c.args.self.now lines stands _ c.is_none.ensures c.args.limits.now c.args.thread.now c.args.lock.now _ c.find_lock-found.result _ _ (c.find_thread-actor.ensures.found kinds lines stands)
+    (c.find_lock-found.ensures.found.numbers kinds lines stands) c.find_lock-found.ensures.found.lock c.held_by_other.ensures c.depth_of-shared.ensures
+    ∙ sym (c.in-Some.ensures.first lines (holder_within kinds c.args.self.now lines stands c.args.lock.now _ _ _ c.find_lock-found.ensures.found.lock c.held_by_other.ensures))
 
 pub returns-clause-ok : goal.returns-clause-ok
 unfolding accepted_of
 returns-clause-ok c = λ kinds lines stands. (
-  share_judged kinds c.args.self.now lines stands _ c.is_none.ensures c.args.limits.now c.args.thread.now c.args.lock.now _ c.find_lock-found.result _ _ (c.find_thread-actor.ensures.value kinds lines stands)
-      (c.find_lock-found.ensures.number kinds lines stands) c.find_lock-found.ensures.lock c.held_by_other.ensures c.depth_of-shared.ensures
-      ∙ sym (c.in_default.ensures.first lines (holder_within kinds c.args.self.now lines stands c.args.lock.now _ _ _ c.find_lock-found.ensures.lock c.held_by_other.ensures)),
-  λ i. accepted.Event (numbered.Share (c.find_thread-actor.ensures.value kinds lines stands i).number ((c.find_lock-found.ensures.number kinds lines stands).0 i)),
+  share_judged kinds c.args.self.now lines stands _ c.is_none.ensures c.args.limits.now c.args.thread.now c.args.lock.now _ c.find_lock-found.result _ _ (c.find_thread-actor.ensures.found kinds lines stands)
+      (c.find_lock-found.ensures.found.numbers kinds lines stands) c.find_lock-found.ensures.found.lock c.held_by_other.ensures c.depth_of-shared.ensures
+      ∙ sym (c.in_default.ensures.first lines (holder_within kinds c.args.self.now lines stands c.args.lock.now _ _ _ c.find_lock-found.ensures.found.lock c.held_by_other.ensures)),
+  λ i. accepted.Event (numbered.Share (c.find_thread-actor.ensures.found kinds lines stands i).number ((c.find_lock-found.ensures.found.numbers kinds lines stands).0 i)),
 )
 
 pub returns-clause-unknown : goal.returns-clause-unknown
-returns-clause-unknown c = λ kinds lines stands. (c.find_lock-found.ensures.number kinds lines stands).1
+returns-clause-unknown c = λ kinds lines stands. (c.find_lock-found.ensures.found.numbers kinds lines stands).1

@@ -7,13 +7,13 @@ use Rattle.rd_wf.proofs.roster.Roster.judge_unshare.Goals as goal
 
 pub returns-in-Some-clause-err : goal.returns-in-Some-clause-err
 returns-in-Some-clause-err c = λ kinds lines stands.
-    unshare_judged kinds c.args.self.now lines stands _ c.is_none.ensures c.args.limits.now c.args.thread.now c.args.lock.now _ _ _ (c.find_thread-actor.ensures.value kinds lines stands)
-    (c.find_lock-found.ensures.number kinds lines stands).0 c.depth_of-shared.ensures ∙ sym (c.in-Some.ensures.first lines tt)
+    unshare_judged kinds c.args.self.now lines stands _ c.is_none.ensures c.args.limits.now c.args.thread.now c.args.lock.now _ _ _ (c.find_thread-actor.ensures.found kinds lines stands)
+    (c.find_lock-found.ensures.found.numbers kinds lines stands).0 c.depth_of-shared.ensures ∙ sym (c.in-Some.ensures.first lines tt)
 
 pub returns-clause-ok : goal.returns-clause-ok
 unfolding accepted_of
 returns-clause-ok c = λ kinds lines stands. (
-  unshare_judged kinds c.args.self.now lines stands _ c.is_none.ensures c.args.limits.now c.args.thread.now c.args.lock.now _ _ _ (c.find_thread-actor.ensures.value kinds lines stands)
-      (c.find_lock-found.ensures.number kinds lines stands).0 c.depth_of-shared.ensures ∙ sym (c.in_default.ensures.first lines tt),
-  λ i. accepted.Event (numbered.Unshare (c.find_thread-actor.ensures.value kinds lines stands i).number ((c.find_lock-found.ensures.number kinds lines stands).0 i)),
+  unshare_judged kinds c.args.self.now lines stands _ c.is_none.ensures c.args.limits.now c.args.thread.now c.args.lock.now _ _ _ (c.find_thread-actor.ensures.found kinds lines stands)
+      (c.find_lock-found.ensures.found.numbers kinds lines stands).0 c.depth_of-shared.ensures ∙ sym (c.in_default.ensures.first lines tt),
+  λ i. accepted.Event (numbered.Unshare (c.find_thread-actor.ensures.found kinds lines stands i).number ((c.find_lock-found.ensures.found.numbers kinds lines stands).0 i)),
 )

@@ -2,11 +2,11 @@ use Rattle.std.proofs.Common.{sym}
 use Rattle.rd_wf.proofs.RosterLemmas.{thread_found}
 use Rattle.rd_wf.proofs.roster.Roster.look_up_thread.Goals as goal
 
-pub returns-in-None-clause-value : goal.returns-in-None-clause-value
-returns-in-None-clause-value c = λ kinds lines stands.
+pub returns-in-None-clause-found : goal.returns-in-None-clause-found
+returns-in-None-clause-found c = λ kinds lines stands.
     rw c.len.ensures.len
     (sym (thread_found kinds c.args.self.now lines stands c.args.name.now _ _ (sym c.in-None.ensures.index) (sym c.in-None.ensures.value)))
 
-pub returns-in-Some-clause-value : goal.returns-in-Some-clause-value
-returns-in-Some-clause-value c = λ kinds lines stands.
+pub returns-in-Some-clause-found : goal.returns-in-Some-clause-found
+returns-in-Some-clause-found c = λ kinds lines stands.
     sym (thread_found kinds c.args.self.now lines stands c.args.name.now _ _ (sym c.in-Some.ensures.index) (sym c.in-Some.ensures.value))
