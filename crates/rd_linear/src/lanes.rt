@@ -1,0 +1,212 @@
+//! The events of each thread, and which of them comes next.
+ghost use Rattle.std.specs.Prelude.{ℕ, Bool, List, [], ◌<◌, ◌↔◌, ◌⊎◌, IfOk, OnOk, ◌≡◌, ◌≤◌, length, filter_map, slice_get, IfSome, IfNone, Some};
+ghost use Rattle.rd_order.specs.EventLists.{WellFormed};
+ghost use Rattle.rd_linear.specs.Lanes.{AreLanes, AreLanesBelow, HaveThreads, IsChoice, IsNoneReady, IsPlaceAdded, IsRising, are_over, is_over, order_by, part_over, ready_in, threads_in};
+ghost use Rattle.rd_linear.specs.Linear.{Stands};
+ghost use Rattle.rd_linear.specs.Orders.{IsLinear};
+ghost use Rattle.rd_linear.specs.declared.lanes.Lane.{Lane as LaneOf};
+
+use crate::linear::no_marks;
+use crate::waits::{Part, Waits, thread_of, waits_of};
+use rd_base::NoMemory;
+use rd_event::Event;
+use rd_order::Places;
+use std::alloc::Global;
+
+// The places of a thread's events, and how many of them were given.
+#[derive(Debug, Drop)]
+struct Lane {
+    thread: u32,
+    places: Vec<u32>,
+    given: usize,
+}
+
+// Is the wait with this number marked?
+fn is_over(waits: &Waits, seen: &[bool], at: usize) -> bool
+    ensures { result ≡ is_over waits.now seen.now at }
+{
+    match waits.places.get(at) {
+        Some(place) => seen.get(*place as usize).copied().unwrap_or(false),
+        None => false,
+    }
+}
+
+fn is_part_over(waits: &Waits, seen: &[bool], part: Part) -> bool
+    ensures { result ≡ part_over waits.now seen.now part }
+{
+    for at in part.from..part.to {
+        if !is_over(waits, seen, at) {
+            return false;
+        }
+    }
+    true
+}
+
+fn are_waits_over(waits: &Waits, seen: &[bool], place: u32) -> bool
+    ensures { result ≡ are_over waits.now seen.now place }
+{
+    match waits.parts.get(place as usize) {
+        Some(part) => is_part_over(waits, seen, *part),
+        None => false,
+    }
+}
+
+// The next place of a lane, where it is ready.
+#[tactic(auto, unfolding(crate::specs::Lanes::ready_in))]
+fn ready(waits: &Waits, seen: &[bool], lane: &Lane) -> Option<u32>
+    ensures { result ≡ ready_in waits.now seen.now lane.now }
+{
+    match lane.places.get(lane.given) {
+        Some(place) => {
+            if are_waits_over(waits, seen, *place) {
+                Some(*place)
+            } else {
+                None
+            }
+        }
+        None => None,
+    }
+}
+
+// How many lanes are ready.
+fn count_ready(waits: &Waits, seen: &[bool], lanes: &[Lane]) -> usize
+    ensures { result ≡ length (filter_map (ready_in waits.now seen.now) lanes.now) }
+{
+    let mut count = 0;
+    for at in 0..lanes.len() {
+        if ready(waits, seen, &lanes[at]).is_some() {
+            count += 1;
+        }
+    }
+    count
+}
+
+// The ready lane at this position among those that are ready, and its next place.
+fn pick(waits: &Waits, seen: &[bool], lanes: &[Lane], position: usize) -> Option<(usize, u32)>
+    ensures some { IfSome result (λ found. (lane : LaneOf) × (slice_get lanes.now found.0 ≡ Some lane)
+        × (ready_in waits.now seen.now lane ≡ Some found.1)
+        × (slice_get (filter_map (ready_in waits.now seen.now) lanes.now) position ≡ Some found.1)) }
+    ensures none { IfNone result
+        (length (filter_map (ready_in waits.now seen.now) lanes.now) ≤ position) }
+{
+    let mut left = position;
+    for at in 0..lanes.len() {
+        if let Some(place) = ready(waits, seen, &lanes[at]) {
+            if left == 0 {
+                return Some((at, place));
+            }
+            left -= 1;
+        }
+    }
+    None
+}
+
+// The ready lane that the number picks, its next place, and the number for the next turn; `None` exactly where none is ready.
+fn choose(waits: &Waits, seen: &[bool], lanes: &[Lane], left: u64) -> Option<(usize, u32, u64)>
+    ensures some { IfSome result (λ found. IsChoice waits.now seen.now lanes.now left found) }
+    ensures none { IfNone result (IsNoneReady waits.now seen.now lanes.now) }
+{
+    let count = count_ready(waits, seen, lanes);
+    if count == 0 {
+        return None;
+    }
+    let number = left % count as u64;
+    match pick(waits, seen, lanes, number as usize) {
+        Some((at, place)) => Some((at, place, left / count as u64)),
+        None => None,
+    }
+}
+
+// ---- lanes
+
+// With this thread among those in the order of their numbers.
+fn add_thread(threads: &mut Vec<u32>, thread: u32) -> Result<(), NoMemory>
+    requires rising { IsRising threads.old.items }
+    ensures rising { OnOk result (IsRising threads.new.items) }
+    ensures has { OnOk result ((t : ℕ) →
+        (Stands threads.new.items t ↔ ((t ≡ thread) ⊎ Stands threads.old.items t))) }
+{
+    if let Err(at) = threads.as_slice().binary_search(&thread) {
+        threads.insert(at, thread)?;
+    }
+    Ok(())
+}
+
+// The threads of the events, in the order of their numbers.
+fn threads_of(alloc: Global, events: &[Event]) -> Result<Vec<u32>, NoMemory>
+    ensures { IfOk result (λ threads. HaveThreads events.now threads.items) }
+{
+    let mut threads = Vec::new(alloc);
+    for place in 0..events.len() {
+        add_thread(&mut threads, thread_of(&events[place]))?;
+    }
+    Ok(threads)
+}
+
+// A lane for each of these threads, without places.
+fn empty_lanes(alloc: Global, threads: &[u32]) -> Result<Vec<Lane>, NoMemory>
+    ensures { IfOk result (λ lanes. AreLanesBelow [] 0 threads.now lanes.items) }
+{
+    let mut lanes = Vec::new(alloc);
+    for at in 0..threads.len() {
+        lanes.push(Lane {
+            thread: threads[at],
+            places: Vec::new(alloc),
+            given: 0,
+        })?;
+    }
+    Ok(lanes)
+}
+
+// Puts a place last in a lane.
+fn add_place(lanes: &mut Vec<Lane>, at: usize, place: u32) -> Result<(), NoMemory>
+    requires inside { at < length lanes.old.items }
+    ensures { OnOk result (IsPlaceAdded lanes.old.items lanes.new.items at place) }
+{
+    lanes[at].places.push(place)?;
+    Ok(())
+}
+
+// The lanes of the threads that act, in the order of their numbers.
+fn lanes_of(alloc: Global, events: &[Event]) -> Result<Vec<Lane>, NoMemory>
+    requires few { length events.now < 4294967296 }
+    ensures lanes { IfOk result (λ lanes. AreLanes events.now [] lanes.items) }
+    ensures threads { IfOk result (λ lanes. HaveThreads events.now (threads_in lanes.items)) }
+{
+    let threads = threads_of(alloc, events)?;
+    let mut lanes = empty_lanes(alloc, threads.as_slice())?;
+    for place in 0..events.len() {
+        let found = threads.as_slice().binary_search(&thread_of(&events[place]));
+        if let Ok(at) = found {
+            add_place(&mut lanes, at, place as u32)?;
+        }
+    }
+    Ok(lanes)
+}
+
+/// The places of the events in the order that the number picks, which is linear. It is made one event at a time. A thread is ready where
+/// it has an event that isn't placed, and all events that reach the first of these are placed. At each turn the remainder of the
+/// number by how many threads are ready picks one of them, in the order of their numbers and from 0. This one gives its event, and
+/// the quotient is the number for the next turn. The time grows with the events times the threads: a turn looks at the next event of
+/// each thread that acts, and there at places for which it waits, of which there are at most two more than threads.
+pub fn reorder(alloc: Global, events: &[Event], number: u64) -> Result<Places, NoMemory>
+    requires formed { (roots : ℕ → Bool) × WellFormed roots events.now }
+    ensures order { IfOk result (λ places. (threads : List ℕ) × HaveThreads events.now threads
+        × (places ≡ order_by events.now threads number)) }
+    ensures linear { IfOk result (λ places. IsLinear events.now places) }
+{
+    let waits = waits_of(alloc, events)?;
+    let mut lanes = lanes_of(alloc, events)?;
+    let mut seen = no_marks(alloc, events.len())?;
+    let mut places = Places::new(alloc);
+    let mut left = number;
+    for turn in 0..events.len() {
+        let chosen = choose(&waits, seen.as_slice(), lanes.as_slice(), left);
+        let (at, place, rest) = chosen.unwrap();
+        left = rest;
+        lanes[at].given += 1;
+        seen[place as usize] = true;
+        places.push(place)?;
+    }
+    Ok(places)
+}

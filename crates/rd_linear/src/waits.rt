@@ -1,0 +1,278 @@
+//! The places for which each event waits.
+ghost use Rattle.std.specs.Prelude.{◌≡◌, ◌≢◌, ℕ, Bool, ◌++◌, nat_eq, IfOk, OnOk, Some, None, IsTrue, option_copied};
+ghost use Rattle.indexmap.specs.IndexMap.{get};
+ghost use Rattle.rd_event.specs.declared.events.Event.{Event as EventOf};
+ghost use Rattle.rd_order.specs.EventLists.{WellFormed};
+ghost use Rattle.rd_order.specs.Order.{forked_thread, thread_of};
+ghost use Rattle.rd_linear.specs.Noting.{AreUnsharesAfter, HaveWaits, IsOf, IsPart, IsReplaced, noted_at, noted_if, one_if, other_waits, places_in, release_noted, released_lock, thread_noted, unshares_noted, waits_by};
+
+use indexmap::IndexMap;
+use rd_base::NoMemory;
+use rd_event::Event;
+use std::alloc::Global;
+
+/// Which of all waits are those of one event: those from one number to another.
+#[derive(Clone, Copy, Debug, Drop)]
+pub(crate) struct Part {
+    pub(crate) from: usize,
+    pub(crate) to: usize,
+}
+
+/// The places for which each event waits, those of one event behind those of another, and for each event which of them are its own.
+#[derive(Debug, Drop)]
+pub(crate) struct Waits {
+    pub(crate) places: Vec<u32>,
+    pub(crate) parts: Vec<Part>,
+}
+
+// The last unshare by each thread of a lock since that was last acquired.
+#[derive(Debug, Drop)]
+struct Unshared {
+    places: Vec<u32>,
+}
+
+// What is noted of the events so far: the last place of each thread or of its fork, the last release of each lock, and its unshares.
+#[derive(Debug, Drop)]
+struct Notes {
+    threads: IndexMap<u32, u32>,
+    releases: IndexMap<u32, u32>,
+    unshares: IndexMap<u32, Unshared>,
+}
+
+pub(crate) fn thread_of(event: &Event) -> u32
+    ensures { result ≡ thread_of event.now }
+{
+    match event {
+        Event::Fork { thread, .. } => *thread,
+        Event::Join { thread, .. } => *thread,
+        Event::Acquire { thread, .. } => *thread,
+        Event::Release { thread, .. } => *thread,
+        Event::Share { thread, .. } => *thread,
+        Event::Unshare { thread, .. } => *thread,
+        Event::Call(call) => call.thread,
+    }
+}
+
+fn place_of(map: &IndexMap<u32, u32>, key: u32) -> Option<u32>
+    ensures { result ≡ get nat_eq map.now key }
+{
+    map.get(&key).copied()
+}
+
+#[tactic(auto, using(crate::proofs::NotingLemmas::put_at))]
+fn put(map: &mut IndexMap<u32, u32>, key: u32, place: u32) -> Result<(), NoMemory>
+    ensures { OnOk result ((q : ℕ) →
+        get nat_eq map.new q ≡ noted_at (get nat_eq map.old) key place q) }
+{
+    map.insert(key, place)?;
+    Ok(())
+}
+
+// ---- waits
+
+fn push_if(places: &mut Vec<u32>, place: Option<u32>) -> Result<(), NoMemory>
+    ensures { OnOk result (places.new.items ≡ places.old.items ++ one_if place) }
+{
+    if let Some(place) = place {
+        places.push(place)?;
+    }
+    Ok(())
+}
+
+fn push_unshares(places: &mut Vec<u32>, unshared: Option<&Unshared>) -> Result<(), NoMemory>
+    ensures { OnOk result (places.new.items ≡ places.old.items ++ places_in (option_copied unshared.entry)) }
+{
+    if let Some(unshared) = unshared {
+        places.extend_from_slice(unshared.places.as_slice())?;
+    }
+    Ok(())
+}
+
+// Puts the waits of an event last, beside that of its own thread.
+fn push_others(places: &mut Vec<u32>, notes: &Notes, event: &Event) -> Result<(), NoMemory>
+    ensures { OnOk result (places.new.items ≡ places.old.items ++ other_waits notes.now event.now) }
+{
+    match event {
+        Event::Join { child, .. } => push_if(places, place_of(&notes.threads, *child)),
+        Event::Acquire { lock, .. } => {
+            push_if(places, place_of(&notes.releases, *lock))?;
+            push_unshares(places, notes.unshares.get(lock))
+        }
+        Event::Share { lock, .. } => push_if(places, place_of(&notes.releases, *lock)),
+        _ => Ok(()),
+    }
+}
+
+fn push_waits(places: &mut Vec<u32>, notes: &Notes, event: &Event) -> Result<(), NoMemory>
+    ensures { OnOk result (places.new.items ≡ places.old.items ++ waits_by notes.now event.now) }
+{
+    push_if(places, place_of(&notes.threads, thread_of(event)))?;
+    push_others(places, notes, event)
+}
+
+// ---- noting
+
+// The event at this place is the last of its thread, or the fork of one, so far.
+fn note_threads(threads: &mut IndexMap<u32, u32>, event: &Event, place: u32) -> Result<(), NoMemory>
+    ensures { OnOk result ((t : ℕ) → get nat_eq threads.new t
+        ≡ noted_if (noted_at (get nat_eq threads.old) (thread_of event.now) place) (forked_thread event.now) place t) }
+{
+    put(threads, thread_of(event), place)?;
+    if let Event::Fork { child, .. } = event {
+        put(threads, *child, place)?;
+    }
+    Ok(())
+}
+
+fn note_releases(
+    releases: &mut IndexMap<u32, u32>,
+    event: &Event,
+    place: u32,
+) -> Result<(), NoMemory>
+    ensures { OnOk result ((lock : ℕ) → get nat_eq releases.new lock
+        ≡ noted_if (get nat_eq releases.old) (released_lock event.now) place lock) }
+{
+    match event {
+        Event::Release { lock, .. } => put(releases, *lock, place),
+        _ => Ok(()),
+    }
+}
+
+// Is the event at the place of the thread?
+fn is_of(events: &[Event], place: u32, thread: u32) -> bool
+    ensures { IsTrue result → IsOf events.now thread place }
+{
+    match events.get(place as usize) {
+        Some(event) => thread_of(event) == thread,
+        None => false,
+    }
+}
+
+// The place takes that of the thread's, or is put last.
+fn replace(places: &mut Vec<u32>, events: &[Event], thread: u32, place: u32) -> Result<(), NoMemory>
+    ensures { OnOk result (IsReplaced events.now thread place places.old.items places.new.items) }
+{
+    for at in 0..places.len() {
+        if is_of(events, places[at], thread) {
+            places[at] = place;
+            return Ok(());
+        }
+    }
+    places.push(place)?;
+    Ok(())
+}
+
+// The unshares that are noted of a lock, which are no longer noted.
+fn take_unshared(alloc: Global, unshares: &mut IndexMap<u32, Unshared>, lock: u32) -> Unshared
+    ensures taken { result.places.items ≡ places_in (get nat_eq unshares.old lock) }
+    ensures none { get nat_eq unshares.new lock ≡ None }
+    ensures others { (q : ℕ) → lock ≢ q →
+        get nat_eq unshares.new q ≡ get nat_eq unshares.old q }
+{
+    match unshares.swap_remove(&lock) {
+        Some(unshared) => unshared,
+        None => Unshared {
+            places: Vec::new(alloc),
+        },
+    }
+}
+
+fn put_unshared(
+    unshares: &mut IndexMap<u32, Unshared>,
+    lock: u32,
+    unshared: Unshared,
+) -> Result<(), NoMemory>
+    ensures here { OnOk result (get nat_eq unshares.new lock ≡ Some unshared) }
+    ensures others { OnOk result ((q : ℕ) → lock ≢ q →
+        get nat_eq unshares.new q ≡ get nat_eq unshares.old q) }
+{
+    unshares.insert(lock, unshared)?;
+    Ok(())
+}
+
+// The thread gives back a share of the lock at this place.
+fn note_unshare(
+    alloc: Global,
+    unshares: &mut IndexMap<u32, Unshared>,
+    events: &[Event],
+    thread: u32,
+    lock: u32,
+    place: u32,
+) -> Result<(), NoMemory>
+    ensures here { OnOk result (IsReplaced events.now thread place
+        (places_in (get nat_eq unshares.old lock)) (places_in (get nat_eq unshares.new lock))) }
+    ensures others { OnOk result ((q : ℕ) → lock ≢ q →
+        get nat_eq unshares.new q ≡ get nat_eq unshares.old q) }
+{
+    let mut unshared = take_unshared(alloc, unshares, lock);
+    replace(&mut unshared.places, events, thread, place)?;
+    put_unshared(unshares, lock, unshared)
+}
+
+fn note_unshares(
+    alloc: Global,
+    unshares: &mut IndexMap<u32, Unshared>,
+    events: &[Event],
+    event: &Event,
+    place: u32,
+) -> Result<(), NoMemory>
+    ensures { OnOk result (AreUnsharesAfter events.now event.now place
+        (λ lock. places_in (get nat_eq unshares.old lock)) (λ lock. places_in (get nat_eq unshares.new lock))) }
+{
+    match event {
+        Event::Acquire { lock, .. } => {
+            take_unshared(alloc, unshares, *lock);
+            Ok(())
+        }
+        Event::Unshare { thread, lock } => {
+            note_unshare(alloc, unshares, events, *thread, *lock, place)
+        }
+        _ => Ok(()),
+    }
+}
+
+// Notes the event at a place, behind those before it.
+fn note(
+    alloc: Global,
+    notes: &mut Notes,
+    events: &[Event],
+    event: &Event,
+    place: u32,
+) -> Result<(), NoMemory>
+    ensures threads { OnOk result ((t : ℕ) → thread_noted notes.new t
+        ≡ noted_if (noted_at (thread_noted notes.old) (thread_of event.now) place) (forked_thread event.now) place t) }
+    ensures releases { OnOk result ((lock : ℕ) → release_noted notes.new lock
+        ≡ noted_if (release_noted notes.old) (released_lock event.now) place lock) }
+    ensures unshares { OnOk result (AreUnsharesAfter events.now event.now place
+        (unshares_noted notes.old) (unshares_noted notes.new)) }
+{
+    note_threads(&mut notes.threads, event, place)?;
+    note_releases(&mut notes.releases, event, place)?;
+    note_unshares(alloc, &mut notes.unshares, events, event, place)
+}
+
+/// The places for which each event waits. It looks at each event once, and at an unshare at the others that are noted of its lock, at
+/// most one for each thread.
+pub(crate) fn waits_of(alloc: Global, events: &[Event]) -> Result<Waits, NoMemory>
+    requires formed { (roots : ℕ → Bool) × WellFormed roots events.now }
+    ensures { IfOk result (λ waits. HaveWaits events.now waits) }
+{
+    let mut notes = Notes {
+        threads: IndexMap::new(alloc),
+        releases: IndexMap::new(alloc),
+        unshares: IndexMap::new(alloc),
+    };
+    let mut places = Vec::new(alloc);
+    let mut parts = Vec::new(alloc);
+    for place in 0..events.len() {
+        let event = &events[place];
+        let from = places.len();
+        push_waits(&mut places, &notes, event)?;
+        parts.push(Part {
+            from,
+            to: places.len(),
+        })?;
+        note(alloc, &mut notes, events, event, place as u32)?;
+    }
+    Ok(Waits { places, parts })
+}
