@@ -17,6 +17,8 @@ use Rattle.either.specs.declared.Either.{Either}
 use Rattle.rd_check.specs.Checked.{check_bound, check_outcome, race_texts}
 use Rattle.rd_check.specs.declared.checking.Check.{Check}
 use Rattle.rd_ecl.specs.Kinds.{Kind}
+use Rattle.rd_reorder_command.specs.Outcomes.{reorder_outcome}
+use Rattle.rd_reorder_command.specs.declared.reordering.Reordering.{Reordering}
 use Rattle.rd_replaying.specs.States.{replay_outcome}
 use Rattle.rd_replaying.specs.declared.states.ReplayAlone.{ReplayAlone}
 use Rattle.rd_walk.specs.Analysis.{TellsFaults}
@@ -69,12 +71,13 @@ calm_status (Err halt.OutputFault) calm = λ e. cc
 calm_status (Err halt.NoMemory) calm = λ e. cc
 
 -- what one of the commands that walk over a trace writes, by what it does with each line
-abbrev pub part_texts : List Kind → Either Check ReplayAlone → ReportTexts
+abbrev pub part_texts : List Kind → Either Check (Either ReplayAlone Reordering) → ReportTexts
 part_texts kinds part = record {
-  lines = λ entries. either (λ check. race_texts check.form check.spec.now entries) (λ alone. []) part;
-  outcome = λ walked. either (λ check. check_outcome check.form check.spec.now walked) (λ alone. replay_outcome kinds walked) part;
-  bound = λ before item. either (λ check. check_bound check.spec.now before item) (λ alone. 0) part;
-  unopened = either (λ check. fault_in check.form) (λ alone. fault_line) part;
+  lines = λ entries. either (λ check. race_texts check.form check.spec.now entries) (λ other. either (λ alone. []) (λ reordering. []) other) part;
+  outcome = λ walked. either (λ check. check_outcome check.form check.spec.now walked)
+      (λ other. either (λ alone. replay_outcome kinds walked) (λ reordering. reorder_outcome reordering.number kinds walked) other) part;
+  bound = λ before item. either (λ check. check_bound check.spec.now before item) (λ other. either (λ alone. 0) (λ reordering. 0) other) part;
+  unopened = either (λ check. fault_in check.form) (λ other. either (λ alone. fault_line) (λ reordering. fault_line) other) part;
 }
 
 -- each number below the count of the built-in kinds is that of one

@@ -6,13 +6,15 @@ use Rattle.rd_json.specs.declared.forms.Form.TheVariants.{EndingOnly}
 use Rattle.rd_kinds.specs.Shipped.{shipped_kinds}
 use Rattle.rd_gen_command.proofs.WholeLemmas.{whole_gen, whole_gen_text}
 use Rattle.rd_spec_commands.proofs.WholeLemmas.{whole_kind, whole_said}
+use Rattle.rd_reorder_command.proofs.OutcomeLemmas.{whole_reorder}
+use Rattle.rd_reorder_command.specs.Outcomes.{reorder_texts}
 use Rattle.rd_replaying.proofs.ReplayLemmas.{whole_replay}
 use Rattle.rd_walk.proofs.WholeLemmas.{all_written}
 use Rattle.rd_base.specs.declared.limits.Limits.{Limits}
 use Rattle.rd_io.specs.Inputs.{Source}
 use Rattle.rd_walk.specs.Output.{HasOutcome}
 use Rattle.rd_replaying.specs.States.{replay_texts, built_in_kinds}
-use Rattle.rd_run.specs.Commands.Command.{check, gen, gen_text, kind, of_spec, replay}
+use Rattle.rd_run.specs.Commands.Command.{check, gen, gen_text, kind, of_spec, reorder, replay}
 use Rattle.rd_check.specs.Meanings.{IsCheckOutcome}
 use Rattle.rd_spec_commands.specs.Meanings.{IsJudged, IsUnread}
 use Rattle.rd_walk.specs.Traces.{IsTraceOutcome}
@@ -41,6 +43,9 @@ whole_run (Some (check form trace file)) limits rose old new part status before 
 whole_run (Some (replay trace)) limits rose old new part status before after runs calm other some =
     whole_replay trace limits old new part status
     (subst (λ r. HasOutcome (IsTraceOutcome (replay_texts built_in_kinds) built_in_kinds trace limits r old new) status part) calm runs.output) other
+whole_run (Some (reorder trace number)) limits rose old new part status before after runs calm other some =
+    whole_reorder trace number limits old new part status
+    (subst (λ r. HasOutcome (IsTraceOutcome (reorder_texts number built_in_kinds) built_in_kinds trace limits r old new) status part) calm runs.output) other
 whole_run (Some (kind built_in)) limits rose old new part status before after runs calm other some =
     whole_kind built_in limits old part status runs.output other
 whole_run (Some (gen number count)) limits rose old new part status before after runs calm other some =

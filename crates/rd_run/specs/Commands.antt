@@ -9,6 +9,7 @@ use Rattle.rd_gen_command.specs.GeneratedWalks.{gen_meaning}
 use Rattle.rd_points_command.specs.PointTexts.{points_text}
 use Rattle.rd_print.specs.Printed.{spec_text}
 use Rattle.rd_spec_commands.specs.Meanings.{kind_meaning, said_meaning}
+use Rattle.rd_reorder_command.specs.Meanings.{reorder_meaning}
 use Rattle.rd_replaying.specs.Meanings.{replay_meaning}
 use Rattle.rd_replaying.specs.States.{built_in_kinds}
 use Rattle.rd_ecl.specs.Specified.{SpecifiedKind}
@@ -19,7 +20,7 @@ use Rattle.rd_walk.specs.Output.{Outcome}
 use Rattle.rd_walk.specs.declared.status.Status.TheVariants.{Usage}
 use Rattle.rd_run.specs.declared.commands.Said.TheVariants.{Spec, Points}
 use Rattle.rd_run.specs.declared.commands.Said.{Said}
-use Rattle.rd_run.specs.declared.commands.Command.TheVariants.{Check, CheckWith, Replay, OfSpec, Kind as BuiltIn, Gen, GenText}
+use Rattle.rd_run.specs.declared.commands.Command.TheVariants.{Check, CheckWith, Replay, Reorder, OfSpec, Kind as BuiltIn, Gen, GenText}
 use Rattle.rd_run.specs.declared.commands.Command.{Command as Asked}
 use Rattle.rd_wf.specs.MayFollow.{same_name}
 use Rattle.std.specs.Prelude.{◌≡◌, ℕ, List, Option, Some, None, codes, option_and_then, option_map, slice_get, if◌then◌else◌, [], ◌∷◌, ⊤, find}
@@ -30,6 +31,8 @@ pub data Command : Type 0 where
   check : Form → List ℕ → Option (List ℕ) → Command
   -- a trace
   replay : List ℕ → Command
+  -- a trace, and the number that picks an order of its events
+  reorder : List ℕ → ℕ → Command
   -- a text of the kinds that a specification says
   of_spec : Said → List ℕ → Command
   -- a kind that is built in
@@ -59,6 +62,7 @@ command_of (word ∷ name ∷ []) =
 command_of (word ∷ first ∷ second ∷ []) =
     if same_name word (codes "check") then Some (check Text first (Some second))
     else if same_name word (codes "check-json") then Some (check Json first (Some second))
+    else if same_name word (codes "reorder") then option_map (reorder first) (number_read 18446744073709551615 second)
     else if same_name word (codes "gen") then option_map (λ numbers. gen numbers.0 numbers.1) (numbers_read first second)
     else if same_name word (codes "gen-text") then option_map (λ numbers. gen_text numbers.0 numbers.1) (numbers_read first second) else None
 command_of _ = None
@@ -92,6 +96,7 @@ abbrev pub meaning_of : Option Command → Meaning
 meaning_of None = usage_meaning
 meaning_of (Some (check form trace file)) = check_meaning form trace file
 meaning_of (Some (replay trace)) = replay_meaning trace
+meaning_of (Some (reorder trace number)) = reorder_meaning trace number
 meaning_of (Some (of_spec said file)) = said_meaning (said_text said) file
 meaning_of (Some (kind built_in)) = kind_meaning built_in
 meaning_of (Some (gen number count)) = gen_check_meaning number count
@@ -109,6 +114,7 @@ asked_command None = None
 asked_command (Some (Check asked)) = Some (check asked.form asked.trace.now None)
 asked_command (Some (CheckWith asked file)) = Some (check asked.form asked.trace.now (Some file.now))
 asked_command (Some (Replay trace)) = Some (replay trace.now)
+asked_command (Some (Reorder trace number)) = Some (reorder trace.now number)
 asked_command (Some (OfSpec said file)) = Some (of_spec said file.now)
 asked_command (Some (BuiltIn number)) = option_map kind (slice_get shipped_kinds number)
 asked_command (Some (Gen number count)) = Some (gen number count)

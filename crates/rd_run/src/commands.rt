@@ -51,6 +51,8 @@ pub enum Command<'a> {
     CheckWith(ToCheck<'a>, &'a Word),
     /// `replay TRACE`
     Replay(&'a Word),
+    /// `reorder TRACE NUMBER`
+    Reorder(&'a Word, u64),
     /// `spec SPEC` or `points SPEC`
     OfSpec(Said, &'a Word),
     /// `kind NAME`, where a kind that is built in has the name, by its number
@@ -143,6 +145,12 @@ pub(crate) fn command_of(words: &[Word]) -> Option<Command<'_>>
                 trace,
             };
             Some(Command::CheckWith(asked, file))
+        }
+        [word, trace, number] if word.items() == b"reorder".as_slice() => {
+            match read_number(number.items(), u64::MAX) {
+                Some(number) => Some(Command::Reorder(trace, number)),
+                None => None,
+            }
         }
         [word, number, count] if word.items() == b"gen".as_slice() => {
             match trace_numbers(number, count) {

@@ -1,5 +1,6 @@
 //! The call that the program makes.
 ghost use Rattle.rd_check.specs.Meanings.{check_meaning};
+ghost use Rattle.rd_reorder_command.specs.Meanings.{reorder_meaning};
 ghost use Rattle.rd_replaying.specs.Meanings.{replay_meaning};
 ghost use Rattle.std.specs.Prelude.{◌≡◌, ◌≢◌, ◌⊎◌, ℕ, ◌+◌, ◌<◌, ◌≤◌, ◌^◌, nat_lt, List, [], ◌++◌, Option, Some, None, Ok, length, AllPairs, IfOk};
 ghost use Rattle.rd_base.specs.Limits.{AreUsable};
@@ -33,6 +34,7 @@ use rd_gen_command::{gen_check, gen_text, text_status};
 use rd_io::{Inputs, Sink};
 use rd_json::Form;
 use rd_kinds::shipped;
+use rd_reorder_command::Reordering;
 use rd_replaying::{ReplayAlone, Replaying};
 use rd_spec_commands::{kind, read_spec, refuse_unread, report_spec, spec_command_status};
 use rd_walk::{
@@ -43,7 +45,7 @@ use std::alloc::Global;
 use std::sync::ledger::Ledger;
 
 /// What a command does with each accepted line of a trace: one type for all commands, so that the program has one walk.
-type Part<'a> = Either<Check<'a>, ReplayAlone>;
+type Part<'a> = Either<Check<'a>, Either<ReplayAlone, Reordering<'a>>>;
 
 /// `check` on a trace whose objects are of these kinds, in the form that is asked for.
 fn check<I: Inputs, S: Sink, L: Ledger>(
@@ -184,7 +186,46 @@ fn replay<I: Inputs, S: Sink, L: Ledger>(
 {
     let spec = shipped(alloc)?;
     let roster = Roster::new(alloc, &spec)?;
-    let part: Part<'_> = Either::Right(ReplayAlone);
+    let part: Part<'_> = Either::Right(Either::Left(ReplayAlone));
+    let mut walker = Walker {
+        alloc,
+        limits: *limits,
+        roster,
+        analysis: Replaying::new(alloc, part),
+        line: Line::Skip,
+        refused: None,
+    };
+    report_trace(&mut walker, trace, inputs, out, steps)
+}
+
+/// `reorder TRACE NUMBER`
+fn reorder<I: Inputs, S: Sink, L: Ledger>(
+    alloc: Global,
+    trace: &Word,
+    number: u64,
+    inputs: &mut I,
+    out: &mut S,
+    limits: &Limits,
+    steps: &mut Steps<L>,
+) -> Result<TraceStatus, Halt>
+    requires { AreUsable limits.now }
+
+    // the report, and each fault is told as one
+    ensures runs { (old : Source) → I.told inputs.old ≡ Some old → I.faults inputs.old < 2 ^ 63 →
+        old.opens < 2 ^ 63 →
+        (new : Source) × (part : List ℕ) × (I.told inputs.new ≡ Some new)
+        × Appends (S.written out.old) (S.written out.new) part
+        × Runs (reorder_meaning trace.now number) limits.now
+        (nat_lt (I.faults inputs.old)
+        (I.faults inputs.new)) old new part
+        (report_status result) steps.old steps.new }
+    ensures faults { TellsFaults TraceStatus.InputFault (I.faults inputs.old) (I.faults inputs.new)
+        (S.faults out.old) (S.faults out.new) (S.at_fault out.new) (S.written out.new) result }
+{
+    let spec = shipped(alloc)?;
+    let roster = Roster::new(alloc, &spec)?;
+    let reordering = Reordering::new(alloc, number, &spec);
+    let part: Part<'_> = Either::Right(Either::Right(reordering));
     let mut walker = Walker {
         alloc,
         limits: *limits,
@@ -253,7 +294,8 @@ fn refuse_usage<S: Sink>(out: &mut S) -> Status
 /// Runs the command that the words of the command line ask for, without the program's own name: `check TRACE` and `check TRACE SPEC`,
 /// which report the races of a trace by the formulas of the kinds that are built in, and of those of a specification, and say whether the
 /// recorded results are those of the objects; `check-json TRACE` and `check-json TRACE SPEC`, the same as lines with one JSON object each;
-/// `replay TRACE`, which says this alone, and where it is so what the objects hold in the end;
+/// `replay TRACE`, which says this alone, and where it is so what the objects hold in the end; `reorder TRACE NUMBER`, which writes the
+/// trace in the order of its events that the number picks;
 /// `spec SPEC`, which writes the canonical text of a specification, and `points SPEC`, which writes the access points of its kinds, or where
 /// and why it is refused; `kind NAME`, which writes the canonical text of a kind that is built in; `gen NUMBER COUNT`, which checks the
 /// trace of a number with so many calls and writes how many lines and calls it has and the ending of the report; or
@@ -340,6 +382,9 @@ pub fn run<I: Inputs, S: Sink, L: Ledger>(
         }
         Some(Command::Replay(trace)) => {
             report_status(replay(alloc, trace, inputs, out, limits, steps))
+        }
+        Some(Command::Reorder(trace, number)) => {
+            report_status(reorder(alloc, trace, number, inputs, out, limits, steps))
         }
         Some(Command::OfSpec(said, file)) => {
             spec_command_status(report_spec(alloc, &said, file, inputs, out))

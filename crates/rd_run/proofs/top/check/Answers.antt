@@ -6,6 +6,7 @@ use Rattle.rd_wf.specs.laws.NoLines.{told_none}
 use Rattle.rd_wf.specs.Roster.{kinds_in}
 use Rattle.either.specs.Either.{MatchEither}
 use Rattle.rd_check.specs.Checking.{CheckBegins}
+use Rattle.rd_reorder_command.specs.Keeping.{ReorderingBegins}
 use Rattle.rd_walk.specs.Output.{report_status}
 use Rattle.rd_run.proofs.RunLemmas.{no_fault_told, part_texts}
 use Rattle.rd_check.specs.Checked.{check_texts}
@@ -46,7 +47,7 @@ returns-in_err-analysis-clause-faults g c =
 pub report_trace-requires-clause-begins : goal.report_trace-requires-clause-begins
 unfolding recorded_of
 report_trace-requires-clause-begins g c = (
-  subst (λ part. MatchEither part (CheckBegins (kinds_in c.in_ok-roster.roster)) (λ _. ⊤)) (sym c.new-3.ensures.inner) (record {
+  subst (λ part. MatchEither part (CheckBegins (kinds_in c.in_ok-roster.roster)) (λ other. MatchEither other (λ _. ⊤) (ReorderingBegins (kinds_in c.in_ok-roster.roster)))) (sym c.new-3.ensures.inner) (record {
     kinds_are = c.in_ok-roster.ensures.kind_entries ∙ ap kinds_of (sym c.in_ok-analysis.ensures.spec);
     new = c.in_ok-analysis.ensures.new;
   }),

@@ -4,6 +4,7 @@ use Rattle.std.proofs.lemmas.List.{append-nil}
 use Rattle.either.specs.Either.{MatchEither}
 use Rattle.rd_check.specs.Checked.{check_bound, check_outcome}
 use Rattle.rd_check.specs.Checking.{CheckBegins}
+use Rattle.rd_reorder_command.specs.Keeping.{ReorderingBegins}
 use Rattle.rd_ecl.specs.Kinds.{kind_names, kinds_of}
 use Rattle.rd_gen_command.specs.GeneratedWalks.{gen_outcome, generated_walk}
 use Rattle.rd_io.proofs.SinkLemmas.{appends_none}
@@ -14,7 +15,7 @@ use Rattle.rd_replaying.specs.Replaying.{recorded_of}
 use Rattle.rd_replaying.specs.States.{built_in_kinds}
 use Rattle.rd_run.proofs.RunLemmas.{no_fault_told, no_input_told, no_well_told, part_texts}
 use Rattle.rd_walk.proofs.OutputLemmas.{report_cut}
-use Rattle.rd_walk.specs.Output.{IsOutput, IsWell, report_status}
+use Rattle.rd_walk.specs.Output.{IsOutput, report_status}
 use Rattle.rd_walk.specs.Walk.{ending_of, entries_of, step_bound}
 use Rattle.rd_walk.specs.declared.status.TraceStatus.TheVariants.{InputFault}
 use Rattle.rd_walk.specs.declared.walk.WalkEnd.TheVariants.{End}
@@ -76,7 +77,7 @@ returns-in_err-analysis-clause-fault g c =
 pub gen_check-requires-clause-begins : goal.gen_check-requires-clause-begins
 unfolding recorded_of
 gen_check-requires-clause-begins g c = (
-  subst (λ part. MatchEither part (CheckBegins (kinds_in c.in_ok-roster.roster)) (λ _. ⊤)) (sym c.new-3.ensures.inner) (record {
+  subst (λ part. MatchEither part (CheckBegins (kinds_in c.in_ok-roster.roster)) (λ other. MatchEither other (λ _. ⊤) (ReorderingBegins (kinds_in c.in_ok-roster.roster)))) (sym c.new-3.ensures.inner) (record {
     kinds_are = c.in_ok-roster.ensures.kind_entries ∙ ap kinds_of (sym c.in_ok-analysis.ensures.spec);
     new = c.in_ok-analysis.ensures.new;
   }),

@@ -10,6 +10,7 @@ use Rattle.rd_wf.specs.Roster.{kinds_in}
 use Rattle.rd_replaying.specs.States.{replay_texts, built_in_kinds}
 use Rattle.either.specs.Either.{MatchEither}
 use Rattle.rd_check.specs.Checking.{CheckBegins}
+use Rattle.rd_reorder_command.specs.Keeping.{ReorderingBegins}
 use Rattle.rd_walk.specs.Output.{report_status}
 use Rattle.rd_run.proofs.RunLemmas.{part_texts}
 use Rattle.rd_replaying.specs.Replaying.{recorded_of}
@@ -48,7 +49,7 @@ returns-in_err-roster-clause-runs g c = λ old told few few_opens.
 pub report_trace-requires-clause-begins : goal.report_trace-requires-clause-begins
 unfolding recorded_of
 report_trace-requires-clause-begins g c = (
-  subst (λ part. MatchEither part (CheckBegins (kinds_in c.in_ok-roster.roster)) (λ _. ⊤)) (sym c.new-2.ensures.inner) tt,
+  subst (λ part. MatchEither part (CheckBegins (kinds_in c.in_ok-roster.roster)) (λ other. MatchEither other (λ _. ⊤) (ReorderingBegins (kinds_in c.in_ok-roster.roster)))) (sym c.new-2.ensures.inner) tt,
   record {
     numbered = ([], c.in_ok-roster.ensures.kind_entries ∙ ap kinds_of (c.in_ok-spec.ensures ∙ sym (append-nil shipped_kinds)));
     told = told_none (kinds_in c.in_ok-roster.roster);

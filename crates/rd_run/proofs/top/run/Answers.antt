@@ -7,7 +7,7 @@ use Rattle.rd_spec_commands.specs.Specifications.{spec_command_status}
 use Rattle.rd_spec_commands.proofs.StatusLemmas.{spec_calm, spec_failed, spec_no_usage, spec_wrote, written_no_input, written_no_spec}
 use Rattle.rd_run.specs.Commands.{CountsNothing, asked_command, meaning_of}
 use Rattle.rd_walk.specs.Meanings.{Runs, WritesAll}
-use Rattle.rd_run.specs.Commands.Command.{check, gen, gen_text, kind, of_spec, replay}
+use Rattle.rd_run.specs.Commands.Command.{check, gen, gen_text, kind, of_spec, reorder, replay}
 use Rattle.rd_run.specs.declared.commands.Command.{Command as Asked}
 use Rattle.rd_spec_commands.proofs.WholeLemmas.{runs_kind}
 use Rattle.rd_gen_command.proofs.StatusLemmas.{text_no_input, text_no_spec, text_no_usage, text_wrote}
@@ -192,6 +192,59 @@ returns-in-Some-Replay-clause-calm g c = λ input output memory.
 pub returns-in-Some-Replay-clause-output_fault : goal.returns-in-Some-Replay-clause-output_fault
 returns-in-Some-Replay-clause-output_fault g c =
     subst (StatusTellsFault _ _ _ _) (sym c.report_status-in-Some-Replay.ensures) (report_wrote _ _ _ _ c.replay.result c.replay.ensures.faults.output)
+
+pub returns-in-Some-Reorder-clause-runs : goal.returns-in-Some-Reorder-clause-runs
+returns-in-Some-Reorder-clause-runs g c = λ old told few few_opens.
+    let (new, part, now, writes, runs) = c.reorder.ensures.runs old told few few_opens in
+    let rose = nat_lt (g.I.Inputs.faults c.args.inputs.now) (g.I.Inputs.faults c.reorder.new.inputs) in
+    let words = ap (λ (command : Asked). asked_command (Some command)) (sym c.in-Some-Reorder.field-0-is) ∙ c.in-Some-Reorder.ensures.asked in (
+      new,
+      part,
+      now,
+      writes,
+      subst (λ command. Runs (meaning_of command) c.args.limits.now rose old new part c.report_status-in-Some-Reorder.result c.args.steps.now c.reorder.new.steps) words
+          (subst (λ status. Runs (meaning_of (Some (reorder c.in-Some-Reorder.trace.now c.in-Some-Reorder.number))) c.args.limits.now rose old new part status c.args.steps.now c.reorder.new.steps) (sym c.report_status-in-Some-Reorder.ensures) runs),
+    )
+
+pub returns-in-Some-Reorder-clause-whole : goal.returns-in-Some-Reorder-clause-whole
+returns-in-Some-Reorder-clause-whole g c = λ old told few few_opens few_faults calm silent.
+    let (new, part, now, writes, runs) = c.reorder.ensures.runs old told few few_opens in
+    let words = ap (λ (command : Asked). asked_command (Some command)) (sym c.in-Some-Reorder.field-0-is) ∙ c.in-Some-Reorder.ensures.asked in
+    let wrote = report_wrote _ _ _ _ c.reorder.result c.reorder.ensures.faults.output in (
+      part,
+      writes,
+      subst (λ command. WritesAll (meaning_of command) c.args.limits.now old part c.report_status-in-Some-Reorder.result) words
+          (subst (λ status. WritesAll (meaning_of (Some (reorder c.in-Some-Reorder.trace.now c.in-Some-Reorder.number))) c.args.limits.now old part status) (sym c.report_status-in-Some-Reorder.ensures)
+          (whole_run (Some (reorder c.in-Some-Reorder.trace.now c.in-Some-Reorder.number)) c.args.limits.now _ old new part (report_status c.reorder.result) _ _ runs (not_risen _ _ calm)
+          (none_failed _ _ _ _ (report_status c.reorder.result) wrote few_faults silent) (λ none. absurd (some≢none none)))),
+    )
+
+pub returns-in-Some-Reorder-clause-usage : goal.returns-in-Some-Reorder-clause-usage
+returns-in-Some-Reorder-clause-usage g c = λ e. absurd (report_no_usage c.reorder.result (sym c.report_status-in-Some-Reorder.ensures ∙ e))
+
+pub returns-in-Some-Reorder-clause-untouched : goal.returns-in-Some-Reorder-clause-untouched
+returns-in-Some-Reorder-clause-untouched g c = λ none.
+    let words = ap (λ (command : Asked). asked_command (Some command)) (sym c.in-Some-Reorder.field-0-is) ∙ c.in-Some-Reorder.ensures.asked in
+    absurd (some_file c.in-Some-Reorder.trace.now [] (ap (λ command. (meaning_of command).files) words ∙ none))
+
+pub returns-in-Some-Reorder-clause-uncounted : goal.returns-in-Some-Reorder-clause-uncounted
+returns-in-Some-Reorder-clause-uncounted g c = λ none.
+    let words = ap (λ (command : Asked). asked_command (Some command)) (sym c.in-Some-Reorder.field-0-is) ∙ c.in-Some-Reorder.ensures.asked in
+    absurd (some_file c.in-Some-Reorder.trace.now [] (subst CountsNothing (sym words) none))
+
+pub returns-in-Some-Reorder-clause-spec_refused : goal.returns-in-Some-Reorder-clause-spec_refused
+returns-in-Some-Reorder-clause-spec_refused g c = λ e. absurd (report_no_spec c.reorder.result (sym c.report_status-in-Some-Reorder.ensures ∙ e))
+
+pub returns-in-Some-Reorder-clause-input_fault : goal.returns-in-Some-Reorder-clause-input_fault
+returns-in-Some-Reorder-clause-input_fault g c = λ e. report_rose c.reorder.result c.reorder.ensures.faults (sym c.report_status-in-Some-Reorder.ensures ∙ e)
+
+pub returns-in-Some-Reorder-clause-calm : goal.returns-in-Some-Reorder-clause-calm
+returns-in-Some-Reorder-clause-calm g c = λ input output memory.
+    report_calm c.reorder.result c.reorder.ensures.faults (λ e. input (c.report_status-in-Some-Reorder.ensures ∙ e)) (λ e. output (c.report_status-in-Some-Reorder.ensures ∙ e)) (λ e. memory (c.report_status-in-Some-Reorder.ensures ∙ e))
+
+pub returns-in-Some-Reorder-clause-output_fault : goal.returns-in-Some-Reorder-clause-output_fault
+returns-in-Some-Reorder-clause-output_fault g c =
+    subst (StatusTellsFault _ _ _ _) (sym c.report_status-in-Some-Reorder.ensures) (report_wrote _ _ _ _ c.reorder.result c.reorder.ensures.faults.output)
 
 pub returns-in-Some-OfSpec-clause-runs : goal.returns-in-Some-OfSpec-clause-runs
 returns-in-Some-OfSpec-clause-runs g c = λ old told few few_opens.

@@ -1,0 +1,14 @@
+use Rattle.std.proofs.Common.{sym, ◌∙◌}
+use Rattle.rd_reorder_command.proofs.KeepingLemmas.{leads_more, next_follower, root_below}
+use Rattle.rd_walk.specs.Walk.{items}
+use Rattle.rd_reorder_command.proofs.reordering.ReorderingAnalysis.accept.Goals as goal
+
+pub keep-requires : goal.keep-requires
+keep-requires g c = λ thread is.
+    let (kinds, start, before, item, leads, next) = c.requires in
+    root_below kinds (items before) item thread (next_follower kinds c.args._roster.now before item c.args.accepted.now next) (sym next.numbers ∙ is)
+
+pub returns-in-Ok-clause-leads : goal.returns-in-Ok-clause-leads
+returns-in-Ok-clause-leads g c = λ kinds start before item leads next.
+    leads_more kinds start before (record { number = c.args._number; item = item }) c.args.self.now c.keep.new.self c.args._roster.now c.args.accepted.now leads next
+    c.in-Ok.ensures
