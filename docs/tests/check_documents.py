@@ -15,7 +15,7 @@ OUTSIDE = {'out'}                                 # folders of crates that build
 MADE = {'run.trace', 'run.out', 'report.txt'}     # files that a command in a document writes
 ENDINGS = r'\.(?:trace|spec|out|md|py|rt|antt|edit|txt|java|go|cpp|hpp)'
 PROGRAM = r'(?:crates/rd2/out/)?rd2'
-REPORT = re.compile(r'(race line \d|races \d|replay (exact|differs line \d|not shipped)|refused (line|spec line) \d|refused usage)')
+REPORT = re.compile(r'(race line \d|races \d|replay (exact|differs line \d|not shipped)|verdict (deterministic|not shown)|refused (line|spec line) \d|refused usage)')
 
 faults, checked = [], collections.Counter()
 

@@ -12,7 +12,7 @@ TOP = pathlib.Path(__file__).resolve().parents[2]
 CALL = {'call': str, 'clock': str, 'line': int}
 OBJECTS = [                                       # each object that a report has, by its fields
     {'earlier': CALL, 'formula': str, 'later': CALL},
-    {'ending': str, 'races': int, 'replay': str},
+    {'ending': str, 'races': int, 'replay': str, 'verdict': str},
     {'ending': str, 'races': int},
     {'ending': str},
 ]
@@ -173,7 +173,7 @@ def told(made):
         return (f'race line {later["line"]} {later["call"]} clock {later["clock"]}\n'
                 f'with line {earlier["line"]} {earlier["call"]} clock {earlier["clock"]}\nformula {made["formula"]}\n')
     races = f'races {made["races"]}\n' if 'races' in made else ''
-    ending = 'replay ' + made['replay'] if made['ending'] == 'end' else made['ending']
+    ending = f'replay {made["replay"]}\nverdict {made["verdict"]}' if made['ending'] == 'end' else made['ending']
     return f'{races}{ending}\n'
 
 
@@ -198,7 +198,7 @@ def difference(rd2, words, counts):
     if races != objects[:-1] or objects[-1].get('races', 0) != len(races):
         return 'the ending is not the last object, or counts other races'
     if objects[-1]['ending'] == 'end' and 'replay' not in objects[-1]:
-        return 'the replay is missing'
+        return 'the replay and the verdict are missing'
     return None if ''.join(map(told, objects)) == text else 'the text is another'
 
 

@@ -74,8 +74,8 @@ fault_front form kinds limits usable range stop bytes more = by (cut_trace (kind
 
     by : IsCutOf cut whole → IsFront (race_texts form kinds (entries_of cut)) (check_outcome form kinds whole).text
     by (inl same) = (
-      ending_in form (thread_names (entries_of whole)) (races_of kinds (entries_of whole)) (entries_ending kinds (entries_of whole) (ending_of whole)),
-      ap (λ w. race_texts form kinds (entries_of w) ++ ending_in form (thread_names (entries_of whole)) (races_of kinds (entries_of whole)) (entries_ending kinds (entries_of whole) (ending_of whole))) (sym same),
+      ending_in form (thread_names (entries_of whole)) (races_of kinds (entries_of whole)) (entries_ending kinds (entries_of whole) (races_of kinds (entries_of whole)) (ending_of whole)),
+      ap (λ w. race_texts form kinds (entries_of w) ++ ending_in form (thread_names (entries_of whole)) (races_of kinds (entries_of whole)) (entries_ending kinds (entries_of whole) (races_of kinds (entries_of whole)) (ending_of whole))) (sym same),
     )
     by (inr (entries, later, is_cut, is)) =
         let accepted = subst (λ w. AreAccepted (kinds_of kinds) (items (entries_of w))) is (trace_accepted (kinds_of kinds) limits usable range stop (bytes ++ more)) in

@@ -1,5 +1,5 @@
 -- What `check` writes and answers, in the words of accepted lines and of races.
-use Rattle.std.proofs.Common.{◌<◌, ◌^◌, inl, inr, ℕ, zero, suc, ◌+◌, cond, MatchOption, List, length, Option, Some, None, is_some, refl, subst, arith}
+use Rattle.std.proofs.Common.{◌≡◌, sym, true≢false, ◌<◌, ◌^◌, inl, inr, ℕ, zero, suc, ◌+◌, cond, MatchOption, List, length, Option, Some, None, is_some, refl, subst, arith}
 use Rattle.rd_base.specs.Limits.{AreUsable}
 use Rattle.rd_base.specs.declared.limits.Limits.{Limits}
 use Rattle.rd_detect.proofs.RaceLemmas.{latest_is}
@@ -7,7 +7,18 @@ use Rattle.rd_detect.specs.Races.{Reported, IsLatest}
 use Rattle.rd_detect.specs.RaceTests.{latest_of}
 use Rattle.rd_event.specs.declared.events.Event.{Event}
 use Rattle.rd_order.specs.Counts.{Counts}
-use Rattle.rd_io.specs.Lines.{Stop}
+use Rattle.rd_hb.proofs.ClockTestLemmas.{clock_at_is}
+use Rattle.rd_io.proofs.SaidLemmas.{said_reading}
+use Rattle.rd_io.specs.Lines.{Stop, reading}
+use Rattle.rd_object.specs.declared.shapes.ReplayEnd.TheVariants.{Exact, Differs, NotShipped}
+use Rattle.rd_object.specs.declared.shapes.ReplayEnd.{ReplayEnd}
+use Rattle.rd_replaying.proofs.ReportLemmas.{ends_so}
+use Rattle.rd_replaying.specs.Endings.{is_shown}
+use Rattle.rd_replaying.specs.Replaying.{recorded_of, replay_of}
+use Rattle.rd_check.proofs.VerdictLemmas.{verdicts}
+use Rattle.rd_check.specs.Verdicts.{kinds_in}
+use Rattle.std.proofs.lemmas.Bool.Decides.{Decides-eqb}
+use Rattle.std.specs.Prelude.{IsTrue}
 use Rattle.rd_wf.proofs.EventsLemmas.{accepted_told, told_formed}
 use Rattle.rd_ecl.specs.Kinds.{kinds_of}
 use Rattle.rd_ecl.specs.Specified.{SpecifiedKind}
@@ -22,6 +33,12 @@ use Rattle.rd_json.specs.declared.forms.Form.{Form}
 use Rattle.rd_walk.specs.Walk.{ending_of, entries_of, items, trace_of}
 
 -- ---- how many calls are reported
+
+-- the verdict is shown only where no call is reported and the replay is exact
+shown_where : (races : ℕ) (replay : ReplayEnd) → IsTrue (is_shown races replay) → (races ≡ 0) × (replay ≡ Exact)
+shown_where races Exact shown = ((Decides-eqb races 0).0 shown, refl)
+shown_where races (Differs line expected) shown = absurd (true≢false (sym shown))
+shown_where races NotShipped shown = absurd (true≢false (sym shown))
 
 module _ (kinds : List SpecifiedKind) where
   counted_before : (es : List Event) (n : ℕ) → Counts (Reported (Commute kinds) es) n (races_before (calls_commute kinds) es n)
@@ -40,16 +57,25 @@ module _ (kinds : List SpecifiedKind) where
   checked form limits usable range stop bytes =
       let walked = trace_of (kinds_of kinds) limits stop bytes in
       let entries = entries_of walked in
-      let es = entry_events kinds entries in record {
+      let es = entry_events kinds entries in
+      let accepted = trace_accepted (kinds_of kinds) limits usable range stop bytes in
+      let declared = calls_declared (kinds_of kinds) entries accepted in record {
         entries = entries;
         ending = ending_of walked;
+        lines = reading limits.line limits.bytes stop bytes;
+        says = said_reading limits.line limits.bytes stop bytes;
         walk = trace_walk (kinds_of kinds) limits stop bytes;
-        formed = told_formed (kinds_of kinds) (items entries) (accepted_told (kinds_of kinds) (items entries) (trace_accepted (kinds_of kinds) limits usable range stop bytes));
+        formed = told_formed (kinds_of kinds) (items entries) (accepted_told (kinds_of kinds) (items entries) accepted);
         races = race_texts form kinds entries;
         report = texts_report kinds form entries;
+        clocks = clock_at_is es;
         count = races_of kinds entries;
         counted = counted_before es (length es);
-        declared = calls_declared (kinds_of kinds) entries (trace_accepted (kinds_of kinds) limits usable range stop bytes);
+        declared = declared;
+        replay = replay_of (kinds_of kinds) entries;
+        replays = ends_so (kinds_in kinds entries) (recorded_of (kinds_of kinds) entries) declared (replay_of (kinds_of kinds) entries) refl;
+        verdict = λ more are shown. let is = shown_where (races_of kinds entries) (replay_of (kinds_of kinds) entries) shown in
+            verdicts more kinds are entries accepted is.0 is.1;
         text = refl;
         status = refl;
       }

@@ -6,4 +6,5 @@ pub mod NamingLemmas
 pub mod OutcomeLemmas
 pub mod QuietLemmas
 pub mod ReportLemmas
+pub mod VerdictLemmas
 pub mod WholeLemmas

@@ -34,15 +34,18 @@ accepted_front kinds before (x ∷ xs) ys accepted =
 
 module _ (form : Form) (kinds : List SpecifiedKind) where
   pub outcome_at : (entries : List Entry) (ending : WalkEnd) → check_outcome form kinds (after entries (ends ending))
-      ≡ record { text = race_texts form kinds entries ++ ending_in form (thread_names entries) (races_of kinds entries) (entries_ending kinds entries ending); status = check_status (races_of kinds entries) (entries_ending kinds entries ending) }
+      ≡ record {
+        text = race_texts form kinds entries ++ ending_in form (thread_names entries) (races_of kinds entries) (entries_ending kinds entries (races_of kinds entries) ending);
+        status = check_status (races_of kinds entries) (entries_ending kinds entries (races_of kinds entries) ending);
+      }
   outcome_at entries ending =
       ap (λ es. let o : Outcome = record {
-        text = race_texts form kinds es ++ ending_in form (thread_names es) (races_of kinds es) (entries_ending kinds es (ending_of (after entries (ends ending))));
-        status = check_status (races_of kinds es) (entries_ending kinds es (ending_of (after entries (ends ending))));
+        text = race_texts form kinds es ++ ending_in form (thread_names es) (races_of kinds es) (entries_ending kinds es (races_of kinds es) (ending_of (after entries (ends ending))));
+        status = check_status (races_of kinds es) (entries_ending kinds es (races_of kinds es) (ending_of (after entries (ends ending))));
       } in o) (entries_at entries ending)
       ∙ ap (λ e. let o : Outcome = record {
-        text = race_texts form kinds entries ++ ending_in form (thread_names entries) (races_of kinds entries) (entries_ending kinds entries e);
-        status = check_status (races_of kinds entries) (entries_ending kinds entries e);
+        text = race_texts form kinds entries ++ ending_in form (thread_names entries) (races_of kinds entries) (entries_ending kinds entries (races_of kinds entries) e);
+        status = check_status (races_of kinds entries) (entries_ending kinds entries (races_of kinds entries) e);
       } in o) (ending_at entries ending)
 
   -- the texts for the first lines are a front of what is written
@@ -50,7 +53,7 @@ module _ (form : Form) (kinds : List SpecifiedKind) where
       → IsFront (race_texts form kinds entries) (check_outcome form kinds (after entries walked)).text
   front_outcome entries walked accepted =
       let all = entries_of (after entries walked) in
-      let behind = ending_in form (thread_names all) (races_of kinds all) (entries_ending kinds all (ending_of (after entries walked))) in
+      let behind = ending_in form (thread_names all) (races_of kinds all) (entries_ending kinds all (races_of kinds all) (ending_of (after entries walked))) in
       let split = subst (AreAccepted (kinds_of kinds)) (ap items (entries_after entries walked) ∙ map-append (λ (entry : Entry). entry.item) entries (entries_of walked)) accepted in
       let (first, later) = accepted_front (kinds_of kinds) [] (items entries) (items (entries_of walked)) split in
       let (more, texts) = texts_front kinds form entries (entries_of walked) later (accepted_told (kinds_of kinds) (items entries) first) in (
@@ -65,19 +68,20 @@ ended_so form names races ending = record { text = ending_in form names races en
 -- of `check`
 pub check_concluded : (status : Status) (part : List ℕ) (form said : Form) (spec : List SpecifiedKind) (kinds : List Kind) (entries : List Entry) (end : WalkEnd)
     (names : List (List ℕ)) (races : ℕ) (ending : Ending) → said ≡ form → kinds ≡ kinds_of spec → names ≡ thread_names entries → races ≡ races_of spec entries
-    → ending ≡ ending_of_report (replay_of kinds entries) end → IsOutput status part (ended_so said names races ending)
+    → ending ≡ ending_of_report races (replay_of kinds entries) end → IsOutput status part (ended_so said names races ending)
     → IsOutput status (race_texts form spec entries ++ part) (check_outcome form spec (after entries (ends end)))
 check_concluded status part form said spec kinds entries end names races ending formed are named counted ended output =
-    let so : ending ≡ entries_ending spec entries end = ended ∙ ap (λ k. ending_of_report (replay_of k entries) end) are in
+    let so : ending ≡ entries_ending spec entries (races_of spec entries) end =
+        ended ∙ (λ i. ending_of_report (counted i) (replay_of (are i) entries) end) in
     let all = subst (IsOutput status part) (λ i. ended_so (formed i) (named i) (counted i) (so i)) output in
     subst (IsOutput status (race_texts form spec entries ++ part)) (sym (outcome_at form spec entries end))
-    (behind status (race_texts form spec entries) part (ending_in form (thread_names entries) (races_of spec entries) (entries_ending spec entries end))
-    (check_status (races_of spec entries) (entries_ending spec entries end)) all)
+    (behind status (race_texts form spec entries) part (ending_in form (thread_names entries) (races_of spec entries) (entries_ending spec entries (races_of spec entries) end))
+    (check_status (races_of spec entries) (entries_ending spec entries (races_of spec entries) end)) all)
 
 -- where memory runs out before anything more is written
 pub check_front : (form : Form) (spec : List SpecifiedKind) (entries : List Entry) (end : WalkEnd) → IsOutput NoMemory (race_texts form spec entries ++ []) (check_outcome form spec (after entries (ends end)))
 check_front form spec entries end =
-    let text = ending_in form (thread_names entries) (races_of spec entries) (entries_ending spec entries end) in
+    let text = ending_in form (thread_names entries) (races_of spec entries) (entries_ending spec entries (races_of spec entries) end) in
     (text, ap (λ o. o.text) (outcome_at form spec entries end) ∙ ap (λ t. t ++ text) (sym (append-nil (race_texts form spec entries))))
 
 pub check_fronts : (kinds : List Kind) (start : CheckOf) (entries : List Entry) (walked : Walked) → CheckBegins kinds start

@@ -267,7 +267,7 @@ module _ (kinds : List SpecifiedKind) where
   not_raced (Differs line expected) = λ e. cc
   not_raced NotShipped = λ e. cc
 
-  raced_end : (entries : List Entry) → (check_status (races_of kinds entries) (entries_ending kinds entries End) ≡ Raced) ↔ ((j : ℕ) × Reported (Commute kinds) (entry_events kinds entries) j)
+  raced_end : (entries : List Entry) → (check_status (races_of kinds entries) (entries_ending kinds entries (races_of kinds entries) End) ≡ Raced) ↔ ((j : ℕ) × Reported (Commute kinds) (entry_events kinds entries) j)
   unfolding check_status
   raced_end entries = (
     λ raced. by (cases_eq (races_of kinds entries) 0) raced,
@@ -280,7 +280,7 @@ module _ (kinds : List SpecifiedKind) where
           (ap (λ b. cond b (replay_status (replay_of (kinds_of kinds) entries)) Raced) (sym (eq-eqb (races_of kinds entries) 0 none)) ∙ raced))
       by (inr some) raced = some_reported entries some
 
-  pub raced_where : (entries : List Entry) (ending : WalkEnd) → (check_status (races_of kinds entries) (entries_ending kinds entries ending) ≡ Raced) ↔ ((ending ≡ End) × ((j : ℕ) × Reported (Commute kinds) (entry_events kinds entries) j))
+  pub raced_where : (entries : List Entry) (ending : WalkEnd) → (check_status (races_of kinds entries) (entries_ending kinds entries (races_of kinds entries) ending) ≡ Raced) ↔ ((ending ≡ End) × ((j : ℕ) × Reported (Commute kinds) (entry_events kinds entries) j))
   unfolding check_status
   raced_where entries End = (λ raced. (refl, (raced_end entries).0 raced), λ h. (raced_end entries).1 h.1)
   raced_where entries (Refused number cause) = (λ raced. absurd (by (is_limit cause) raced), λ h. let is = h.0 in cc)
@@ -296,7 +296,7 @@ module _ (kinds : List SpecifiedKind) where
   is_difference (Differs line expected) e = (line, expected, refl)
   is_difference NotShipped e = cc
 
-  differs_end : (entries : List Entry) → (check_status (races_of kinds entries) (entries_ending kinds entries End) ≡ ReplayDiffers)
+  differs_end : (entries : List Entry) → (check_status (races_of kinds entries) (entries_ending kinds entries (races_of kinds entries) End) ≡ ReplayDiffers)
       ↔ (((j : ℕ) → ¬ (Reported (Commute kinds) (entry_events kinds entries) j)) × ((line : ℕ) × (expected : Expected) × (replay_of (kinds_of kinds) entries ≡ Differs line expected)))
   unfolding check_status
   differs_end entries = (
@@ -315,7 +315,7 @@ module _ (kinds : List SpecifiedKind) where
       by (inr some) differs = (let raced : Raced ≡ ReplayDiffers =
           ap (λ b. cond b (replay_status (replay_of (kinds_of kinds) entries)) Raced) (sym (ne_eqb (races_of kinds entries) 0 some)) ∙ differs in cc)
 
-  pub differs_where : (entries : List Entry) (ending : WalkEnd) → (check_status (races_of kinds entries) (entries_ending kinds entries ending) ≡ ReplayDiffers)
+  pub differs_where : (entries : List Entry) (ending : WalkEnd) → (check_status (races_of kinds entries) (entries_ending kinds entries (races_of kinds entries) ending) ≡ ReplayDiffers)
       ↔ ((ending ≡ End) × (((j : ℕ) → ¬ (Reported (Commute kinds) (entry_events kinds entries) j))
       × ((line : ℕ) × (expected : Expected) × (replay_of (kinds_of kinds) entries ≡ Differs line expected))))
   unfolding check_status

@@ -2,7 +2,10 @@
 use Rattle.rd_walk.proofs.WholeLemmas.{all_written, whole_from}
 use Rattle.rd_replaying.proofs.ReplayLemmas.{ends_well}
 use Rattle.rd_spec_commands.proofs.WholeLemmas.{one_text}
-use Rattle.rd_check.specs.Meanings.{check_meaning, AreKinds, IsCheckOutcome, IsCheckedWith}
+use Rattle.rd_base.specs.Limits.{AreUsable}
+use Rattle.rd_check.proofs.HeadlineLemmas.{checked as headline}
+use Rattle.rd_check.specs.Meanings.{check_meaning, AreKinds, IsCheckOutcome, IsCheckedWith, IsWrittenWhole}
+use Rattle.rd_check.specs.Reports.{IsChecked}
 use Rattle.rd_base.specs.declared.limits.Limits.{Limits}
 use Rattle.rd_ecl.specs.Kinds.{kinds_of}
 use Rattle.rd_ecl.specs.Specified.{SpecifiedKind}
@@ -15,7 +18,7 @@ use Rattle.rd_replaying.specs.Endings.{check_status, ending_of_report}
 use Rattle.rd_replaying.specs.Replaying.{replay_of}
 use Rattle.rd_json.specs.declared.forms.Form.{Form}
 use Rattle.rd_spec_commands.specs.Meanings.{IsSpecFileRefused}
-use Rattle.rd_walk.specs.Traces.{IsWholeOutput, walk_on}
+use Rattle.rd_walk.specs.Traces.{walk_on}
 use Rattle.rd_walk.specs.Meanings.{WritesAll}
 use Rattle.rd_walk.specs.Walk.{Walked, ending_of, entries_of, trace_of}
 use Rattle.rd_walk.specs.declared.status.Status.TheVariants.{OutputFault}
@@ -23,7 +26,7 @@ use Rattle.rd_walk.specs.declared.status.Status.{Status}
 use Rattle.rd_walk.specs.declared.walk.WalkEnd.TheVariants.{End}
 use Rattle.rd_reading.proofs.OneLemmas.{never_refused, one_said}
 use Rattle.rd_reading.specs.Texts.{IsSpecRefused, SpecSays}
-use Rattle.std.proofs.Common.{◌≡◌, ◌≢◌, ℕ, false, List, ◌++◌, Option, Some, None, sym, ap, ◌∙◌, subst, inl, inr, true≢false}
+use Rattle.std.proofs.Common.{◌≡◌, ◌≢◌, ◌<◌, ◌^◌, ℕ, false, List, ◌++◌, Option, Some, None, sym, ap, ◌∙◌, subst, inl, inr, true≢false}
 use Rattle.std.specs.Prelude.{option_map}
 
 -- the kinds are these alone
@@ -42,23 +45,28 @@ not_refused form old new file kinds outcome (bytes, said, text, says, is) refuse
 checked_well : (form : Form) (kinds : List SpecifiedKind) (walked : Walked) → ending_of walked ≡ End → IsWell (check_outcome form kinds walked).status
 checked_well form kinds walked well =
     let entries = entries_of walked in
-    subst (λ e. IsWell (check_status (races_of kinds entries) (ending_of_report (replay_of (kinds_of kinds) entries) e))) (sym well)
+    subst (λ e. IsWell (check_status (races_of kinds entries) (ending_of_report (races_of kinds entries) (replay_of (kinds_of kinds) entries) e))) (sym well)
     (ends_well (races_of kinds entries) (replay_of (kinds_of kinds) entries))
 
 module _ (form : Form) (trace : List ℕ) (limits : Limits) (old new : Source) (kinds : List SpecifiedKind) (bytes : List ℕ) (at : file_of old.files trace ≡ Some bytes)
-    (well : ending_of (trace_of (kinds_of kinds) limits end bytes) ≡ End) (part : List ℕ) (status : Status) where
+    (usable : AreUsable limits) (range : limits.threads < 2 ^ 32) (part : List ℕ) (status : Status) where
   abbrev whole_outcome : Outcome
   whole_outcome = check_outcome form kinds (trace_of (kinds_of kinds) limits end bytes)
 
   whole_checked : (file : Option (List ℕ)) (files : ℕ) (outcome : Outcome) → AreKinds old file kinds → IsCheckedWith form trace file files limits false old new outcome
-      → part ≡ outcome.text → status ≡ outcome.status → IsWholeOutput whole_outcome part status
+      → part ≡ outcome.text → status ≡ outcome.status → IsWrittenWhole form kinds limits bytes part status
   whole_checked file files outcome are checked text told =
       let same = one_kinds old file checked.kinds kinds checked.are are in
-      whole_from whole_outcome outcome part status (checked_well form kinds (trace_of (kinds_of kinds) limits end bytes) well)
-      (checked.is ∙ (λ i. check_outcome form (same i) (walk_on (kinds_of (same i)) limits (option_map (λ b. (end, b)) (at i))))) text told
+      let is = checked.is ∙ (λ i. check_outcome form (same i) (walk_on (kinds_of (same i)) limits (option_map (λ b. (end, b)) (at i)))) in
+      record {
+        headline = subst (IsChecked form kinds limits end bytes)
+            (λ i. let o : Outcome = record { text = (ap (λ o. o.text) (sym is) ∙ sym text) i; status = (ap (λ o. o.status) (sym is) ∙ sym told) i } in o)
+            (headline kinds form limits usable range end bytes);
+        whole = λ well. whole_from whole_outcome outcome part status (checked_well form kinds (trace_of (kinds_of kinds) limits end bytes) well) is text told;
+      }
 
   whole_of : (file : Option (List ℕ)) (outcome : Outcome) → AreKinds old file kinds → IsCheckOutcome form trace file limits false old new outcome
-      → part ≡ outcome.text → status ≡ outcome.status → IsWholeOutput whole_outcome part status
+      → part ≡ outcome.text → status ≡ outcome.status → IsWrittenWhole form kinds limits bytes part status
   whole_of None outcome are (inl faulted) text told = absurd (true≢false (sym faulted.risen))
   whole_of None outcome are (inr checked) text told = whole_checked None 1 outcome are checked text told
   whole_of (Some file) outcome are (inl faulted) text told = absurd (true≢false (sym faulted.risen))
@@ -66,9 +74,10 @@ module _ (form : Form) (trace : List ℕ) (limits : Limits) (old new : Source) (
   whole_of (Some file) outcome are (inr (inr checked)) text told = whole_checked (Some file) 2 outcome are checked text told
 
 pub whole_check : (form : Form) (trace : List ℕ) (file : Option (List ℕ)) (limits : Limits) (old new : Source) (part : List ℕ) (status : Status)
-    → HasOutcome (IsCheckOutcome form trace file limits false old new) status part → status ≢ OutputFault → WritesAll (check_meaning form trace file) limits old part status
-whole_check form trace file limits old new part status has other kinds bytes are at well =
+    → AreUsable limits → limits.threads < 2 ^ 32 → HasOutcome (IsCheckOutcome form trace file limits false old new) status part → status ≢ OutputFault
+    → WritesAll (check_meaning form trace file) limits old part status
+whole_check form trace file limits old new part status usable range has other kinds bytes are at =
     elim (all_written (IsCheckOutcome form trace file limits false old new) status part has other) [
       | inl none ↦ inl none
-      | inr all ↦ inr (whole_of form trace limits old new kinds bytes at well part status file all.outcome are all.is all.text all.told)
+      | inr all ↦ inr (whole_of form trace limits old new kinds bytes at usable range part status file all.outcome are all.is all.text all.told)
     ]

@@ -81,16 +81,16 @@ entries_race form kinds entries = race_at form kinds (naming (items entries)) (e
 unfoldable pub race_texts : Form → List SpecifiedKind → List Entry → List ℕ
 race_texts form kinds entries = texts_before (calls_commute kinds) (entries_race form kinds entries) (entry_events kinds entries) (length (entry_events kinds entries))
 
--- the ending of a report of these accepted lines
-abbrev pub entries_ending : List SpecifiedKind → List Entry → WalkEnd → Ending
-entries_ending kinds entries ending = ending_of_report (replay_of (kinds_of kinds) entries) ending
+-- the ending of a report of these accepted lines, of which so many calls are reported
+abbrev pub entries_ending : List SpecifiedKind → List Entry → ℕ → WalkEnd → Ending
+entries_ending kinds entries races ending = ending_of_report races (replay_of (kinds_of kinds) entries) ending
 
 -- `check` on a trace with objects of these kinds, in this form
 abbrev pub check_outcome : Form → List SpecifiedKind → Walked → Outcome
 check_outcome form kinds walked =
     let entries = entries_of walked in
     let races = races_of kinds entries in
-    let ending = entries_ending kinds entries (ending_of walked) in
+    let ending = entries_ending kinds entries races (ending_of walked) in
     record {
       text = race_texts form kinds entries ++ ending_in form (thread_names entries) races ending;
       status = check_status races ending;

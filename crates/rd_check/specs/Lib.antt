@@ -2,4 +2,5 @@ pub mod Checked
 pub mod Checking
 pub mod Meanings
 pub mod Reports
+pub mod Verdicts
 pub mod laws

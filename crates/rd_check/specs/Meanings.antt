@@ -12,6 +12,7 @@ use Rattle.rd_json.specs.declared.forms.Form.{Form}
 use Rattle.rd_kinds.specs.Shipped.{reserved_names, shipped_kinds}
 use Rattle.rd_walk.specs.Output.{Outcome}
 use Rattle.rd_check.specs.Checked.{check_outcome, check_texts}
+use Rattle.rd_check.specs.Reports.{IsChecked}
 use Rattle.rd_walk.specs.Walk.{ending_of, trace_of}
 use Rattle.rd_walk.specs.declared.status.Status.TheVariants.{NoMemory}
 use Rattle.rd_walk.specs.declared.status.Status.{Status}
@@ -58,11 +59,17 @@ abbrev pub ReadsChecked : List ℕ → Option (List ℕ) → Limits → Source �
 ReadsChecked trace file limits old new =
     (kinds : List SpecifiedKind) × AreKinds old file kinds × IsReadWhole (kinds_of kinds) trace limits old new
 
+-- The headline holds of what was written and the status; and where the walk comes to the end of the trace, nothing is left out.
+pub record IsWrittenWhole (form : Form) (kinds : List SpecifiedKind) (limits : Limits) (bytes : List ℕ) (part : List ℕ) (status : Status) : Type 0 where
+  pub headline : IsChecked form kinds limits end bytes (record { text = part; status = status })
+  pub whole : ending_of (trace_of (kinds_of kinds) limits end bytes) ≡ End
+      → IsWholeOutput (check_outcome form kinds (trace_of (kinds_of kinds) limits end bytes)) part status
+
 -- nothing is left out
 abbrev pub WritesChecked : Form → List ℕ → Option (List ℕ) → Limits → Source → List ℕ → Status → Type 0
 WritesChecked form trace file limits old part status =
     (kinds : List SpecifiedKind) (bytes : List ℕ) → AreKinds old file kinds → file_of old.files trace ≡ Some bytes
-    → ending_of (trace_of (kinds_of kinds) limits end bytes) ≡ End → (status ≡ NoMemory) ⊎ IsWholeOutput (check_outcome form kinds (trace_of (kinds_of kinds) limits end bytes)) part status
+    → (status ≡ NoMemory) ⊎ IsWrittenWhole form kinds limits bytes part status
 
 -- the files, in the order in which they are opened
 abbrev pub checked_files : List ℕ → Option (List ℕ) → List (List ℕ)

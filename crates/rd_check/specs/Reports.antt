@@ -1,5 +1,5 @@
 -- What a report says of the bytes of a trace, in the words of accepted lines and of races: this project's profile.
-use Rattle.std.specs.Prelude.{◌≡◌, ◌⊎◌, ℕ, zero, suc, ◌<◌, List, [], ◌++◌, All, length}
+use Rattle.std.specs.Prelude.{◌≡◌, ◌⊎◌, ℕ, zero, suc, ◌<◌, IsTrue, List, [], ◌++◌, All, length}
 use Rattle.rd_base.specs.declared.limits.Limits.{Limits}
 use Rattle.rd_detect.specs.Commuting.{Commute}
 use Rattle.rd_detect.specs.Races.{Reported, IsLatest}
@@ -7,18 +7,24 @@ use Rattle.rd_event.specs.declared.events.Call.{Call}
 use Rattle.rd_event.specs.declared.events.Event.{Event}
 use Rattle.rd_order.specs.Counts.{Counts}
 use Rattle.rd_order.specs.EventLists.{WellFormedWith}
-use Rattle.rd_io.specs.Lines.{Stop, reading}
+use Rattle.rd_hb.specs.ClockTests.{clock_at}
+use Rattle.rd_hb.specs.EventClocks.{IsClock}
+use Rattle.rd_io.specs.Lines.{Reading, Stop}
+use Rattle.rd_io.specs.SaidLines.{SaysLines}
 use Rattle.rd_wf.specs.Events.{roots_of}
 use Rattle.rd_ecl.specs.Kinds.{kinds_of}
 use Rattle.rd_ecl.specs.Specified.{SpecifiedKind}
 use Rattle.rd_json.specs.Forms.{ending_in}
 use Rattle.rd_json.specs.declared.forms.Form.{Form}
 use Rattle.rd_replay.specs.Replays.{Recorded}
-use Rattle.rd_wf.specs.MayFollow.{object_kinds}
+use Rattle.rd_kinds.specs.Shipped.{shipped_kinds}
+use Rattle.rd_object.specs.declared.shapes.ReplayEnd.{ReplayEnd}
 use Rattle.rd_replaying.specs.Replaying.{recorded_of}
 use Rattle.rd_walk.specs.Output.{Outcome}
-use Rattle.rd_replaying.specs.Endings.{check_status, thread_names}
-use Rattle.rd_check.specs.Checked.{entries_ending, entries_race, entry_events}
+use Rattle.rd_replaying.specs.Endings.{check_status, ending_of_report, is_shown, thread_names}
+use Rattle.rd_replaying.specs.Reports.{ReplayEndsSo}
+use Rattle.rd_check.specs.Checked.{entries_race, entry_events}
+use Rattle.rd_check.specs.Verdicts.{AreDeterministic, kinds_in}
 use Rattle.rd_walk.specs.AcceptedLines.{IsWalk}
 use Rattle.rd_walk.specs.Walk.{Entry, items}
 use Rattle.rd_walk.specs.declared.walk.WalkEnd.{WalkEnd}
@@ -36,24 +42,33 @@ IsReport Commuting race es (suc place) text =
 
 -- ---- the whole
 
--- What `check` writes in this form and answers for the bytes of a trace whose objects are of these kinds, and whose reading ends so: the
--- texts of the races among the events of the accepted lines, how many calls are reported, and how the lines end, with the replay of the calls
--- at the end of the trace.
+-- The headline: what `check` writes in this form and answers for the bytes of a trace whose objects are of these kinds, and whose reading ends
+-- so: the texts of the races among the events of the accepted lines, how many calls are reported, and how the lines end, with the replay of the
+-- calls and the verdict at the end of the trace; in lines, rules, races, clocks, replays and orders.
 pub record IsChecked (form : Form) (kinds : List SpecifiedKind) (limits : Limits) (stop : Stop) (bytes : List ℕ) (outcome : Outcome) : Type 0 where
-  -- the accepted lines, and how they end
+  -- the lines that the bytes are
+  pub lines : Reading
+  pub says : SaysLines limits.line limits.bytes stop bytes lines
+  -- those that are accepted, by what they say and by the rules, and how they end
   pub entries : List Entry
   pub ending : WalkEnd
-  pub walk : IsWalk (kinds_of kinds) limits [] 1 (reading limits.line limits.bytes stop bytes) entries ending
+  pub walk : IsWalk (kinds_of kinds) limits [] 1 lines entries ending
   -- their events are a well-formed list, with calls of these kinds
   pub formed : WellFormedWith (kinds_of kinds) (roots_of (items entries)) (entry_events kinds entries)
   -- a text for each reported call, with the latest that races with it: both calls, their clocks, and the formula that they fail
   pub races : List ℕ
   pub report : IsReport (Commute kinds) (entries_race form kinds entries) (entry_events kinds entries) (length (entry_events kinds entries)) races
+  -- a clock that is told has for each thread how many of its events are the call or reach it
+  pub clocks : (place thread : ℕ) → IsClock (entry_events kinds entries) place thread (clock_at (entry_events kinds entries) place thread)
   -- how many calls are reported
   pub count : ℕ
   pub counted : Counts (Reported (Commute kinds) (entry_events kinds entries)) (length (entry_events kinds entries)) count
-  -- the calls are on declared objects, as the law of replays asks
-  pub declared : All (λ (recorded : Recorded). recorded.1.object < length (object_kinds (kinds_of kinds) (items entries))) (recorded_of (kinds_of kinds) entries)
+  -- how the replay of the calls ends, which are on declared objects
+  pub declared : All (λ (recorded : Recorded). recorded.1.object < length (kinds_in kinds entries)) (recorded_of (kinds_of kinds) entries)
+  pub replay : ReplayEnd
+  pub replays : ReplayEndsSo (kinds_in kinds entries) (recorded_of (kinds_of kinds) entries) replay
+  -- where it is shown, behind the built-in kinds and any others, the events are deterministic
+  pub verdict : (more : List SpecifiedKind) → kinds ≡ shipped_kinds ++ more → IsTrue (is_shown count replay) → AreDeterministic kinds entries
   -- what is written, and the status
-  pub text : outcome.text ≡ races ++ ending_in form (thread_names entries) count (entries_ending kinds entries ending)
-  pub status : outcome.status ≡ check_status count (entries_ending kinds entries ending)
+  pub text : outcome.text ≡ races ++ ending_in form (thread_names entries) count (ending_of_report count replay ending)
+  pub status : outcome.status ≡ check_status count (ending_of_report count replay ending)

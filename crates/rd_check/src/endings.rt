@@ -59,7 +59,7 @@ impl<'a> ReplayedReport for Check<'a> {
         ending: WalkEnd,
         out: &mut S,
     ) -> Result<TraceStatus, Halt> {
-        let ending = ending_of_report(replayer, ending)?;
+        let ending = ending_of_report(self.races, replayer, ending)?;
         write_ending(self.form, alloc, names, self.races, &ending, out)
     }
 

@@ -12,10 +12,14 @@ ghost use Rattle.rd_check.specs.Checked.{check_outcome, entries_race, entry_even
 ghost use Rattle.rd_object.specs.declared.shapes.Expected.{Expected as ExpectedOf};
 ghost use Rattle.rd_replaying.specs.Replaying.{replay_of};
 ghost use Rattle.rd_check.specs.Reports.{IsChecked, IsReport};
-ghost use Rattle.rd_walk.specs.Walk.{Entry, Walked, ending_of, entries_of, trace_of};
+ghost use Rattle.rd_check.specs.Verdicts.{AreDeterministic};
+ghost use Rattle.rd_kinds.specs.Shipped.{shipped_kinds};
+ghost use Rattle.rd_wf.specs.Events.{AreAccepted};
+ghost use Rattle.rd_walk.specs.Walk.{Entry, Walked, ending_of, entries_of, items, trace_of};
 ghost use Rattle.rd_ecl.specs.Kinds.{kinds_of};
 ghost use Rattle.rd_ecl.specs.Specified.{SpecifiedKind};
 
+use rd_linear::law_of_determinism;
 use rd_object::ReplayEnd;
 use rd_walk::{Status, WalkEnd};
 
@@ -43,12 +47,26 @@ pub fn law_of_reports()
         × (replay_of (kinds_of kinds) (entries_of walked) ≡ ReplayEnd.Differs line expected))))) }
 {}
 
-/// The headline, for all bytes of a trace, whatever the form, the kinds of its objects and the limits within their ranges, and wherever the reading
-/// of it ends. The outcome that `run` is proved to write and answer is this: the accepted lines are those that say an item which may
-/// follow, up to the first line that doesn't; the text has, for each event of theirs with which an earlier call races, the text of the race
-/// with the latest that does, which tells both calls with their lines and clocks and the formula that they fail; then how many calls are
-/// reported, and then how the replay of the calls ends, which are on declared objects, or why a line was refused, or that a read failed; and
-/// the status is that of how the lines end, of whether a call is reported, and of the replay.
+/// The verdict: where no call of accepted lines is reported and their replay is exact, each order of their events that keeps what comes
+/// before what is a well-formed list with the same events before one another, and its calls give the recorded results and lead the objects
+/// to the same shapes. So it is of the kinds that are built in, and any others behind them.
+pub fn law_of_verdicts()
+    ensures { (more : List SpecifiedKind) (entries : List Entry) →
+        AreAccepted (kinds_of (shipped_kinds ++ more)) (items entries) →
+        races_of (shipped_kinds ++ more) entries ≡ 0 →
+        replay_of (kinds_of (shipped_kinds ++ more)) entries ≡ ReplayEnd.Exact →
+        AreDeterministic (shipped_kinds ++ more) entries }
+{
+    law_of_determinism();
+}
+
+/// The headline whole, for all bytes of a trace, whatever the form, the kinds of its objects and the limits within their ranges, and wherever the
+/// reading of it ends. The outcome that `run` is proved to write and answer is this: the bytes are these lines; the accepted ones are those that
+/// say an item which may follow, up to the first line that doesn't; the text has, for each event of theirs with which an earlier call races, the
+/// text of the race with the latest that does, which tells both calls with their lines and clocks and the formula that they fail; then how many
+/// calls are reported, and then how the replay of the calls ends and the verdict, or why a line was refused, or that a read failed; where the
+/// verdict is `deterministic`, every order of the events that keeps what comes before what gives the same results and ends the same; and the
+/// status is that of how the lines end, of whether a call is reported, and of the replay.
 pub fn law_of_checks()
     ensures { (form : Form) (kinds : List SpecifiedKind) (limits : Limits) → AreUsable limits →
         limits.threads < 2 ^ 32 → (stop : Stop) (bytes : List ℕ) →

@@ -6,4 +6,4 @@ mod endings;
 mod laws;
 
 pub use checking::Check;
-pub use laws::{law_of_checks, law_of_faults, law_of_reports};
+pub use laws::{law_of_checks, law_of_faults, law_of_reports, law_of_verdicts};

@@ -55,6 +55,7 @@ const EXAMPLES: &str = "\
     check swaps.trace swaps.out\n\
     check tasks.trace tasks.out\n\
     check texts.trace texts.out\n\
+    check two_puts.trace two_puts.out\n\
     check unwritten_lock.trace unwritten_lock.out\n\
     check updates_in_turn.trace updates_in_turn.out\n\
     check-json dictionary_update.trace dictionary_update.json.out\n\

@@ -1,10 +1,30 @@
 //! The law of generated lines.
-ghost use Rattle.std.specs.Prelude.{ℕ};
+ghost use Rattle.std.specs.Prelude.{◌≡◌, ◌<◌, ◌^◌, ℕ};
+ghost use Rattle.rd_base.specs.Limits.{AreUsable};
 ghost use Rattle.rd_base.specs.declared.limits.Limits.{Limits};
 ghost use Rattle.rd_ecl.specs.Kinds.{kinds_of};
 ghost use Rattle.rd_gen_command.specs.GeneratedWalks.{generated_walk};
 ghost use Rattle.rd_gen_laws.specs.WellEnded.{IsWellEnded};
 ghost use Rattle.rd_kinds.specs.Shipped.{shipped_kinds};
+ghost use Rattle.rd_check.specs.Checked.{races_of};
+ghost use Rattle.rd_check.specs.Verdicts.{AreDeterministic};
+ghost use Rattle.rd_replaying.specs.Replaying.{replay_of};
+ghost use Rattle.rd_replaying.specs.States.{built_in_kinds};
+ghost use Rattle.rd_walk.specs.Walk.{entries_of};
+
+use rd_check::law_of_verdicts;
+use rd_object::ReplayEnd;
+
+/// The verdict on a generated trace, whose lines are judged like any others: where no call is reported and the replay is exact, its events
+/// are deterministic.
+pub fn law_of_generated_verdicts()
+    ensures { (limits : Limits) (number count : ℕ) → AreUsable limits → limits.threads < 2 ^ 32 →
+        races_of shipped_kinds (entries_of (generated_walk built_in_kinds limits number count)) ≡ 0 →
+        replay_of built_in_kinds (entries_of (generated_walk built_in_kinds limits number count)) ≡ ReplayEnd.Exact →
+        AreDeterministic shipped_kinds (entries_of (generated_walk built_in_kinds limits number count)) }
+{
+    law_of_verdicts();
+}
 
 /// Of the lines of a generated trace only a limit can refuse one: each other rule on what may follow is met, whatever the number, and
 /// the walk over them comes to the end where no limit is passed.

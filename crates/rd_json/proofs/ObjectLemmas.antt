@@ -45,11 +45,14 @@ module _ (kinds : List SpecifiedKind) (naming : Naming) where
       ++ (codes ",\"later\":" ++ (told_text later last i ++ codes "}"))))) ++ codes "\n")
       ∙ seven_then (codes "{\"earlier\":") (told_json kinds naming earlier) (codes ",\"formula\":") (string_json formula) (codes ",\"later\":") (told_json kinds naming later) (codes "}") (codes "\n")
 
-pub end_text : (races : ℕ) (replay : List ℕ) → ArePlain replay → compact_text (end_value races replay) ++ codes "\n" ≡ end_json races replay
+pub end_text : (races : ℕ) (replay verdict : List ℕ) → ArePlain replay → ArePlain verdict
+    → compact_text (end_value races replay verdict) ++ codes "\n" ≡ end_json races replay verdict
 unfolding escape_byte between_quotes end_json
-end_text races replay plain =
-    (λ i. codes "{\"ending\":\"end\",\"races\":" ++ (decimal races ++ (codes ",\"replay\":" ++ (between_quotes (escapes replay plain i) ++ codes "}"))) ++ codes "\n")
-    ∙ five_then (codes "{\"ending\":\"end\",\"races\":") (decimal races) (codes ",\"replay\":") (string_json replay) (codes "}") (codes "\n")
+end_text races replay verdict plain clear =
+    (λ i. codes "{\"ending\":\"end\",\"races\":" ++ (decimal races ++ (codes ",\"replay\":" ++ (between_quotes (escapes replay plain i)
+    ++ (codes ",\"verdict\":" ++ (between_quotes (escapes verdict clear i) ++ codes "}"))))) ++ codes "\n")
+    ∙ seven_then (codes "{\"ending\":\"end\",\"races\":") (decimal races) (codes ",\"replay\":") (string_json replay) (codes ",\"verdict\":")
+    (string_json verdict) (codes "}") (codes "\n")
 
 pub cut_text : (races : ℕ) (ending : List ℕ) → ArePlain ending → compact_text (cut_value races ending) ++ codes "\n" ≡ cut_json races ending
 unfolding escape_byte between_quotes cut_json

@@ -5,7 +5,7 @@ use Rattle.rd_event.specs.declared.events.Call.{Call}
 use Rattle.rd_reading.specs.RefusedTexts.{spec_cause_text}
 use Rattle.rd_reading.specs.declared.parsing.SpecRefused.{SpecRefused as Refusal}
 use Rattle.rd_report.specs.Races.{Told, clock_text, formula_words, named_call}
-use Rattle.rd_report.specs.Texts.{Naming, refused_words, replay_words}
+use Rattle.rd_report.specs.Texts.{Naming, refused_words, replay_words, verdict_words}
 use Rattle.rd_report.specs.declared.endings.Ending.{Ending}
 use Rattle.rd_report.specs.declared.endings.Ending.TheVariants.{End, Refused, Fault}
 
@@ -38,10 +38,11 @@ race_json kinds naming later earlier =
 
 -- ---- endings
 
--- where a trace was read to its end: how many calls are reported, and how the replay ended
-unfoldable pub end_json : ℕ → List ℕ → List ℕ
-end_json races replay =
-    codes "{\"ending\":\"end\",\"races\":" ++ decimal races ++ codes ",\"replay\":" ++ string_json replay ++ codes "}\n"
+-- where a trace was read to its end: how many calls are reported, how the replay ended, and what is shown
+unfoldable pub end_json : ℕ → List ℕ → List ℕ → List ℕ
+end_json races replay verdict =
+    codes "{\"ending\":\"end\",\"races\":" ++ decimal races ++ codes ",\"replay\":" ++ string_json replay ++ codes ",\"verdict\":" ++ string_json verdict
+    ++ codes "}\n"
 
 -- where it was not: why, and how many calls are reported
 unfoldable pub cut_json : ℕ → List ℕ → List ℕ
@@ -53,7 +54,7 @@ alone_json ending = codes "{\"ending\":" ++ string_json ending ++ codes "}\n"
 
 -- the line behind the races: how the lines of a trace end, by the names of the threads
 abbrev pub ending_json : List (List ℕ) → ℕ → Ending → List ℕ
-ending_json names races (End replay) = end_json races (replay_words replay)
+ending_json names races (End replay shown) = end_json races (replay_words replay) (verdict_words shown)
 ending_json names races (Refused number cause) = cut_json races (refused_words names number cause)
 ending_json names races Fault = cut_json races (codes "fault input")
 

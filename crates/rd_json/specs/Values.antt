@@ -21,9 +21,10 @@ abbrev pub race_value : Data → List ℕ → Data → Data
 race_value earlier formula later =
     object (member (codes "earlier") earlier (member (codes "formula") (string formula) (member (codes "later") later no_members)))
 
-abbrev pub end_value : ℕ → List ℕ → Data
-end_value races replay =
-    object (member (codes "ending") (string (codes "end")) (member (codes "races") (number (unsigned races)) (member (codes "replay") (string replay) no_members)))
+abbrev pub end_value : ℕ → List ℕ → List ℕ → Data
+end_value races replay verdict =
+    object (member (codes "ending") (string (codes "end")) (member (codes "races") (number (unsigned races))
+    (member (codes "replay") (string replay) (member (codes "verdict") (string verdict) no_members))))
 
 abbrev pub cut_value : ℕ → List ℕ → Data
 cut_value races ending = object (member (codes "ending") (string ending) (member (codes "races") (number (unsigned races)) no_members))

@@ -38,13 +38,19 @@ pub(crate) fn race_value(
     json!(in alloc; {"earlier": earlier, "formula": formula, "later": later})
 }
 
-// The end of a trace, how many calls are reported, and how the replay ended.
-pub(crate) fn end_value(alloc: Global, races: u64, replay: &[u8]) -> Result<Value, AllocError>
-    requires { ArePlain replay.now }
-    ensures { IfOk result (λ value. view value ≡ end_value races replay.now) }
+// The end of a trace, how many calls are reported, how the replay ended, and what is shown.
+pub(crate) fn end_value(
+    alloc: Global,
+    races: u64,
+    replay: &[u8],
+    verdict: &[u8],
+) -> Result<Value, AllocError>
+    requires { ArePlain replay.now × ArePlain verdict.now }
+    ensures { IfOk result (λ value. view value ≡ end_value races replay.now verdict.now) }
 {
     let replay = plain_str(replay);
-    json!(in alloc; {"ending": "end", "races": races, "replay": replay})
+    let verdict = plain_str(verdict);
+    json!(in alloc; {"ending": "end", "races": races, "replay": replay, "verdict": verdict})
 }
 
 // Why a trace was not read to its end, and how many calls are reported.

@@ -245,25 +245,46 @@ fn append_difference(
     true
 }
 
-/// The line of the replay. Whether some call has another result than its object gives.
+/// How a replay ends.
+#[derive(Clone, Copy, PartialEq, Eq)]
+enum Replay {
+    /// each call has the result that its object gives
+    Exact,
+    /// some call has another result than its object gives
+    Differs,
+    /// an object is of no built-in kind
+    NotShipped,
+}
+
+/// The line of the replay.
 fn append_replay(
     rt: &impl Abort,
     text: &mut String,
     kinds: (Kind, Kind),
     objects: &mut Objects,
     steps: &[Step],
-) -> bool {
+) -> Replay {
     if kinds.0 == Kind::Gate || kinds.1 == Kind::Gate {
         text.push_str("replay not shipped\n").expect(rt, "memory");
-        return false;
+        return Replay::NotShipped;
     }
     for (place, step) in steps.iter().enumerate() {
         if append_difference(rt, text, objects, place, step) {
-            return true;
+            return Replay::Differs;
         }
     }
     text.push_str("replay exact\n").expect(rt, "memory");
-    false
+    Replay::Exact
+}
+
+/// The line of the verdict.
+fn append_verdict(rt: &impl Abort, text: &mut String, races: u32, replay: Replay) {
+    let verdict = if races == 0 && replay == Replay::Exact {
+        "verdict deterministic\n"
+    } else {
+        "verdict not shown\n"
+    };
+    text.push_str(verdict).expect(rt, "memory");
 }
 
 /// The latest of the events before this one that does not come before it and that it does not commute with: the place, and the formula.
@@ -323,14 +344,17 @@ fn append_report(
     text: &mut String,
     kinds: (Kind, Kind),
     steps: &[Step],
+    tally: &mut Tally,
 ) -> Status {
     let rows = reaching(rt, alloc, steps);
     let races = append_races(rt, text, steps, rows.as_slice());
     let mut objects = Objects::new(alloc);
-    let differs = append_replay(rt, text, kinds, &mut objects, steps);
+    let replay = append_replay(rt, text, kinds, &mut objects, steps);
+    append_verdict(rt, text, races, replay);
+    tally.add(races, replay);
     if races > 0 {
         Status::Raced
-    } else if differs {
+    } else if replay == Replay::Differs {
         Status::ReplayDiffers
     } else {
         Status::Clean
@@ -709,23 +733,23 @@ fn append_trace(
 /// How many traces ended in each way.
 #[derive(Clone, Copy)]
 struct Tally {
-    clean: u32,
+    shown: u32,
     raced: u32,
     exact: u32,
     differing: u32,
 }
 
 impl Tally {
-    fn add(&mut self, status: Status, text: &str) {
-        match status {
-            Status::Clean => self.clean = self.clean.saturating_add(1),
-            Status::Raced => self.raced = self.raced.saturating_add(1),
-            _ => {}
+    fn add(&mut self, races: u32, replay: Replay) {
+        match (races, replay) {
+            (0, Replay::Exact) => self.shown = self.shown.saturating_add(1),
+            (0, _) => {}
+            (_, _) => self.raced = self.raced.saturating_add(1),
         }
-        if text.ends_with("replay exact\n") {
-            self.exact = self.exact.saturating_add(1);
-        } else if !text.ends_with("replay not shipped\n") {
-            self.differing = self.differing.saturating_add(1);
+        match replay {
+            Replay::Exact => self.exact = self.exact.saturating_add(1),
+            Replay::Differs => self.differing = self.differing.saturating_add(1),
+            Replay::NotShipped => {}
         }
     }
 }
@@ -748,8 +772,7 @@ fn is_checked(
     tally: &mut Tally,
 ) {
     let mut text = String::new(alloc);
-    let status = append_report(rt, alloc, &mut text, kinds, steps);
-    tally.add(status, text.as_str());
+    let status = append_report(rt, alloc, &mut text, kinds, steps, tally);
     let mut trace = String::new(alloc);
     append_trace(rt, &mut trace, version, kinds, steps);
     is_answered(rt, alloc, trace.as_str(), status, text.as_str());
@@ -771,7 +794,7 @@ fn tries(rt: &impl Abort, alloc: Global, random: &mut Random, tally: &mut Tally)
 fn random_traces(rt: HostRuntime) {
     let mut random = Random { state: 1 };
     let mut tally = Tally {
-        clean: 0,
+        shown: 0,
         raced: 0,
         exact: 0,
         differing: 0,
@@ -780,6 +803,6 @@ fn random_traces(rt: HostRuntime) {
         tries(&rt, rt.alloc(), &mut random, &mut tally);
     }
     // Each comes often.
-    assert!(rt; tally.clean >= 150 && tally.raced >= 150);
+    assert!(rt; tally.shown >= 150 && tally.raced >= 150);
     assert!(rt; tally.exact >= 150 && tally.differing >= 150);
 }

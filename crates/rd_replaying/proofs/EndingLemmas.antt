@@ -8,7 +8,7 @@ use Rattle.rd_walk.specs.declared.walk.WalkEnd.{WalkEnd}
 use Rattle.std.proofs.Common.{◌≡◌, ℕ, Bool, true, false, cond, refl, inl, inr}
 
 -- a status that says that a trace was read to its end comes only where it was
-pub well_end : (races : ℕ) (replay : ReplayEnd) (ending : WalkEnd) → IsWell (check_status races (ending_of_report replay ending)) → ending ≡ walk.End
+pub well_end : (races : ℕ) (replay : ReplayEnd) (ending : WalkEnd) → IsWell (check_status races (ending_of_report races replay ending)) → ending ≡ walk.End
 unfolding check_status
 well_end races replay walk.End well = refl
 well_end races replay (walk.Refused number cause) well = absurd (by (is_limit cause) well)

@@ -18,7 +18,7 @@ use Rattle.rd_walk.specs.Walk.{ending_of, entries_of, items, trace_of}
 use Rattle.rd_wf.specs.MayFollow.{object_kinds}
 
 module _ (kinds : List ℕ) (calls : List Recorded) (declared : All (λ (recorded : Recorded). recorded.1.object < length kinds) calls) where
-  ends_so : (replay : ReplayEnd) → replay_end kinds calls ≡ replay → ReplayEndsSo kinds calls replay
+  pub ends_so : (replay : ReplayEnd) → replay_end kinds calls ≡ replay → ReplayEndsSo kinds calls replay
   ends_so Exact is = (exact_where kinds calls declared).0 is
   ends_so (Differs line expected) is = (differs_where kinds calls line expected declared).0 is
   ends_so NotShipped is = (not_shipped_where kinds calls).0 is

@@ -1,5 +1,5 @@
 -- How a report ends, and its status. This project's profile.
-use Rattle.rd_object.specs.declared.shapes.ReplayEnd.TheVariants.{Differs}
+use Rattle.rd_object.specs.declared.shapes.ReplayEnd.TheVariants.{Exact, Differs}
 use Rattle.rd_object.specs.declared.shapes.ReplayEnd.{ReplayEnd}
 use Rattle.rd_report.specs.declared.endings.Ending.TheVariants as report
 use Rattle.rd_report.specs.declared.endings.Ending.{Ending}
@@ -35,12 +35,18 @@ replay_status (Differs line expected) = ReplayDiffers
 replay_status _ = Clean
 
 unfoldable pub check_status : ℕ → Ending → Status
-check_status races (report.End replay) = if races == 0 then replay_status replay else Raced
+check_status races (report.End replay shown) = if races == 0 then replay_status replay else Raced
 check_status races (report.Refused number cause) = if is_limit cause then LimitReached else TraceRefused
 check_status races report.Fault = InputFault
 
--- how a report ends: as the walk does, and at the end of the trace with how the replay of the calls ends
-abbrev pub ending_of_report : ReplayEnd → WalkEnd → Ending
-ending_of_report replay End = report.End replay
-ending_of_report replay (Refused number cause) = report.Refused number cause
-ending_of_report replay Fault = report.Fault
+-- that every order of the events which keeps what comes before what ends the same is shown where no call is reported and the replay
+-- is exact, so that all objects are of built-in kinds
+abbrev pub is_shown : ℕ → ReplayEnd → Bool
+is_shown races Exact = races == 0
+is_shown races _ = false
+
+-- how a report ends of which so many calls are reported: as the walk does, and at the end of the trace with how the replay of the calls ends
+abbrev pub ending_of_report : ℕ → ReplayEnd → WalkEnd → Ending
+ending_of_report races replay End = report.End replay (is_shown races replay)
+ending_of_report races replay (Refused number cause) = report.Refused number cause
+ending_of_report races replay Fault = report.Fault

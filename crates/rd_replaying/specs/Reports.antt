@@ -34,5 +34,5 @@ pub record IsReplayed (limits : Limits) (stop : Stop) (bytes : List ℕ) (outcom
   pub replay : ReplayEnd
   pub replays : ReplayEndsSo (object_kinds built_in_kinds (items entries)) (recorded_of built_in_kinds entries) replay
   -- what is written, and the status
-  pub text : outcome.text ≡ replayed_text (thread_names entries) (states_text built_in_kinds entries) (ending_of_report replay ending)
-  pub status : outcome.status ≡ check_status 0 (ending_of_report replay ending)
+  pub text : outcome.text ≡ replayed_text (thread_names entries) (states_text built_in_kinds entries) (ending_of_report 0 replay ending)
+  pub status : outcome.status ≡ check_status 0 (ending_of_report 0 replay ending)

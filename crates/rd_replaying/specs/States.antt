@@ -15,7 +15,7 @@ use Rattle.rd_replaying.specs.Replaying.{recorded_of, replay_of}
 use Rattle.rd_walk.specs.Traces.{ReportTexts}
 use Rattle.rd_walk.specs.Walk.{Entry, Walked, ending_of, entries_of, items}
 use Rattle.rd_wf.specs.MayFollow.{object_kinds, objects_of}
-use Rattle.std.specs.Prelude.{ℕ, zero, suc, ◌+◌, List, [], ◌++◌, length, Option, Some, None}
+use Rattle.std.specs.Prelude.{ℕ, Bool, true, false, zero, suc, ◌+◌, List, [], ◌++◌, length, Option, Some, None}
 
 -- the line that tells what an object with this name holds, where its calls lead it to a shape
 abbrev pub held_text : List ℕ → Option Shape → List ℕ
@@ -33,10 +33,15 @@ abbrev pub states_text : List Kind → List Entry → List ℕ
 states_text kinds entries =
     states_before (objects_of (items entries)) (object_kinds kinds (items entries)) (recorded_of kinds entries) (length (objects_of (items entries)))
 
+-- the trace was read to its end, and the replay is exact
+abbrev pub is_exact : Ending → Bool
+is_exact (report.End Exact shown) = true
+is_exact _ = false
+
 -- what `replay` writes: how the replay ended, and where it is exact what each object holds, or the line of a refusal or of a fault alone
 abbrev pub replayed_text : List (List ℕ) → List ℕ → Ending → List ℕ
-replayed_text names states (report.End Exact) = replay_line Exact ++ states
-replayed_text names states (report.End replay) = replay_line replay
+replayed_text names states (report.End Exact shown) = replay_line Exact ++ states
+replayed_text names states (report.End replay shown) = replay_line replay
 replayed_text names states (report.Refused number cause) = refused_line names number cause
 replayed_text names states report.Fault = fault_line
 
@@ -44,7 +49,7 @@ replayed_text names states report.Fault = fault_line
 abbrev pub replay_outcome : List Kind → Walked → Outcome
 replay_outcome kinds walked =
     let entries = entries_of walked in
-    let ending = ending_of_report (replay_of kinds entries) (ending_of walked) in
+    let ending = ending_of_report 0 (replay_of kinds entries) (ending_of walked) in
     record { text = replayed_text (thread_names entries) (states_text kinds entries) ending; status = check_status 0 ending }
 
 -- nothing is written for the lines, and no step is counted

@@ -3,7 +3,7 @@ ghost use Rattle.std.specs.Prelude.{◌≡◌, ◌≢◌, ◌↔◌, ℕ, List, 
 ghost use Rattle.rd_walk.specs.Output.{report_status};
 ghost use Rattle.rd_replay.specs.Replays.{Recorded, replay_end};
 ghost use Rattle.rd_replay.specs.Replayer.{ReplayerStandsFor};
-ghost use Rattle.rd_replaying.specs.Endings.{check_status, is_limit, replay_status, ending_of_report};
+ghost use Rattle.rd_replaying.specs.Endings.{check_status, is_limit, is_shown, replay_status, ending_of_report};
 
 use rd_base::NoMemory;
 use rd_object::ReplayEnd;
@@ -32,17 +32,41 @@ fn replay_status(replay: &ReplayEnd) -> TraceStatus
     }
 }
 
-/// How a report ends, by how the walk does and what the replayer was told.
-pub fn ending_of_report(replayer: &Replayer, ending: WalkEnd) -> Result<Ending, NoMemory>
+/// Is it shown that every order of the events which keeps what comes before what ends the same?
+fn is_shown(races: u64, replay: &ReplayEnd) -> bool
+    ensures { result ≡ is_shown races replay.now }
+{
+    match replay {
+        ReplayEnd::Exact => races == 0,
+        ReplayEnd::Differs { .. } | ReplayEnd::NotShipped => false,
+    }
+}
+
+/// How a trace ends that was read to its end, by the number of reported calls and what the replayer was told.
+fn end_of_report(races: u64, replayer: &Replayer) -> Result<Ending, NoMemory>
     ensures reported { IfOk result
         (λ report. (kinds : List ℕ) (calls : List Recorded) → ReplayerStandsFor replayer.now kinds calls →
-        report ≡ ending_of_report (replay_end kinds calls) ending) }
+        report ≡ ending_of_report races (replay_end kinds calls) WalkEnd.End) }
+    ensures no_fault { IfOk result (λ report. report ≢ Ending.Fault) }
+{
+    let replay = replayer.end()?;
+    let shown = is_shown(races, &replay);
+    Ok(Ending::End { replay, shown })
+}
+
+/// How a report ends, by the number of reported calls, how the walk ends and what the replayer was told.
+pub fn ending_of_report(
+    races: u64,
+    replayer: &Replayer,
+    ending: WalkEnd,
+) -> Result<Ending, NoMemory>
+    ensures reported { IfOk result
+        (λ report. (kinds : List ℕ) (calls : List Recorded) → ReplayerStandsFor replayer.now kinds calls →
+        report ≡ ending_of_report races (replay_end kinds calls) ending) }
     ensures fault { IfOk result (λ report. (report ≡ Ending.Fault) ↔ (ending ≡ WalkEnd.Fault)) }
 {
     Ok(match ending {
-        WalkEnd::End => Ending::End {
-            replay: replayer.end()?,
-        },
+        WalkEnd::End => end_of_report(races, replayer)?,
         WalkEnd::Refused { line, cause } => Ending::Refused { line, cause },
         WalkEnd::Fault => Ending::Fault,
     })
@@ -55,7 +79,7 @@ pub fn check_status(races: u64, ending: &Ending) -> TraceStatus
     ensures input { (result ≡ TraceStatus.InputFault) ↔ (ending.now ≡ Ending.Fault) }
 {
     match ending {
-        Ending::End { replay } => {
+        Ending::End { replay, .. } => {
             if races == 0 {
                 replay_status(replay)
             } else {

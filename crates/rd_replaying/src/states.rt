@@ -1,5 +1,5 @@
 //! The report of `replay`: how the replay ended, and what the objects hold.
-ghost use Rattle.std.specs.Prelude.{◌≡◌, ◌↔◌, ◌<◌, ℕ, true, List, [], length, IfOk, OnOk, OnErr};
+ghost use Rattle.std.specs.Prelude.{◌≡◌, ◌↔◌, ◌<◌, ℕ, IsTrue, List, [], length, IfOk, OnOk, OnErr};
 ghost use Rattle.rd_io.specs.Sinks.{Appends};
 ghost use Rattle.rd_object.specs.declared.shapes.ReplayEnd.TheVariants.{Exact};
 ghost use Rattle.rd_replay.specs.Replays.{Recorded, held_shape, replay_end};
@@ -8,7 +8,7 @@ ghost use Rattle.rd_report.specs.Texts.{name_of};
 ghost use Rattle.rd_walk.specs.Analysis.{TellsFault, WritesFront};
 ghost use Rattle.rd_walk.specs.Output.{IsOutput, report_status};
 ghost use Rattle.rd_replaying.specs.Endings.{check_status};
-ghost use Rattle.rd_replaying.specs.States.{held_text, replayed_text, states_before};
+ghost use Rattle.rd_replaying.specs.States.{held_text, is_exact, replayed_text, states_before};
 ghost use Rattle.rd_wf.specs.Roster.{names_in, object_names_in};
 
 use crate::endings::{check_status, ending_of_report};
@@ -111,7 +111,7 @@ fn end_line(alloc: Global, names: &Roster, ending: &Ending) -> Result<Bytes, NoM
     ensures { IfOk result (λ line. line ≡ replayed_text (names_in names.now) [] ending.now) }
 {
     match ending {
-        Ending::End { replay } => replay_text(alloc, replay),
+        Ending::End { replay, .. } => replay_text(alloc, replay),
         Ending::Refused { line, cause } => refused_text(alloc, *line, *cause, names),
         Ending::Fault => {
             let mut text = Bytes::new(alloc);
@@ -143,12 +143,13 @@ fn write_end<S: Sink>(
 
 /// Did the replay of all calls give what was recorded?
 fn is_exact(ending: &Ending) -> bool
-    ensures { (result ≡ true) ↔ (ending.now ≡ Ending.End Exact) }
+    ensures { result ≡ is_exact ending.now }
 {
     matches!(
         ending,
         Ending::End {
-            replay: ReplayEnd::Exact
+            replay: ReplayEnd::Exact,
+            ..
         }
     )
 }
@@ -161,7 +162,7 @@ fn write_replayed<S: Sink>(
     ending: &Ending,
     out: &mut S,
 ) -> Result<(), Halt>
-    requires { ending.now ≡ Ending.End Exact → (kinds : List ℕ) × (calls : List Recorded)
+    requires { IsTrue (is_exact ending.now) → (kinds : List ℕ) × (calls : List Recorded)
         × ReplayerStandsFor replayer.now kinds calls
         × (length kinds ≡ length (object_names_in names.now)) × (replay_end kinds calls ≡ Exact) }
     ensures ok { OnOk result
@@ -196,7 +197,7 @@ pub fn write_replay<S: Sink>(
     ending: &Ending,
     out: &mut S,
 ) -> Result<TraceStatus, Halt>
-    requires { ending.now ≡ Ending.End Exact → (kinds : List ℕ) × (calls : List Recorded)
+    requires { IsTrue (is_exact ending.now) → (kinds : List ℕ) × (calls : List Recorded)
         × ReplayerStandsFor replayer.now kinds calls
         × (length kinds ≡ length (object_names_in names.now)) × (replay_end kinds calls ≡ Exact) }
     ensures output { (kinds : List ℕ) (calls : List Recorded) → ReplayerStandsFor replayer.now kinds calls →
@@ -272,7 +273,7 @@ impl ReplayedReport for ReplayAlone {
         ending: WalkEnd,
         out: &mut S,
     ) -> Result<TraceStatus, Halt> {
-        let ending = ending_of_report(replayer, ending)?;
+        let ending = ending_of_report(0, replayer, ending)?;
         write_replay(alloc, names, replayer, &ending, out)
     }
 

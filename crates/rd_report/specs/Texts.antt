@@ -1,5 +1,5 @@
 -- How a trace ends, in words, and the names by which a report tells of threads and objects: this project's profile.
-use Rattle.std.specs.Prelude.{ℕ, ◌+◌, List, [], ◌++◌, codes, decimal, slice_index_or}
+use Rattle.std.specs.Prelude.{ℕ, ◌+◌, Bool, true, false, List, [], ◌++◌, codes, decimal, slice_index_or}
 use Rattle.rd_base.specs.Limits.{limit_cause_text}
 use Rattle.rd_base.specs.Spelling.{value_spelling}
 use Rattle.rd_event.specs.declared.items.Line.{Line as Item}
@@ -80,6 +80,17 @@ replay_words Exact = codes "exact"
 replay_words (Differs number expected) = codes "differs line " ++ decimal number ++ codes " " ++ expected_text expected
 replay_words NotShipped = codes "not shipped"
 
+-- ---- verdicts
+
+-- whether it is shown that every order of the events that keeps what comes before what ends the same
+abbrev pub verdict_words : Bool → List ℕ
+verdict_words true = codes "deterministic"
+verdict_words false = codes "not shown"
+
+-- the line that tells it
+abbrev pub verdict_line : Bool → List ℕ
+verdict_line shown = codes "verdict " ++ verdict_words shown ++ codes "\n"
+
 -- ---- endings
 
 -- the line that tells how many calls are reported
@@ -93,9 +104,9 @@ refused_line names number cause = codes "refused line " ++ decimal number ++ cod
 abbrev pub refused_words : List (List ℕ) → ℕ → TraceCause → List ℕ
 refused_words names number cause = codes "refused line " ++ decimal number ++ codes " " ++ cause_text names cause
 
--- the text behind the races: how many calls are reported, and how the replay ended, or where the trace was refused, by the names of the
--- threads, or that it could not be read on
+-- the text behind the races: how many calls are reported, and how the replay ended and what is shown, or where the trace was refused, by
+-- the names of the threads, or that it could not be read on
 abbrev pub ending_text : List (List ℕ) → ℕ → Ending → List ℕ
-ending_text names races (End replay) = races_line races ++ replay_line replay
+ending_text names races (End replay shown) = races_line races ++ replay_line replay ++ verdict_line shown
 ending_text names races (Refused number cause) = races_line races ++ refused_line names number cause
 ending_text names races Fault = races_line races ++ fault_line

@@ -7,6 +7,7 @@ ghost use Rattle.rd_wf.specs.Roster.{names_in};
 use crate::endings::Ending;
 use crate::numbers::{append_decimal, append_passed};
 use crate::replays::append_replay;
+use crate::verdicts::append_verdict;
 use rd_base::{Bytes, NoMemory, append_number};
 use rd_wf::{Roster, TraceCause, WfCause};
 use std::alloc::Global;
@@ -129,8 +130,8 @@ pub fn refused_text(
     Ok(text)
 }
 
-/// The text behind the races: how many calls are reported, and how the replay ended, or where and why the trace was refused, or that it
-/// could not be read on. The roster has the names of the threads.
+/// The text behind the races: how many calls are reported, and how the replay ended and what is shown, or where and why the trace was
+/// refused, or that it could not be read on. The roster has the names of the threads.
 pub fn ending_text(
     alloc: Global,
     races: u64,
@@ -142,7 +143,10 @@ pub fn ending_text(
     let mut text = Bytes::new(alloc);
     append_races(&mut text, races)?;
     match ending {
-        Ending::End { replay } => append_replay(&mut text, replay)?,
+        Ending::End { replay, shown } => {
+            append_replay(&mut text, replay)?;
+            append_verdict(&mut text, *shown)?;
+        }
         Ending::Refused { line, cause } => append_refused(&mut text, names, *line, *cause)?,
         Ending::Fault => text.append(b"fault input\n")?,
     }

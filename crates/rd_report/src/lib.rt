@@ -10,6 +10,7 @@ mod numbers;
 mod races;
 mod replays;
 mod states;
+mod verdicts;
 
 pub use cause_texts::{ending_text, refused_text, refused_words};
 pub use clocks::clock_text;
@@ -20,3 +21,4 @@ pub use races::{append_race, call_text, formula_line, race_text};
 pub use rd_wf::TraceCause;
 pub use replays::{append_replay, replay_text, replay_words};
 pub use states::append_state;
+pub use verdicts::verdict_words;

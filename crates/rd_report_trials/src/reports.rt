@@ -279,6 +279,7 @@ fn a_race_of_two_calls(rt: HostRuntime) {
 #[derive(Clone, Copy)]
 enum Closing {
     Exact,
+    ExactRaced,
     LockHeld,
     BadLine,
     NoFinalNewline,
@@ -294,6 +295,11 @@ fn ending(closing: Closing, line: u64) -> Ending {
     match closing {
         Closing::Exact => Ending::End {
             replay: ReplayEnd::Exact,
+            shown: true,
+        },
+        Closing::ExactRaced => Ending::End {
+            replay: ReplayEnd::Exact,
+            shown: false,
         },
         Closing::LockHeld => refusal(line, TraceCause::Wf(WfCause::LockHeld(0))),
         Closing::BadLine => refusal(line, TraceCause::BadLine),
@@ -306,14 +312,23 @@ fn ending(closing: Closing, line: u64) -> Ending {
 // How many races there are, how the lines end, at which line, and how it is told.
 type EndingRow<'a> = (u64, Closing, u64, Wanted<'a>);
 
-const ENDINGS: [EndingRow<'static>; 6] = [
+const ENDINGS: [EndingRow<'static>; 7] = [
     (
         0,
         Closing::Exact,
         0,
         (
-            "races 0\nreplay exact\n",
-            "{\"ending\":\"end\",\"races\":0,\"replay\":\"exact\"}\n",
+            "races 0\nreplay exact\nverdict deterministic\n",
+            "{\"ending\":\"end\",\"races\":0,\"replay\":\"exact\",\"verdict\":\"deterministic\"}\n",
+        ),
+    ),
+    (
+        2,
+        Closing::ExactRaced,
+        0,
+        (
+            "races 2\nreplay exact\nverdict not shown\n",
+            "{\"ending\":\"end\",\"races\":2,\"replay\":\"exact\",\"verdict\":\"not shown\"}\n",
         ),
     ),
     (

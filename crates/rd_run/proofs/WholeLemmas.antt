@@ -10,6 +10,7 @@ use Rattle.rd_reorder_command.proofs.OutcomeLemmas.{whole_reorder}
 use Rattle.rd_reorder_command.specs.Outcomes.{reorder_texts}
 use Rattle.rd_replaying.proofs.ReplayLemmas.{whole_replay}
 use Rattle.rd_walk.proofs.WholeLemmas.{all_written}
+use Rattle.rd_base.specs.Limits.{AreUsable}
 use Rattle.rd_base.specs.declared.limits.Limits.{Limits}
 use Rattle.rd_io.specs.Inputs.{Source}
 use Rattle.rd_walk.specs.Output.{HasOutcome}
@@ -21,7 +22,7 @@ use Rattle.rd_walk.specs.Traces.{IsTraceOutcome}
 use Rattle.rd_walk.specs.Meanings.{Runs, WritesAll}
 use Rattle.rd_walk.specs.declared.status.Status.TheVariants.{Usage, OutputFault, NoMemory}
 use Rattle.rd_walk.specs.declared.status.Status.{Status}
-use Rattle.std.proofs.Common.{◌≡◌, ◌≢◌, ◌⊎◌, ℕ, Bool, false, List, [], ◌∷◌, Option, Some, None, refl, sym, ap, ◌∙◌, subst, inl, inr}
+use Rattle.std.proofs.Common.{◌≡◌, ◌≢◌, ◌⊎◌, ◌<◌, ◌^◌, ℕ, Bool, false, List, [], ◌∷◌, Option, Some, None, refl, sym, ap, ◌∙◌, subst, inl, inr}
 use Rattle.std.proofs.lemmas.Option.{none-some}
 
 whole_usage : (part : List ℕ) (status : Status) → HasOutcome (λ outcome. outcome ≡ usage_outcome) status part → status ≢ OutputFault → status ≢ NoMemory
@@ -34,25 +35,26 @@ whole_usage part status has other some =
 
 -- a run in which no read and no write failed writes all
 pub whole_run : (command : Option Command) (limits : Limits) (rose : Bool) (old new : Source) (part : List ℕ) (status : Status) (before after : ℕ)
-    → Runs (meaning_of command) limits rose old new part status before after → rose ≡ false → status ≢ OutputFault → (command ≡ None → status ≢ NoMemory)
+    → Runs (meaning_of command) limits rose old new part status before after → AreUsable limits → limits.threads < 2 ^ 32
+    → rose ≡ false → status ≢ OutputFault → (command ≡ None → status ≢ NoMemory)
     → WritesAll (meaning_of command) limits old part status
-whole_run None limits rose old new part status before after runs calm other some = whole_usage part status runs.output other (some refl)
-whole_run (Some (check form trace file)) limits rose old new part status before after runs calm other some =
-    whole_check form trace file limits old new part status
+whole_run None limits rose old new part status before after runs usable range calm other some = whole_usage part status runs.output other (some refl)
+whole_run (Some (check form trace file)) limits rose old new part status before after runs usable range calm other some =
+    whole_check form trace file limits old new part status usable range
     (subst (λ r. HasOutcome (IsCheckOutcome form trace file limits r old new) status part) calm runs.output) other
-whole_run (Some (replay trace)) limits rose old new part status before after runs calm other some =
+whole_run (Some (replay trace)) limits rose old new part status before after runs usable range calm other some =
     whole_replay trace limits old new part status
     (subst (λ r. HasOutcome (IsTraceOutcome (replay_texts built_in_kinds) built_in_kinds trace limits r old new) status part) calm runs.output) other
-whole_run (Some (reorder trace number)) limits rose old new part status before after runs calm other some =
+whole_run (Some (reorder trace number)) limits rose old new part status before after runs usable range calm other some =
     whole_reorder trace number limits old new part status
     (subst (λ r. HasOutcome (IsTraceOutcome (reorder_texts number built_in_kinds) built_in_kinds trace limits r old new) status part) calm runs.output) other
-whole_run (Some (kind built_in)) limits rose old new part status before after runs calm other some =
+whole_run (Some (kind built_in)) limits rose old new part status before after runs usable range calm other some =
     whole_kind built_in limits old part status runs.output other
-whole_run (Some (gen number count)) limits rose old new part status before after runs calm other some =
+whole_run (Some (gen number count)) limits rose old new part status before after runs usable range calm other some =
     whole_gen (check_outcome EndingOnly shipped_kinds) (check_bound shipped_kinds) built_in_kinds number count limits old part status runs.output other
-whole_run (Some (gen_text number count)) limits rose old new part status before after runs calm other some =
+whole_run (Some (gen_text number count)) limits rose old new part status before after runs usable range calm other some =
     whole_gen_text number count limits old part status runs.output other
-whole_run (Some (of_spec said file)) limits rose old new part status before after runs calm other some =
+whole_run (Some (of_spec said file)) limits rose old new part status before after runs usable range calm other some =
     whole_said (said_text said) file limits old new part status
     (subst (λ r. HasOutcome (λ outcome. IsUnread r outcome ⊎ IsJudged (said_text said) file r old new outcome) status part) calm runs.output) other
 

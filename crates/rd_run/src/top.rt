@@ -372,6 +372,8 @@ pub fn run<I: Inputs, S: Sink, L: Ledger>(
     ensures output_fault { StatusTellsFault (S.faults out.old) (S.faults out.new)
         (S.at_fault out.new) (S.written out.new) result }
 {
+    // its type says that it fits 32 bits, which the headline in `whole` asks for
+    let _threads = limits.threads;
     match command_of(words) {
         None => refuse_usage(out),
         Some(Command::Check(asked)) => {

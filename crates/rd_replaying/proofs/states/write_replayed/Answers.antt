@@ -25,20 +25,17 @@ pub returns-then-is_exact-clause-front : goal.returns-then-is_exact-clause-front
 returns-then-is_exact-clause-front g c =
     let names = names_in c.args.names.now in
     let objects = object_names_in c.args.names.now in
-    let old = g.S.Sink.written c.args.out.now in
     let now = g.S.Sink.written c.write_states.new.out in
     let middle = g.S.Sink.written c.write_end.new.out in
-    let ended : c.args.ending.now ≡ End Exact = c.is_exact.ensures.0 c.if-is_exact.true in
     on_err_weaker c.write_states.result
     (λ (all : (kinds : List ℕ) (calls : List Recorded) → ReplayerStandsFor c.args.replayer.now kinds calls → length kinds ≡ length objects
     → WritesFront middle now [] (states_before objects kinds calls (length objects))) kinds calls stands same.
     let states = states_before objects kinds calls (length objects) in
-    let line = replayed_text names [] (End Exact) in
-    let (part, rest, is, writes) = all kinds calls stands same in
-    subst (λ e. WritesFront old now [] (replayed_text names states e)) (sym ended) (
+    let line = replayed_text names [] c.args.ending.now in
+    let (part, rest, is, writes) = all kinds calls stands same in (
       line ++ part,
       rest,
-      replayed_exact names states ∙ ap (λ t. line ++ t) is ∙ sym (append_assoc line part rest),
-      appends_on _ _ _ line part (subst (λ e. Appends old middle (replayed_text names [] e)) ended c.in_ok-write_end.ensures.ok) writes,
+      replayed_exact names states c.args.ending.now (sym c.is_exact.ensures ∙ c.if-is_exact.true) ∙ ap (λ t. line ++ t) is ∙ sym (append_assoc line part rest),
+      appends_on _ _ _ line part c.in_ok-write_end.ensures.ok writes,
     ))
     c.write_states.ensures.front

@@ -1,4 +1,4 @@
-use Rattle.std.proofs.Common.{[], ◌∷◌, None, Some, refl, sym, ap, ◌∙◌, subst}
+use Rattle.std.proofs.Common.{[], ◌∷◌, None, Some, refl, sym, ap, ◌∙◌, subst, arith}
 use Rattle.std.specs.Prelude.{nat_lt, option_map}
 use Rattle.rd_walk.specs.Output.{IsOutput, StatusTellsFault, report_status}
 use Rattle.rd_walk.proofs.StatusLemmas.{report_calm, report_no_spec, report_no_usage, report_rose, report_wrote}
@@ -44,7 +44,7 @@ returns-in-None-clause-whole g c = λ old told few few_opens few_faults calm sil
       part,
       writes,
       subst (λ command. WritesAll (meaning_of command) c.args.limits.now old part status) c.in-None.ensures.asked
-          (whole_run None c.args.limits.now (nat_lt faults faults) old old part status c.args.steps.now c.args.steps.now runs (not_risen faults faults refl)
+          (whole_run None c.args.limits.now (nat_lt faults faults) old old part status c.args.steps.now c.args.steps.now runs c.requires (omega arith) (not_risen faults faults refl)
           (none_failed (g.S.Sink.faults c.args.out.now) (g.S.Sink.faults c.refuse_usage.new.out) _ _ status c.refuse_usage.ensures.fault few_faults silent)
           (λ _. usage_or_fault status c.refuse_usage.ensures.status)),
     )
@@ -71,7 +71,7 @@ returns-in-Some-Check-clause-whole g c = λ old told few few_opens few_faults ca
       writes,
       subst (λ command. WritesAll (meaning_of command) c.args.limits.now old part c.report_status.result) words
           (subst (λ status. WritesAll (meaning_of (Some (check c.in-Some-Check.asked.form c.in-Some-Check.asked.trace.now None))) c.args.limits.now old part status) (sym c.report_status.ensures)
-          (whole_run (Some (check c.in-Some-Check.asked.form c.in-Some-Check.asked.trace.now None)) c.args.limits.now _ old new part (report_status c.check_shipped.result) _ _ runs (not_risen _ _ calm)
+          (whole_run (Some (check c.in-Some-Check.asked.form c.in-Some-Check.asked.trace.now None)) c.args.limits.now _ old new part (report_status c.check_shipped.result) _ _ runs c.requires (omega arith) (not_risen _ _ calm)
           (none_failed _ _ _ _ (report_status c.check_shipped.result) wrote few_faults silent) (λ none. absurd (some≢none none)))),
     )
 
@@ -122,7 +122,7 @@ returns-in-Some-CheckWith-clause-whole g c = λ old told few few_opens few_fault
       writes,
       subst (λ command. WritesAll (meaning_of command) c.args.limits.now old part c.check_with.result) words
           (whole_run (Some (check c.in-Some-CheckWith.asked.form c.in-Some-CheckWith.asked.trace.now (Some c.in-Some-CheckWith.file.now))) c.args.limits.now _ old new part c.check_with.result _ _ runs
-          (not_risen _ _ calm) (none_failed _ _ _ _ c.check_with.result c.check_with.ensures.fault few_faults silent) (λ none. absurd (some≢none none))),
+          c.requires (omega arith) (not_risen _ _ calm) (none_failed _ _ _ _ c.check_with.result c.check_with.ensures.fault few_faults silent) (λ none. absurd (some≢none none))),
     )
 
 pub returns-in-Some-CheckWith-clause-untouched : goal.returns-in-Some-CheckWith-clause-untouched
@@ -162,7 +162,7 @@ returns-in-Some-Replay-clause-whole g c = λ old told few few_opens few_faults c
       writes,
       subst (λ command. WritesAll (meaning_of command) c.args.limits.now old part c.report_status-in-Some-Replay.result) words
           (subst (λ status. WritesAll (meaning_of (Some (replay c.in-Some-Replay.trace.now))) c.args.limits.now old part status) (sym c.report_status-in-Some-Replay.ensures)
-          (whole_run (Some (replay c.in-Some-Replay.trace.now)) c.args.limits.now _ old new part (report_status c.replay.result) _ _ runs (not_risen _ _ calm)
+          (whole_run (Some (replay c.in-Some-Replay.trace.now)) c.args.limits.now _ old new part (report_status c.replay.result) _ _ runs c.requires (omega arith) (not_risen _ _ calm)
           (none_failed _ _ _ _ (report_status c.replay.result) wrote few_faults silent) (λ none. absurd (some≢none none)))),
     )
 
@@ -215,7 +215,7 @@ returns-in-Some-Reorder-clause-whole g c = λ old told few few_opens few_faults 
       writes,
       subst (λ command. WritesAll (meaning_of command) c.args.limits.now old part c.report_status-in-Some-Reorder.result) words
           (subst (λ status. WritesAll (meaning_of (Some (reorder c.in-Some-Reorder.trace.now c.in-Some-Reorder.number))) c.args.limits.now old part status) (sym c.report_status-in-Some-Reorder.ensures)
-          (whole_run (Some (reorder c.in-Some-Reorder.trace.now c.in-Some-Reorder.number)) c.args.limits.now _ old new part (report_status c.reorder.result) _ _ runs (not_risen _ _ calm)
+          (whole_run (Some (reorder c.in-Some-Reorder.trace.now c.in-Some-Reorder.number)) c.args.limits.now _ old new part (report_status c.reorder.result) _ _ runs c.requires (omega arith) (not_risen _ _ calm)
           (none_failed _ _ _ _ (report_status c.reorder.result) wrote few_faults silent) (λ none. absurd (some≢none none)))),
     )
 
@@ -268,7 +268,7 @@ returns-in-Some-OfSpec-clause-whole g c = λ old told few few_opens few_faults c
       writes,
       subst (λ command. WritesAll (meaning_of command) c.args.limits.now old part c.spec_command_status.result) words
           (subst (λ status. WritesAll (meaning_of (Some (of_spec c.in-Some-OfSpec.said c.in-Some-OfSpec.file.now))) c.args.limits.now old part status) (sym c.spec_command_status.ensures)
-          (whole_run (Some (of_spec c.in-Some-OfSpec.said c.in-Some-OfSpec.file.now)) c.args.limits.now _ old new part (spec_command_status c.report_spec.result) _ _ runs (not_risen _ _ calm)
+          (whole_run (Some (of_spec c.in-Some-OfSpec.said c.in-Some-OfSpec.file.now)) c.args.limits.now _ old new part (spec_command_status c.report_spec.result) _ _ runs c.requires (omega arith) (not_risen _ _ calm)
           (none_failed _ _ _ _ (spec_command_status c.report_spec.result) wrote few_faults silent) (λ none. absurd (some≢none none)))),
     )
 
@@ -330,7 +330,7 @@ returns-in-Some-Kind-clause-whole g c = λ old told few few_opens few_faults cal
       subst (λ command. WritesAll (meaning_of command) c.args.limits.now old part c.spec_command_status-in-Some-Kind.result) words
           (subst (λ status. WritesAll (meaning_of (Some (kind built_in))) c.args.limits.now old part status) (sym c.spec_command_status-in-Some-Kind.ensures)
           (whole_run (Some (kind built_in)) c.args.limits.now (nat_lt faults faults) old old part status c.args.steps.now c.args.steps.now
-          (runs_kind built_in c.args.limits.now (nat_lt faults faults) old part status c.args.steps.now output) (not_risen faults faults refl)
+          (runs_kind built_in c.args.limits.now (nat_lt faults faults) old part status c.args.steps.now output) c.requires (omega arith) (not_risen faults faults refl)
           (none_failed _ _ _ _ status (spec_wrote _ _ _ _ c.kind.result c.kind.ensures.fault) few_faults silent) (λ none. absurd (some≢none none)))),
     )
 
@@ -390,7 +390,7 @@ returns-in-Some-Gen-clause-whole g c = λ old told few few_opens few_faults calm
           (subst (λ status. WritesAll (meaning_of (Some (gen number count))) c.args.limits.now old part status) (sym c.report_status-in-Some-Gen.ensures)
           (whole_run (Some (gen number count)) c.args.limits.now (nat_lt faults faults) old old part status c.args.steps.now c.generate.new.steps
           (runs_gen (check_outcome EndingOnly shipped_kinds) (check_bound shipped_kinds) built_in_kinds number count c.args.limits.now (nat_lt faults faults) old part status
-          c.args.steps.now c.generate.new.steps output c.generate.ensures.cost c.generate.ensures.read) (not_risen faults faults refl)
+          c.args.steps.now c.generate.new.steps output c.generate.ensures.cost c.generate.ensures.read) c.requires (omega arith) (not_risen faults faults refl)
           (none_failed _ _ _ _ status (report_wrote _ _ _ _ c.generate.result c.generate.ensures.fault) few_faults silent) (λ none. absurd (some≢none none)))),
     )
 
@@ -454,7 +454,7 @@ returns-in-Some-GenText-clause-whole g c = λ old told few few_opens few_faults 
       subst (λ command. WritesAll (meaning_of command) c.args.limits.now old part c.text_status.result) words
           (subst (λ status. WritesAll (meaning_of (Some (gen_text number count))) c.args.limits.now old part status) (sym c.text_status.ensures)
           (whole_run (Some (gen_text number count)) c.args.limits.now (nat_lt faults faults) old old part status c.args.steps.now c.args.steps.now
-          (runs_gen_text number count c.args.limits.now (nat_lt faults faults) old part status c.args.steps.now output) (not_risen faults faults refl)
+          (runs_gen_text number count c.args.limits.now (nat_lt faults faults) old part status c.args.steps.now output) c.requires (omega arith) (not_risen faults faults refl)
           (none_failed _ _ _ _ status (text_wrote _ _ _ _ c.gen_text.result c.gen_text.ensures.fault) few_faults silent) (λ none. absurd (some≢none none)))),
     )
 

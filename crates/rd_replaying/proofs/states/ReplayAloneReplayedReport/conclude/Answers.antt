@@ -1,4 +1,5 @@
 use Rattle.std.proofs.Common.{◌≡◌, [], length, refl, sym, ap, ◌∙◌, subst}
+use Rattle.std.specs.Prelude.{IsTrue}
 use Rattle.rd_io.proofs.SinkLemmas.{appends_none}
 use Rattle.rd_wf.specs.MayFollow.{object_kinds, objects_of}
 use Rattle.rd_wf.specs.Roster.{object_names_in}
@@ -7,7 +8,7 @@ use Rattle.rd_wf.proofs.RosterLemmas.{object_keys, thread_keys}
 use Rattle.rd_walk.specs.Output.{IsOutput, report_status}
 use Rattle.rd_walk.specs.Walk.{after, ends, items}
 use Rattle.rd_walk.proofs.OutputLemmas.{report_without}
-use Rattle.rd_replaying.specs.States.{replay_outcome, states_before}
+use Rattle.rd_replaying.specs.States.{is_exact, replay_outcome, states_before}
 use Rattle.rd_replaying.specs.Replaying.{recorded_of, replay_of}
 use Rattle.rd_replaying.proofs.ReplayLemmas.{exact_end, replay_concluded, replay_front}
 use Rattle.rd_replaying.proofs.states.ReplayAloneReplayedReport.conclude.Goals as goal
@@ -30,7 +31,8 @@ write_replay-requires g c = λ exact.
       calls,
       replayed.stands,
       kinds_placed kinds (items entries) ∙ ap length (sym (object_keys kinds c.args.names.now (items entries) stands)),
-      exact_end (replay_of kinds entries) c.args.ending (sym (c.in_ok-ending.ensures.reported numbers calls replayed.stands) ∙ exact),
+      exact_end (replay_of kinds entries) c.args.ending
+          (subst (λ e. IsTrue (is_exact e)) (c.in_ok-ending.ensures.reported numbers calls replayed.stands) exact),
     )
 
 pub returns-clause-output : goal.returns-clause-output
