@@ -72,7 +72,7 @@ pub check_concluded : (status : Status) (part : List ℕ) (form said : Form) (sp
     → IsOutput status (race_texts form spec entries ++ part) (check_outcome form spec (after entries (ends end)))
 check_concluded status part form said spec kinds entries end names races ending formed are named counted ended output =
     let so : ending ≡ entries_ending spec entries (races_of spec entries) end =
-        ended ∙ (λ i. ending_of_report (counted i) (replay_of (are i) entries) end) in
+    ended ∙ (λ i. ending_of_report (counted i) (replay_of (are i) entries) end) in
     let all = subst (IsOutput status part) (λ i. ended_so (formed i) (named i) (counted i) (so i)) output in
     subst (IsOutput status (race_texts form spec entries ++ part)) (sym (outcome_at form spec entries end))
     (behind status (race_texts form spec entries) part (ending_in form (thread_names entries) (races_of spec entries) (entries_ending spec entries (races_of spec entries) end))

@@ -1,11 +1,11 @@
 -- From accepted lines to the events, the calls and the objects of the verdict, and the verdict.
-use Rattle.std.proofs.Common.{◌≡◌, ◌<◌, ◌+◌, ◌==◌, ◌&&◌, ℕ, zero, suc, Bool, true, false, cond, List, [], ◌∷◌, ◌++◌, Option, Some, None, length, slice_get, map, filter_map, arith, refl, sym, ◌∙◌, ap, subst}
-use Rattle.std.specs.Prelude.{option_map, unwrap_or, filter}
+use Rattle.std.proofs.Common.{◌≡◌, ◌<◌, ◌+◌, ℕ, zero, suc, Bool, true, false, cond, List, [], ◌∷◌, ◌++◌, Option, Some, None, length, slice_get, map, arith, refl, sym, ◌∙◌, ap, subst}
+use Rattle.std.specs.Prelude.{option_map, unwrap_or}
 use Rattle.std.specs.List.{cons_option, range_with_len}
 use Rattle.std.specs.Option.{option_and_then}
 use Rattle.std.proofs.lemmas.Bool.Decides.{Decides-and, Decides-eqb}
 use Rattle.std.proofs.lemmas.List.FromFn.{length-map-range_with_len}
-use Rattle.std.proofs.lemmas.Option.{none-some, same_Some, slice_get_within}
+use Rattle.std.proofs.lemmas.Option.{slice_get_within}
 use Rattle.rd_order.proofs.EventListLemmas.{counted_once}
 use Rattle.rd_ecl.specs.Kinds.{Kind, kinds_of}
 use Rattle.rd_ecl.specs.Specified.{SpecifiedKind}
@@ -22,8 +22,7 @@ use Rattle.rd_event.specs.declared.events.Call.{Call as CallOf}
 use Rattle.rd_event.specs.declared.events.Event.{Event}
 use Rattle.rd_event.specs.declared.events.Event.TheVariants.{Call}
 use Rattle.rd_event.specs.declared.items.Line.{Line}
-use Rattle.rd_kinds.specs.Machines.{machine_of}
-use Rattle.rd_linear.specs.Determinism.{AreOnObjects, NoneReported, Ends, held_behind, recorded_calls, recorded_in}
+use Rattle.rd_linear.specs.Determinism.{AreOnObjects, NoneReported, Ends, held_behind, recorded_calls}
 use Rattle.rd_object.specs.Machines.{Machine}
 use Rattle.rd_object.specs.declared.shapes.Shape.{Shape}
 use Rattle.rd_object.specs.declared.shapes.Shape.TheVariants.{One}
@@ -31,7 +30,7 @@ use Rattle.rd_base.specs.declared.values.Value.TheVariants.{Nil}
 use Rattle.rd_order.specs.EventLists.{calls, is_call_on}
 use Rattle.rd_order.specs.Order.{call_in}
 use Rattle.rd_replay.specs.Replays.{Recorded, ReplaysAll, calls_on, held_shape, is_on, object_machine, result_of, shape_after, shape_by, step_at}
-use Rattle.rd_replaying.specs.Replaying.{recorded_at, recorded_from, recorded_of, replay_of}
+use Rattle.rd_replaying.specs.Replaying.{recorded_from, recorded_of, replay_of}
 use Rattle.rd_walk.specs.Walk.{Entry, items}
 use Rattle.rd_wf.specs.Events.{AreAccepted, AreTold, roots_of, event_of, events_from, events_of}
 use Rattle.rd_wf.specs.MayFollow.{object_kinds}

@@ -14,12 +14,7 @@ use rd_wf::Roster;
 use std::alloc::Global;
 
 // The end of a trace, behind which so many calls are reported, whose replay ended so, and of which this is shown.
-fn end_json(
-    alloc: Global,
-    races: u64,
-    replay: &[u8],
-    verdict: &[u8],
-) -> Result<Bytes, NoMemory>
+fn end_json(alloc: Global, races: u64, replay: &[u8], verdict: &[u8]) -> Result<Bytes, NoMemory>
     requires { ArePlain replay.now × ArePlain verdict.now }
     ensures { IfOk result (λ text. text ≡ end_json races replay.now verdict.now) }
 {

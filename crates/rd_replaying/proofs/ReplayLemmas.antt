@@ -7,7 +7,6 @@ use Rattle.rd_io.specs.Inputs.{Source}
 use Rattle.rd_io.specs.Lines.Stop.{end}
 use Rattle.rd_object.specs.declared.shapes.ReplayEnd.TheVariants.{Exact, Differs, NotShipped}
 use Rattle.rd_object.specs.declared.shapes.ReplayEnd.{ReplayEnd}
-use Rattle.rd_report.specs.declared.endings.Ending.TheVariants as report
 use Rattle.rd_report.specs.declared.endings.Ending.{Ending}
 use Rattle.rd_replaying.proofs.EndingLemmas.{well_end}
 use Rattle.rd_walk.proofs.FileLemmas.{ending_at, entries_at}

@@ -23,7 +23,6 @@ use Rattle.rd_object.specs.declared.shapes.ReplayEnd.{ReplayEnd}
 use Rattle.rd_object.specs.declared.shapes.ReplayEnd.TheVariants.{Exact, Differs, NotShipped}
 use Rattle.rd_print.specs.Canonical.{value_word}
 use Rattle.rd_print.specs.Printed.{commute_words, pair_text, pair_words}
-use Rattle.rd_print.specs.declared.canonical.word_list.PrintedWord.{PrintedWord}
 use Rattle.rd_print.specs.Text.{IsRightWord}
 use Rattle.rd_print.proofs.SoundLemmas.{commute_sound}
 use Rattle.rd_print.proofs.TextPlainLemmas.{words_plain}

@@ -1,4 +1,4 @@
-use Rattle.std.proofs.Common.{◌≡◌, ◌++◌, [], ◌∙◌, sym, ap, subst}
+use Rattle.std.proofs.Common.{◌≡◌, [], subst}
 use Rattle.std.proofs.lemmas.List.{append-nil}
 use Rattle.rd_check.specs.Checked.{races_of}
 use Rattle.rd_ecl.specs.Kinds.{kinds_of}

@@ -1,10 +1,7 @@
-use Rattle.std.proofs.Common.{◌≡◌, ℕ, List, [], ◌++◌, length, sym, ap, ◌∙◌, subst}
+use Rattle.std.proofs.Common.{◌≡◌, ℕ, List, [], ◌++◌, length, sym, ap, ◌∙◌}
 use Rattle.std.proofs.lemmas.List.{append_assoc}
 use Rattle.std.proofs.lemmas.Result.{on_err_weaker}
 use Rattle.rd_io.proofs.SinkLemmas.{appends_on}
-use Rattle.rd_io.specs.Sinks.{Appends}
-use Rattle.rd_object.specs.declared.shapes.ReplayEnd.TheVariants.{Exact}
-use Rattle.rd_report.specs.declared.endings.Ending.TheVariants.{End}
 use Rattle.rd_replay.specs.Replays.{Recorded}
 use Rattle.rd_replay.specs.Replayer.{ReplayerStandsFor}
 use Rattle.rd_walk.specs.Analysis.{WritesFront}

@@ -1,8 +1,6 @@
-use Rattle.std.proofs.Common.{[], Ok, Err, subst, sym, ap, ◌∙◌}
-use Rattle.std.specs.Prelude.{OnOk, Result, All}
+use Rattle.std.proofs.Common.{[], Ok, Err, subst, sym}
+use Rattle.std.specs.Prelude.{OnOk, Result}
 use Rattle.std.proofs.lemmas.Option.{get_or_from_slice_get}
-use Rattle.rd_base.specs.Names.{IsName}
-use Rattle.rd_base.specs.Spelling.{IsValue}
 use Rattle.rd_event.specs.Items.{call_text}
 use Rattle.rd_wf.specs.Roster.{names_in, object_names_in}
 use Rattle.rd_report.specs.Writing.{ArePlain}
