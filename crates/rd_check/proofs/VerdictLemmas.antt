@@ -130,7 +130,9 @@ verdicts more kinds are entries accepted none exact =
     let all = (exact_where objects calls (calls_declared (kinds_of kinds) entries accepted)).0 exact in
     record {
       shapes = shapes_of objects calls;
-      held = shapes_held objects calls all;
+      held = λ object inside.
+          let shape = all.1 object inside in
+          (shape.0, sym (shapes_held objects calls all object inside) ∙ shape.1, shape.1);
       orders = deterministic (roots_of (items entries)) more objects (shapes_of objects calls) (entry_events kinds entries) told.told.formed
           (on_objects (kinds_of kinds) (items entries) told)
           (subst (λ k. NoneReported k (entry_events kinds entries)) are ((none_reported kinds entries).0 none))

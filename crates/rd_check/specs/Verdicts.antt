@@ -1,5 +1,5 @@
 -- What the verdict `deterministic` says. This project's profile.
-use Rattle.std.specs.Prelude.{◌≡◌, ℕ, ◌<◌, List, length, slice_get}
+use Rattle.std.specs.Prelude.{◌≡◌, ℕ, ◌<◌, List, length, Some, slice_get}
 use Rattle.rd_check.specs.Checked.{entry_events}
 use Rattle.rd_ecl.specs.Kinds.{kinds_of}
 use Rattle.rd_ecl.specs.Specified.{SpecifiedKind}
@@ -15,10 +15,10 @@ use Rattle.rd_wf.specs.MayFollow.{object_kinds}
 abbrev pub kinds_in : List SpecifiedKind → List Entry → List ℕ
 kinds_in kinds entries = object_kinds (kinds_of kinds) (items entries)
 
--- The events of these lines are deterministic: there are shapes to which the lines' own calls lead their objects, and to which the calls lead
--- them in every order of the events that keeps what comes before what; and each such order is well-formed, with the same events before one another.
+-- The events of these lines are deterministic: each object has a shape to which the lines' own calls lead it, and to which the calls lead
+-- it in every order of the events that keeps what comes before what; and each such order is well-formed, with the same events before one another.
 pub record AreDeterministic (kinds : List SpecifiedKind) (entries : List Entry) : Type 0 where
   pub shapes : List Shape
   pub held : (object : ℕ) → object < length (kinds_in kinds entries)
-      → held_shape (kinds_in kinds entries) (recorded_of (kinds_of kinds) entries) object ≡ slice_get shapes object
+      → (shape : Shape) × (slice_get shapes object ≡ Some shape) × (held_shape (kinds_in kinds entries) (recorded_of (kinds_of kinds) entries) object ≡ Some shape)
   pub orders : IsDeterministic (roots_of (items entries)) (kinds_in kinds entries) (entry_events kinds entries) shapes
