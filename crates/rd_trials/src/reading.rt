@@ -68,7 +68,7 @@ impl Reader {
         if self.row.pieces.is_empty() {
             self.row.pieces.push(4096).ok()?;
         }
-        let runs = u32::try_from(self.row.pieces.len()).ok()?;
+        let runs = u32::try_from(self.row.runs()).ok()?;
         self.runs = self.runs.checked_add(runs)?;
         if self.row.is_met()? {
             return Some(());
@@ -117,10 +117,10 @@ impl Reader {
         text.extend_from_slice(bytes).ok()
     }
 
-    /// Makes the specification so many bytes long.
+    /// Makes the specification so many bytes long, where it is shorter.
     fn fill(&mut self, length: u64) -> Option<()> {
-        self.row.specification.clear();
-        for _ in 0..length {
+        let begin = u64::try_from(self.row.specification.len()).ok()?;
+        for _ in begin..length {
             self.row.specification.push(b'#').ok()?;
         }
         Some(())
@@ -164,6 +164,9 @@ impl Reader {
         if let Some(digits) = line.strip_prefix(b"fill ".as_slice()) {
             return self.fill(number(digits)?);
         }
+        if let Some(digits) = line.strip_prefix(b"byte ".as_slice()) {
+            return self.push(&[u8::try_from(number(digits)?).ok()?]);
+        }
         self.row.status = number(line.strip_prefix(b"status ".as_slice())?)?;
         Some(())
     }
@@ -187,6 +190,10 @@ impl Reader {
             b"trace" => self.part(Part::Trace),
             b"specification" => self.part(Part::Specification),
             b"writes" => self.part(Part::Writes),
+            b"each write fails" => {
+                self.row.fails_each_write = true;
+                Some(())
+            }
             _ => self.set(line),
         }
     }

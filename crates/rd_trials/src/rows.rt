@@ -20,6 +20,8 @@ pub struct Row {
     pub pieces: Vec<u32>,
     pub failing_reads: Vec<u32>,
     pub failing_writes: Vec<u32>,
+    /// whether the row is run once more for each line that it writes, with the write of that line failing
+    pub fails_each_write: bool,
     pub limits: Limits,
     pub status: u64,
     pub writes: Vec<u8>,
@@ -53,6 +55,7 @@ impl Row {
             pieces: Vec::new(alloc),
             failing_reads: Vec::new(alloc),
             failing_writes: Vec::new(alloc),
+            fails_each_write: false,
             limits: Limits::standard(),
             status: 0,
             writes: Vec::new(alloc),
@@ -65,6 +68,7 @@ impl Row {
         self.pieces.clear();
         self.failing_reads.clear();
         self.failing_writes.clear();
+        self.fails_each_write = false;
         self.limits = Limits::standard();
         self.status = 0;
         self.writes.clear();
@@ -82,8 +86,8 @@ impl Row {
         Ok(inputs)
     }
 
-    /// Does the run in such pieces answer and write what it should? None where memory runs out, or the row can't be run.
-    fn is_met_by(&self, piece: u32) -> Option<bool> {
+    /// Does the run in such pieces, in which these writes fail, answer and write this? None where memory runs out, or the row can't be run.
+    fn ends_so(&self, piece: u32, failing: &[u32], status: u64, text: &[u8]) -> Option<bool> {
         let limits = self.limits;
         if piece < 1 || limits.line < 1 {
             return None;
@@ -92,8 +96,8 @@ impl Row {
             return None;
         }
         let mut inputs = self.inputs(piece).ok()?;
-        let mut out = MemorySink::new(self.alloc, 16_384, &self.failing_writes).ok()?;
-        let status = run_with::<Brand>(
+        let mut out = MemorySink::new(self.alloc, 16_384, failing).ok()?;
+        let answer = run_with::<Brand>(
             self.alloc,
             &self.words,
             &mut inputs,
@@ -101,14 +105,42 @@ impl Row {
             &limits,
             Blank::new(1),
         );
-        Some(u64::from(status.code()) == self.status && out.written() == self.writes.as_slice())
+        Some(u64::from(answer.code()) == status && out.written() == text)
+    }
+
+    /// Does the run in which the write of each line fails, one after the other, answer 7 and write the lines in front of it alone? None where
+    /// memory runs out, or the row can't be run.
+    fn is_met_by_failing_writes(&self) -> Option<bool> {
+        let mut met = true;
+        let mut number = 0u32;
+        let mut begin = 0;
+        for (place, byte) in self.writes.iter().enumerate() {
+            if *byte == b'\n' {
+                number = number.checked_add(1)?;
+                let front = self.writes.get(..begin)?;
+                met = met && self.ends_so(4096, &[number], 7, front)?;
+                begin = place.checked_add(1)?;
+            }
+        }
+        if number == 0 { None } else { Some(met) }
+    }
+
+    /// How many runs the row has.
+    pub fn runs(&self) -> usize {
+        if self.fails_each_write {
+            return self.writes.iter().filter(|byte| **byte == b'\n').count();
+        }
+        self.pieces.len()
     }
 
     /// Do all runs of the row answer and write what they should? None where memory runs out, or the row can't be run.
     pub fn is_met(&self) -> Option<bool> {
+        if self.fails_each_write {
+            return self.is_met_by_failing_writes();
+        }
         let mut met = true;
         for piece in &self.pieces {
-            let is_met = self.is_met_by(*piece)?;
+            let is_met = self.ends_so(*piece, &self.failing_writes, self.status, &self.writes)?;
             met = met && is_met;
         }
         Some(met)
