@@ -157,7 +157,7 @@ through_inside (byte ∷ text) each =
     through_both Quoted Quoted Quoted (byte_spelling byte) (bytes_spelling text) (through_escaped byte each.0) (through_inside text each.1)
 
 -- no value ends inside the spelling of one
-through_value : (value : Value) → IsValue value → Through Outside (value_spelling value) Outside
+pub through_value : (value : Value) → IsValue value → Through Outside (value_spelling value) Outside
 unfolding value_length
 through_value Nil range = λ rest. omega arith
 through_value (Truth true) range = λ rest. omega arith

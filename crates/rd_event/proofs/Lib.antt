@@ -1,4 +1,5 @@
 pub mod CutLemmas
+pub mod FrontLemmas
 pub mod SlotLemmas
 pub mod WordLemmas
 pub mod CallLemmas

@@ -1,11 +1,12 @@
 -- `slots_read` finds the slots of a call exactly in their spelling.
-use Rattle.std.proofs.Common.{◌≡◌, ℕ, zero, suc, ◌-◌, ◌<◌, ◌≤◌, true, false, List, [], ◌∷◌, ◌++◌, length, refl, sym, ◌∙◌, ap, codes, Option, Some, None, IfSome, option_map, option_and_then, is_some, arith, append_assoc, length-append, bytes_eq, pos, negsuc}
+use Rattle.std.proofs.Common.{◌≡◌, ℕ, zero, suc, ◌-◌, ◌<◌, ◌≤◌, true, false, List, [], ◌∷◌, ◌++◌, length, refl, sym, ◌∙◌, ap, codes, Option, Some, None, IfSome, option_map, option_and_then, is_some, arith, append_assoc, length-append, bytes_eq, pos, negsuc, ◌+◌, length-drop, ◌≢◌, inl, inr}
 use Rattle.std.specs.Prelude.{⊤}
 use Rattle.std.specs.Fmt.{digits}
 use Rattle.std.specs.List.{AllByRecursion}
 use Rattle.std.specs.Cmp.Lexicographic.{bytes_decides}
-use Rattle.std.proofs.lemmas.Bool.{false_from_ne_true}
+use Rattle.std.proofs.lemmas.Bool.{cases_Bool, cases_lt, false_from_ne_true}
 use Rattle.std.proofs.lemmas.Fmt.{decimal_nonempty}
+use Rattle.std.proofs.lemmas.List.{nil_from_length}
 use Rattle.std.proofs.lemmas.Option.{none-some, MatchOption-at_some}
 use Rattle.rd_base.specs.declared.values.Value.{Value}
 use Rattle.rd_base.specs.declared.values.Value.TheVariants.{Nil, Bool as Truth, Int, Text}
@@ -14,7 +15,8 @@ use Rattle.rd_base.specs.ReadingValues.{integer_of, value_of}
 use Rattle.rd_base.proofs.FoundLemmas.{if_some, map_found, then_found, each_by_recursion, each_from_recursion}
 use Rattle.rd_base.proofs.ValueLemmas.{value_found, found_said as value_said}
 use Rattle.rd_event.specs.Items.{AreSlots, words_apart, slots_spelling}
-use Rattle.rd_event.specs.ReadingSlots.{first_value, other_values, slots_read}
+use Rattle.rd_event.specs.declared.slots.Place.TheVariants.{Outside}
+use Rattle.rd_event.specs.ReadingSlots.{value_length, first_value, other_values, slots_read}
 use Rattle.rd_event.proofs.CutLemmas.{values_joined, value_before, value_behind, arrow_before, arrow_behind}
 
 -- Steps of the loop that reads the slots.
@@ -42,7 +44,7 @@ with_room bytes slots rest so_far room =
     let count : 7 - length slots ≡ suc (6 - length slots) = omega arith in
     so_far ∙ ap (λ n. option_map (λ more. slots ++ more) (slots_read n rest)) count
 
-pub result_read : (bytes : List ℕ) (slots : List Value) (rest : List ℕ) (result : Value) → SoFar bytes slots rest → length slots < 7
+result_read : (bytes : List ℕ) (slots : List Value) (rest : List ℕ) (result : Value) → SoFar bytes slots rest → length slots < 7
     → bytes_eq (first_value rest) (codes "->") ≡ true → value_of (other_values rest) ≡ Some result
     → slots_read 7 bytes ≡ Some (slots ++ result ∷ [])
 result_read bytes slots rest result so_far room arrow found =
@@ -50,7 +52,7 @@ result_read bytes slots rest result so_far room arrow found =
     ∙ ap (option_map (λ more. slots ++ more))
     (slots_at_arrow (6 - length slots) rest arrow ∙ ap (option_map (λ result. result ∷ [])) found)
 
-pub result_refused : (bytes : List ℕ) (slots : List Value) (rest : List ℕ) → SoFar bytes slots rest → length slots < 7
+result_refused : (bytes : List ℕ) (slots : List Value) (rest : List ℕ) → SoFar bytes slots rest → length slots < 7
     → bytes_eq (first_value rest) (codes "->") ≡ true → value_of (other_values rest) ≡ None
     → slots_read 7 bytes ≡ None
 result_refused bytes slots rest so_far room arrow none =
@@ -58,7 +60,7 @@ result_refused bytes slots rest so_far room arrow none =
     ∙ ap (option_map (λ more. slots ++ more))
     (slots_at_arrow (6 - length slots) rest arrow ∙ ap (option_map (λ result. result ∷ [])) none)
 
-pub argument_refused : (bytes : List ℕ) (slots : List Value) (rest : List ℕ) → SoFar bytes slots rest → length slots < 7
+argument_refused : (bytes : List ℕ) (slots : List Value) (rest : List ℕ) → SoFar bytes slots rest → length slots < 7
     → bytes_eq (first_value rest) (codes "->") ≡ false → value_of (first_value rest) ≡ None
     → slots_read 7 bytes ≡ None
 argument_refused bytes slots rest so_far room arrow none =
@@ -73,7 +75,7 @@ map_twice : (slots : List Value) (argument : Value) (found : Option (List Value)
 map_twice slots argument (Some more) = ap (λ all. Some all) (sym (append_assoc slots (argument ∷ []) more))
 map_twice slots argument None = refl
 
-pub argument_read : (bytes : List ℕ) (slots : List Value) (rest : List ℕ) (argument : Value) → SoFar bytes slots rest → length slots < 7
+argument_read : (bytes : List ℕ) (slots : List Value) (rest : List ℕ) (argument : Value) → SoFar bytes slots rest → length slots < 7
     → bytes_eq (first_value rest) (codes "->") ≡ false → value_of (first_value rest) ≡ Some argument
     → SoFar bytes (slots ++ argument ∷ []) (other_values rest)
 argument_read bytes slots rest argument so_far room arrow found =
@@ -84,6 +86,76 @@ argument_read bytes slots rest argument so_far room arrow found =
     ∙ ap (option_and_then (λ argument. option_map (λ slots. argument ∷ slots) (slots_read (6 - length slots) (other_values rest)))) found)
     ∙ map_twice slots argument (slots_read (6 - length slots) (other_values rest))
     ∙ ap (λ n. option_map (λ more. (slots ++ argument ∷ []) ++ more) (slots_read n (other_values rest))) count
+
+-- an arrow is no value
+arrow_spells_none : value_of (codes "->") ≡ None
+unfolding value_of integer_of digits
+arrow_spells_none = refl
+
+-- nothing is none either
+nothing_spells_none : value_of [] ≡ None
+unfolding value_of integer_of digits
+nothing_spells_none = refl
+
+-- where bytes don't begin with an arrow and a space, no result stands behind a first value that is an arrow
+nothing_behind_arrow : (bytes : List ℕ) → ((rest : List ℕ) → bytes ≢ 45 ∷ 62 ∷ 32 ∷ rest) → bytes_eq (first_value bytes) (codes "->") ≡ true
+    → value_of (other_values bytes) ≡ None
+nothing_behind_arrow bytes never arrow =
+    elim (cases_lt 0 (length (other_values bytes))) [
+      | inl some ↦
+          let is = (bytes_decides (first_value bytes) (codes "->")).0 arrow in
+          absurd (never (other_values bytes) (values_joined bytes some ∙ ap (λ word. word ++ 32 ∷ other_values bytes) is))
+      | inr none ↦ ap value_of (nil_from_length (other_values bytes) (omega arith)) ∙ nothing_spells_none
+    ]
+
+value_is_no_arrow : (bytes : List ℕ) (value : Value) → value_of bytes ≡ Some value → bytes_eq bytes (codes "->") ≡ false
+value_is_no_arrow bytes value found =
+    false_from_ne_true _ (λ same.
+    none-some value (sym arrow_spells_none ∙ ap value_of (sym ((bytes_decides bytes (codes "->")).0 same)) ∙ found))
+
+pub result_found : (bytes : List ℕ) (slots : List Value) (rest last : List ℕ) (result : Value) → SoFar bytes slots rest → length slots < 7
+    → rest ≡ 45 ∷ 62 ∷ 32 ∷ last → value_of last ≡ Some result → slots_read 7 bytes ≡ Some (slots ++ result ∷ [])
+result_found bytes slots rest last result so_far room is found =
+    result_read bytes slots rest result so_far room (rw (is, arrow_before last) refl) (rw (is, arrow_behind last) found)
+
+pub result_missed : (bytes : List ℕ) (slots : List Value) (rest last : List ℕ) → SoFar bytes slots rest → length slots < 7
+    → rest ≡ 45 ∷ 62 ∷ 32 ∷ last → value_of last ≡ None → slots_read 7 bytes ≡ None
+result_missed bytes slots rest last so_far room is none =
+    result_refused bytes slots rest so_far room (rw (is, arrow_before last) refl) (rw (is, arrow_behind last) none)
+
+pub argument_found : (bytes : List ℕ) (slots : List Value) (rest : List ℕ) (argument : Value) → SoFar bytes slots rest → length slots < 7
+    → value_of (first_value rest) ≡ Some argument → SoFar bytes (slots ++ argument ∷ []) (other_values rest)
+argument_found bytes slots rest argument so_far room found =
+    argument_read bytes slots rest argument so_far room (value_is_no_arrow (first_value rest) argument found) found
+
+-- no slots stand in nothing
+nothing_first : first_value [] ≡ []
+unfolding value_length
+nothing_first = refl
+
+nothing_read : (room : ℕ) → slots_read room [] ≡ None
+nothing_read zero = no_room []
+nothing_read (suc room) =
+    slots_at_argument room [] (ap (λ word. bytes_eq word (codes "->")) nothing_first)
+    ∙ ap (option_and_then (λ argument. option_map (λ slots. argument ∷ slots) (slots_read room (other_values []))))
+    (ap value_of nothing_first ∙ nothing_spells_none)
+
+pub argument_alone : (bytes : List ℕ) (slots : List Value) (rest : List ℕ) (argument : Value) → SoFar bytes slots rest → length slots < 7
+    → value_of (first_value rest) ≡ Some argument → length rest ≤ value_length Outside rest → slots_read 7 bytes ≡ None
+argument_alone bytes slots rest argument so_far room found all =
+    let none : other_values rest ≡ [] =
+    nil_from_length (other_values rest) (omega (arith, length-drop (value_length Outside rest + 1) rest)) in
+    argument_found bytes slots rest argument so_far room found
+    ∙ ap (λ rest. option_map (λ more. (slots ++ argument ∷ []) ++ more) (slots_read (7 - length (slots ++ argument ∷ [])) rest)) none
+    ∙ ap (option_map (λ more. (slots ++ argument ∷ []) ++ more)) (nothing_read (7 - length (slots ++ argument ∷ [])))
+
+pub argument_missed : (bytes : List ℕ) (slots : List Value) (rest : List ℕ) → SoFar bytes slots rest → length slots < 7
+    → ((last : List ℕ) → rest ≢ 45 ∷ 62 ∷ 32 ∷ last) → value_of (first_value rest) ≡ None → slots_read 7 bytes ≡ None
+argument_missed bytes slots rest so_far room never none =
+    elim (cases_Bool (bytes_eq (first_value rest) (codes "->"))) [
+      | inl arrow ↦ result_refused bytes slots rest so_far room arrow (nothing_behind_arrow rest never arrow)
+      | inr other ↦ argument_refused bytes slots rest so_far room other none
+    ]
 
 pub too_many : (bytes : List ℕ) (slots : List Value) (rest : List ℕ) → SoFar bytes slots rest → 7 ≤ length slots → slots_read 7 bytes ≡ None
 too_many bytes slots rest so_far full =
@@ -137,11 +209,6 @@ slots_there None some = cc
 pub nothing_there : {A : Type 0} (found : Option A) → is_some found ≡ false → found ≡ None
 nothing_there (Some x) none = cc
 nothing_there None none = refl
-
--- an arrow is no value
-arrow_spells_none : value_of (codes "->") ≡ None
-unfolding value_of integer_of digits
-arrow_spells_none = refl
 
 no_arrow : (value : Value) → IsValue value → bytes_eq (value_spelling value) (codes "->") ≡ false
 no_arrow value range =

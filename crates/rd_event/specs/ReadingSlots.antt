@@ -3,7 +3,10 @@ use Rattle.std.specs.Prelude.{ℕ, zero, suc, ◌+◌, Bool, false, ◌==◌, if
 use Rattle.std.specs.Option.{option_map, option_and_then}
 use Rattle.std.specs.Str.{bytes_eq}
 use Rattle.rd_base.specs.declared.values.Value.{Value}
+use Rattle.rd_base.specs.declared.values.Value.TheVariants.{Nil, Bool as Truth, Int, Text}
 use Rattle.rd_base.specs.ReadingValues.{value_of}
+use Rattle.rd_event.specs.declared.front.Front.{Front}
+use Rattle.rd_event.specs.declared.front.Front.TheVariants.{Nil as NilFront, Bool as TruthFront, Int as IntFront, Text as TextFront}
 use Rattle.rd_event.specs.declared.slots.Place.{Place}
 use Rattle.rd_event.specs.declared.slots.Place.TheVariants.{Outside, Quoted, Escaped}
 use Rattle.rd_base.specs.Bytes.{backslash, quote, space}
@@ -39,3 +42,10 @@ slots_read (suc room) bytes =
     let others = slots_read room (other_values bytes) in
     if bytes_eq (first_value bytes) (codes "->") then option_map (λ result. result ∷ []) (value_of (other_values bytes))
     else option_and_then (λ argument. option_map (λ slots. argument ∷ slots) others) (value_of (first_value bytes))
+
+-- the value that a front tells
+abbrev pub front_value : Front → Value
+front_value NilFront = Nil
+front_value (TruthFront truth) = Truth truth
+front_value (IntFront z) = Int z
+front_value (TextFront text) = Text text.now

@@ -2,6 +2,7 @@
 #![tactic(auto)]
 
 mod events;
+mod front;
 mod items;
 mod reading;
 mod slots;

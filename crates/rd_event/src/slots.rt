@@ -1,11 +1,13 @@
 //! Reading the arguments and the result of a call.
-ghost use Rattle.std.specs.Prelude.{◌≡◌, ◌≤◌, length, List, Some, None, is_some, IfOk, IfErr, IfSome};
+ghost use Rattle.std.specs.Prelude.{◌≡◌, ◌≢◌, ◌≤◌, ◌++◌, ◌∷◌, [], ℕ, length, List, Some, None, is_some, IfOk, IfErr, IfSome, IfNone, IsTrue, OnOk, false};
 ghost use Rattle.rd_base.specs.declared.values.Value.{Value};
 ghost use Rattle.rd_event.specs.declared.slots.Place.TheVariants.{Outside, Quoted};
-ghost use Rattle.rd_event.specs.ReadingSlots.{ends_value, next_place, value_length, first_value, other_values, slots_read};
+ghost use Rattle.rd_base.specs.ReadingValues.{value_of};
+ghost use Rattle.rd_event.specs.ReadingSlots.{ends_value, next_place, value_length, first_value, other_values, slots_read, front_value};
 
+use crate::front::{Front, front_of};
 use crate::reading::{LineRefused, bytes_are};
-use rd_base::{Slots, ValueRefused, is_value, read_value};
+use rd_base::{Slots, Text, Value, ValueRefused, is_value, read_value};
 use std::alloc::Global;
 
 // Where a reader of values stands: outside quotes, between quotes, or behind a `\` between quotes.
@@ -159,6 +161,145 @@ fn want_of_memory(bytes: &[u8]) -> LineRefused
     }
 }
 
+// The value that a front tells, if memory is there. Only a text takes some.
+#[inline]
+fn value_with(alloc: Global, front: Front<'_>) -> Option<Value>
+    ensures { IfSome result (λ value. value ≡ front_value front.entry) }
+{
+    Some(match front {
+        Front::Nil => Value::Nil,
+        Front::Bool(value) => Value::Bool(value),
+        Front::Int(value) => Value::Int(value),
+        Front::Text(bytes) => Value::Text(Text::from_bytes(alloc, bytes).ok()?),
+    })
+}
+
+// Puts the first of the values that the bytes spell behind the others, and tells how long its spelling is, where a front tells
+// it and memory is there. Else the values are as before.
+#[inline]
+fn push_front(alloc: Global, bytes: &[u8], values: &mut Vec<Value>) -> Option<usize>
+    ensures length { IfSome result (λ length. length ≡ value_length Outside bytes.now) }
+    ensures found { IfSome result (λ _. (value : Value)
+        × (value_of (first_value bytes.now) ≡ Some value) × (values.new.items ≡ values.old.items ++ value ∷ [])) }
+    ensures none { IfNone result (values.new.items ≡ values.old.items) }
+{
+    let (front, length) = front_of(bytes)?;
+    let value = value_with(alloc, front)?;
+    let Ok(()) = values.push(value) else {
+        return None;
+    };
+    Some(length)
+}
+
+// Puts the value that the bytes spell behind the others.
+#[inline(never)]
+fn push_value(alloc: Global, bytes: &[u8], values: &mut Vec<Value>) -> Result<(), ValueRefused>
+    ensures found { OnOk result ((value : Value)
+        × (value_of bytes.now ≡ Some value) × (values.new.items ≡ values.old.items ++ value ∷ [])) }
+    ensures none { IfErr result (λ e. e ≡ ValueRefused.NotAValue → value_of bytes.now ≡ None) }
+{
+    let value = read_value(alloc, bytes)?;
+    let Ok(()) = values.push(value) else {
+        return Err(ValueRefused::NoMemory);
+    };
+    Ok(())
+}
+
+// Puts the first of the values that the bytes spell behind the others, and tells what stands behind its space.
+#[inline(never)]
+fn push_first_value<'a>(
+    alloc: Global,
+    bytes: &'a [u8],
+    values: &mut Vec<Value>,
+) -> Result<&'a [u8], ValueRefused>
+    ensures found { OnOk result ((value : Value)
+        × (value_of (first_value bytes.now) ≡ Some value) × (values.new.items ≡ values.old.items ++ value ∷ [])) }
+    ensures rest { IfOk result (λ rest. rest.now ≡ other_values bytes.now) }
+    ensures none { IfErr result (λ e. e ≡ ValueRefused.NotAValue → value_of (first_value bytes.now) ≡ None) }
+{
+    let (word, rest) = cut_value(bytes);
+    push_value(alloc, word, values)?;
+    Ok(rest)
+}
+
+// Is the first value, of this length, all that the bytes spell? If it isn't, they spell no value.
+#[inline]
+fn whole(bytes: &[u8], length: usize) -> Result<(), ValueRefused>
+    requires { length ≡ value_length Outside bytes.now }
+    ensures ok { OnOk result (first_value bytes.now ≡ bytes.now) }
+    ensures none { IfErr result (λ e. value_of bytes.now ≡ None) }
+{
+    if length < bytes.len() {
+        return Err(ValueRefused::NotAValue);
+    }
+    Ok(())
+}
+
+// Do the bytes begin with an arrow and a space? And what stands behind these, or else all of them. Most are told apart by their
+// first byte.
+#[inline]
+fn cut_arrow(bytes: &[u8]) -> (bool, &[u8])
+    ensures arrow { IsTrue result.0 → bytes.now ≡ 45 ∷ 62 ∷ 32 ∷ result.1.now }
+    ensures all { result.0 ≡ false → result.1.now ≡ bytes.now }
+    ensures none { result.0 ≡ false → (rest : List ℕ) → bytes.now ≢ 45 ∷ 62 ∷ 32 ∷ rest }
+{
+    if bytes.first() != Some(&b'-') {
+        return (false, bytes);
+    }
+    match bytes.strip_prefix(b"-> ") {
+        Some(rest) => (true, rest),
+        None => (false, bytes),
+    }
+}
+
+// Puts the arguments and the result, at most 7 values, that the bytes spell into an empty list: each by its front, or, where
+// that tells nothing, by way of its word.
+fn push_slots(alloc: Global, bytes: &[u8], values: &mut Vec<Value>) -> Result<(), ValueRefused>
+    requires { values.old.items ≡ [] }
+    ensures slots { OnOk result (slots_read 7 bytes.now ≡ Some values.new.items) }
+    ensures none { IfErr result (λ e. e ≡ ValueRefused.NotAValue → slots_read 7 bytes.now ≡ None) }
+{
+    let mut rest = bytes;
+    while values.len() < 7 {
+        let (is_last, from) = cut_arrow(rest);
+        match push_front(alloc, from, values) {
+            Some(length) => {
+                if is_last {
+                    return whole(from, length);
+                }
+                if length >= from.len() {
+                    return Err(ValueRefused::NotAValue);
+                }
+                rest = &from[length + 1..];
+            }
+            None => {
+                if is_last {
+                    return push_value(alloc, from, values);
+                }
+                match push_first_value(alloc, from, values) {
+                    Ok(after) => rest = after,
+                    Err(refused) => return Err(refused),
+                }
+            }
+        }
+    }
+    Err(ValueRefused::NotAValue)
+}
+
+// Why a call with these bytes behind its names is refused where reading its values gave this.
+#[cold]
+fn why_refused(refused: ValueRefused, bytes: &[u8]) -> LineRefused
+    requires { refused ≡ ValueRefused.NotAValue → slots_read 7 bytes.now ≡ None }
+    ensures none { result ≡ LineRefused.BadLine → slots_read 7 bytes.now ≡ None }
+    ensures memory { result ≡ LineRefused.NoMemory → (slots : List Value)
+        × (slots_read 7 bytes.now ≡ Some slots) }
+{
+    match refused {
+        ValueRefused::NotAValue => LineRefused::BadLine,
+        ValueRefused::NoMemory => want_of_memory(bytes),
+    }
+}
+
 // The arguments and the result, at most 7 values, that the bytes spell.
 pub(crate) fn slots(alloc: Global, bytes: &[u8]) -> Result<Slots, LineRefused>
     ensures slots { IfOk result (λ slots. slots_read 7 bytes.now ≡ Some slots) }
@@ -171,32 +312,11 @@ pub(crate) fn slots(alloc: Global, bytes: &[u8]) -> Result<Slots, LineRefused>
     let Ok(mut values) = Vec::with_capacity(alloc, 3) else {
         return Err(want_of_memory(bytes));
     };
-    let mut rest = bytes;
-    while values.len() < 7 {
-        let (word, after) = cut_value(rest);
-        if bytes_are(word, "->") {
-            let result = match read_value(alloc, after) {
-                Ok(result) => result,
-                Err(ValueRefused::NotAValue) => return Err(LineRefused::BadLine),
-                Err(ValueRefused::NoMemory) => return Err(want_of_memory(bytes)),
-            };
-            let Ok(()) = values.push(result) else {
-                return Err(want_of_memory(bytes));
-            };
-            let Ok(slots) = Slots::from_values(alloc, values) else {
-                return Err(want_of_memory(bytes));
-            };
-            return Ok(slots);
-        }
-        let argument = match read_value(alloc, word) {
-            Ok(argument) => argument,
-            Err(ValueRefused::NotAValue) => return Err(LineRefused::BadLine),
-            Err(ValueRefused::NoMemory) => return Err(want_of_memory(bytes)),
-        };
-        let Ok(()) = values.push(argument) else {
-            return Err(want_of_memory(bytes));
-        };
-        rest = after;
+    if let Err(refused) = push_slots(alloc, bytes, &mut values) {
+        return Err(why_refused(refused, bytes));
     }
-    Err(LineRefused::BadLine)
+    let Ok(slots) = Slots::from_values(alloc, values) else {
+        return Err(want_of_memory(bytes));
+    };
+    Ok(slots)
 }

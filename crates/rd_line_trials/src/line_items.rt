@@ -1,6 +1,7 @@
 //! Lines with what they say, and events by numbers.
 
 use crate::rows::{Act, Wanted, are, event};
+use rd_base::Bytes;
 use rd_event::{Call, Event, Line, LineEvent, LineRefused, read_into, read_line, spell};
 use std::alloc::Global;
 use std::process::Abort;
@@ -196,6 +197,29 @@ fn reads_each_call(rt: HostRuntime) {
             &[Wanted::Text(b"\\"), Wanted::Text(b" \n -> ")],
         ),
         (
+            "call a d put \"ab\\x1f\" \"\\x7f\" -> \"ab\\\\\"",
+            ["a", "d", "put"],
+            &[
+                Wanted::Text(b"ab\x1f"),
+                Wanted::Text(b"\x7f"),
+                Wanted::Text(b"ab\\"),
+            ],
+        ),
+        (
+            "call a d put 999999999999999999 1000000000000000000 -> -999999999999999999",
+            ["a", "d", "put"],
+            &[
+                Wanted::Int(999_999_999_999_999_999),
+                Wanted::Int(1_000_000_000_000_000_000),
+                Wanted::Int(-999_999_999_999_999_999),
+            ],
+        ),
+        (
+            "call a d put 9223372036854775807 -> -9223372036854775808",
+            ["a", "d", "put"],
+            &[Wanted::Int(i64::MAX), Wanted::Int(i64::MIN)],
+        ),
+        (
             "call - - - nil true false 0 -1 \"\" -> \"->\"",
             ["-", "-", "-"],
             &[
@@ -226,12 +250,55 @@ const NO_CALLS: &str = "\
     call p x write \"a -> nil|call p x write a\" -> nil|call p x write \"a\"b -> nil|\
     call p x write \"a\" \" -> nil|call p x write \"\\x41\" -> nil|\
     call p x write \"\\\" -> nil|call p/ x read -> nil|call p x/ read -> nil|\
-    call p x read/ -> nil|Call p x read -> nil|calls p x read -> nil";
+    call p x read/ -> nil|Call p x read -> nil|calls p x read -> nil|call p x write 1|\
+    call p x write 1 |call p x write 1  -> nil|call p x write 00 -> nil|call p x write - -> nil|\
+    call p x write 1x -> nil|call p x write nilx -> nil|call p x write tru -> nil|\
+    call p x write falsehood -> nil|call p x write -9223372036854775809 -> nil|\
+    call p x write 10000000000000000000 -> nil|call p x write 1000000000000000000x -> nil|\
+    call p x write \"a\x1f\" -> nil|call p x write \"\x7f\" -> nil|call p x write \"ab\\\" -> nil|\
+    call p x read -> nilx|call p x read -> true |call p x read -> 07|call p x read -> -0|\
+    call p x read -> 1 |call p x read -> 1 2|call p x read -> \"a\"b|call p x read -> \"a\" |\
+    call p x read -> \"a\" \"b\"|call p x read -> \"a";
 
 #[test]
 fn refuses_what_is_no_call(rt: HostRuntime) {
     for text in NO_CALLS.split('|') {
         assert!(rt; is_refused(rt.alloc(), 1, text), "at {text:?}");
+    }
+}
+
+// A call with the text, of bytes that are spelled as they are, as its argument and as its result.
+fn echo(rt: &impl Abort, alloc: Global, text: &[u8]) -> Bytes {
+    let mut line = Bytes::new(alloc);
+    for part in [
+        b"call p x echo \"".as_slice(),
+        text,
+        b"\" -> \"",
+        text,
+        b"\"",
+    ] {
+        line.append(part).expect(rt, "memory");
+    }
+    line
+}
+
+// Is such a call read?
+fn is_echo_read(rt: &impl Abort, alloc: Global, text: &[u8]) -> bool {
+    let line = echo(rt, alloc, text);
+    match read_line(alloc, line.items(), 1) {
+        Ok(Line::Event(LineEvent::Call { slots, .. })) => {
+            are(&[Wanted::Text(text), Wanted::Text(text)], slots.items())
+        }
+        _ => false,
+    }
+}
+
+#[test]
+fn reads_calls_with_texts_of_at_most_255_bytes(rt: HostRuntime) {
+    let bytes = [b'b'; 257];
+    for length in 0..=257 {
+        let is_read = is_echo_read(&rt, rt.alloc(), &bytes[..length]);
+        assert!(rt; is_read == (length <= 255), "at {length}");
     }
 }
 
