@@ -66,6 +66,26 @@ fn runs<O: RefObject + Drop>(rt: &impl Abort, alloc: Global, kind: &KindSpec, st
     }
 }
 
+// The number of a method, its arguments, and what the call gives.
+type Asked<'a> = (u8, &'a str, &'a str);
+
+// A new object of the kind runs these calls, and the line of its state is then this.
+fn ends_at<O: RefObject + Drop>(
+    rt: &impl Abort,
+    alloc: Global,
+    kind: &KindSpec,
+    calls: &[Asked<'_>],
+    wanted_state: &str,
+)
+    requires { kind.now ≡ O.machine.kind }
+{
+    let mut object = O::start(alloc);
+    for (method, args, wanted) in calls {
+        gives(rt, alloc, kind, &mut object, *method, args, wanted);
+    }
+    has_state(rt, alloc, &object, wanted_state);
+}
+
 const REGISTER: [Step<'static>; 3] = [
     (2, "5", "nil", "state o one 5\n"),
     (1, "6", "nil", "state o one 6\n"),
@@ -117,6 +137,55 @@ fn runs_of_objects(rt: HostRuntime) {
     runs::<Set>(&rt, rt.alloc(), kind_at(&rt, &spec, 2), &SET);
     runs::<Set>(&rt, rt.alloc(), kind_at(&rt, &spec, 2), &RISING_SET);
     runs::<Dictionary>(&rt, rt.alloc(), kind_at(&rt, &spec, 3), &DICTIONARY);
+}
+
+// Items of all sorts come falling, and two go from between others.
+const FALLING_SET: [Asked<'static>; 13] = [
+    (0, "\"b\"", "true"),
+    (0, "\"ab\"", "true"),
+    (0, "\"a\"", "true"),
+    (0, "7", "true"),
+    (0, "-7", "true"),
+    (0, "true", "true"),
+    (0, "false", "true"),
+    (0, "nil", "true"),
+    (1, "\"ab\"", "true"),
+    (0, "7", "false"),
+    (1, "-7", "true"),
+    (2, "nil", "true"),
+    (3, "", "6"),
+];
+
+const FALLING_DICTIONARY: [Asked<'static>; 13] = [
+    (0, "\"b\" 1", "nil"),
+    (0, "\"ab\" 2", "nil"),
+    (0, "\"a\" 3", "nil"),
+    (0, "7 4", "nil"),
+    (0, "-7 5", "nil"),
+    (0, "true 6", "nil"),
+    (0, "false 7", "nil"),
+    (0, "nil 8", "nil"),
+    (0, "\"ab\" nil", "2"),
+    (0, "7 9", "4"),
+    (0, "-7 nil", "5"),
+    (1, "nil", "8"),
+    (2, "", "6"),
+];
+
+// A state has items and keys rising by value, however they came.
+#[test]
+fn states_rise(rt: HostRuntime) {
+    let spec = built_in(&rt, rt.alloc());
+    let items = "state o items nil false true 7 \"a\" \"b\"\n";
+    ends_at::<Set>(&rt, rt.alloc(), kind_at(&rt, &spec, 2), &FALLING_SET, items);
+    let entries = "state o map nil 8 false 7 true 6 7 9 \"a\" 3 \"b\" 1\n";
+    ends_at::<Dictionary>(
+        &rt,
+        rt.alloc(),
+        kind_at(&rt, &spec, 3),
+        &FALLING_DICTIONARY,
+        entries,
+    );
 }
 
 // Runs a call of an object of the kind with this number.

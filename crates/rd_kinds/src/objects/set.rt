@@ -1,21 +1,22 @@
 //! Sets, whose items rise by value.
-ghost use Rattle.std.specs.Prelude.{◌≡◌, not, pos, length, IfOk, OnErr};
-ghost use Rattle.std.specs.List.Sorted.{IsStrictlySortedBy};
-ghost use Rattle.rd_base.specs.Order.{value_cmp};
+ghost use Rattle.std.specs.Prelude.{◌≡◌, not, pos, length, IfOk, OnOk, OnErr};
+ghost use Rattle.indexmap.specs.IndexSet.{IsUnique};
 ghost use Rattle.rd_base.specs.declared.values.Value.TheVariants.{Bool as Boolean, Int};
 ghost use Rattle.rd_kinds.specs.Machines.{has, with_item, without_item};
+ghost use Rattle.rd_kinds.specs.Sorted.{sorted_items};
 
+use indexmap::IndexSet;
 use rd_base::{NoMemory, Slots, Value};
 use rd_object::{ApplyRefused, RefObject, Shape};
 use std::alloc::Global;
-use std::collections::BTreeSet;
 use std::marker::Model;
 
-/// A set of items. Contracts see it as the list of its items, which rise by value.
+/// A set of items. Contracts see it as the list of its items, which rise by value. The items themselves stand in no order: one is found
+/// by its hash, and they are sorted where the state is asked.
 #[derive(Debug, Drop)]
 pub struct Set {
     alloc: Global,
-    items: BTreeSet<Value>,
+    items: IndexSet<Value>,
 }
 
 impl Model for Set {
@@ -24,24 +25,40 @@ impl Model for Set {
 
     ghost Value = { List Item };
 
-    ghost view = { λ s. s.items.keys };
+    ghost use Rattle.rd_kinds.specs.Sorted.{sorted_items};
+
+    ghost view = { λ s. sorted_items s.items.keys };
 }
 
-// How many items there are. They rise.
-fn count(items: &BTreeSet<Value>) -> i64
-    ensures count { result ≡ pos (length items.now.keys) }
-    ensures rising { IsStrictlySortedBy value_cmp items.now.keys }
+// Is the item there?
+fn has(items: &IndexSet<Value>, item: &Value) -> bool
+    ensures { result ≡ has item.now (sorted_items items.now.keys) }
 {
-    items.len() as i64
-}
-
-// Is the item there? The items rise.
-fn has(items: &BTreeSet<Value>, item: &Value) -> bool
-    ensures there { result ≡ has item.now items.now.keys }
-    ensures rising { IsStrictlySortedBy value_cmp items.now.keys }
-{
-    let _count = count(items);
     items.contains(item)
+}
+
+// Adds an item that isn't there. It stands apart so that adding one that is there doesn't pay for it.
+#[inline(never)]
+fn insert_new(alloc: Global, items: &mut IndexSet<Value>, item: &Value) -> Result<(), NoMemory>
+    ensures items { OnOk result
+        (sorted_items items.new.keys ≡ with_item item.now (sorted_items items.old.keys)) }
+    ensures err { OnErr result (items.new.keys ≡ items.old.keys) }
+{
+    let item = item.copy(alloc)?;
+    items.insert(item)?;
+    Ok(())
+}
+
+// Copies of the items, as they stand.
+fn copies(alloc: Global, items: &IndexSet<Value>) -> Result<Vec<Value>, NoMemory>
+    ensures items { IfOk result (λ list. list.items ≡ items.now.keys) }
+    ensures unique { IsUnique (⟦<Value as PartialEq>⟧.eq) items.now }
+{
+    let mut list = Vec::new(alloc);
+    for item in items {
+        list.push(item.copy(alloc)?)?;
+    }
+    Ok(list)
 }
 
 impl Set {
@@ -54,8 +71,8 @@ impl Set {
         if has(&self.items, item) {
             return Ok(Value::Bool(false));
         }
-        let item = item.copy(self.alloc)?;
-        Ok(Value::Bool(self.items.insert(item)?))
+        insert_new(self.alloc, &mut self.items, item)?;
+        Ok(Value::Bool(true))
     }
 
     // Removes an item, and tells whether it was there.
@@ -63,7 +80,7 @@ impl Set {
         ensures value { result ≡ Boolean (has item.now self.old) }
         ensures items { self.new ≡ without_item item.now self.old }
     {
-        Value::Bool(self.items.remove(item))
+        Value::Bool(self.items.swap_remove(item))
     }
 
     // Is the item there?
@@ -77,17 +94,15 @@ impl Set {
     fn size(&self) -> Value
         ensures { result ≡ Int (pos (length self.now)) }
     {
-        Value::Int(count(&self.items))
+        Value::Int(self.items.len() as i64)
     }
 
     // Copies of the items, in order.
-    fn copies(&self) -> Result<Vec<Value>, NoMemory>
+    fn sorted(&self) -> Result<Vec<Value>, NoMemory>
         ensures { IfOk result (λ list. list.items ≡ self.now) }
     {
-        let mut list = Vec::new(self.alloc);
-        for item in &self.items {
-            list.push(item.copy(self.alloc)?)?;
-        }
+        let mut list = copies(self.alloc, &self.items)?;
+        list.sort_unstable();
         Ok(list)
     }
 }
@@ -108,7 +123,7 @@ impl RefObject for Set {
     fn start(alloc: Global) -> Set {
         Set {
             alloc,
-            items: BTreeSet::new(alloc),
+            items: IndexSet::new(alloc),
         }
     }
 
@@ -124,7 +139,7 @@ impl RefObject for Set {
     }
 
     fn shape(&self) -> Result<Shape, NoMemory> {
-        let items = self.copies()?;
+        let items = self.sorted()?;
         Ok(Shape::Items(Slots::from_values(self.alloc, items)?))
     }
 }
