@@ -51,6 +51,13 @@ impl Clock {
         Ok(())
     }
 
+    /// For how many threads there is room: the component of each further one is 0. It takes no memory and no step.
+    pub fn room(&self) -> usize
+        ensures { result ≡ length self.now }
+    {
+        self.components.len()
+    }
+
     /// An equal clock. One without room takes no memory.
     pub fn copy(&self, alloc: Global) -> Result<Clock, NoMemory>
         ensures value { IfOk result (λ clock. clock ≡ self.now) }

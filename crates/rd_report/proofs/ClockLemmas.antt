@@ -1,7 +1,8 @@
 -- The parts of a clock, one behind another.
-use Rattle.std.proofs.Common.{◌≡◌, ℕ, suc, ◌+◌, ◌<◌, ◌≤◌, ◌==◌, ◌||◌, Bool, true, false, nat_lt, not, if◌then◌else◌, List, [], ◌∷◌, ◌++◌, length, drop, get_or, codes, decimal, refl, sym, ◌∙◌, ap, add-one, append_assoc, append-nil, arith}
+use Rattle.std.proofs.Common.{◌≡◌, ℕ, suc, ◌+◌, ◌<◌, ◌≤◌, ◌==◌, ◌||◌, Bool, true, false, nat_lt, min, not, if◌then◌else◌, List, [], ◌∷◌, ◌++◌, length, drop, get_or, codes, decimal, refl, sym, ◌∙◌, ap, add-one, append_assoc, append-nil, arith}
 use Rattle.std.proofs.lemmas.Bool.Decides.{nat_tests}
-use Rattle.std.proofs.lemmas.List.{drop_all, drop_more}
+use Rattle.std.proofs.lemmas.List.{drop_all, drop_more, get_or_past}
+use Rattle.rd_clock.specs.Clock.{component}
 use Rattle.rd_report.specs.Races.{counts_from, clock_text, with_commas}
 use Rattle.rd_report.specs.Writing.{comma, clock_part_text}
 
@@ -75,8 +76,33 @@ part_more whole text new some now names count i n within all counted put here =
     ∙ ap (λ (b : Bool). new ++ after b) (sym put)
     ∙ ap (λ (m : ℕ). new ++ parts_text now (counts_from m (drop (i + 1) names) count)) (sym (add-one i))
 
+-- where none is counted from a number on, no part is told
+none_told : (number : ℕ) (names : List (List ℕ)) (count : ℕ → ℕ) → ((thread : ℕ) → number ≤ thread → count thread ≡ 0) → counts_from number names count ≡ []
+none_told number [] count none = refl
+none_told number (name ∷ names) count none =
+    ap (λ (n : ℕ). if n == 0 then counts_from (suc number) names count else (name ++ codes ":" ++ decimal (count number)) ∷ counts_from (suc number) names count)
+      (none number (omega arith))
+    ∙ none_told (suc number) names count (λ thread behind. none thread (omega arith))
+
+-- all threads for which a clock has room
+parts_known : (whole text : List ℕ) (some : Bool) (names : List (List ℕ)) (clock : List ℕ) (i : ℕ) → length clock ≤ i
+    → whole ≡ text ++ parts_from some i names (component clock) → text ≡ whole
+parts_known whole text some names clock i past all =
+    sym (append-nil text)
+    ∙ ap (λ (xs : List (List ℕ)). text ++ parts_text some xs) (sym (none_told i (drop i names) (component clock) (λ thread behind. get_or_past clock thread 0 (omega arith))))
+    ∙ sym all
+
 -- all threads
-pub parts_all : (whole text : List ℕ) (some : Bool) (names : List (List ℕ)) (count : ℕ → ℕ) (i : ℕ) → length names ≤ i
+parts_all : (whole text : List ℕ) (some : Bool) (names : List (List ℕ)) (count : ℕ → ℕ) (i : ℕ) → length names ≤ i
     → whole ≡ text ++ parts_from some i names count → text ≡ whole
 parts_all whole text some names count i past all =
     sym (append-nil text) ∙ ap (λ (xs : List (List ℕ)). text ++ parts_text some (counts_from i xs count)) (sym (drop_all i names past)) ∙ sym all
+
+-- all threads, or all for which a clock has room
+pub parts_told : (whole text : List ℕ) (some : Bool) (names : List (List ℕ)) (clock : List ℕ) (i : ℕ) → min (length names) (length clock) ≤ i
+    → whole ≡ text ++ parts_from some i names (component clock) → text ≡ whole
+parts_told whole text some names clock i past all = by (nat_lt i (length names)) refl
+  where
+    by : (b : Bool) → nat_lt i (length names) ≡ b → text ≡ whole
+    by true below = parts_known whole text some names clock i (grind (arith, nat_tests)) all
+    by false above = parts_all whole text some names (component clock) i (grind (arith, nat_tests)) all

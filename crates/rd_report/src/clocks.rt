@@ -45,7 +45,7 @@ fn append_part(
     Ok(true)
 }
 
-// Puts a clock behind the text.
+// Puts a clock behind the text. It is asked for the threads for which it has room; it counts nothing of the others.
 pub(crate) fn append_clock<L: Ledger>(
     text: &mut Bytes,
     clock: &Clock,
@@ -56,8 +56,9 @@ pub(crate) fn append_clock<L: Ledger>(
         (text.new ≡ text.old ++ clock_text (names_in names.now) (component clock.now)) }
     ensures plain { ArePlain text.old → OnOk result (ArePlain text.new) }
 {
+    let asked = (names.threads() as usize).min(clock.room()) as u32;
     let mut some = false;
-    for thread in 0..names.threads() {
+    for thread in 0..asked {
         some = append_part(text, names, thread, clock.get(thread, steps), some)?;
     }
     Ok(())

@@ -4,7 +4,7 @@ use Rattle.rd_clock.specs.Clock.{component}
 use Rattle.rd_wf.specs.declared.roster.Roster.{Roster}
 use Rattle.rd_wf.specs.Roster.{names_in, thread_count}
 use Rattle.rd_report.specs.Races.{clock_text}
-use Rattle.rd_report.proofs.ClockLemmas.{part_more, parts_all, parts_whole}
+use Rattle.rd_report.proofs.ClockLemmas.{part_more, parts_told, parts_whole}
 use Rattle.rd_report.proofs.clocks.append_clock.Goals as goal
 
 -- each thread that a roster numbers has a name
@@ -27,7 +27,7 @@ pub returns-clause-text : goal.returns-clause-text
 returns-clause-text g c =
     let names = names_in c.args.names.now in
     let clock = component c.args.clock.now in
-    parts_all (c.args.text.now ++ clock_text names clock) c.loop-thread.text c.loop-thread.some names clock c.loop-thread.thread
+    parts_told (c.args.text.now ++ clock_text names clock) c.loop-thread.text c.loop-thread.some names c.args.clock.now c.loop-thread.thread
     (omega (arith, length_names c.args.names.now)) c.loop-thread.invariant.1
 
 pub returns-clause-plain : goal.returns-clause-plain
