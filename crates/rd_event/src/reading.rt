@@ -1,15 +1,17 @@
 //! Reading a line.
-ghost use Rattle.std.specs.Prelude.{◌≡◌, ◌↔◌, ℕ, List, Option, Some, None, false, OnOk, OnErr, IfOk, IfErr, IfSome, IsTrue, ◌++◌};
+ghost use Rattle.std.specs.Prelude.{◌≡◌, ◌↔◌, ℕ, List, Option, Some, None, false, OnOk, OnErr, IfOk, IfErr, IfSome, IsTrue, ◌++◌, codes};
 ghost use Rattle.std.specs.Option.{option_map};
 ghost use Rattle.std.specs.List.{AllPass, before_first, after_first, position};
 ghost use Rattle.rd_base.specs.Names.{IsName, is_name_byte};
+ghost use Rattle.rd_base.specs.declared.values.Value.{Value};
 ghost use Rattle.rd_event.specs.declared.items.Line.{Line};
 ghost use Rattle.std.specs.Str.{bytes_eq};
-ghost use Rattle.rd_event.specs.Items.{HasItem, is_skipped, LineInRange, Says, line_spelling};
+ghost use Rattle.rd_event.specs.Items.{HasItem, is_skipped, LineInRange, Says, line_spelling, words_apart};
 ghost use Rattle.rd_event.specs.Reading.{is_space, name_read, names_read, header_read, is_call_keyword, call_read, pair_item, shared_event, shared_item, share_with, event_with, item_with, item_of};
+ghost use Rattle.rd_event.specs.ReadingSlots.{slots_read};
 
 use crate::items::{Line, LineEvent};
-use crate::slots::slots;
+use crate::slots::read_slots;
 use rd_base::{Name, name_length};
 use std::alloc::Global;
 use std::mem;
@@ -192,7 +194,7 @@ fn read_call(alloc: Global, rest: &[u8], line: &mut Line) -> Result<(), LineRefu
     let Ok(method) = Name::from_name_bytes(method) else {
         return Err(LineRefused::BadLine);
     };
-    let slots = match slots(alloc, values) {
+    let slots = match read_slots(alloc, values) {
         Ok(slots) => slots,
         Err(refused) => return Err(refused),
     };
@@ -419,4 +421,13 @@ pub fn law_of_spelling()
         item_of version (line_spelling item) ≡ Some item }
     ensures one_item { (version : ℕ) (bytes : List ℕ) (x y : Line) → LineInRange x → LineInRange y →
         Says version bytes x → Says version bytes y → x ≡ y }
+{}
+
+/// The law of calls: in each version, the bytes of a call with these names are that call, with the slots that the bytes behind the names
+/// spell.
+pub fn law_of_calls()
+    ensures { (version : ℕ) (thread object method values : List ℕ) (slots : List Value) →
+        IsName thread → IsName object → IsName method → slots_read 7 values ≡ Some slots →
+        item_of version (codes "call " ++ words_apart thread (words_apart object (words_apart method values)))
+        ≡ Some (Line.Event (LineEvent.Call thread object method slots)) }
 {}

@@ -300,8 +300,9 @@ fn why_refused(refused: ValueRefused, bytes: &[u8]) -> LineRefused
     }
 }
 
-// The arguments and the result, at most 7 values, that the bytes spell.
-pub(crate) fn slots(alloc: Global, bytes: &[u8]) -> Result<Slots, LineRefused>
+/// The arguments and the result of a call, at most 7 values, that the bytes behind its names spell. The answer is `BadLine` exactly if
+/// they spell none.
+pub fn read_slots(alloc: Global, bytes: &[u8]) -> Result<Slots, LineRefused>
     ensures slots { IfOk result (λ slots. slots_read 7 bytes.now ≡ Some slots) }
     ensures none { IfErr result (λ e. e ≡ LineRefused.BadLine → slots_read 7 bytes.now ≡ None) }
     ensures memory { IfErr result

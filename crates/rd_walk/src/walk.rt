@@ -89,9 +89,14 @@ fn at_refusal(refused: ReadEnd, number: u64, limits: &Limits) -> WalkEnd
 
 // Whether the bytes may begin as a line that the roster accepts by its bytes alone.
 fn may_be_found(bytes: &[u8]) -> bool {
-    bytes
-        .first()
-        .is_some_and(|byte| *byte == b'a' || *byte == b'r')
+    bytes.first().is_some_and(|byte| {
+        *byte == b'c'
+            || *byte == b'a'
+            || *byte == b'r'
+            || *byte == b'j'
+            || *byte == b's'
+            || *byte == b'u'
+    })
 }
 
 /// Takes a line that the roster accepts by its bytes alone: it is handed on. The answer tells whether it is one. This doesn't stand in

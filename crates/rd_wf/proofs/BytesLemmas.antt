@@ -13,12 +13,12 @@ use Rattle.rd_wf.proofs.NextLemmas.{ok_few, ok_follows}
 use Rattle.rd_wf.proofs.RangeLemmas.{ok_range}
 
 -- what is accepted is accepted as the item that the bytes say
-pub accepts_as : (old new : Roster) (limits : Limits) (bytes : List ℕ) (line : Line) (numbers : Accepted) → Accepts old new limits line numbers
-    → LineInRange line → ((version : ℕ) → item_of version bytes ≡ Some line)
-    → (kinds : List Kind) (lines : List Line) → RosterStandsFor kinds old lines → AcceptsAs kinds limits lines bytes line numbers new
-accepts_as old new limits bytes line numbers accepts range says kinds lines stands =
+pub accepts_in : (old new : Roster) (limits : Limits) (bytes : List ℕ) (line : Line) (numbers : Accepted) → Accepts old new limits line numbers
+    → LineInRange line → (kinds : List Kind) (lines : List Line) → RosterStandsFor kinds old lines
+    → item_of (version_of lines) bytes ≡ Some line → AcceptsAs kinds limits lines bytes line numbers new
+accepts_in old new limits bytes line numbers accepts range kinds lines stands says =
     let told = accepts kinds lines stands in record {
-      says = says (version_of lines);
+      says = says;
       unbroken = told.0;
       follows = ok_follows old new limits line (Ok numbers) accepts kinds lines stands;
       numbers = told.1;
@@ -26,3 +26,10 @@ accepts_as old new limits bytes line numbers accepts range says kinds lines stan
       stands = told.2;
       few = ok_few old new limits line (Ok numbers) accepts (omega (arith, new.few_threads)) kinds lines stands;
     }
+
+-- so where they say it in each version
+pub accepts_as : (old new : Roster) (limits : Limits) (bytes : List ℕ) (line : Line) (numbers : Accepted) → Accepts old new limits line numbers
+    → LineInRange line → ((version : ℕ) → item_of version bytes ≡ Some line)
+    → (kinds : List Kind) (lines : List Line) → RosterStandsFor kinds old lines → AcceptsAs kinds limits lines bytes line numbers new
+accepts_as old new limits bytes line numbers accepts range says kinds lines stands =
+    accepts_in old new limits bytes line numbers accepts range kinds lines stands (says (version_of lines))

@@ -478,16 +478,16 @@ module _ (kinds : List Kind) (roster : Roster) (lines : List Line) (stands : Ros
         (behind_unknown (actor.unknown || awaited.unknown) actor.joined (same_name child thread) own (Some UnknownThread) (Some ThreadEnded) (Some OwnThread)
         (find (flag (join_flags roster limits first actor awaited own)) (holders lines ++ late limits)) (own_judged thread child actor awaited acts waits))
 
-    pub call_judged : (limits : Limits) (thread object method : List ℕ) (slots : List Value) (actor : FoundThread) (found : FoundObject) (m : FoundMethod) (items : List Value) (count : ℕ)
-        → actor ≡ found_thread lines thread → found ≡ found_object kinds lines object → m ≡ found_method (methods_at kinds found.kind) method → items ≡ slots → count ≡ m.slots
-        → first_broken kinds limits lines (Event (Call thread object method slots)) ≡ find (flag (call_flags roster limits first actor found m (length items) count)) (causes limits lines)
+    pub call_judged : (limits : Limits) (thread object method : List ℕ) (slots : List Value) (actor : FoundThread) (found : FoundObject) (m : FoundMethod) (given count : ℕ)
+        → actor ≡ found_thread lines thread → found ≡ found_object kinds lines object → m ≡ found_method (methods_at kinds found.kind) method → length slots ≡ given → count ≡ m.slots
+        → first_broken kinds limits lines (Event (Call thread object method slots)) ≡ find (flag (call_flags roster limits first actor found m given count)) (causes limits lines)
     unfolding first_broken
-    call_judged limits thread object method slots actor found m items count acts declared finds same counts =
+    call_judged limits thread object method slots actor found m given count acts declared finds same counts =
         let is = called_method object method found m declared finds in
-        let rest = behind limits (Event (Call thread object method slots)) (call_flags roster limits first actor found m (length items) count) (events_alone limits) (λ holder below. refl) in
+        let rest = behind limits (Event (Call thread object method slots)) (call_flags roster limits first actor found m given count) (events_alone limits) (λ holder below. refl) in
         λ i. cond (no_header i) (Some HeaderFirst) (cond (unknown_thread thread actor acts i) (Some UnknownThread) (cond (sym acts i).joined (Some ThreadEnded)
         (cond (sym declared i).unknown (Some UnknownObject) (cond (sym is i).unknown (Some UnknownMethod)
-        (cond (not (length (sym same i) == (sym (counts ∙ ap (λ m. m.slots) is) i))) (Some WrongCount) (rest i))))))
+        (cond (not (same i == (sym (counts ∙ ap (λ m. m.slots) is) i))) (Some WrongCount) (rest i))))))
 
     pub acquire_judged : (limits : Limits) (thread lock : List ℕ) (actor : FoundThread) (found : FoundLock) (held_by : Option ℕ) (depth : ℕ) → actor ≡ found_thread lines thread
         → (found.number ≡ place (locks_of lines) lock) × (found.unknown ≡ not (is_among (locks_of lines) lock)) → found.lock ≡ lock_in roster lock

@@ -23,7 +23,7 @@ use Rattle.rd_wf.specs.Shares.{share_depth}
 use Rattle.rd_wf.specs.declared.methods.FoundMethod.{FoundMethod}
 use Rattle.rd_wf.specs.declared.methods.Methods.{Methods}
 use Rattle.rd_wf.specs.MayFollow.{threads_of, joined_of, locks_of, objects_of, acquires, releases, shares, unshares, header_of, events, is_among, passes, same_name, kind_number, place, version_of, first_broken, accepted_of, MayFollow, TakesMemory}
-use Rattle.rd_ecl.specs.Kinds.{Kind, KindMethod, kind_names, method_names, kind_slots_at}
+use Rattle.rd_ecl.specs.Kinds.{Kind, KindMethod, kind_names, method_names, kind_slots_at, methods_at}
 
 -- how many threads, locks and objects the roster numbers
 abbrev pub thread_count : Roster → ℕ
@@ -189,6 +189,14 @@ pub record RosterStandsFor (kinds : List Kind) (roster : Roster) (lines : List L
 -- what a look-up of a thread by this name finds
 abbrev pub IsFoundThread : Roster → List ℕ → FoundThread → Type 0
 IsFoundThread roster name found = (kinds : List Kind) (lines : List Line) → RosterStandsFor kinds roster lines → found ≡ found_thread lines name
+
+-- what a look-up of an object by this name finds, and what one of a method of this kind
+abbrev pub IsFoundObject : Roster → List ℕ → FoundObject → Type 0
+IsFoundObject roster name found = (kinds : List Kind) (lines : List Line) → RosterStandsFor kinds roster lines → found ≡ found_object kinds lines name
+
+abbrev pub IsFoundMethod : Roster → ℕ → List ℕ → FoundMethod → Type 0
+IsFoundMethod roster kind name found =
+    (kinds : List Kind) (lines : List Line) → RosterStandsFor kinds roster lines → found ≡ found_method (methods_at kinds kind) name
 
 -- what a look-up of a lock by this name finds
 pub record IsFoundLock (roster : Roster) (name : List ℕ) (found : FoundLock) : Type 0 where

@@ -25,7 +25,8 @@ pub struct FoundMethod {
 }
 
 impl Methods {
-    ghost use Rattle.std.specs.Prelude.{◌≡◌, map, IfOk};
+    ghost use Rattle.std.specs.Prelude.{◌≡◌, map, IfOk, IfSome, IsSome};
+    ghost use Rattle.rd_base.specs.Names.{IsName};
     ghost use Rattle.rd_ecl.specs.Kinds.{method_of};
     ghost use Rattle.rd_wf.specs.Roster.{found_method, methods_in};
 
@@ -56,6 +57,25 @@ impl Methods {
             }
         }
         self.look_up(name)
+    }
+
+    /// The method whose name has these bytes, if there is one.
+    pub fn find_near(&self, name: &[u8]) -> Option<FoundMethod>
+        ensures found { IfSome result (λ found. found ≡ found_method (methods_in self.now) name.now) }
+        ensures named { IsSome result → IsName name.now }
+    {
+        for number in 0..self.slots.len() {
+            if let Some((known, slots)) = self.slots.get_index(number)
+                && known.items() == name
+            {
+                return Some(FoundMethod {
+                    number: number as u8,
+                    unknown: false,
+                    slots: *slots,
+                });
+            }
+        }
+        None
     }
 
     #[inline(never)]

@@ -179,16 +179,19 @@ impl Roster {
             (Line.Event (LineEvent.Join thread.now child.now))) }
     {
         let near = near_place(thread);
-        let pair = match self.judge_join(thread, near, child, limits) {
-            Ok(pair) => pair,
-            Err(cause) => return Err(WfRefused::Cause(cause)),
-        };
-        *self.threads.get_index_mut(pair.child as usize).unwrap() = true;
+        let child_near = near_place(child);
+        let actor = self.find_thread(thread, near);
+        let awaited = self.find_thread(child, child_near);
+        if let Err(cause) = self.judge_join(actor, awaited, limits) {
+            return Err(WfRefused::Cause(cause));
+        }
+        *self.threads.get_index_mut(awaited.number as usize).unwrap() = true;
         self.events += 1;
-        self.near_threads[near % NEAR_LENGTH] = pair.thread;
+        self.near_threads[child_near % NEAR_LENGTH] = awaited.number;
+        self.near_threads[near % NEAR_LENGTH] = actor.number;
         Ok(Accepted::Event(Event::Join {
-            thread: pair.thread,
-            child: pair.child,
+            thread: actor.number,
+            child: awaited.number,
         }))
     }
 
@@ -283,26 +286,27 @@ impl Roster {
     {
         let near = near_place(thread);
         let lock_near = near_place(lock);
-        let used = match self.judge_share(thread, near, lock, lock_near, limits) {
-            Ok(used) => used,
-            Err(cause) => return Err(WfRefused::Cause(cause)),
-        };
-        self.shares.add(used.lock, used.thread)?;
-        if used.unknown {
+        let actor = self.find_thread(thread, near);
+        let found = self.find_lock(lock, lock_near);
+        if let Err(cause) = self.judge_share(actor, found, limits) {
+            return Err(WfRefused::Cause(cause));
+        }
+        self.shares.add(found.number, actor.number)?;
+        if found.unknown {
             match FREE.put_last(lock, &mut self.locks) {
                 Ok(()) => {}
                 Err(error) => {
-                    self.shares.remove(used.lock, used.thread);
+                    self.shares.remove(found.number, actor.number);
                     return Err(error.into());
                 }
             }
         }
         self.events += 1;
-        self.near_threads[near % NEAR_LENGTH] = used.thread;
-        self.near_locks[lock_near % NEAR_LENGTH] = used.lock;
+        self.near_threads[near % NEAR_LENGTH] = actor.number;
+        self.near_locks[lock_near % NEAR_LENGTH] = found.number;
         Ok(Accepted::Event(Event::Share {
-            thread: used.thread,
-            lock: used.lock,
+            thread: actor.number,
+            lock: found.number,
         }))
     }
 
@@ -322,17 +326,18 @@ impl Roster {
     {
         let near = near_place(thread);
         let lock_near = near_place(lock);
-        let used = match self.judge_unshare(thread, near, lock, lock_near, limits) {
-            Ok(used) => used,
-            Err(cause) => return Err(WfRefused::Cause(cause)),
-        };
-        self.shares.remove(used.lock, used.thread);
+        let actor = self.find_thread(thread, near);
+        let found = self.find_lock(lock, lock_near);
+        if let Err(cause) = self.judge_unshare(actor, found, limits) {
+            return Err(WfRefused::Cause(cause));
+        }
+        self.shares.remove(found.number, actor.number);
         self.events += 1;
-        self.near_threads[near % NEAR_LENGTH] = used.thread;
-        self.near_locks[lock_near % NEAR_LENGTH] = used.lock;
+        self.near_threads[near % NEAR_LENGTH] = actor.number;
+        self.near_locks[lock_near % NEAR_LENGTH] = found.number;
         Ok(Accepted::Event(Event::Unshare {
-            thread: used.thread,
-            lock: used.lock,
+            thread: actor.number,
+            lock: found.number,
         }))
     }
 
@@ -353,19 +358,22 @@ impl Roster {
             (Line.Event (LineEvent.Call thread.now object.now method.now slots.now))) }
     {
         let near = near_place(thread);
-        let numbers = match self.judge_call(thread, near, object, method, slots, limits) {
-            Ok(numbers) => numbers,
-            Err(cause) => return Err(WfRefused::Cause(cause)),
-        };
+        let object_near = near_place(object);
+        let actor = self.find_thread(thread, near);
+        let object = self.find_object(object, object_near);
+        let method = self.find_method(object.kind, method);
+        if let Err(cause) = self.judge_call(actor, object, method, slots.items().len(), limits) {
+            return Err(WfRefused::Cause(cause));
+        }
         let slots = slots.copy(self.alloc)?;
         self.events += 1;
-        self.near_threads[near % NEAR_LENGTH] = numbers.thread;
-        self.near_objects[numbers.object_near % NEAR_LENGTH] = numbers.object;
+        self.near_threads[near % NEAR_LENGTH] = actor.number;
+        self.near_objects[object_near % NEAR_LENGTH] = object.number;
         Ok(Accepted::Event(Event::Call(Call {
-            thread: numbers.thread,
-            object: numbers.object,
-            kind: numbers.kind,
-            method: numbers.method,
+            thread: actor.number,
+            object: object.number,
+            kind: object.kind,
+            method: method.number,
             slots,
         })))
     }

@@ -1,5 +1,5 @@
 //! The threads that share a lock.
-ghost use Rattle.std.specs.Prelude.{ℕ, ◌≡◌, ◌+◌, ◌<◌, ◌^◌, ◌==◌, if◌then◌else◌, IfNone, IfSome, OnOk, OnErr, length, slice_get};
+ghost use Rattle.std.specs.Prelude.{ℕ, ◌≡◌, ◌+◌, ◌<◌, ◌≤◌, ◌^◌, ◌==◌, true, if◌then◌else◌, IfNone, IfSome, OnOk, OnErr, length, slice_get, vec_len, vec_capacity};
 ghost use Rattle.rd_wf.specs.Sharers.{depth_among, is_other_among, lesser, IsLeast};
 
 use rd_base::NoMemory;
@@ -84,13 +84,21 @@ impl Sharers {
         None
     }
 
-    /// The thread shares the lock once more. Where memory runs out, all share it as before.
+    /// Whether there is room for one more thread. It takes no memory.
+    pub(crate) fn has_room(&self) -> bool
+        ensures { result ≡ true → vec_len self.now.sharers < vec_capacity self.now.sharers }
+    {
+        self.sharers.len() < self.sharers.capacity()
+    }
+
+    /// The thread shares the lock once more. Where memory runs out, all share it as before. It doesn't where there is room.
     pub(crate) fn add(&mut self, thread: u32) -> Result<(), NoMemory>
         requires { depth_among self.old.sharers.items thread + 1 < 2 ^ 32 }
         ensures ok { OnOk result
             ((other : ℕ) → depth_among self.new.sharers.items other ≡ depth_among self.old.sharers.items other + (if other == thread then 1 else 0)) }
         ensures err { OnErr result
             ((other : ℕ) → depth_among self.new.sharers.items other ≡ depth_among self.old.sharers.items other) }
+        ensures room { OnErr result (vec_capacity self.old.sharers ≤ vec_len self.old.sharers) }
     {
         if let Some(at) = self.place_of(thread) {
             self.sharers[at].depth += 1;

@@ -1,14 +1,14 @@
 //! Whether a line may follow the accepted lines, by what a roster holds of them.
 ghost use Rattle.std.specs.Prelude.{◌≡◌, ◌<◌, false, IfNone};
 
-use super::near::{NEAR_LENGTH, near_place};
+use super::near::NEAR_LENGTH;
 use super::{Lock, Roster};
 use crate::causes::{Accepted, WfCause};
 use crate::methods::FoundMethod;
 use crate::sharers::lesser;
 use indexmap::IndexMap;
-use rd_base::{LimitName, Limits, Name, NoMemory, Slots};
-use rd_event::{Call, Event, Line, LineEvent};
+use rd_base::{LimitName, Limits, Name, NoMemory};
+use rd_event::{Event, Line, LineEvent};
 
 /// What a look-up of a thread's name finds: its number, which is the next one where it was not begun, and whether it was joined.
 #[derive(Clone, Copy)]
@@ -22,9 +22,9 @@ pub(super) struct FoundThread {
 /// declared, and that of its kind, which is then no kind's.
 #[derive(Clone, Copy)]
 pub(super) struct FoundObject {
-    number: u32,
-    unknown: bool,
-    kind: u32,
+    pub(super) number: u32,
+    pub(super) unknown: bool,
+    pub(super) kind: u32,
 }
 
 /// What a look-up of a lock's name finds: its number, which is the next one where it was neither acquired nor shared, and what is
@@ -41,16 +41,6 @@ pub(super) const FREE: Lock = Lock {
     holder: 0,
     depth: 0,
 };
-
-/// The numbers of a thread and of a lock, whether the lock is new, and how often the thread has acquired it and not released it, or
-/// shared it and not unshared it.
-#[derive(Clone, Copy)]
-pub(super) struct Used {
-    pub(super) thread: u32,
-    pub(super) lock: u32,
-    pub(super) unknown: bool,
-    pub(super) depth: u32,
-}
 
 impl Lock {
     ghost use Rattle.std.specs.Prelude.{◌≡◌, ◌≤◌, ◌+◌, OnOk, OnErr};
@@ -105,16 +95,6 @@ pub(super) struct Declared {
 pub(super) struct Pair {
     pub(super) thread: u32,
     pub(super) child: u32,
-}
-
-/// The numbers of a call, and where its object is looked for first.
-#[derive(Clone, Copy)]
-pub(super) struct Numbers {
-    pub(super) thread: u32,
-    pub(super) object: u32,
-    pub(super) object_near: usize,
-    pub(super) kind: u32,
-    pub(super) method: u8,
 }
 
 /// The rules that a line breaks: a flag for each cause, in their order.
@@ -262,10 +242,11 @@ impl Broken {
 }
 
 impl Roster {
-    ghost use Rattle.std.specs.Prelude.{◌≡◌, ◌<◌, ◌^◌, ◌+◌, ◌||◌, List, ℕ, None, IfOk, IfErr, OnOk, false, true, not};
+    ghost use Rattle.std.specs.Prelude.{◌≡◌, ◌<◌, ◌^◌, ◌+◌, ◌||◌, List, ℕ, None, IfOk, IfErr, OnOk, false, true, not, length};
+    ghost use Rattle.rd_base.specs.declared.values.Value.{Value};
     ghost use Rattle.rd_event.specs.declared.items.Line.{Line as LineOf};
-    ghost use Rattle.rd_ecl.specs.Kinds.{Kind, methods_at};
-    ghost use Rattle.rd_wf.specs.Roster.{RosterStandsFor, Permits, Forbids, IsFoundLock, IsFoundThread, depth_of, found_method, found_object, is_other_holder, lock_in, other_holder, thread_count, lock_count, object_count};
+    ghost use Rattle.rd_ecl.specs.Kinds.{Kind};
+    ghost use Rattle.rd_wf.specs.Roster.{RosterStandsFor, Permits, Forbids, IsFoundLock, IsFoundMethod, IsFoundObject, IsFoundThread, depth_of, is_other_holder, lock_in, other_holder, thread_count, lock_count, object_count};
     ghost use Rattle.rd_wf.specs.Sharers.{IsLeast};
     ghost use Rattle.rd_wf.specs.Shares.{is_other_sharer, share_depth};
     ghost use Rattle.rd_wf.specs.MayFollow.{is_among, locks_of, place, same_name};
@@ -357,9 +338,8 @@ impl Roster {
     }
 
     #[inline(always)]
-    fn find_object(&self, name: &Name, near: usize) -> FoundObject
-        ensures { (kinds : List Kind) (lines : List LineOf) → RosterStandsFor kinds self.now lines →
-            result ≡ found_object kinds lines name.now }
+    pub(super) fn find_object(&self, name: &Name, near: usize) -> FoundObject
+        ensures { IsFoundObject self.now name.now result }
     {
         // `len` is called for its clause that no two objects have one name.
         let _count = self.objects.len();
@@ -378,8 +358,7 @@ impl Roster {
 
     #[inline(never)]
     fn look_up_object(&self, name: &Name) -> FoundObject
-        ensures { (kinds : List Kind) (lines : List LineOf) → RosterStandsFor kinds self.now lines →
-            result ≡ found_object kinds lines name.now }
+        ensures { IsFoundObject self.now name.now result }
     {
         match self.objects.get_full(name) {
             None => FoundObject {
@@ -409,9 +388,8 @@ impl Roster {
         )
     }
 
-    fn find_method(&self, kind: u32, name: &Name) -> FoundMethod
-        ensures { (kinds : List Kind) (lines : List LineOf) → RosterStandsFor kinds self.now lines →
-            result ≡ found_method (methods_at kinds kind) name.now }
+    pub(super) fn find_method(&self, kind: u32, name: &Name) -> FoundMethod
+        ensures { IsFoundMethod self.now kind name.now result }
     {
         match self.kinds.get_index(kind as usize) {
             None => FoundMethod {
@@ -525,23 +503,29 @@ impl Roster {
         })
     }
 
+    // By what was found of the names of the line's threads.
+    #[inline(always)]
     pub(super) fn judge_join(
         &self,
-        thread: &Name,
-        near: usize,
-        child: &Name,
+        actor: FoundThread,
+        awaited: FoundThread,
         limits: &Limits,
-    ) -> Result<Pair, WfCause>
-        ensures ok { IfOk result
-            (λ pair. Permits self.now limits.now (Line.Event (LineEvent.Join thread.now child.now))
-            (Accepted.Event (Event.Join pair.thread pair.child))) }
-        ensures room { IfOk result
-            (λ pair. (pair.child < thread_count self.now) × (self.now.events + 1 < 2 ^ 32)) }
+    ) -> Result<(), WfCause>
+        // the line is permitted
+        ensures ok { OnOk result
+            ((thread child : List ℕ) →
+            IsFoundThread self.now thread actor → IsFoundThread self.now child awaited →
+            Permits self.now limits.now (Line.Event (LineEvent.Join thread child))
+            (Accepted.Event (Event.Join actor.number awaited.number))) }
+
+        // the awaited thread is known, and the number of events fits; or the line is forbidden
+        ensures known { OnOk result (awaited.unknown ≡ false) }
+        ensures room { OnOk result (self.now.events + 1 < 2 ^ 32) }
         ensures err { IfErr result
-            (Forbids self.now limits.now (Line.Event (LineEvent.Join thread.now child.now))) }
+            (λ cause. (thread child : List ℕ) →
+            IsFoundThread self.now thread actor → IsFoundThread self.now child awaited →
+            Forbids self.now limits.now (Line.Event (LineEvent.Join thread child)) cause) }
     {
-        let actor = self.find_thread(thread, near);
-        let awaited = self.find_thread(child, near_place(child));
         let broken = Broken {
             header_first: self.header.is_none(),
             unknown_thread: actor.unknown | awaited.unknown,
@@ -554,10 +538,7 @@ impl Roster {
         if let Some(cause) = broken.first(limits) {
             return Err(cause);
         }
-        Ok(Pair {
-            thread: actor.number,
-            child: awaited.number,
-        })
+        Ok(())
     }
 
     // By what was found of the names of the line's thread and lock.
@@ -647,35 +628,31 @@ impl Roster {
         Ok(depth)
     }
 
+    // By what was found of the names of the line's thread and lock.
+    #[inline(always)]
     pub(super) fn judge_share(
         &self,
-        thread: &Name,
-        near: usize,
-        lock: &Name,
-        lock_near: usize,
+        actor: FoundThread,
+        found: FoundLock,
         limits: &Limits,
-    ) -> Result<Used, WfCause>
+    ) -> Result<(), WfCause>
         // the line is permitted
-        ensures ok { IfOk result
-            (λ used. Permits self.now limits.now
-            (Line.Event (LineEvent.Share thread.now lock.now))
-            (Accepted.Event (Event.Share used.thread used.lock))) }
-
-        // whether the lock is new
-        ensures unknown { IfOk result
-            (λ used. (kinds : List Kind) (lines : List LineOf) → RosterStandsFor kinds self.now lines →
-            used.unknown ≡ not (is_among (locks_of lines) lock.now)) }
-        ensures new { IfOk result (λ used. used.unknown ≡ true → lock_count self.now + 1 < 2 ^ 32) }
+        ensures ok { OnOk result
+            ((thread lock : List ℕ) →
+            IsFoundThread self.now thread actor → IsFoundLock self.now lock found →
+            Permits self.now limits.now (Line.Event (LineEvent.Share thread lock))
+            (Accepted.Event (Event.Share actor.number found.number))) }
 
         // its numbers fit; or the line is forbidden
-        ensures room { IfOk result
-            (λ used. (self.now.events + 1 < 2 ^ 32)
-            × (share_depth self.now.shares used.lock used.thread + 1 < 2 ^ 32)) }
+        ensures room { OnOk result
+            ((self.now.events + 1 < 2 ^ 32)
+            × (share_depth self.now.shares found.number actor.number + 1 < 2 ^ 32)) }
+        ensures new { OnOk result (found.unknown ≡ true → found.number + 1 < 2 ^ 32) }
         ensures err { IfErr result
-            (Forbids self.now limits.now (Line.Event (LineEvent.Share thread.now lock.now))) }
+            (λ cause. (thread lock : List ℕ) →
+            IsFoundThread self.now thread actor → IsFoundLock self.now lock found →
+            Forbids self.now limits.now (Line.Event (LineEvent.Share thread lock)) cause) }
     {
-        let actor = self.find_thread(thread, near);
-        let found = self.find_lock(lock, lock_near);
         let shared = self.shares.depth_of(found.number, actor.number);
         let broken = Broken {
             header_first: self.header.is_none(),
@@ -690,96 +667,87 @@ impl Roster {
         if let Some(cause) = broken.first(limits) {
             return Err(cause);
         }
-        Ok(Used {
-            thread: actor.number,
-            lock: found.number,
-            unknown: found.unknown,
-            depth: shared,
-        })
+        Ok(())
     }
 
+    // By what was found of the names of the line's thread and lock.
+    #[inline(always)]
     pub(super) fn judge_unshare(
         &self,
-        thread: &Name,
-        near: usize,
-        lock: &Name,
-        lock_near: usize,
+        actor: FoundThread,
+        found: FoundLock,
         limits: &Limits,
-    ) -> Result<Used, WfCause>
-        ensures ok { IfOk result
-            (λ used. Permits self.now limits.now
-            (Line.Event (LineEvent.Unshare thread.now lock.now))
-            (Accepted.Event (Event.Unshare used.thread used.lock))) }
-        ensures held { IfOk result
-            (λ used. 0 < share_depth self.now.shares used.lock used.thread) }
+    ) -> Result<(), WfCause>
+        // the line is permitted
+        ensures ok { OnOk result
+            ((thread lock : List ℕ) →
+            IsFoundThread self.now thread actor → IsFoundLock self.now lock found →
+            Permits self.now limits.now (Line.Event (LineEvent.Unshare thread lock))
+            (Accepted.Event (Event.Unshare actor.number found.number))) }
+
+        // the thread shares the lock, and the number of events fits; or the line is forbidden
+        ensures held { OnOk result
+            (0 < share_depth self.now.shares found.number actor.number) }
         ensures room { OnOk result (self.now.events + 1 < 2 ^ 32) }
         ensures err { IfErr result
-            (Forbids self.now limits.now (Line.Event (LineEvent.Unshare thread.now lock.now))) }
+            (λ cause. (thread lock : List ℕ) →
+            IsFoundThread self.now thread actor → IsFoundLock self.now lock found →
+            Forbids self.now limits.now (Line.Event (LineEvent.Unshare thread lock)) cause) }
     {
-        let actor = self.find_thread(thread, near);
-        let found = self.find_lock(lock, lock_near);
-        let shared = self.shares.depth_of(found.number, actor.number);
         let broken = Broken {
             header_first: self.header.is_none(),
             unknown_thread: actor.unknown,
             thread_ended: actor.joined,
-            not_held: shared == 0,
+            not_held: self.shares.depth_of(found.number, actor.number) == 0,
             events: limits.events <= self.events,
             ..UNBROKEN
         };
         if let Some(cause) = broken.first(limits) {
             return Err(cause);
         }
-        Ok(Used {
-            thread: actor.number,
-            lock: found.number,
-            unknown: found.unknown,
-            depth: shared,
-        })
+        Ok(())
     }
 
+    // By what was found of the names of the line's thread, object and method, and by how many slots it has.
+    #[inline(always)]
     pub(super) fn judge_call(
         &self,
-        thread: &Name,
-        near: usize,
-        object: &Name,
-        method: &Name,
-        slots: &Slots,
+        actor: FoundThread,
+        object: FoundObject,
+        method: FoundMethod,
+        count: usize,
         limits: &Limits,
-    ) -> Result<Numbers, WfCause>
-        ensures ok { IfOk result
-            (λ call. Permits self.now limits.now
-            (Line.Event (LineEvent.Call thread.now object.now method.now slots.now))
+    ) -> Result<(), WfCause>
+        // the line is permitted
+        ensures ok { OnOk result
+            ((thread called named : List ℕ) (slots : List Value) →
+            IsFoundThread self.now thread actor → IsFoundObject self.now called object →
+            IsFoundMethod self.now object.kind named method → length slots ≡ count →
+            Permits self.now limits.now (Line.Event (LineEvent.Call thread called named slots))
             (Accepted.Event
-            (Event.Call (record { thread = call.thread; object = call.object; kind = call.kind; method = call.method; slots = slots.now })))) }
+            (Event.Call (record { thread = actor.number; object = object.number; kind = object.kind; method = method.number; slots = slots })))) }
+
+        // the number of events fits; or the line is forbidden
         ensures room { OnOk result (self.now.events + 1 < 2 ^ 32) }
         ensures err { IfErr result
-            (Forbids self.now limits.now
-            (Line.Event (LineEvent.Call thread.now object.now method.now slots.now))) }
+            (λ cause. (thread called named : List ℕ) (slots : List Value) →
+            IsFoundThread self.now thread actor → IsFoundObject self.now called object →
+            IsFoundMethod self.now object.kind named method → length slots ≡ count →
+            Forbids self.now limits.now (Line.Event (LineEvent.Call thread called named slots)) cause) }
     {
-        let actor = self.find_thread(thread, near);
-        let object_near = near_place(object);
-        let object = self.find_object(object, object_near);
-        let method = self.find_method(object.kind, method);
         let broken = Broken {
             header_first: self.header.is_none(),
             unknown_thread: actor.unknown,
             thread_ended: actor.joined,
             unknown_object: object.unknown,
             unknown_method: method.unknown,
-            wrong_count: slots.items().len() != usize::from(method.slots),
+            wrong_count: count != usize::from(method.slots),
             events: limits.events <= self.events,
             ..UNBROKEN
         };
         if let Some(cause) = broken.first(limits) {
             return Err(cause);
         }
-        Ok(Numbers {
-            thread: actor.number,
-            object: object.number,
-            object_near,
-            kind: object.kind,
-            method: method.number,
-        })
+        Ok(())
     }
 }

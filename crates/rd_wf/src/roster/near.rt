@@ -1,11 +1,12 @@
-//! Names that are found near, and lines that are accepted by such names alone.
+//! Names that are found near, and lines that are accepted by their bytes, where their names are.
 ghost use Rattle.std.specs.Prelude.{◌≡◌, ◌++◌, ◌∷◌, IfSome};
 
-use super::judge::{FoundLock, FoundThread};
+use super::judge::{FoundLock, FoundObject, FoundThread, Pair};
 use super::{Lock, Roster};
 use crate::causes::Accepted;
+use crate::methods::FoundMethod;
 use rd_base::{Limits, Name};
-use rd_event::{Event, law_of_spelling};
+use rd_event::{Call, Event, law_of_calls, law_of_spelling, read_slots};
 
 /// The length of a table of near numbers.
 pub(super) const NEAR_LENGTH: usize = 1024;
@@ -37,7 +38,7 @@ fn cut_at_space(bytes: &[u8]) -> Option<(&[u8], &[u8])>
     Some((&bytes[..space], &bytes[space + 1..]))
 }
 
-/// The numbers of a thread and of the lock that it acquires or releases.
+/// The numbers of a thread and of the lock that its line names.
 #[derive(Clone, Copy)]
 struct LockUse {
     thread: u32,
@@ -45,20 +46,23 @@ struct LockUse {
 }
 
 impl Roster {
-    ghost use Rattle.std.specs.Prelude.{◌≡◌, ◌<◌, List, ℕ, false, IfNone, IfSome, IsSome};
+    ghost use Rattle.std.specs.Prelude.{◌≡◌, ◌<◌, List, ℕ, false, Some, IfNone, IfSome, IsSome};
     ghost use Rattle.rd_base.specs.Limits.{AreUsable};
     ghost use Rattle.rd_base.specs.Names.{IsName};
     ghost use Rattle.rd_event.specs.Items.{words_apart};
+    ghost use Rattle.rd_event.specs.ReadingSlots.{slots_read};
     ghost use Rattle.rd_event.specs.declared.items.Line.TheVariants as line;
     ghost use Rattle.rd_event.specs.declared.items.LineEvent.TheVariants as spelled;
     ghost use Rattle.rd_event.specs.declared.items.Line.{Line as LineOf};
     ghost use Rattle.rd_ecl.specs.Kinds.{Kind};
-    ghost use Rattle.rd_wf.specs.Roster.{RosterStandsFor, Accepts, AcceptsAs, IsFoundThread, IsFoundLock, thread_count, lock_count};
+    ghost use Rattle.rd_wf.specs.MayFollow.{version_of};
+    ghost use Rattle.rd_wf.specs.Roster.{RosterStandsFor, Accepts, AcceptsAs, IsFoundThread, IsFoundObject, IsFoundMethod, IsFoundLock, thread_count, lock_count};
 
     // The thread with this name, if it is found near.
     #[inline(always)]
     fn near_thread(&self, name: &[u8]) -> Option<FoundThread>
         ensures found { IfSome result (IsFoundThread self.now name.now) }
+        ensures known { IfSome result (λ found. found.number < thread_count self.now) }
         ensures named { IsSome result → IsName name.now }
     {
         let guess = self.near_threads[near_bytes(name) % NEAR_LENGTH];
@@ -89,6 +93,99 @@ impl Roster {
             number: guess,
             unknown: false,
             lock: *lock,
+        })
+    }
+
+    // The object with this name, if it is found near.
+    #[inline(always)]
+    fn near_object(&self, name: &[u8]) -> Option<FoundObject>
+        ensures found { IfSome result (IsFoundObject self.now name.now) }
+        ensures named { IsSome result → IsName name.now }
+    {
+        // `len` is called for its clause that no two objects have one name.
+        let _count = self.objects.len();
+        let guess = self.near_objects[near_bytes(name) % NEAR_LENGTH];
+        let (known, kind) = self.objects.get_index(guess as usize)?;
+        if known.items() != name {
+            return None;
+        }
+        Some(FoundObject {
+            number: guess,
+            unknown: false,
+            kind: *kind,
+        })
+    }
+
+    // The method of this kind with this name, if there is one.
+    #[inline(always)]
+    fn near_method(&self, kind: u32, name: &[u8]) -> Option<FoundMethod>
+        ensures found { IfSome result (IsFoundMethod self.now kind name.now) }
+        ensures named { IsSome result → IsName name.now }
+    {
+        let (_kind, methods) = self.kinds.get_index(kind as usize)?;
+        methods.find_near(name)
+    }
+
+    // Accepts the line by which a thread waits for another, by the names that stand behind its keyword.
+    #[inline(never)]
+    fn join_near(&mut self, names: &[u8], limits: &Limits) -> Option<Pair>
+        ensures some { IfSome result
+            (λ pair. (thread child : List ℕ) × (names.now ≡ words_apart thread child)
+            × IsName thread × IsName child
+            × Accepts self.old self.new limits.now (line.Event (spelled.Join thread child))
+            (Accepted.Event (Event.Join pair.thread pair.child))) }
+        ensures none { IfNone result (self.new ≡ self.old) }
+    {
+        let (thread, child) = cut_at_space(names)?;
+        let actor = self.near_thread(thread)?;
+        let awaited = self.near_thread(child)?;
+        let Ok(()) = self.judge_join(actor, awaited, limits) else {
+            return None;
+        };
+        *self.threads.get_index_mut(awaited.number as usize).unwrap() = true;
+        self.events += 1;
+        Some(Pair {
+            thread: actor.number,
+            child: awaited.number,
+        })
+    }
+
+    // Accepts the call with these words behind its keyword. Its values are read last, since they take memory.
+    #[inline(never)]
+    fn call_near(&mut self, words: &[u8], limits: &Limits) -> Option<Call>
+        ensures some { IfSome result
+            (λ call. (thread object method values : List ℕ)
+            × (words.now ≡ words_apart thread (words_apart object (words_apart method values)))
+            × IsName thread × IsName object × IsName method
+            × (slots_read 7 values ≡ Some call.slots)
+            × Accepts self.old self.new limits.now
+            (line.Event (spelled.Call thread object method call.slots))
+            (Accepted.Event (Event.Call call))) }
+        ensures none { IfNone result (self.new ≡ self.old) }
+    {
+        let (thread, words) = cut_at_space(words)?;
+        let actor = self.near_thread(thread)?;
+        let (object, words) = cut_at_space(words)?;
+        let object = self.near_object(object)?;
+        let (method, values) = cut_at_space(words)?;
+        let method = self.near_method(object.kind, method)?;
+        let count = usize::from(method.slots);
+        let Ok(()) = self.judge_call(actor, object, method, count, limits) else {
+            return None;
+        };
+        let Ok(slots) = read_slots(self.alloc, values) else {
+            return None;
+        };
+        if slots.items().len() != count {
+            return None;
+        }
+        self.events += 1;
+        Some(Call {
+            thread: actor.number,
+            object: object.number,
+            kind: object.kind,
+            method: method.number,
+            slots,
         })
     }
 
@@ -146,9 +243,99 @@ impl Roster {
         })
     }
 
-    /// Accepts the next line by its bytes, given without its line feed, where they acquire or release a lock that is found at once, and
-    /// the line may follow the accepted ones. The answer says what it is in numbers, as that of `accept` for the item that the bytes say.
-    /// Else it is `None`, which says nothing of the line, and nothing changes. It takes no memory.
+    // Accepts the line that shares a lock, by the names that stand behind its keyword, where there is room for the sharer.
+    #[inline(never)]
+    fn share_near(&mut self, names: &[u8], limits: &Limits) -> Option<LockUse>
+        ensures some { IfSome result
+            (λ used. (thread lock : List ℕ) × (names.now ≡ words_apart thread lock)
+            × IsName thread × IsName lock
+            × ((kinds : List Kind) (lines : List LineOf) → RosterStandsFor kinds self.old lines → version_of lines ≡ 2)
+            × Accepts self.old self.new limits.now (line.Event (spelled.Share thread lock))
+            (Accepted.Event (Event.Share used.thread used.lock))) }
+        ensures none { IfNone result (self.new ≡ self.old) }
+    {
+        if self.version() != 2 {
+            return None;
+        }
+        let (thread, lock) = cut_at_space(names)?;
+        let actor = self.near_thread(thread)?;
+        let found = self.near_lock(lock)?;
+        let Ok(()) = self.judge_share(actor, found, limits) else {
+            return None;
+        };
+        if !self.shares.has_room(found.number) {
+            return None;
+        }
+        let Ok(()) = self.shares.add(found.number, actor.number) else {
+            return None;
+        };
+        self.events += 1;
+        Some(LockUse {
+            thread: actor.number,
+            lock: found.number,
+        })
+    }
+
+    // Accepts the line that gives a share of a lock back, by the names that stand behind its keyword.
+    #[inline(never)]
+    fn unshare_near(&mut self, names: &[u8], limits: &Limits) -> Option<LockUse>
+        ensures some { IfSome result
+            (λ used. (thread lock : List ℕ) × (names.now ≡ words_apart thread lock)
+            × IsName thread × IsName lock
+            × ((kinds : List Kind) (lines : List LineOf) → RosterStandsFor kinds self.old lines → version_of lines ≡ 2)
+            × Accepts self.old self.new limits.now (line.Event (spelled.Unshare thread lock))
+            (Accepted.Event (Event.Unshare used.thread used.lock))) }
+        ensures none { IfNone result (self.new ≡ self.old) }
+    {
+        if self.version() != 2 {
+            return None;
+        }
+        let (thread, lock) = cut_at_space(names)?;
+        let actor = self.near_thread(thread)?;
+        let found = self.near_lock(lock)?;
+        let Ok(()) = self.judge_unshare(actor, found, limits) else {
+            return None;
+        };
+        self.shares.remove(found.number, actor.number);
+        self.events += 1;
+        Some(LockUse {
+            thread: actor.number,
+            lock: found.number,
+        })
+    }
+
+    // The same for the bytes that share a lock or give a share of it back. This doesn't stand in `accept_bytes`: each line would make room for
+    // what it holds.
+    #[inline(never)]
+    fn accept_share_bytes(&mut self, bytes: &[u8], limits: &Limits) -> Option<Accepted>
+        ensures some { IfSome result
+            (λ accepted. (kinds : List Kind) (lines : List LineOf) →
+            RosterStandsFor kinds self.old lines →
+            (item : LineOf) × AcceptsAs kinds limits.now lines bytes.now item accepted self.new) }
+        ensures none { IfNone result (self.new ≡ self.old) }
+    {
+        law_of_spelling();
+        if let Some(names) = bytes.strip_prefix(b"share ") {
+            let used = self.share_near(names, limits)?;
+            return Some(Accepted::Event(Event::Share {
+                thread: used.thread,
+                lock: used.lock,
+            }));
+        }
+        if let Some(names) = bytes.strip_prefix(b"unshare ") {
+            let used = self.unshare_near(names, limits)?;
+            return Some(Accepted::Event(Event::Unshare {
+                thread: used.thread,
+                lock: used.lock,
+            }));
+        }
+        None
+    }
+
+    /// Accepts the next line by its bytes, given without its line feed, where they are a call, a join or a line of a lock, all whose names
+    /// are found at once, and the line may follow the accepted ones. The answer says what it is in numbers, as that of `accept`
+    /// for the item that the bytes say. Else it is `None`, which says nothing of the line, and nothing changes. Only the values of a call
+    /// take memory, and where it runs out the answer is `None` too.
     #[inline(always)]
     pub fn accept_bytes(&mut self, bytes: &[u8], limits: &Limits) -> Option<Accepted>
         // the bytes say an item that may follow
@@ -161,6 +348,11 @@ impl Roster {
         ensures none { IfNone result (self.new ≡ self.old) }
     {
         law_of_spelling();
+        law_of_calls();
+        if let Some(words) = bytes.strip_prefix(b"call ") {
+            let call = self.call_near(words, limits)?;
+            return Some(Accepted::Event(Event::Call(call)));
+        }
         if let Some(names) = bytes.strip_prefix(b"acquire ") {
             let used = self.acquire_near(names, limits)?;
             return Some(Accepted::Event(Event::Acquire {
@@ -175,6 +367,13 @@ impl Roster {
                 lock: used.lock,
             }));
         }
-        None
+        if let Some(names) = bytes.strip_prefix(b"join ") {
+            let pair = self.join_near(names, limits)?;
+            return Some(Accepted::Event(Event::Join {
+                thread: pair.thread,
+                child: pair.child,
+            }));
+        }
+        self.accept_share_bytes(bytes, limits)
     }
 }

@@ -13,9 +13,9 @@ invariant_of-self-clause-few_threads c =
 pub returns-clause-ok : goal.returns-clause-ok
 unfolding accepted_of
 returns-clause-ok c = λ kinds lines stands.
-    let permitted = c.in-Ok.ensures.ok kinds lines stands in
+    let permitted = c.in_default.ensures.ok c.args.thread.now c.args.child.now c.find_thread-actor.ensures.found c.find_thread-awaited.ensures.found kinds lines stands in
     let known = known_child kinds c.args.limits.now lines c.args.thread.now c.args.child.now permitted.0 in
-    let number : c.in-Ok.pair.child ≡ place (threads_of lines) c.args.child.now = cc permitted.1 in (
+    let number : c.find_thread-awaited.result.number ≡ place (threads_of lines) c.args.child.now = cc permitted.1 in (
       permitted.0,
       permitted.1,
       after_join kinds c.args.self.now _ lines stands refl refl refl c.args.thread.now c.args.child.now known refl refl

@@ -10,30 +10,31 @@ use Rattle.rd_wf.specs.Shares.{share_depth}
 use Rattle.rd_wf.proofs.FollowLemmas.{known_thread}
 use Rattle.rd_wf.proofs.NextLemmas.{after_share, free_as_before, same_locks, written_new}
 use Rattle.rd_wf.proofs.roster.Roster.accept_share.Goals as goal
-use Rattle.rd_wf.proofs.roster.Roster.accept_share.Goals.{else-used, then-used+in-Ok-put_last}
+use Rattle.rd_wf.proofs.roster.Roster.accept_share.Goals.{else-found, then-found+in-Ok}
 
 pub returns-clause-ok : goal.returns-clause-ok
 unfolding accepted_of
 returns-clause-ok c = λ kinds lines stands.
     let self = c.args.self.now in
     let lock = c.args.lock.now in
-    let permitted = c.in-Ok.ensures.ok kinds lines stands in
+    let found = c.find_lock-found.ensures.found in
+    let permitted = c.in_default.ensures.ok c.args.thread.now lock c.find_thread-actor.ensures.found found kinds lines stands in
     let known = known_thread kinds c.args.limits.now lines (spelled.Share c.args.thread.now lock) permitted.0 in
-    let thread : c.in-Ok.used.thread ≡ place (threads_of lines) c.args.thread.now = cc permitted.1 in
-    let number : c.in-Ok.used.lock ≡ place (locks_of lines) lock = cc permitted.1 in
-    let among : (b : Bool) → c.in-Ok.used.unknown ≡ b → is_among (locks_of lines) lock ≡ not b =
-    λ b e. sym (not-not _) ∙ ap not (sym (c.in-Ok.ensures.unknown kinds lines stands) ∙ e) in
+    let thread : c.find_thread-actor.result.number ≡ place (threads_of lines) c.args.thread.now = cc permitted.1 in
+    let number : c.find_lock-found.result.number ≡ place (locks_of lines) lock = cc permitted.1 in
+    let among : (b : Bool) → c.find_lock-found.result.unknown ≡ b → is_among (locks_of lines) lock ≡ not b =
+    λ b e. sym (not-not _) ∙ ap not (sym (found.numbers kinds lines stands).1 ∙ e) in
     let kept : List (List ℕ × Lock) → Type 0 =
     λ entries. ((other : List ℕ) → unwrap_or (lookup (same_name other) entries) free_lock ≡ lock_in self other) × (keys_of entries ≡ with_lock (locks_of lines) (Some lock)) in
-    let locks : kept c.if-used.self.1.1.1.1.1.1.0.entries = elim c.if-used.branch [
-      | else-used w ↦
-          let there : is_among (locks_of lines) lock ≡ true = among false w.if-used.false in
+    let locks : kept c.if-found.self.1.1.1.1.1.1.0.entries = elim c.if-found.branch [
+      | else-found w ↦
+          let there : is_among (locks_of lines) lock ≡ true = among false w.if-found.false in
           subst kept (sym (ap (λ self. self.1.1.1.1.1.1.0.entries) w.self-is))
           (λ other. refl, stands.lock_names ∙ sym (same_locks kinds self lines stands lock free_lock there))
-      | then-used+in-Ok-put_last w ↦
-          let fresh : is_among (locks_of lines) lock ≡ false = among true w.if-used.true in
+      | then-found+in-Ok w ↦
+          let fresh : is_among (locks_of lines) lock ≡ false = among true w.if-found.true in
           let written = written_new kinds self lines stands lock free_lock fresh in
-          subst kept (sym (ap (λ self. self.1.1.1.1.1.1.0.entries) w.self-is ∙ w.in-Ok-put_last.ensures.entries))
+          subst kept (sym (ap (λ self. self.1.1.1.1.1.1.0.entries) w.self-is ∙ w.in-Ok.ensures.entries))
           (free_as_before kinds self lines stands lock free_lock refl fresh _ written, written.1)
     ] in (
       permitted.0,

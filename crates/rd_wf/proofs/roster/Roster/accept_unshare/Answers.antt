@@ -12,11 +12,11 @@ unfolding accepted_of
 returns-clause-ok c = λ kinds lines stands.
     let self = c.args.self.now in
     let lock = c.args.lock.now in
-    let permitted = c.in-Ok.ensures.ok kinds lines stands in
+    let permitted = c.in_default.ensures.ok c.args.thread.now lock c.find_thread-actor.ensures.found c.find_lock-found.ensures.found kinds lines stands in
     let known = known_thread kinds c.args.limits.now lines (spelled.Unshare c.args.thread.now lock) permitted.0 in
-    let thread : c.in-Ok.used.thread ≡ place (threads_of lines) c.args.thread.now = cc permitted.1 in
-    let number : c.in-Ok.used.lock ≡ place (locks_of lines) lock = cc permitted.1 in
-    let begun = stands.sharers_begun c.in-Ok.used.lock c.in-Ok.used.thread c.in-Ok.ensures.held in
+    let thread : c.find_thread-actor.result.number ≡ place (threads_of lines) c.args.thread.now = cc permitted.1 in
+    let number : c.find_lock-found.result.number ≡ place (locks_of lines) lock = cc permitted.1 in
+    let begun = stands.sharers_begun c.find_lock-found.result.number c.find_thread-actor.result.number c.in_default.ensures.held in
     let there = place_below (locks_of lines) lock (subst (λ n. n < length (locks_of lines)) number begun.0) in (
       permitted.0,
       permitted.1,

@@ -6,19 +6,16 @@ use Rattle.rd_wf.proofs.RosterLemmas.{share_judged, holder_within}
 use Rattle.rd_wf.proofs.roster.Roster.judge_share.Goals as goal
 
 pub returns-in-Some-clause-err : goal.returns-in-Some-clause-err
-returns-in-Some-clause-err c = λ kinds lines stands.
-    share_judged kinds c.args.self.now lines stands _ c.is_none.ensures c.args.limits.now c.args.thread.now c.args.lock.now _ c.find_lock-found.result _ _ (c.find_thread-actor.ensures.found kinds lines stands)
-    (c.find_lock-found.ensures.found.numbers kinds lines stands) c.find_lock-found.ensures.found.lock c.held_by_other.ensures c.depth_of-shared.ensures
-    ∙ sym (c.in-Some.ensures.first lines (holder_within kinds c.args.self.now lines stands c.args.lock.now _ _ _ c.find_lock-found.ensures.found.lock c.held_by_other.ensures))
+returns-in-Some-clause-err c = λ thread lock acts is kinds lines stands.
+    share_judged kinds c.args.self.now lines stands _ c.is_none.ensures c.args.limits.now thread lock c.args.actor c.args.found _ _ (acts kinds lines stands)
+    (is.numbers kinds lines stands) is.lock c.held_by_other.ensures c.depth_of-shared.ensures
+    ∙ sym (c.in-Some.ensures.first lines (holder_within kinds c.args.self.now lines stands lock _ _ _ is.lock c.held_by_other.ensures))
 
 pub returns-clause-ok : goal.returns-clause-ok
 unfolding accepted_of
-returns-clause-ok c = λ kinds lines stands. (
-  share_judged kinds c.args.self.now lines stands _ c.is_none.ensures c.args.limits.now c.args.thread.now c.args.lock.now _ c.find_lock-found.result _ _ (c.find_thread-actor.ensures.found kinds lines stands)
-      (c.find_lock-found.ensures.found.numbers kinds lines stands) c.find_lock-found.ensures.found.lock c.held_by_other.ensures c.depth_of-shared.ensures
-      ∙ sym (c.in_default.ensures.first lines (holder_within kinds c.args.self.now lines stands c.args.lock.now _ _ _ c.find_lock-found.ensures.found.lock c.held_by_other.ensures)),
-  λ i. accepted.Event (numbered.Share (c.find_thread-actor.ensures.found kinds lines stands i).number ((c.find_lock-found.ensures.found.numbers kinds lines stands).0 i)),
+returns-clause-ok c = λ thread lock acts is kinds lines stands. (
+  share_judged kinds c.args.self.now lines stands _ c.is_none.ensures c.args.limits.now thread lock c.args.actor c.args.found _ _ (acts kinds lines stands)
+      (is.numbers kinds lines stands) is.lock c.held_by_other.ensures c.depth_of-shared.ensures
+      ∙ sym (c.in_default.ensures.first lines (holder_within kinds c.args.self.now lines stands lock _ _ _ is.lock c.held_by_other.ensures)),
+  λ i. accepted.Event (numbered.Share (acts kinds lines stands i).number ((is.numbers kinds lines stands).0 i)),
 )
-
-pub returns-clause-unknown : goal.returns-clause-unknown
-returns-clause-unknown c = λ kinds lines stands. (c.find_lock-found.ensures.found.numbers kinds lines stands).1

@@ -6,14 +6,14 @@ use Rattle.rd_wf.proofs.RosterLemmas.{unshare_judged}
 use Rattle.rd_wf.proofs.roster.Roster.judge_unshare.Goals as goal
 
 pub returns-in-Some-clause-err : goal.returns-in-Some-clause-err
-returns-in-Some-clause-err c = λ kinds lines stands.
-    unshare_judged kinds c.args.self.now lines stands _ c.is_none.ensures c.args.limits.now c.args.thread.now c.args.lock.now _ _ _ (c.find_thread-actor.ensures.found kinds lines stands)
-    (c.find_lock-found.ensures.found.numbers kinds lines stands).0 c.depth_of-shared.ensures ∙ sym (c.in-Some.ensures.first lines tt)
+returns-in-Some-clause-err c = λ thread lock acts is kinds lines stands.
+    unshare_judged kinds c.args.self.now lines stands _ c.is_none.ensures c.args.limits.now thread lock c.args.actor _ _ (acts kinds lines stands)
+    (is.numbers kinds lines stands).0 c.depth_of.ensures ∙ sym (c.in-Some.ensures.first lines tt)
 
 pub returns-clause-ok : goal.returns-clause-ok
 unfolding accepted_of
-returns-clause-ok c = λ kinds lines stands. (
-  unshare_judged kinds c.args.self.now lines stands _ c.is_none.ensures c.args.limits.now c.args.thread.now c.args.lock.now _ _ _ (c.find_thread-actor.ensures.found kinds lines stands)
-      (c.find_lock-found.ensures.found.numbers kinds lines stands).0 c.depth_of-shared.ensures ∙ sym (c.in_default.ensures.first lines tt),
-  λ i. accepted.Event (numbered.Unshare (c.find_thread-actor.ensures.found kinds lines stands i).number ((c.find_lock-found.ensures.found.numbers kinds lines stands).0 i)),
+returns-clause-ok c = λ thread lock acts is kinds lines stands. (
+  unshare_judged kinds c.args.self.now lines stands _ c.is_none.ensures c.args.limits.now thread lock c.args.actor _ _ (acts kinds lines stands)
+      (is.numbers kinds lines stands).0 c.depth_of.ensures ∙ sym (c.in_default.ensures.first lines tt),
+  λ i. accepted.Event (numbered.Unshare (acts kinds lines stands i).number ((is.numbers kinds lines stands).0 i)),
 )
