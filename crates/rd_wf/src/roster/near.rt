@@ -38,6 +38,17 @@ fn cut_at_space(bytes: &[u8]) -> Option<(&[u8], &[u8])>
     Some((&bytes[..space], &bytes[space + 1..]))
 }
 
+// What stands behind the keyword, if the bytes begin with it. Most keywords are told apart by their first byte.
+#[inline(always)]
+fn behind<'a>(bytes: &'a [u8], keyword: &[u8]) -> Option<&'a [u8]>
+    ensures front { IfSome result (λ rest. bytes.now ≡ keyword.now ++ rest.now) }
+{
+    if bytes.first() != keyword.first() {
+        return None;
+    }
+    bytes.strip_prefix(keyword)
+}
+
 /// The numbers of a thread and of the lock that its line names.
 #[derive(Clone, Copy)]
 struct LockUse {
@@ -315,14 +326,14 @@ impl Roster {
         ensures none { IfNone result (self.new ≡ self.old) }
     {
         law_of_spelling();
-        if let Some(names) = bytes.strip_prefix(b"share ") {
+        if let Some(names) = behind(bytes, b"share ") {
             let used = self.share_near(names, limits)?;
             return Some(Accepted::Event(Event::Share {
                 thread: used.thread,
                 lock: used.lock,
             }));
         }
-        if let Some(names) = bytes.strip_prefix(b"unshare ") {
+        if let Some(names) = behind(bytes, b"unshare ") {
             let used = self.unshare_near(names, limits)?;
             return Some(Accepted::Event(Event::Unshare {
                 thread: used.thread,
@@ -349,25 +360,25 @@ impl Roster {
     {
         law_of_spelling();
         law_of_calls();
-        if let Some(words) = bytes.strip_prefix(b"call ") {
+        if let Some(words) = behind(bytes, b"call ") {
             let call = self.call_near(words, limits)?;
             return Some(Accepted::Event(Event::Call(call)));
         }
-        if let Some(names) = bytes.strip_prefix(b"acquire ") {
+        if let Some(names) = behind(bytes, b"acquire ") {
             let used = self.acquire_near(names, limits)?;
             return Some(Accepted::Event(Event::Acquire {
                 thread: used.thread,
                 lock: used.lock,
             }));
         }
-        if let Some(names) = bytes.strip_prefix(b"release ") {
+        if let Some(names) = behind(bytes, b"release ") {
             let used = self.release_near(names, limits)?;
             return Some(Accepted::Event(Event::Release {
                 thread: used.thread,
                 lock: used.lock,
             }));
         }
-        if let Some(names) = bytes.strip_prefix(b"join ") {
+        if let Some(names) = behind(bytes, b"join ") {
             let pair = self.join_near(names, limits)?;
             return Some(Accepted::Event(Event::Join {
                 thread: pair.thread,

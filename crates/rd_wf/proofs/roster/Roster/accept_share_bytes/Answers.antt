@@ -1,6 +1,4 @@
 use Rattle.std.proofs.Common.{◌++◌, Some, codes, ap, ◌∙◌}
-use Rattle.std.proofs.lemmas.Bool.Decides.{Decides-eqb}
-use Rattle.std.proofs.lemmas.Slice.Eq.{strip_prefix_is}
 use Rattle.rd_event.specs.declared.items.Line.{Line}
 use Rattle.rd_event.specs.declared.items.Line.TheVariants.{Event}
 use Rattle.rd_event.specs.declared.items.LineEvent.TheVariants.{Share, Unshare}
@@ -12,18 +10,18 @@ pub returns-in-Some-clause-some : goal.returns-in-Some-clause-some
 returns-in-Some-clause-some c = λ kinds lines stands.
     let (thread, lock, names, thread_is, lock_is, second, accepts) = c.in_ok-used.ensures.some in
     let line : Line = Event (Share thread lock) in
-    let behind = strip_prefix_is Decides-eqb c.args.bytes.now (codes "share ") (Some c.in-Some.names) c.in-Some.ensures.cases in
+    let behind = c.in-Some.ensures.front in
     let version = second kinds lines stands in (
       line,
       accepts_in c.args.self.now c.share_near.new.self c.args.limits.now c.args.bytes.now line _ accepts (thread_is, lock_is) kinds lines stands
           ((c.law_of_spelling.ensures.test (version_of lines) c.args.bytes.now line (thread_is, lock_is)).1 (version, behind ∙ ap (λ rest. codes "share " ++ rest) names)),
     )
 
-pub returns-in-Some-strip_prefix-clause-some : goal.returns-in-Some-strip_prefix-clause-some
-returns-in-Some-strip_prefix-clause-some c = λ kinds lines stands.
+pub returns-in-Some-behind-clause-some : goal.returns-in-Some-behind-clause-some
+returns-in-Some-behind-clause-some c = λ kinds lines stands.
     let (thread, lock, names, thread_is, lock_is, second, accepts) = c.in_ok-used-2.ensures.some in
     let line : Line = Event (Unshare thread lock) in
-    let behind = strip_prefix_is Decides-eqb c.args.bytes.now (codes "unshare ") (Some c.in-Some-strip_prefix.names) c.in-Some-strip_prefix.ensures.cases in
+    let behind = c.in-Some-behind.ensures.front in
     let version = second kinds lines stands in (
       line,
       accepts_in c.args.self.now c.unshare_near.new.self c.args.limits.now c.args.bytes.now line _ accepts (thread_is, lock_is) kinds lines stands
