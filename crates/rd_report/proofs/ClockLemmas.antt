@@ -81,7 +81,7 @@ none_told : (number : ℕ) (names : List (List ℕ)) (count : ℕ → ℕ) → (
 none_told number [] count none = refl
 none_told number (name ∷ names) count none =
     ap (λ (n : ℕ). if n == 0 then counts_from (suc number) names count else (name ++ codes ":" ++ decimal (count number)) ∷ counts_from (suc number) names count)
-      (none number (omega arith))
+    (none number (omega arith))
     ∙ none_told (suc number) names count (λ thread behind. none thread (omega arith))
 
 -- all threads for which a clock has room
