@@ -42,6 +42,8 @@ pub struct Roster {
     objects: IndexMap<Name, u32>,
     /// numbers of threads, locks and objects, each where `near_place` puts its name, which is looked for there first
     near_threads: [u32; NEAR_LENGTH],
+    /// those of threads that joins wait for, which else would stand where the joining ones do
+    near_awaited: [u32; NEAR_LENGTH],
     near_locks: [u32; NEAR_LENGTH],
     near_objects: [u32; NEAR_LENGTH],
     ghost few_kinds: { index_map_len kinds < 2 ^ 32 },
@@ -82,6 +84,7 @@ impl Roster {
             shares: Shares::new(alloc),
             objects: IndexMap::new(alloc),
             near_threads: [0; NEAR_LENGTH],
+            near_awaited: [0; NEAR_LENGTH],
             near_locks: [0; NEAR_LENGTH],
             near_objects: [0; NEAR_LENGTH],
         })
@@ -187,7 +190,7 @@ impl Roster {
         }
         *self.threads.get_index_mut(awaited.number as usize).unwrap() = true;
         self.events += 1;
-        self.near_threads[child_near % NEAR_LENGTH] = awaited.number;
+        self.near_awaited[child_near % NEAR_LENGTH] = awaited.number;
         self.near_threads[near % NEAR_LENGTH] = actor.number;
         Ok(Accepted::Event(Event::Join {
             thread: actor.number,

@@ -69,6 +69,24 @@ impl Roster {
     ghost use Rattle.rd_wf.specs.MayFollow.{version_of};
     ghost use Rattle.rd_wf.specs.Roster.{RosterStandsFor, Accepts, AcceptsAs, IsFoundThread, IsFoundObject, IsFoundMethod, IsFoundLock, thread_count, lock_count};
 
+    // The thread with this number, if this is its name.
+    #[inline(always)]
+    fn thread_named(&self, number: u32, name: &[u8]) -> Option<FoundThread>
+        ensures found { IfSome result (IsFoundThread self.now name.now) }
+        ensures known { IfSome result (λ found. found.number < thread_count self.now) }
+        ensures named { IsSome result → IsName name.now }
+    {
+        let (begun, joined) = self.threads.get_index(number as usize)?;
+        if begun.items() != name {
+            return None;
+        }
+        Some(FoundThread {
+            number,
+            unknown: false,
+            joined: *joined,
+        })
+    }
+
     // The thread with this name, if it is found near.
     #[inline(always)]
     fn near_thread(&self, name: &[u8]) -> Option<FoundThread>
@@ -76,16 +94,17 @@ impl Roster {
         ensures known { IfSome result (λ found. found.number < thread_count self.now) }
         ensures named { IsSome result → IsName name.now }
     {
-        let guess = self.near_threads[near_bytes(name) % NEAR_LENGTH];
-        let (begun, joined) = self.threads.get_index(guess as usize)?;
-        if begun.items() != name {
-            return None;
-        }
-        Some(FoundThread {
-            number: guess,
-            unknown: false,
-            joined: *joined,
-        })
+        self.thread_named(self.near_threads[near_bytes(name) % NEAR_LENGTH], name)
+    }
+
+    // The same where threads that are waited for are remembered.
+    #[inline(always)]
+    fn near_awaited(&self, name: &[u8]) -> Option<FoundThread>
+        ensures found { IfSome result (IsFoundThread self.now name.now) }
+        ensures known { IfSome result (λ found. found.number < thread_count self.now) }
+        ensures named { IsSome result → IsName name.now }
+    {
+        self.thread_named(self.near_awaited[near_bytes(name) % NEAR_LENGTH], name)
     }
 
     // The lock with this name, if it is found near.
@@ -149,7 +168,7 @@ impl Roster {
     {
         let (thread, child) = cut_at_space(names)?;
         let actor = self.near_thread(thread)?;
-        let awaited = self.near_thread(child)?;
+        let awaited = self.near_awaited(child)?;
         let Ok(()) = self.judge_join(actor, awaited, limits) else {
             return None;
         };
@@ -343,10 +362,29 @@ impl Roster {
         None
     }
 
-    /// Accepts the next line by its bytes, given without its line feed, where they are a call, a join or a line of a lock, all whose names
-    /// are found at once, and the line may follow the accepted ones. The answer says what it is in numbers, as that of `accept`
-    /// for the item that the bytes say. Else it is `None`, which says nothing of the line, and nothing changes. Only the values of a call
-    /// take memory, and where it runs out the answer is `None` too.
+    /// Accepts the next line by its bytes, given without its line feed, where they are a call, all whose names are found at once, and it may
+    /// follow the accepted lines. The answer says what it is in numbers, as that of `accept` for the item that the bytes say. Else it is
+    /// `None`, which says nothing of the line, and nothing changes. Only its values take memory, and where it runs out the answer is `None` too.
+    #[inline(always)]
+    pub fn accept_call_bytes(&mut self, bytes: &[u8], limits: &Limits) -> Option<Accepted>
+        // the bytes say an item that may follow
+        ensures some { IfSome result
+            (λ accepted. (kinds : List Kind) (lines : List LineOf) →
+            RosterStandsFor kinds self.old lines →
+            (item : LineOf) × AcceptsAs kinds limits.now lines bytes.now item accepted self.new) }
+
+        // or it was not found
+        ensures none { IfNone result (self.new ≡ self.old) }
+    {
+        law_of_spelling();
+        law_of_calls();
+        let words = behind(bytes, b"call ")?;
+        let call = self.call_near(words, limits)?;
+        Some(Accepted::Event(Event::Call(call)))
+    }
+
+    /// The same for bytes that are a join or a line of a lock. They stand apart from calls: a line that can't be one pays for nothing that
+    /// holds values. It takes no memory.
     #[inline(always)]
     pub fn accept_bytes(&mut self, bytes: &[u8], limits: &Limits) -> Option<Accepted>
         // the bytes say an item that may follow
@@ -359,11 +397,6 @@ impl Roster {
         ensures none { IfNone result (self.new ≡ self.old) }
     {
         law_of_spelling();
-        law_of_calls();
-        if let Some(words) = behind(bytes, b"call ") {
-            let call = self.call_near(words, limits)?;
-            return Some(Accepted::Event(Event::Call(call)));
-        }
         if let Some(names) = behind(bytes, b"acquire ") {
             let used = self.acquire_near(names, limits)?;
             return Some(Accepted::Event(Event::Acquire {

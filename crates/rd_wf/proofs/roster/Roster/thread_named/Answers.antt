@@ -2,7 +2,7 @@ use Rattle.std.proofs.Common.{◌≡◌, Some, not, sym, ap, ◌∙◌}
 use Rattle.std.proofs.Math.Bool.{not-not}
 use Rattle.std.specs.Cmp.Lexicographic.{bytes_decides}
 use Rattle.rd_wf.proofs.NearLemmas.{thread_near}
-use Rattle.rd_wf.proofs.roster.Roster.near_thread.Goals as goal
+use Rattle.rd_wf.proofs.roster.Roster.thread_named.Goals as goal
 
 pub returns-clause-found : goal.returns-clause-found
 returns-clause-found c = λ kinds lines stands.
