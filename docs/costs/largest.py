@@ -1,11 +1,11 @@
 #!/usr/bin/env python3
-"""Measures what the largest inputs within the limits take: seconds and peak memory of the program on each.
+"""Measures what the largest inputs within the limits take: processor seconds and peak memory of the program on each.
 
     largest.py --rd2 PROGRAM [--only NAME] [--keep FOLDER]
 
 The traces and specifications are made here; `--keep` leaves them in the folder.
 """
-import argparse, os, pathlib, subprocess, sys, tempfile, time
+import argparse, multiprocessing, os, pathlib, subprocess, tempfile
 
 THREADS, LOCKS, OBJECTS = 4096, 65536, 65536
 KINDS, METHODS, MOST_BYTES = 32, 16, 1048576
@@ -105,6 +105,10 @@ ROWS = [
 ]
 
 
+def write(maker, file):
+    file.write_text('\n'.join(maker()) + '\n')
+
+
 def main():
     options = argparse.ArgumentParser(usage=__doc__)
     options.add_argument('--rd2', required=True)
@@ -120,13 +124,15 @@ def main():
             files = []
             for maker in makers:
                 file = folder / maker.__name__
-                file.write_text('\n'.join(maker()) + '\n')
+                # in a process of its own, since what this one has held counts as held by the program that it begins
+                writer = multiprocessing.Process(target=write, args=(maker, file))
+                writer.start()
+                writer.join()
                 files.append(file)
             with open(folder / 'output', 'wb') as output:
-                begin = time.perf_counter()
                 child = subprocess.Popen([given.rd2, *words, *files], stdout=output)
                 _, status, usage = os.wait4(child.pid, 0)
-                seconds = time.perf_counter() - begin
+                seconds = usage.ru_utime + usage.ru_stime
             sizes = ' + '.join(f'{file.stat().st_size:,}' for file in files)
             print(f"{row}: {sizes} bytes, {seconds:.2f} s, {usage.ru_maxrss / 1024:.0f} MB, status {os.waitstatus_to_exitcode(status)}, "
                   f"{(folder / 'output').stat().st_size:,} bytes written", flush=True)
