@@ -20,7 +20,10 @@ use crate::judging::{Refusal, judge};
 use rd_base::{LimitName, Limits, Steps};
 use rd_event::{Line, is_skipped};
 use rd_io::{Inputs, LineReader, Next, ReadEnd, Sink};
-use rd_wf::{Roster, TraceCause};
+use rd_wf::{
+    AcquireLine, CallLine, JoinLine, KnownLine, ReleaseLine, Roster, ShareLine, TraceCause,
+    UnshareLine,
+};
 use std::alloc::Global;
 use std::sync::ledger::Ledger;
 
@@ -87,27 +90,10 @@ fn at_refusal(refused: ReadEnd, number: u64, limits: &Limits) -> WalkEnd
     }
 }
 
-// Whether the bytes may begin as a line that the roster accepts by its bytes alone.
-fn may_be_found(bytes: &[u8]) -> bool {
-    bytes.first().is_some_and(|byte| {
-        *byte == b'c'
-            || *byte == b'a'
-            || *byte == b'r'
-            || *byte == b'j'
-            || *byte == b's'
-            || *byte == b'u'
-    })
-}
-
-// Whether the bytes begin as a call.
-fn may_be_call(bytes: &[u8]) -> bool {
-    bytes.first() == Some(&b'c')
-}
-
-/// Takes a call that the roster accepts by its bytes alone: it is handed on. The answer tells whether it is one. This doesn't stand in
-/// `take_found`: each other line would make room for what it holds.
+/// Takes a line of this sort that the roster accepts by its bytes alone: it is handed on. The answer tells whether it is one. This doesn't
+/// stand in `take_found`: each other line would make room for what it holds.
 #[inline(never)]
-fn take_call<A: Analysis, S: Sink, L: Ledger>(
+fn take_known<K: KnownLine, A: Analysis, S: Sink, L: Ledger>(
     walker: &mut Walker<A>,
     number: u64,
     bytes: &[u8],
@@ -153,67 +139,7 @@ fn take_call<A: Analysis, S: Sink, L: Ledger>(
     ensures fault { TellsFault (S.faults out.old) (S.faults out.new) (S.at_fault out.new)
         (S.written out.new) result }
 {
-    let Some(accepted) = walker.roster.accept_call_bytes(bytes, &walker.limits) else {
-        return Ok(false);
-    };
-    match walker
-        .analysis
-        .accept(number, &accepted, &walker.roster, out, steps)
-    {
-        Ok(()) => Ok(true),
-        Err(halt) => Err(halt),
-    }
-}
-
-/// The same for a join or a line of a lock.
-#[inline(never)]
-fn take_other<A: Analysis, S: Sink, L: Ledger>(
-    walker: &mut Walker<A>,
-    number: u64,
-    bytes: &[u8],
-    out: &mut S,
-    steps: &mut Steps<L>,
-) -> Result<bool, Halt>
-    requires usable { AreUsable walker.old.limits }
-    requires stands { (kinds : List Kind) × (start : A) × (before : List Entry)
-        × RosterStandsFor kinds walker.old.roster (items before)
-        × A.leads kinds start before walker.old.analysis }
-    ensures limits { walker.new.limits ≡ walker.old.limits }
-
-    // the line is accepted and handed on; or it isn't, and all is as before
-    ensures taken { IfOk result
-        (λ taken. taken ≡ true → (kinds : List Kind) (start : A) (before : List Entry) →
-        RosterStandsFor kinds walker.old.roster (items before) →
-        A.leads kinds start before walker.old.analysis →
-        (item : Item) × (judgement_of kinds walker.old.limits (items before) bytes.now ≡ Ok item)
-        × RosterStandsFor kinds walker.new.roster (items before ++ item ∷ [])
-        × A.leads kinds start
-        (before ++ record { number = number; item = item } ∷ []) walker.new.analysis
-        × WritesBetween (S.written out.old) (S.written out.new)
-        (A.text kinds start before)
-        (A.text kinds start (before ++ record { number = number; item = item } ∷ []))
-        × (steps.new ≤ steps.old + A.bound kinds start (items before) item)) }
-    ensures same { IfOk result (λ taken. taken ≡ false →
-        (walker.new ≡ walker.old) × (out.new ≡ out.old) × (steps.new ≡ steps.old)) }
-
-    // or memory runs out in what is done with it, or a write fails; its item may follow
-    ensures memory { OnErr result
-        ((kinds : List Kind) (before : List Item) → RosterStandsFor kinds walker.old.roster before →
-        (item : Item) × (item_of (version_of before) bytes.now ≡ Some item)
-        × MayFollow kinds walker.old.limits before item) }
-    ensures halted { OnErr result
-        ((kinds : List Kind) (start : A) (before : List Entry) →
-        RosterStandsFor kinds walker.old.roster (items before) →
-        A.leads kinds start before walker.old.analysis →
-        (item : Item) × (judgement_of kinds walker.old.limits (items before) bytes.now ≡ Ok item)
-        × WritesFront (S.written out.old) (S.written out.new)
-        (A.text kinds start before)
-        (A.text kinds start (before ++ record { number = number; item = item } ∷ []))
-        × (steps.new ≤ steps.old + A.bound kinds start (items before) item)) }
-    ensures fault { TellsFault (S.faults out.old) (S.faults out.new) (S.at_fault out.new)
-        (S.written out.new) result }
-{
-    let Some(accepted) = walker.roster.accept_bytes(bytes, &walker.limits) else {
+    let Some(accepted) = K::accept_bytes(&mut walker.roster, bytes, &walker.limits) else {
         return Ok(false);
     };
     match walker
@@ -273,10 +199,14 @@ fn take_found<A: Analysis, S: Sink, L: Ledger>(
     ensures fault { TellsFault (S.faults out.old) (S.faults out.new) (S.at_fault out.new)
         (S.written out.new) result }
 {
-    if may_be_call(bytes) {
-        take_call(walker, number, bytes, out, steps)
-    } else {
-        take_other(walker, number, bytes, out, steps)
+    match bytes.first() {
+        Some(b'c') => take_known::<CallLine, A, S, L>(walker, number, bytes, out, steps),
+        Some(b'a') => take_known::<AcquireLine, A, S, L>(walker, number, bytes, out, steps),
+        Some(b'r') => take_known::<ReleaseLine, A, S, L>(walker, number, bytes, out, steps),
+        Some(b'j') => take_known::<JoinLine, A, S, L>(walker, number, bytes, out, steps),
+        Some(b's') => take_known::<ShareLine, A, S, L>(walker, number, bytes, out, steps),
+        Some(b'u') => take_known::<UnshareLine, A, S, L>(walker, number, bytes, out, steps),
+        _ => Ok(false),
     }
 }
 
@@ -340,12 +270,10 @@ fn take_line<A: Analysis, S: Sink, L: Ledger>(
     ensures fault { TellsFault (S.faults out.old) (S.faults out.new) (S.at_fault out.new)
         (S.written out.new) result }
 {
-    if may_be_found(bytes) {
-        match take_found(walker, number, bytes, out, steps) {
-            Ok(true) => return Ok(Taken::Accepted),
-            Ok(false) => {}
-            Err(halt) => return Err(halt),
-        }
+    match take_found(walker, number, bytes, out, steps) {
+        Ok(true) => return Ok(Taken::Accepted),
+        Ok(false) => {}
+        Err(halt) => return Err(halt),
     }
     match judge(
         walker.alloc,

@@ -10,4 +10,6 @@ mod shares;
 
 pub use causes::{Accepted, TraceCause, WfCause, WfRefused};
 pub use laws::{law_of_events, law_of_following};
-pub use roster::Roster;
+pub use roster::{
+    AcquireLine, CallLine, JoinLine, KnownLine, ReleaseLine, Roster, ShareLine, UnshareLine,
+};

@@ -3,6 +3,7 @@ ghost use Rattle.std.specs.Prelude.{◌<◌, ◌^◌};
 ghost use Rattle.indexmap.specs.IndexMap.{index_map_len};
 
 mod judge;
+mod known;
 mod near;
 
 use crate::causes::{Accepted, WfCause, WfRefused};
@@ -10,6 +11,7 @@ use crate::methods::Methods;
 use crate::shares::Shares;
 use indexmap::IndexMap;
 use judge::{Declared, FREE};
+pub use known::{AcquireLine, CallLine, JoinLine, KnownLine, ReleaseLine, ShareLine, UnshareLine};
 use near::{NEAR_LENGTH, near_place};
 use rd_base::{Limits, Name, NoMemory, Slots};
 use rd_ecl::Spec;

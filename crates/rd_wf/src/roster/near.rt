@@ -1,12 +1,11 @@
-//! Names that are found near, and lines that are accepted by their bytes, where their names are.
+//! Names that are found near, and lines whose names are.
 ghost use Rattle.std.specs.Prelude.{◌≡◌, ◌++◌, ◌∷◌, IfSome};
 
 use super::judge::{FoundLock, FoundObject, FoundThread, Pair};
 use super::{Lock, Roster};
-use crate::causes::Accepted;
 use crate::methods::FoundMethod;
 use rd_base::{Limits, Name};
-use rd_event::{Call, Event, law_of_calls, law_of_spelling, read_slots};
+use rd_event::{Call, read_slots};
 
 /// The length of a table of near numbers.
 pub(super) const NEAR_LENGTH: usize = 1024;
@@ -40,7 +39,7 @@ fn cut_at_space(bytes: &[u8]) -> Option<(&[u8], &[u8])>
 
 // What stands behind the keyword, if the bytes begin with it. Most keywords are told apart by their first byte.
 #[inline(always)]
-fn behind<'a>(bytes: &'a [u8], keyword: &[u8]) -> Option<&'a [u8]>
+pub(super) fn behind<'a>(bytes: &'a [u8], keyword: &[u8]) -> Option<&'a [u8]>
     ensures front { IfSome result (λ rest. bytes.now ≡ keyword.now ++ rest.now) }
 {
     if bytes.first() != keyword.first() {
@@ -51,23 +50,24 @@ fn behind<'a>(bytes: &'a [u8], keyword: &[u8]) -> Option<&'a [u8]>
 
 /// The numbers of a thread and of the lock that its line names.
 #[derive(Clone, Copy)]
-struct LockUse {
-    thread: u32,
-    lock: u32,
+pub(super) struct LockUse {
+    pub(super) thread: u32,
+    pub(super) lock: u32,
 }
 
 impl Roster {
     ghost use Rattle.std.specs.Prelude.{◌≡◌, ◌<◌, List, ℕ, false, Some, IfNone, IfSome, IsSome};
-    ghost use Rattle.rd_base.specs.Limits.{AreUsable};
     ghost use Rattle.rd_base.specs.Names.{IsName};
     ghost use Rattle.rd_event.specs.Items.{words_apart};
     ghost use Rattle.rd_event.specs.ReadingSlots.{slots_read};
+    ghost use Rattle.rd_event.specs.declared.events.Event.{Event};
     ghost use Rattle.rd_event.specs.declared.items.Line.TheVariants as line;
     ghost use Rattle.rd_event.specs.declared.items.LineEvent.TheVariants as spelled;
     ghost use Rattle.rd_event.specs.declared.items.Line.{Line as LineOf};
     ghost use Rattle.rd_ecl.specs.Kinds.{Kind};
     ghost use Rattle.rd_wf.specs.MayFollow.{version_of};
-    ghost use Rattle.rd_wf.specs.Roster.{RosterStandsFor, Accepts, AcceptsAs, IsFoundThread, IsFoundObject, IsFoundMethod, IsFoundLock, thread_count, lock_count};
+    ghost use Rattle.rd_wf.specs.declared.causes.Accepted.{Accepted};
+    ghost use Rattle.rd_wf.specs.Roster.{RosterStandsFor, Accepts, IsFoundThread, IsFoundObject, IsFoundMethod, IsFoundLock, thread_count, lock_count};
 
     // The thread with this number, if this is its name.
     #[inline(always)]
@@ -158,7 +158,7 @@ impl Roster {
 
     // Accepts the line by which a thread waits for another, by the names that stand behind its keyword.
     #[inline(never)]
-    fn join_near(&mut self, names: &[u8], limits: &Limits) -> Option<Pair>
+    pub(super) fn join_near(&mut self, names: &[u8], limits: &Limits) -> Option<Pair>
         ensures some { IfSome result
             (λ pair. (thread child : List ℕ) × (names.now ≡ words_apart thread child)
             × IsName thread × IsName child
@@ -182,7 +182,7 @@ impl Roster {
 
     // Accepts the call with these words behind its keyword. Its values are read last, since they take memory.
     #[inline(never)]
-    fn call_near(&mut self, words: &[u8], limits: &Limits) -> Option<Call>
+    pub(super) fn call_near(&mut self, words: &[u8], limits: &Limits) -> Option<Call>
         ensures some { IfSome result
             (λ call. (thread object method values : List ℕ)
             × (words.now ≡ words_apart thread (words_apart object (words_apart method values)))
@@ -221,7 +221,7 @@ impl Roster {
 
     // Accepts the line that acquires a lock, by the names that stand behind its keyword.
     #[inline(never)]
-    fn acquire_near(&mut self, names: &[u8], limits: &Limits) -> Option<LockUse>
+    pub(super) fn acquire_near(&mut self, names: &[u8], limits: &Limits) -> Option<LockUse>
         ensures some { IfSome result
             (λ used. (thread lock : List ℕ) × (names.now ≡ words_apart thread lock)
             × IsName thread × IsName lock
@@ -248,7 +248,7 @@ impl Roster {
 
     // Accepts the line that releases a lock, by the names that stand behind its keyword.
     #[inline(never)]
-    fn release_near(&mut self, names: &[u8], limits: &Limits) -> Option<LockUse>
+    pub(super) fn release_near(&mut self, names: &[u8], limits: &Limits) -> Option<LockUse>
         ensures some { IfSome result
             (λ used. (thread lock : List ℕ) × (names.now ≡ words_apart thread lock)
             × IsName thread × IsName lock
@@ -275,7 +275,7 @@ impl Roster {
 
     // Accepts the line that shares a lock, by the names that stand behind its keyword, where there is room for the sharer.
     #[inline(never)]
-    fn share_near(&mut self, names: &[u8], limits: &Limits) -> Option<LockUse>
+    pub(super) fn share_near(&mut self, names: &[u8], limits: &Limits) -> Option<LockUse>
         ensures some { IfSome result
             (λ used. (thread lock : List ℕ) × (names.now ≡ words_apart thread lock)
             × IsName thread × IsName lock
@@ -308,7 +308,7 @@ impl Roster {
 
     // Accepts the line that gives a share of a lock back, by the names that stand behind its keyword.
     #[inline(never)]
-    fn unshare_near(&mut self, names: &[u8], limits: &Limits) -> Option<LockUse>
+    pub(super) fn unshare_near(&mut self, names: &[u8], limits: &Limits) -> Option<LockUse>
         ensures some { IfSome result
             (λ used. (thread lock : List ℕ) × (names.now ≡ words_apart thread lock)
             × IsName thread × IsName lock
@@ -332,92 +332,5 @@ impl Roster {
             thread: actor.number,
             lock: found.number,
         })
-    }
-
-    // The same for the bytes that share a lock or give a share of it back. This doesn't stand in `accept_bytes`: each line would make room for
-    // what it holds.
-    #[inline(never)]
-    fn accept_share_bytes(&mut self, bytes: &[u8], limits: &Limits) -> Option<Accepted>
-        ensures some { IfSome result
-            (λ accepted. (kinds : List Kind) (lines : List LineOf) →
-            RosterStandsFor kinds self.old lines →
-            (item : LineOf) × AcceptsAs kinds limits.now lines bytes.now item accepted self.new) }
-        ensures none { IfNone result (self.new ≡ self.old) }
-    {
-        law_of_spelling();
-        if let Some(names) = behind(bytes, b"share ") {
-            let used = self.share_near(names, limits)?;
-            return Some(Accepted::Event(Event::Share {
-                thread: used.thread,
-                lock: used.lock,
-            }));
-        }
-        if let Some(names) = behind(bytes, b"unshare ") {
-            let used = self.unshare_near(names, limits)?;
-            return Some(Accepted::Event(Event::Unshare {
-                thread: used.thread,
-                lock: used.lock,
-            }));
-        }
-        None
-    }
-
-    /// Accepts the next line by its bytes, given without its line feed, where they are a call, all whose names are found at once, and it may
-    /// follow the accepted lines. The answer says what it is in numbers, as that of `accept` for the item that the bytes say. Else it is
-    /// `None`, which says nothing of the line, and nothing changes. Only its values take memory, and where it runs out the answer is `None` too.
-    #[inline(always)]
-    pub fn accept_call_bytes(&mut self, bytes: &[u8], limits: &Limits) -> Option<Accepted>
-        // the bytes say an item that may follow
-        ensures some { IfSome result
-            (λ accepted. (kinds : List Kind) (lines : List LineOf) →
-            RosterStandsFor kinds self.old lines →
-            (item : LineOf) × AcceptsAs kinds limits.now lines bytes.now item accepted self.new) }
-
-        // or it was not found
-        ensures none { IfNone result (self.new ≡ self.old) }
-    {
-        law_of_spelling();
-        law_of_calls();
-        let words = behind(bytes, b"call ")?;
-        let call = self.call_near(words, limits)?;
-        Some(Accepted::Event(Event::Call(call)))
-    }
-
-    /// The same for bytes that are a join or a line of a lock. They stand apart from calls: a line that can't be one pays for nothing that
-    /// holds values. It takes no memory.
-    #[inline(always)]
-    pub fn accept_bytes(&mut self, bytes: &[u8], limits: &Limits) -> Option<Accepted>
-        // the bytes say an item that may follow
-        ensures some { IfSome result
-            (λ accepted. (kinds : List Kind) (lines : List LineOf) →
-            RosterStandsFor kinds self.old lines →
-            (item : LineOf) × AcceptsAs kinds limits.now lines bytes.now item accepted self.new) }
-
-        // or it was not found
-        ensures none { IfNone result (self.new ≡ self.old) }
-    {
-        law_of_spelling();
-        if let Some(names) = behind(bytes, b"acquire ") {
-            let used = self.acquire_near(names, limits)?;
-            return Some(Accepted::Event(Event::Acquire {
-                thread: used.thread,
-                lock: used.lock,
-            }));
-        }
-        if let Some(names) = behind(bytes, b"release ") {
-            let used = self.release_near(names, limits)?;
-            return Some(Accepted::Event(Event::Release {
-                thread: used.thread,
-                lock: used.lock,
-            }));
-        }
-        if let Some(names) = behind(bytes, b"join ") {
-            let pair = self.join_near(names, limits)?;
-            return Some(Accepted::Event(Event::Join {
-                thread: pair.thread,
-                child: pair.child,
-            }));
-        }
-        self.accept_share_bytes(bytes, limits)
     }
 }

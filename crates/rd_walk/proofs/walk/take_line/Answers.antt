@@ -5,7 +5,6 @@ use Rattle.rd_wf.specs.Roster.{RosterStandsFor}
 use Rattle.rd_walk.specs.Analysis.{IsNextEntry}
 use Rattle.rd_walk.specs.Walk.{items}
 use Rattle.rd_walk.proofs.walk.take_line.Goals as goal
-use Rattle.rd_walk.proofs.walk.take_line.Goals.{then-may_be_found+in-Ok-false, else-may_be_found}
 
 pub returns-in-Err-clause-memory : goal.returns-in-Err-clause-memory
 returns-in-Err-clause-memory g c = λ _ kinds before stands. let (item, says, follows) = c.in-Err.ensures.memory kinds before stands in (item, says, inr follows)
@@ -14,18 +13,15 @@ returns-in-Err-clause-memory g c = λ _ kinds before stands. let (item, says, fo
 
 pub accept-requires : goal.accept-requires
 accept-requires g c =
-    let same : c.if-may_be_found.walker ≡ c.args.walker.now = elim c.if-may_be_found.branch [
-      | then-may_be_found+in-Ok-false w ↦ w.walker-is ∙ (w.in-Ok-false.ensures.same w.in-Ok-false.field-0-test).0
-      | else-may_be_found w ↦ w.walker-is
-    ] in
-    let roster : c.if-may_be_found.walker.roster ≡ c.args.walker.now.roster = cc in
-    let analysis : c.if-may_be_found.walker.analysis ≡ c.args.walker.now.analysis = cc in
-    let limits : c.if-may_be_found.walker.limits ≡ c.args.walker.now.limits = cc in
+    let (same, out, steps) = c.in-Ok-false.ensures.same c.in-Ok-false.field-0-test in
+    let roster : c.take_found.new.walker.roster ≡ c.args.walker.now.roster = cc in
+    let analysis : c.take_found.new.walker.analysis ≡ c.args.walker.now.analysis = cc in
+    let limits : c.take_found.new.walker.limits ≡ c.args.walker.now.limits = cc in
     let (kinds, start, before, was, led) = c.requires.stands in
     let stands = subst (λ r. RosterStandsFor kinds r (items before)) (sym roster) was in
     let leads = subst (g.A.Analysis.leads kinds start before) (sym analysis) led in
     let next : IsNextEntry kinds c.judge.new.roster before c.judge.new.line c.in-Ok.accepted = record {
-      limits = c.if-may_be_found.walker.limits;
+      limits = c.take_found.new.walker.limits;
       usable = subst AreUsable (sym limits) c.requires.usable;
       follows = c.in-Ok.ensures.follows kinds (items before) stands;
       numbers = c.in-Ok.ensures.numbers kinds (items before) stands;
@@ -36,25 +32,14 @@ accept-requires g c =
 
 pub returns-in_default-clause-taken : goal.returns-in_default-clause-taken
 returns-in_default-clause-taken g c = λ none kinds start before was led.
-    let same : c.if-may_be_found.walker ≡ c.args.walker.now = elim c.if-may_be_found.branch [
-      | then-may_be_found+in-Ok-false w ↦ w.walker-is ∙ (w.in-Ok-false.ensures.same w.in-Ok-false.field-0-test).0
-      | else-may_be_found w ↦ w.walker-is
-    ] in
-    let out : c.if-may_be_found.out ≡ c.args.out.now = elim c.if-may_be_found.branch [
-      | then-may_be_found+in-Ok-false w ↦ w.out-is ∙ (w.in-Ok-false.ensures.same w.in-Ok-false.field-0-test).1
-      | else-may_be_found w ↦ w.out-is
-    ] in
-    let steps : c.if-may_be_found.steps ≡ c.args.steps.now = elim c.if-may_be_found.branch [
-      | then-may_be_found+in-Ok-false w ↦ w.steps-is ∙ (w.in-Ok-false.ensures.same w.in-Ok-false.field-0-test).2
-      | else-may_be_found w ↦ w.steps-is
-    ] in
-    let roster : c.if-may_be_found.walker.roster ≡ c.args.walker.now.roster = cc in
-    let analysis : c.if-may_be_found.walker.analysis ≡ c.args.walker.now.analysis = cc in
-    let limits : c.if-may_be_found.walker.limits ≡ c.args.walker.now.limits = cc in
+    let (same, out, steps) = c.in-Ok-false.ensures.same c.in-Ok-false.field-0-test in
+    let roster : c.take_found.new.walker.roster ≡ c.args.walker.now.roster = cc in
+    let analysis : c.take_found.new.walker.analysis ≡ c.args.walker.now.analysis = cc in
+    let limits : c.take_found.new.walker.limits ≡ c.args.walker.now.limits = cc in
     let stands = subst (λ r. RosterStandsFor kinds r (items before)) (sym roster) was in
     let leads = subst (g.A.Analysis.leads kinds start before) (sym analysis) led in
     let next : IsNextEntry kinds c.judge.new.roster before c.judge.new.line c.in-Ok.accepted = record {
-      limits = c.if-may_be_found.walker.limits;
+      limits = c.take_found.new.walker.limits;
       usable = subst AreUsable (sym limits) c.requires.usable;
       follows = c.in-Ok.ensures.follows kinds (items before) stands;
       numbers = c.in-Ok.ensures.numbers kinds (items before) stands;
@@ -71,25 +56,14 @@ returns-in_default-clause-taken g c = λ none kinds start before was led.
 
 pub returns-in-Err-accept-clause-halted : goal.returns-in-Err-accept-clause-halted
 returns-in-Err-accept-clause-halted g c = λ kinds start before was led.
-    let same : c.if-may_be_found.walker ≡ c.args.walker.now = elim c.if-may_be_found.branch [
-      | then-may_be_found+in-Ok-false w ↦ w.walker-is ∙ (w.in-Ok-false.ensures.same w.in-Ok-false.field-0-test).0
-      | else-may_be_found w ↦ w.walker-is
-    ] in
-    let out : c.if-may_be_found.out ≡ c.args.out.now = elim c.if-may_be_found.branch [
-      | then-may_be_found+in-Ok-false w ↦ w.out-is ∙ (w.in-Ok-false.ensures.same w.in-Ok-false.field-0-test).1
-      | else-may_be_found w ↦ w.out-is
-    ] in
-    let steps : c.if-may_be_found.steps ≡ c.args.steps.now = elim c.if-may_be_found.branch [
-      | then-may_be_found+in-Ok-false w ↦ w.steps-is ∙ (w.in-Ok-false.ensures.same w.in-Ok-false.field-0-test).2
-      | else-may_be_found w ↦ w.steps-is
-    ] in
-    let roster : c.if-may_be_found.walker.roster ≡ c.args.walker.now.roster = cc in
-    let analysis : c.if-may_be_found.walker.analysis ≡ c.args.walker.now.analysis = cc in
-    let limits : c.if-may_be_found.walker.limits ≡ c.args.walker.now.limits = cc in
+    let (same, out, steps) = c.in-Ok-false.ensures.same c.in-Ok-false.field-0-test in
+    let roster : c.take_found.new.walker.roster ≡ c.args.walker.now.roster = cc in
+    let analysis : c.take_found.new.walker.analysis ≡ c.args.walker.now.analysis = cc in
+    let limits : c.take_found.new.walker.limits ≡ c.args.walker.now.limits = cc in
     let stands = subst (λ r. RosterStandsFor kinds r (items before)) (sym roster) was in
     let leads = subst (g.A.Analysis.leads kinds start before) (sym analysis) led in
     let next : IsNextEntry kinds c.judge.new.roster before c.judge.new.line c.in-Ok.accepted = record {
-      limits = c.if-may_be_found.walker.limits;
+      limits = c.take_found.new.walker.limits;
       usable = subst AreUsable (sym limits) c.requires.usable;
       follows = c.in-Ok.ensures.follows kinds (items before) stands;
       numbers = c.in-Ok.ensures.numbers kinds (items before) stands;
@@ -105,24 +79,18 @@ returns-in-Err-accept-clause-halted g c = λ kinds start before was led.
 
 pub returns-in-Err-accept-clause-memory : goal.returns-in-Err-accept-clause-memory
 returns-in-Err-accept-clause-memory g c = λ _ kinds before was.
-    let same : c.if-may_be_found.walker ≡ c.args.walker.now = elim c.if-may_be_found.branch [
-      | then-may_be_found+in-Ok-false w ↦ w.walker-is ∙ (w.in-Ok-false.ensures.same w.in-Ok-false.field-0-test).0
-      | else-may_be_found w ↦ w.walker-is
-    ] in
-    let roster : c.if-may_be_found.walker.roster ≡ c.args.walker.now.roster = cc in
-    let limits : c.if-may_be_found.walker.limits ≡ c.args.walker.now.limits = cc in
+    let (same, out, steps) = c.in-Ok-false.ensures.same c.in-Ok-false.field-0-test in
+    let roster : c.take_found.new.walker.roster ≡ c.args.walker.now.roster = cc in
+    let limits : c.take_found.new.walker.limits ≡ c.args.walker.now.limits = cc in
     let stands = subst (λ r. RosterStandsFor kinds r before) (sym roster) was in
     (c.judge.new.line, c.in-Ok.ensures.says kinds before stands, inr (subst (λ l. MayFollow kinds l before c.judge.new.line) limits (c.in-Ok.ensures.follows kinds before stands)))
 
 pub returns-in-Err-Cause-clause-refused : goal.returns-in-Err-Cause-clause-refused
 returns-in-Err-Cause-clause-refused g c = λ is cause told kinds before was.
     let one : c.in-Err-Cause.cause ≡ cause = cc in
-    let same : c.if-may_be_found.walker ≡ c.args.walker.now = elim c.if-may_be_found.branch [
-      | then-may_be_found+in-Ok-false w ↦ w.walker-is ∙ (w.in-Ok-false.ensures.same w.in-Ok-false.field-0-test).0
-      | else-may_be_found w ↦ w.walker-is
-    ] in
-    let roster : c.if-may_be_found.walker.roster ≡ c.args.walker.now.roster = cc in
-    let limits : c.if-may_be_found.walker.limits ≡ c.args.walker.now.limits = cc in
+    let (same, out, steps) = c.in-Ok-false.ensures.same c.in-Ok-false.field-0-test in
+    let roster : c.take_found.new.walker.roster ≡ c.args.walker.now.roster = cc in
+    let limits : c.take_found.new.walker.limits ≡ c.args.walker.now.limits = cc in
     let stands = subst (λ r. RosterStandsFor kinds r (items before)) (sym roster) was in (
       (rw limits at (c.in-Err-Cause.ensures.refused c.in-Err-Cause.cause c.in-Err-Cause.field-0-is kinds (items before) stands)) ∙ ap Err one,
       c.in-Err-Cause.ensures.same kinds (items before) stands,
@@ -130,12 +98,9 @@ returns-in-Err-Cause-clause-refused g c = λ is cause told kinds before was.
 
 pub returns-in-Err-NoMemory-clause-memory : goal.returns-in-Err-NoMemory-clause-memory
 returns-in-Err-NoMemory-clause-memory g c = λ _ kinds before was.
-    let same : c.if-may_be_found.walker ≡ c.args.walker.now = elim c.if-may_be_found.branch [
-      | then-may_be_found+in-Ok-false w ↦ w.walker-is ∙ (w.in-Ok-false.ensures.same w.in-Ok-false.field-0-test).0
-      | else-may_be_found w ↦ w.walker-is
-    ] in
-    let roster : c.if-may_be_found.walker.roster ≡ c.args.walker.now.roster = cc in
-    let limits : c.if-may_be_found.walker.limits ≡ c.args.walker.now.limits = cc in
+    let (same, out, steps) = c.in-Ok-false.ensures.same c.in-Ok-false.field-0-test in
+    let roster : c.take_found.new.walker.roster ≡ c.args.walker.now.roster = cc in
+    let limits : c.take_found.new.walker.limits ≡ c.args.walker.now.limits = cc in
     let stands = subst (λ r. RosterStandsFor kinds r before) (sym roster) was in
     let (item, is, why) = c.in-Err-NoMemory.ensures.memory c.in-Err-NoMemory.field-0-is kinds before stands in (
       item,

@@ -1,20 +1,20 @@
 use Rattle.rd_walk.specs.Walk.{items}
 use Rattle.rd_walk.proofs.WalkLemmas.{judged_as, next_as}
-use Rattle.rd_walk.proofs.walk.take_call.Goals as goal
+use Rattle.rd_walk.proofs.walk.take_known.Goals as goal
 
 pub accept-requires : goal.accept-requires
 accept-requires g c =
     let (kinds, start, before, stands, leads) = c.requires.stands in
     let (item, is) = c.in-Some.ensures.some kinds (items before) stands in
-    (kinds, start, before, item, leads, next_as kinds c.args.walker.now.limits before c.args.bytes.now item c.in-Some.accepted c.accept_call_bytes.new.self c.requires.usable is)
+    (kinds, start, before, item, leads, next_as kinds c.args.walker.now.limits before c.args.bytes.now item c.in-Some.accepted c.accept_bytes.new.roster c.requires.usable is)
 
 pub returns-in-Ok-clause-taken : goal.returns-in-Ok-clause-taken
 returns-in-Ok-clause-taken g c = λ taken kinds start before stands leads.
     let limits = c.args.walker.now.limits in
     let (item, is) = c.in-Some.ensures.some kinds (items before) stands in
-    let next = next_as kinds limits before c.args.bytes.now item c.in-Some.accepted c.accept_call_bytes.new.self c.requires.usable is in (
+    let next = next_as kinds limits before c.args.bytes.now item c.in-Some.accepted c.accept_bytes.new.roster c.requires.usable is in (
       item,
-      judged_as kinds limits (items before) c.args.bytes.now item c.in-Some.accepted c.accept_call_bytes.new.self is,
+      judged_as kinds limits (items before) c.args.bytes.now item c.in-Some.accepted c.accept_bytes.new.roster is,
       is.stands,
       c.in-Ok.ensures.leads kinds start before item leads next,
       c.in-Ok.ensures.written kinds start before item leads next,
@@ -25,9 +25,9 @@ pub returns-clause-halted : goal.returns-clause-halted
 returns-clause-halted g c = λ kinds start before stands leads.
     let limits = c.args.walker.now.limits in
     let (item, is) = c.in-Some.ensures.some kinds (items before) stands in
-    let next = next_as kinds limits before c.args.bytes.now item c.in-Some.accepted c.accept_call_bytes.new.self c.requires.usable is in (
+    let next = next_as kinds limits before c.args.bytes.now item c.in-Some.accepted c.accept_bytes.new.roster c.requires.usable is in (
       item,
-      judged_as kinds limits (items before) c.args.bytes.now item c.in-Some.accepted c.accept_call_bytes.new.self is,
+      judged_as kinds limits (items before) c.args.bytes.now item c.in-Some.accepted c.accept_bytes.new.roster is,
       c.in-Err.ensures.halted kinds start before item leads next,
       c.in-Err.ensures.cost kinds start before item leads next,
     )
