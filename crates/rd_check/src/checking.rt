@@ -8,9 +8,9 @@ use rd_event::{Call, Event};
 use rd_hb::Tracker;
 use rd_io::Sink;
 use rd_json::{Form, append_race};
-use rd_report::{Formulas, formula_line};
+use rd_report::{Formulas, RaceEnds, formula_line};
 use rd_store::Race;
-use rd_walk::{Analysis, Halt, write_lines};
+use rd_walk::{Analysis, Halt, write_three};
 use rd_wf::{Accepted, Roster};
 use std::alloc::Global;
 use std::sync::ledger::Ledger;
@@ -111,7 +111,7 @@ impl<'a> Check<'a> {
     }
 
     /// Makes the text that of a race, in the form of the report. The numbers in it are known to the specification and the roster.
-    fn set_text(&mut self, race: &Race, names: &Roster) -> Result<(), NoMemory>
+    fn set_text(&mut self, race: &Race, names: &Roster) -> Result<RaceEnds, NoMemory>
         requires known { IsKnownRace self.old.spec.now (naming_in names.now) race.now }
         requires formulas { self.old.formulas ≡ self.old.spec.now }
         ensures same { (self.new.form ≡ self.old.form) × (self.new.spec.now ≡ self.old.spec.now)
@@ -120,6 +120,8 @@ impl<'a> Check<'a> {
         ensures text { OnOk result
             (self.new.text ≡ race_in self.old.form self.old.spec.now (naming_in names.now)
             (told_by race.now.later.value) (told_by race.now.earlier.value)) }
+        ensures ends { IfOk result
+            (λ ends. (ends.later ≤ ends.earlier) × (ends.earlier ≤ length self.new.text)) }
     {
         self.text.clear();
         if let Some(line) = self.formulas.find(race.kind, race.first, race.second) {
@@ -135,7 +137,7 @@ impl<'a> Check<'a> {
         }
         let kind = &self.spec.kinds()[race.kind as usize];
         let line = formula_line(self.alloc, kind, race.first, race.second)?;
-        append_race(
+        let ends = append_race(
             &mut self.text,
             self.form,
             self.alloc,
@@ -144,7 +146,9 @@ impl<'a> Check<'a> {
             self.spec,
             names,
         )?;
-        self.formulas.keep(race.kind, race.first, race.second, line)
+        self.formulas
+            .keep(race.kind, race.first, race.second, line)?;
+        Ok(ends)
     }
 
     /// Writes the text of a race. The numbers in it are known to the specification and the roster.
@@ -163,8 +167,8 @@ impl<'a> Check<'a> {
         ensures fault { TellsFault (S.faults out.old) (S.faults out.new) (S.at_fault out.new)
             (S.written out.new) result }
     {
-        self.set_text(race, names)?;
-        write_lines(out, self.text.items())
+        let ends = self.set_text(race, names)?;
+        write_three(out, self.text.items(), ends.later, ends.earlier)
     }
 
     /// Hands the next root to the tracker.

@@ -1,5 +1,5 @@
 //! The forms in which a report is written.
-ghost use Rattle.std.specs.Prelude.{◌≡◌, ◌++◌, IfOk, OnOk};
+ghost use Rattle.std.specs.Prelude.{◌≡◌, ◌≤◌, ◌++◌, IfOk, OnOk, length};
 ghost use Rattle.rd_ecl.specs.Specified.{kind_at};
 ghost use Rattle.rd_json.specs.Forms.{ending_in, fault_in, race_in, refused_in};
 ghost use Rattle.rd_report.specs.Races.{IsKnownRace, formula_line, told_by};
@@ -12,7 +12,7 @@ use crate::refusals::spec_refused_json;
 use rd_base::{Bytes, NoMemory};
 use rd_ecl::Spec;
 use rd_reading::{SpecRefused, spec_refused_line};
-use rd_report::{Ending, append_race as append_race_text, ending_text};
+use rd_report::{Ending, RaceEnds, append_race as append_race_text, ending_text};
 use rd_store::Race;
 use rd_wf::Roster;
 use std::alloc::Global;
@@ -28,6 +28,17 @@ pub enum Form {
     EndingOnly,
 }
 
+// The ends of a text of at most one line, behind which nothing stands.
+fn all_of(text: &Bytes) -> RaceEnds
+    ensures { (result.later ≡ length text.now) × (result.earlier ≡ length text.now) }
+{
+    let end = text.items().len();
+    RaceEnds {
+        later: end,
+        earlier: end,
+    }
+}
+
 /// Puts a race behind the text in this form. The line of the formula is handed in. The numbers in the race are known to the specification
 /// and the roster. After want of memory the text may have a front of it.
 pub fn append_race(
@@ -38,18 +49,22 @@ pub fn append_race(
     formula: &[u8],
     spec: &Spec,
     names: &Roster,
-) -> Result<(), NoMemory>
+) -> Result<RaceEnds, NoMemory>
     requires known { IsKnownRace spec.now (naming_in names.now) race.now }
     requires formula { formula.now ≡ formula_line
         (kind_at spec.now race.now.kind) race.now.first race.now.second }
-    ensures { OnOk result
+    ensures text { OnOk result
         (text.new ≡ text.old ++ race_in form spec.now (naming_in names.now)
         (told_by race.now.later.value) (told_by race.now.earlier.value)) }
+    ensures ends { IfOk result (λ ends. (ends.later ≤ ends.earlier) × (ends.earlier ≤ length text.new)) }
 {
     match form {
         Form::Text => append_race_text(text, race, formula, spec, names),
-        Form::Json => append_race_json(text, alloc, race, formula, spec, names),
-        Form::EndingOnly => Ok(()),
+        Form::Json => {
+            append_race_json(text, alloc, race, formula, spec, names)?;
+            Ok(all_of(text))
+        }
+        Form::EndingOnly => Ok(all_of(text)),
     }
 }
 

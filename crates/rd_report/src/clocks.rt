@@ -13,11 +13,12 @@ use std::alloc::Global;
 use std::marker::Brand;
 use std::sync::ledger::{Blank, Ledger};
 
-// A comma, where a part stands in front.
-fn comma(some: bool) -> &'static [u8]
-    ensures { result.now ≡ comma some }
+// Puts a comma behind the text, where a part stands in front.
+#[inline]
+fn append_comma(text: &mut Bytes, some: bool) -> Result<(), NoMemory>
+    ensures { OnOk result (text.new ≡ text.old ++ comma some) }
 {
-    if some { b"," } else { b"" }
+    if some { text.push(b',') } else { Ok(()) }
 }
 
 // Puts the count of a thread behind the text, with a comma in front of it where a part stands there, and nothing where it counts none.
@@ -38,7 +39,7 @@ fn append_part(
     if count == 0 {
         return Ok(some);
     }
-    text.append(comma(some))?;
+    append_comma(text, some)?;
     text.append(names.thread_name(thread).items())?;
     text.push(b':')?;
     append_number(text, u64::from(count))?;

@@ -17,7 +17,7 @@ pub use clocks::clock_text;
 pub use endings::Ending;
 pub use formula_lines::Formulas;
 pub use laws::law_of_shipped_texts;
-pub use races::{append_race, call_text, formula_line, race_text};
+pub use races::{RaceEnds, append_race, call_text, formula_line, race_text};
 pub use rd_wf::TraceCause;
 pub use replays::{append_replay, replay_text, replay_words};
 pub use states::append_state;

@@ -102,6 +102,15 @@ fn append_told<L: Ledger>(
     text.push(b'\n')
 }
 
+/// Where the first two of the three lines of a race end in a text.
+#[derive(Clone, Copy, Debug, PartialEq, Eq)]
+pub struct RaceEnds {
+    /// behind the line of the later call
+    pub later: usize,
+    /// behind that of the earlier one
+    pub earlier: usize,
+}
+
 // Puts the text of a race behind the text, with a counter of its own for the reads of the clocks.
 #[tactic(auto, unfolding(crate::specs::Races::race_text))]
 fn append_race_with<L: Ledger>(
@@ -111,16 +120,17 @@ fn append_race_with<L: Ledger>(
     spec: &Spec,
     names: &Roster,
     blank: Blank,
-) -> Result<(), NoMemory>
+) -> Result<RaceEnds, NoMemory>
     requires name { blank.name ≡ L.name }
     requires parts { blank.parts ≡ L.parts }
     requires some { 0 < blank.parts }
     requires known { IsKnownRace spec.now (naming_in names.now) race.now }
     requires formula { formula.now ≡ formula_line
         (kind_at spec.now race.now.kind) race.now.first race.now.second }
-    ensures { OnOk result
+    ensures text { OnOk result
         (text.new ≡ text.old ++ race_text spec.now (naming_in names.now)
         (told_by race.now.later.value) (told_by race.now.earlier.value)) }
+    ensures ends { IfOk result (λ ends. (ends.later ≤ ends.earlier) × (ends.earlier ≤ length text.new)) }
 {
     let mut steps = Steps::<L>::new(blank);
     text.append(b"race line ")?;
@@ -132,6 +142,7 @@ fn append_race_with<L: Ledger>(
         names,
         &mut steps,
     )?;
+    let later = text.items().len();
     text.append(b"with line ")?;
     append_told(
         text,
@@ -141,25 +152,28 @@ fn append_race_with<L: Ledger>(
         names,
         &mut steps,
     )?;
-    text.append(formula)
+    let earlier = text.items().len();
+    text.append(formula)?;
+    Ok(RaceEnds { later, earlier })
 }
 
 /// Puts the text of a race behind the text: the later call, the earlier one, and the line of the formula that they fail, which is
-/// handed in. The numbers in the race are known to the specification and the roster. After want of memory the text may have a front of
-/// it.
+/// handed in. The answer says where the first two lines end in the whole text. The numbers in the race are known to the specification and
+/// the roster. After want of memory the text may have a front of it.
 pub fn append_race(
     text: &mut Bytes,
     race: &Race,
     formula: &[u8],
     spec: &Spec,
     names: &Roster,
-) -> Result<(), NoMemory>
+) -> Result<RaceEnds, NoMemory>
     requires known { IsKnownRace spec.now (naming_in names.now) race.now }
     requires formula { formula.now ≡ formula_line
         (kind_at spec.now race.now.kind) race.now.first race.now.second }
-    ensures { OnOk result
+    ensures text { OnOk result
         (text.new ≡ text.old ++ race_text spec.now (naming_in names.now)
         (told_by race.now.later.value) (told_by race.now.earlier.value)) }
+    ensures ends { IfOk result (λ ends. (ends.later ≤ ends.earlier) × (ends.earlier ≤ length text.new)) }
 {
     append_race_with::<Brand>(text, race, formula, spec, names, Blank::new(1))
 }

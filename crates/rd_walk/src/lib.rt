@@ -16,4 +16,4 @@ pub use laws::law_of_walks;
 pub use reporting::{Report, report_trace};
 pub use status::{Status, TraceStatus, report_status};
 pub use walk::{WalkEnd, Walker, walk_lines};
-pub use writing::{status_of, write_line, write_lines};
+pub use writing::{status_of, write_line, write_lines, write_three};
