@@ -1,4 +1,4 @@
-//! The call that the program makes.
+//! The call that the program makes. What a walk held is left to the end of the process, which takes it back at once.
 ghost use Rattle.rd_check.specs.Meanings.{check_meaning};
 ghost use Rattle.rd_reorder_command.specs.Meanings.{reorder_meaning};
 ghost use Rattle.rd_replaying.specs.Meanings.{replay_meaning};
@@ -42,6 +42,7 @@ use rd_walk::{
 };
 use rd_wf::Roster;
 use std::alloc::Global;
+use std::mem;
 use std::sync::ledger::Ledger;
 
 /// What a command does with each accepted line of a trace: one type for all commands, so that the program has one walk.
@@ -85,7 +86,9 @@ fn check<I: Inputs, S: Sink, L: Ledger>(
         line: Line::Skip,
         refused: None,
     };
-    report_trace(&mut walker, asked.trace, inputs, out, steps)
+    let status = report_trace(&mut walker, asked.trace, inputs, out, steps);
+    mem::forget(walker);
+    status
 }
 
 /// `check TRACE`
@@ -195,7 +198,9 @@ fn replay<I: Inputs, S: Sink, L: Ledger>(
         line: Line::Skip,
         refused: None,
     };
-    report_trace(&mut walker, trace, inputs, out, steps)
+    let status = report_trace(&mut walker, trace, inputs, out, steps);
+    mem::forget(walker);
+    status
 }
 
 /// `reorder TRACE NUMBER`
@@ -234,7 +239,9 @@ fn reorder<I: Inputs, S: Sink, L: Ledger>(
         line: Line::Skip,
         refused: None,
     };
-    report_trace(&mut walker, trace, inputs, out, steps)
+    let status = report_trace(&mut walker, trace, inputs, out, steps);
+    mem::forget(walker);
+    status
 }
 
 /// `gen NUMBER COUNT`: the lines of the trace are checked by the kinds that are built in, and the ending alone is written.
@@ -274,7 +281,9 @@ fn generate<S: Sink, L: Ledger>(
         line: Line::Skip,
         refused: None,
     };
-    gen_check(&mut walker, number, count, out, steps)
+    let status = gen_check(&mut walker, number, count, out, steps);
+    mem::forget(walker);
+    status
 }
 
 /// Says that the words match no command.

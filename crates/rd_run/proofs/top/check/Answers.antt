@@ -44,9 +44,9 @@ returns-in_err-analysis-clause-faults g c =
     no_fault_told _ c.from_residual-in_err-analysis.result c.from_residual-in_err-analysis.ensures (g.I.Inputs.faults c.args.inputs.now) (g.S.Sink.faults c.args.out.now)
     (g.S.Sink.at_fault c.args.out.now) (g.S.Sink.written c.args.out.now)
 
-pub report_trace-requires-clause-begins : goal.report_trace-requires-clause-begins
+pub report_trace-status-requires-clause-begins : goal.report_trace-status-requires-clause-begins
 unfolding recorded_of
-report_trace-requires-clause-begins g c = (
+report_trace-status-requires-clause-begins g c = (
   subst (λ part. MatchEither part (CheckBegins (kinds_in c.in_ok-roster.roster)) (λ other. MatchEither other (λ _. ⊤) (ReorderingBegins (kinds_in c.in_ok-roster.roster)))) (sym c.new-3.ensures.inner) (record {
     kinds_are = c.in_ok-roster.ensures.kind_entries ∙ ap kinds_of (sym c.in_ok-analysis.ensures.spec);
     new = c.in_ok-analysis.ensures.new;
@@ -60,18 +60,18 @@ report_trace-requires-clause-begins g c = (
 
 pub returns-clause-reports : goal.returns-clause-reports
 returns-clause-reports g c = λ old told few few_opens.
-    let (new, part, now, writes, reports) = c.report_trace.ensures.reports old told few few_opens in
+    let (new, part, now, writes, reports) = c.report_trace-status.ensures.reports old told few few_opens in
     let spec = c.in_ok-analysis.ensures.spec in
     let form = c.in_ok-analysis.ensures.form in
     let kinds = kinds_in c.in_ok-roster.roster in
-    let status = report_status c.report_trace.result in
-    let rose = nat_lt (g.I.Inputs.faults c.args.inputs.now) (g.I.Inputs.faults c.report_trace.new.inputs) in (
+    let status = report_status c.report_trace-status.result in
+    let rose = nat_lt (g.I.Inputs.faults c.args.inputs.now) (g.I.Inputs.faults c.report_trace-status.new.inputs) in (
       new,
       part,
       now,
       writes,
       subst (λ (T : Type 0). T) (λ i. ReportsTrace (check_texts (form i) (spec i)) (c.in_ok-roster.ensures.kind_entries i) c.args.asked.now.trace.now c.args.limits.now rose old new part status
-          c.args.steps.now c.report_trace.new.steps)
-          (subst (λ inner. ReportsTrace (part_texts kinds inner) kinds c.args.asked.now.trace.now c.args.limits.now rose old new part status c.args.steps.now c.report_trace.new.steps)
+          c.args.steps.now c.report_trace-status.new.steps)
+          (subst (λ inner. ReportsTrace (part_texts kinds inner) kinds c.args.asked.now.trace.now c.args.limits.now rose old new part status c.args.steps.now c.report_trace-status.new.steps)
           c.new-3.ensures.inner reports),
     )

@@ -74,9 +74,9 @@ pub returns-in_err-analysis-clause-fault : goal.returns-in_err-analysis-clause-f
 returns-in_err-analysis-clause-fault g c =
     (no_fault_told InputFault c.from_residual-in_err-analysis.result c.from_residual-in_err-analysis.ensures 0 (g.S.Sink.faults c.args.out.now) (g.S.Sink.at_fault c.args.out.now) (g.S.Sink.written c.args.out.now)).output
 
-pub gen_check-requires-clause-begins : goal.gen_check-requires-clause-begins
+pub gen_check-status-requires-clause-begins : goal.gen_check-status-requires-clause-begins
 unfolding recorded_of
-gen_check-requires-clause-begins g c = (
+gen_check-status-requires-clause-begins g c = (
   subst (λ part. MatchEither part (CheckBegins (kinds_in c.in_ok-roster.roster)) (λ other. MatchEither other (λ _. ⊤) (ReorderingBegins (kinds_in c.in_ok-roster.roster)))) (sym c.new-3.ensures.inner) (record {
     kinds_are = c.in_ok-roster.ensures.kind_entries ∙ ap kinds_of (sym c.in_ok-analysis.ensures.spec);
     new = c.in_ok-analysis.ensures.new;
@@ -90,12 +90,12 @@ gen_check-requires-clause-begins g c = (
 
 pub returns-clause-output : goal.returns-clause-output
 returns-clause-output g c =
-    let (part, writes, output) = c.gen_check.ensures.output in
+    let (part, writes, output) = c.gen_check-status.ensures.output in
     let kinds = kinds_in c.in_ok-roster.roster in
     let kinds_are = c.in_ok-roster.ensures.kind_entries ∙ ap kinds_of c.in_ok-spec.ensures in
     let spec = c.in_ok-analysis.ensures.spec ∙ c.in_ok-spec.ensures in
     let form = c.in_ok-analysis.ensures.form in
-    let status = report_status c.gen_check.result in (
+    let status = report_status c.gen_check-status.result in (
       part,
       writes,
       subst (λ (T : Type 0). T) (λ i. IsOutput status part (gen_outcome (check_outcome (form i) (spec i)) (kinds_are i) c.args.limits.now c.args.number c.args.count))
@@ -107,11 +107,11 @@ returns-clause-cost g c =
     let kinds = kinds_in c.in_ok-roster.roster in
     let kinds_are = c.in_ok-roster.ensures.kind_entries ∙ ap kinds_of c.in_ok-spec.ensures in
     let spec = c.in_ok-analysis.ensures.spec ∙ c.in_ok-spec.ensures in
-    subst (λ (T : Type 0). T) (λ i. c.gen_check.new.steps ≤ c.args.steps.now + step_bound (check_bound (spec i)) (entries_of (generated_walk (kinds_are i) c.args.limits.now c.args.number c.args.count)))
-    (subst (λ inner. c.gen_check.new.steps ≤ c.args.steps.now + step_bound (part_texts kinds inner).bound (entries_of (generated_walk kinds c.args.limits.now c.args.number c.args.count)))
-    c.new-3.ensures.inner c.gen_check.ensures.cost)
+    subst (λ (T : Type 0). T) (λ i. c.gen_check-status.new.steps ≤ c.args.steps.now + step_bound (check_bound (spec i)) (entries_of (generated_walk (kinds_are i) c.args.limits.now c.args.number c.args.count)))
+    (subst (λ inner. c.gen_check-status.new.steps ≤ c.args.steps.now + step_bound (part_texts kinds inner).bound (entries_of (generated_walk kinds c.args.limits.now c.args.number c.args.count)))
+    c.new-3.ensures.inner c.gen_check-status.ensures.cost)
 
 pub returns-clause-read : goal.returns-clause-read
 returns-clause-read g c = λ well.
     subst (λ kinds. ending_of (generated_walk kinds c.args.limits.now c.args.number c.args.count) ≡ End) (c.in_ok-roster.ensures.kind_entries ∙ ap kinds_of c.in_ok-spec.ensures)
-    (c.gen_check.ensures.read well)
+    (c.gen_check-status.ensures.read well)

@@ -46,9 +46,9 @@ returns-in_err-roster-clause-runs g c = λ old told few few_opens.
           (reports_without (replay_texts built_in_kinds) built_in_kinds c.args.trace.now c.args.limits.now c.from_residual-in_err-roster.result c.from_residual-in_err-roster.ensures faults old c.args.steps.now),
     )
 
-pub report_trace-requires-clause-begins : goal.report_trace-requires-clause-begins
+pub report_trace-status-requires-clause-begins : goal.report_trace-status-requires-clause-begins
 unfolding recorded_of
-report_trace-requires-clause-begins g c = (
+report_trace-status-requires-clause-begins g c = (
   subst (λ part. MatchEither part (CheckBegins (kinds_in c.in_ok-roster.roster)) (λ other. MatchEither other (λ _. ⊤) (ReorderingBegins (kinds_in c.in_ok-roster.roster)))) (sym c.new-2.ensures.inner) tt,
   record {
     numbered = ([], c.in_ok-roster.ensures.kind_entries ∙ ap kinds_of (c.in_ok-spec.ensures ∙ sym (append-nil shipped_kinds)));
@@ -59,16 +59,16 @@ report_trace-requires-clause-begins g c = (
 
 pub returns-clause-runs : goal.returns-clause-runs
 returns-clause-runs g c = λ old told few few_opens.
-    let (new, part, now, writes, reports) = c.report_trace.ensures.reports old told few (omega (arith, few_opens)) in
+    let (new, part, now, writes, reports) = c.report_trace-status.ensures.reports old told few (omega (arith, few_opens)) in
     let kinds = c.in_ok-roster.ensures.kind_entries ∙ ap kinds_of c.in_ok-spec.ensures in
-    let status = report_status c.report_trace.result in
-    let rose = nat_lt (g.I.Inputs.faults c.args.inputs.now) (g.I.Inputs.faults c.report_trace.new.inputs) in (
+    let status = report_status c.report_trace-status.result in
+    let rose = nat_lt (g.I.Inputs.faults c.args.inputs.now) (g.I.Inputs.faults c.report_trace-status.new.inputs) in (
       new,
       part,
       now,
       writes,
-      runs_replay c.args.trace.now c.args.limits.now rose old new part status c.args.steps.now c.report_trace.new.steps
-          (subst (λ k. ReportsTrace (replay_texts k) k c.args.trace.now c.args.limits.now rose old new part status c.args.steps.now c.report_trace.new.steps) kinds
+      runs_replay c.args.trace.now c.args.limits.now rose old new part status c.args.steps.now c.report_trace-status.new.steps
+          (subst (λ k. ReportsTrace (replay_texts k) k c.args.trace.now c.args.limits.now rose old new part status c.args.steps.now c.report_trace-status.new.steps) kinds
           (subst (λ inner. ReportsTrace (part_texts (kinds_in c.in_ok-roster.roster) inner) (kinds_in c.in_ok-roster.roster) c.args.trace.now c.args.limits.now rose old new part
-          status c.args.steps.now c.report_trace.new.steps) c.new-2.ensures.inner reports)),
+          status c.args.steps.now c.report_trace-status.new.steps) c.new-2.ensures.inner reports)),
     )
