@@ -41,7 +41,7 @@ impl<'a> Check<'a> {
     ghost use Rattle.rd_detect.specs.Detect.{IsAnswer, IsNextCall, DetectorStandsFor, detection_bound};
     ghost use Rattle.rd_hb.specs.Tracker.{last_stamp};
     ghost use Rattle.rd_report.specs.Races.{IsKnownRace, told_by};
-    ghost use Rattle.rd_json.specs.Forms.{race_in};
+    ghost use Rattle.rd_json.specs.Forms.{EndLinesIn, race_in};
     ghost use Rattle.rd_report.specs.Texts.{naming_in};
     ghost use Rattle.rd_walk.specs.Analysis.{TellsFault, WritesBetween, WritesFront};
     ghost use Rattle.rd_check.specs.Checking.{Checks, IsNew, IsNextEventLine, IsNextLine};
@@ -122,6 +122,8 @@ impl<'a> Check<'a> {
             (told_by race.now.later.value) (told_by race.now.earlier.value)) }
         ensures ends { IfOk result
             (λ ends. (ends.later ≤ ends.earlier) × (ends.earlier ≤ length self.new.text)) }
+        ensures lines { IfOk result (EndLinesIn self.old.form [] self.old.spec.now (naming_in names.now)
+            (told_by race.now.later.value) (told_by race.now.earlier.value)) }
     {
         self.text.clear();
         if let Some(line) = self.formulas.find(race.kind, race.first, race.second) {

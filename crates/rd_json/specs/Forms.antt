@@ -1,12 +1,13 @@
 -- The forms in which a report is written: this project's profile.
-use Rattle.std.specs.Prelude.{ℕ, List, [], codes}
+use Rattle.std.specs.Prelude.{◌≡◌, ℕ, List, [], ◌++◌, codes, length}
 use Rattle.rd_ecl.specs.Specified.{SpecifiedKind}
 use Rattle.rd_io.specs.Inputs.{fault_line}
 use Rattle.rd_reading.specs.RefusedTexts.{spec_refused_line}
 use Rattle.rd_reading.specs.declared.parsing.SpecRefused.{SpecRefused as Refusal}
-use Rattle.rd_report.specs.Races.{Told, race_text}
+use Rattle.rd_report.specs.Races.{EndLines, Told, race_text}
 use Rattle.rd_report.specs.Texts.{Naming, ending_text}
 use Rattle.rd_report.specs.declared.endings.Ending.{Ending}
+use Rattle.rd_report.specs.declared.races.RaceEnds.{RaceEnds}
 use Rattle.rd_json.specs.Json.{alone_json, ending_json, race_json, spec_refused_json}
 use Rattle.rd_json.specs.declared.forms.Form.{Form}
 use Rattle.rd_json.specs.declared.forms.Form.TheVariants.{Text, Json, EndingOnly}
@@ -16,6 +17,14 @@ abbrev pub race_in : Form → List SpecifiedKind → Naming → Told → Told �
 race_in Text kinds naming later earlier = race_text kinds naming later earlier
 race_in Json kinds naming later earlier = race_json kinds naming later earlier
 race_in EndingOnly kinds naming later earlier = []
+
+-- in a text that begins with these bytes, the first two lines of a race end at these places: an object is one line, and where the ending
+-- alone is written there is none
+abbrev pub EndLinesIn : Form → List ℕ → List SpecifiedKind → Naming → Told → Told → RaceEnds → Type 0
+EndLinesIn Text begun kinds naming later earlier ends = EndLines begun kinds naming later earlier ends
+EndLinesIn Json begun kinds naming later earlier ends =
+    (ends.later ≡ length (begun ++ race_json kinds naming later earlier)) × (ends.earlier ≡ length (begun ++ race_json kinds naming later earlier))
+EndLinesIn EndingOnly begun kinds naming later earlier ends = (ends.later ≡ length begun) × (ends.earlier ≡ length begun)
 
 -- what stands behind the races, by the names of the threads
 abbrev pub ending_in : Form → List (List ℕ) → ℕ → Ending → List ℕ

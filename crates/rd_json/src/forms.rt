@@ -1,7 +1,7 @@
 //! The forms in which a report is written.
 ghost use Rattle.std.specs.Prelude.{◌≡◌, ◌≤◌, ◌++◌, IfOk, OnOk, length};
 ghost use Rattle.rd_ecl.specs.Specified.{kind_at};
-ghost use Rattle.rd_json.specs.Forms.{ending_in, fault_in, race_in, refused_in};
+ghost use Rattle.rd_json.specs.Forms.{EndLinesIn, ending_in, fault_in, race_in, refused_in};
 ghost use Rattle.rd_report.specs.Races.{IsKnownRace, formula_line, told_by};
 ghost use Rattle.rd_report.specs.Texts.{naming_in};
 ghost use Rattle.rd_wf.specs.Roster.{names_in};
@@ -57,6 +57,8 @@ pub fn append_race(
         (text.new ≡ text.old ++ race_in form spec.now (naming_in names.now)
         (told_by race.now.later.value) (told_by race.now.earlier.value)) }
     ensures ends { IfOk result (λ ends. (ends.later ≤ ends.earlier) × (ends.earlier ≤ length text.new)) }
+    ensures lines { IfOk result (EndLinesIn form text.old spec.now (naming_in names.now)
+        (told_by race.now.later.value) (told_by race.now.earlier.value)) }
 {
     match form {
         Form::Text => append_race_text(text, race, formula, spec, names),

@@ -9,6 +9,7 @@ use Rattle.rd_print.specs.Printed.{name_at, pair_text}
 use Rattle.rd_store.specs.declared.Race.{Race}
 use Rattle.rd_store.specs.declared.Witness.{Witness}
 use Rattle.rd_report.specs.Texts.{Naming, name_of}
+use Rattle.rd_report.specs.declared.races.RaceEnds.{RaceEnds}
 
 -- ---- a clock
 
@@ -67,11 +68,24 @@ formula_words kind first second = kind.name ++ codes " " ++ pair_text kind first
 abbrev pub failed_line : List SpecifiedKind → Call → Call → List ℕ
 failed_line kinds a b = formula_line (kind_at kinds a.kind) (min a.method b.method) (max a.method b.method)
 
+-- the first line of a race, of the later call, and the second, of the earlier one
+abbrev pub later_line : List SpecifiedKind → Naming → Told → List ℕ
+later_line kinds naming later = codes "race line " ++ told_text kinds naming later
+
+abbrev pub earlier_line : List SpecifiedKind → Naming → Told → List ℕ
+earlier_line kinds naming earlier = codes "with line " ++ told_text kinds naming earlier
+
 -- the text of a race: the later call, the earlier one, and the formula that they fail
 unfoldable pub race_text : List SpecifiedKind → Naming → Told → Told → List ℕ
 race_text kinds naming later earlier =
     codes "race line " ++ told_text kinds naming later ++ codes "with line " ++ told_text kinds naming earlier
     ++ failed_line kinds later.call earlier.call
+
+-- in a text that begins with these bytes, the first two lines of a race end at these places
+abbrev pub EndLines : List ℕ → List SpecifiedKind → Naming → Told → Told → RaceEnds → Type 0
+EndLines begun kinds naming later earlier ends =
+    (ends.later ≡ length (begun ++ later_line kinds naming later))
+    × (ends.earlier ≡ length (begun ++ later_line kinds naming later ++ earlier_line kinds naming earlier))
 
 -- ---- what may be told
 

@@ -3,7 +3,7 @@ ghost use Rattle.std.specs.Prelude.{◌≡◌, ◌≤◌, ◌<◌, ◌++◌, len
 ghost use Rattle.rd_clock.specs.Clock.{component};
 ghost use Rattle.rd_ecl.specs.Specified.{kind_at};
 ghost use Rattle.rd_print.specs.Printed.{name_at};
-ghost use Rattle.rd_report.specs.Races.{IsKnownRace, IsNamed, formula_line, named_call, race_text, told_by, told_text};
+ghost use Rattle.rd_report.specs.Races.{EndLines, IsKnownRace, IsNamed, formula_line, named_call, race_text, told_by, told_text};
 ghost use Rattle.rd_report.specs.Texts.{naming_in};
 ghost use Rattle.rd_report.specs.Writing.{ArePlain};
 
@@ -131,6 +131,8 @@ fn append_race_with<L: Ledger>(
         (text.new ≡ text.old ++ race_text spec.now (naming_in names.now)
         (told_by race.now.later.value) (told_by race.now.earlier.value)) }
     ensures ends { IfOk result (λ ends. (ends.later ≤ ends.earlier) × (ends.earlier ≤ length text.new)) }
+    ensures lines { IfOk result (EndLines text.old spec.now (naming_in names.now)
+        (told_by race.now.later.value) (told_by race.now.earlier.value)) }
 {
     let mut steps = Steps::<L>::new(blank);
     text.append(b"race line ")?;
@@ -174,6 +176,8 @@ pub fn append_race(
         (text.new ≡ text.old ++ race_text spec.now (naming_in names.now)
         (told_by race.now.later.value) (told_by race.now.earlier.value)) }
     ensures ends { IfOk result (λ ends. (ends.later ≤ ends.earlier) × (ends.earlier ≤ length text.new)) }
+    ensures lines { IfOk result (EndLines text.old spec.now (naming_in names.now)
+        (told_by race.now.later.value) (told_by race.now.earlier.value)) }
 {
     append_race_with::<Brand>(text, race, formula, spec, names, Blank::new(1))
 }
