@@ -2,13 +2,13 @@
 
 use crate::files::read_counted;
 use crate::output::OutputSink;
-use rd_io::{Failed, Sink, WriteFault, write_all};
+use rd_io::{Sink, write_all};
 use rd_run::Status;
 use std::cell::{Cell, RefCell};
 use std::fmt::Display;
 use std::io;
 use std::io::Read;
-use std::test::Fail;
+use std::process::Abort;
 
 /// An output that takes at most `width` bytes in a write. Once there is no room left, a write fails, or takes nothing.
 #[derive(Drop)]
@@ -58,41 +58,58 @@ fn with_room(rt: HostRuntime, width: usize, room: usize, fails: bool) -> Paper {
     }
 }
 
+/// Hands the bytes to the output, which takes all of them, or only so many in front of a fault.
+fn takes(rt: &impl Abort, out: &mut OutputSink<Paper>, bytes: &[u8], before_fault: Option<usize>) {
+    let taken = write_all(out, bytes).err().map(|fault| fault.written);
+    assert!(rt; taken == before_fault);
+}
+
+/// One write takes so many of the bytes, or fails.
+fn takes_at_once(
+    rt: &impl Abort,
+    out: &mut OutputSink<Paper>,
+    bytes: &[u8],
+    wanted: Option<usize>,
+) {
+    let count = out.write(bytes).ok();
+    assert!(rt; count == wanted);
+}
+
+/// The output has taken these bytes and no others.
+fn has_taken(rt: &impl Abort, paper: &Paper, bytes: &[u8]) {
+    let taken = paper
+        .taken
+        .try_borrow()
+        .expect(rt, "nothing is written now");
+    assert!(rt; taken.as_slice() == bytes);
+}
+
 #[test]
-fn short_writes_are_put_together(rt: HostRuntime) -> Result<(), Fail> {
+fn short_writes_are_put_together(rt: HostRuntime) {
     let paper = with_room(rt, 3, 20, true);
     let mut out = OutputSink::new(&paper);
-    assert_eq!(rt; write_all(&mut out, b"races 0\n"), Ok(()));
-    assert_eq!(rt; write_all(&mut out, b"refused"), Ok(()));
-    assert!(rt; paper.taken.try_borrow()?.as_slice() == b"races 0\nrefused".as_slice());
-    assert_eq!(rt; out.write(b"line 1"), Ok(3));
-    Ok(())
+    takes(&rt, &mut out, b"races 0\n", None);
+    takes(&rt, &mut out, b"refused", None);
+    has_taken(&rt, &paper, b"races 0\nrefused");
+    takes_at_once(&rt, &mut out, b"line 1", Some(3));
 }
 
 #[test]
-fn a_write_that_takes_nothing_is_a_fault(rt: HostRuntime) -> Result<(), Fail> {
+fn a_write_that_takes_nothing_is_a_fault(rt: HostRuntime) {
     let paper = with_room(rt, 3, 4, false);
     let mut out = OutputSink::new(&paper);
-    assert_eq!(rt;
-        write_all(&mut out, b"races 0\n"),
-        Err(WriteFault { written: 4 })
-    );
-    assert!(rt; paper.taken.try_borrow()?.as_slice() == b"race".as_slice());
-    assert_eq!(rt; out.write(b""), Ok(0));
-    Ok(())
+    takes(&rt, &mut out, b"races 0\n", Some(4));
+    has_taken(&rt, &paper, b"race");
+    takes_at_once(&rt, &mut out, b"", Some(0));
 }
 
 #[test]
-fn a_write_error_is_a_fault(rt: HostRuntime) -> Result<(), Fail> {
+fn a_write_error_is_a_fault(rt: HostRuntime) {
     let paper = with_room(rt, 3, 4, true);
     let mut out = OutputSink::new(&paper);
-    assert_eq!(rt;
-        write_all(&mut out, b"races 0\n"),
-        Err(WriteFault { written: 4 })
-    );
-    assert!(rt; paper.taken.try_borrow()?.as_slice() == b"race".as_slice());
-    assert_eq!(rt; out.write(b"s"), Err(Failed));
-    Ok(())
+    takes(&rt, &mut out, b"races 0\n", Some(4));
+    has_taken(&rt, &paper, b"race");
+    takes_at_once(&rt, &mut out, b"s", None);
 }
 
 /// A file that gives one byte in a read, so many times, and then an error.
@@ -115,30 +132,29 @@ impl Read for Worn {
     }
 }
 
+/// A read gives so many bytes, or fails, and there were so many faults behind it.
+fn reads(
+    rt: &impl Abort,
+    file: &mut Worn,
+    buffer: &mut [u8],
+    faults: &mut u64,
+    wanted: (Option<usize>, u64),
+) {
+    let count = read_counted(file, buffer, faults).ok();
+    assert!(rt; (count, *faults) == wanted);
+}
+
 #[test]
-fn a_read_error_is_a_fault(rt: HostRuntime) -> Result<(), Fail> {
+fn a_read_error_is_a_fault(rt: HostRuntime) {
     let mut file = Worn { left: 2 };
     let mut buffer = [0u8; 4];
     let mut faults = 0;
-    assert_eq!(rt; read_counted(&mut file, &mut buffer, &mut faults), Ok(1));
-    assert_eq!(rt;
-        read_counted(&mut file, &mut buffer[1..], &mut faults),
-        Ok(1)
-    );
-    assert_eq!(rt; &buffer[..2], b"rr".as_slice());
-    assert_eq!(rt; faults, 0);
-    assert_eq!(rt;
-        read_counted(&mut file, &mut buffer, &mut faults),
-        Err(Failed)
-    );
-    assert_eq!(rt; faults, 1);
+    reads(&rt, &mut file, &mut buffer, &mut faults, (Some(1), 0));
+    reads(&rt, &mut file, &mut buffer[1..], &mut faults, (Some(1), 0));
+    assert!(rt; buffer.starts_with(b"rr"));
+    reads(&rt, &mut file, &mut buffer, &mut faults, (None, 1));
     let mut last = u64::MAX;
-    assert_eq!(rt;
-        read_counted(&mut file, &mut buffer, &mut last),
-        Err(Failed)
-    );
-    assert_eq!(rt; last, u64::MAX);
-    Ok(())
+    reads(&rt, &mut file, &mut buffer, &mut last, (None, u64::MAX));
 }
 
 #[test]
