@@ -413,12 +413,14 @@ def check_names(document, words, own):
                 fault(document, number, f'no such name: {code}')
 
 
-def check_counts(examples, trials, proved):
+def check_counts(trials, proved):
     """The pages tell as many examples and rows as are run."""
-    rows = len((examples.path.parent / 'stdout').read_text().splitlines())
-    told = sum(int(number) for line in examples.prose.values() if line.startswith('- ') for number in re.findall(r'\b\d+\b', line))
-    if told != rows:
-        fault(examples, 1, f'the list has {told} runs, and stdout {rows}')
+    examples = len((trials.path.parent / 'stdout').read_text().splitlines()) - 1
+    lines = list(trials.prose.values())
+    begin = next((number for number, line in enumerate(lines) if line.startswith('The examples, ')), len(lines))
+    told = sum(int(number) for line in lines[begin:begin + 5] if line.startswith('- ') for number in re.findall(r'\b\d+\b', line))
+    if told != examples:
+        fault(trials, 1, f'the list has {told} examples, and stdout {examples}')
     runs = (trials.path.parent / 'stdout').read_text().split()[0]
     for document, pattern in ((trials, rf'Runs of `run` \(rd_run\), {runs} of them'), (proved, rf'rd_trials, {runs} in rows')):
         checked['counts'] += 1
@@ -470,8 +472,7 @@ def main():
     check_bad_lines(documents[TOP / 'docs' / 'formats.md'], program)
     check_causes(documents[TOP / 'docs' / 'formats.md'])
     check_crates(documents[TOP / 'docs' / 'architecture.md'])
-    check_counts(documents[TOP / 'crates' / 'rd_examples' / 'README.md'], documents[TOP / 'crates' / 'rd_trials' / 'README.md'],
-                 documents[TOP / 'docs' / 'proved.md'])
+    check_counts(documents[TOP / 'crates' / 'rd_trials' / 'README.md'], documents[TOP / 'docs' / 'proved.md'])
     check_kit(documents[TOP / 'README.md'])
     shutil.rmtree(program.folder)
     if given.all:

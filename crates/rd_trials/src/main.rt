@@ -1,24 +1,17 @@
-//! Runs each row of the file `rows`, a command over two files in memory, and says which don't end as they should.
+//! Runs each row of the file `rows`, a command over two files in memory, and each example, and says which rows don't end as they should and
+//! how each example ends.
 #![tactic(auto)]
 
+mod examples;
 mod reading;
 mod rows;
 
-use reading::Reader;
-use std::fs;
+use examples::run_examples;
+use reading::run_rows;
 use std::process::ExitCode;
 
 fn main(rt: HostRuntime) -> ExitCode {
-    let Ok(bytes) = fs::read(&rt, "rows") else {
-        return ExitCode::FAILURE;
-    };
-    let mut reader = Reader::new(rt.alloc());
-    for line in bytes.split(|byte| *byte == b'\n') {
-        if reader.take(&rt, line).is_none() {
-            return ExitCode::FAILURE;
-        }
-    }
-    match reader.end(&rt) {
+    match run_rows(&rt).and_then(|()| run_examples(&rt)) {
         Some(()) => ExitCode::SUCCESS,
         None => ExitCode::FAILURE,
     }

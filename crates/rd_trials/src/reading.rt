@@ -3,6 +3,8 @@
 use crate::rows::Row;
 use rd_base::Word;
 use std::alloc::Global;
+use std::fs;
+use std::rt::Files;
 
 /// Whose text the lines behind are.
 #[derive(Clone, Copy)]
@@ -220,4 +222,14 @@ impl Reader {
         rt.println(format_args!("{runs} runs, {otherwise} rows end otherwise"))
             .ok()
     }
+}
+
+/// Runs each row of the file `rows`. None where a line of it says nothing that is known, memory runs out, or reading or writing fails.
+pub fn run_rows<R: Files + Alloc<A = Global> + Print>(rt: &R) -> Option<()> {
+    let bytes = fs::read(rt, "rows").ok()?;
+    let mut reader = Reader::new(rt.alloc());
+    for line in bytes.split(|byte| *byte == b'\n') {
+        reader.take(rt, line)?;
+    }
+    reader.end(rt)
 }

@@ -27,7 +27,8 @@ pub struct Row {
     pub writes: Vec<u8>,
 }
 
-fn run_with<L: Ledger>(
+/// A command over inputs in memory, with a counter of steps of its own.
+pub fn run_with<L: Ledger>(
     alloc: Global,
     words: &[Word],
     inputs: &mut MemoryInputs,

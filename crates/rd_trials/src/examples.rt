@@ -1,17 +1,13 @@
-//! Runs a command over each of the examples, and says how it ended and whether it wrote what stands in the file beside it.
-#![tactic(auto)]
+//! The examples: how a command over each ends, and whether it writes what stands in the file beside it.
 
-ghost use Rattle.std.specs.Prelude.{◌≡◌, ◌<◌};
-
-use rd_base::{Limits, Steps, Word};
+use crate::rows::run_with;
+use rd_base::{Limits, Word};
 use rd_io::{MemoryInputs, MemorySink};
-use rd_run::{Status, run};
 use std::alloc::Global;
 use std::fs;
 use std::marker::Brand;
-use std::process::ExitCode;
 use std::rt::Files;
-use std::sync::ledger::{Blank, Ledger};
+use std::sync::ledger::Blank;
 
 /// A command with its files, and the file with what it writes, in a line each.
 const EXAMPLES: &str = "\
@@ -89,20 +85,12 @@ const EXAMPLES: &str = "\
     check four_writes.trace account.spec four_writes.out\n\
     check queue_race.trace bounded_queue.spec queue_race.out\n";
 
-/// A command over inputs in memory.
-fn run_command<L: Ledger>(
-    alloc: Global,
-    words: &[Word],
-    inputs: &mut MemoryInputs,
-    out: &mut MemorySink,
-    blank: Blank,
-) -> Status
-    requires name { blank.name ≡ L.name }
-    requires parts { blank.parts ≡ L.parts }
-    requires some { 0 < blank.parts }
-{
-    let mut steps = Steps::<L>::new(blank);
-    run(alloc, words, inputs, out, &Limits::standard(), &mut steps)
+/// The bytes of a file of the examples. None where it can't be read or memory runs out.
+fn file_of<R: Files + Alloc<A = Global>>(rt: &R, name: &str) -> Option<Vec<u8>> {
+    let mut path = String::new(rt.alloc());
+    path.push_str("examples/").ok()?;
+    path.push_str(name).ok()?;
+    fs::read(rt, path.as_str()).ok()
 }
 
 /// Runs a command and says how it ended, and whether it wrote what is wanted. None where memory runs out or writing fails.
@@ -115,7 +103,14 @@ fn tell<R: Alloc<A = Global> + Print>(
 ) -> Option<()> {
     let alloc = rt.alloc();
     let mut out = MemorySink::new(alloc, 4096, &[]).ok()?;
-    let status = run_command::<Brand>(alloc, words, inputs, &mut out, Blank::new(1));
+    let status = run_with::<Brand>(
+        alloc,
+        words,
+        inputs,
+        &mut out,
+        &Limits::standard(),
+        Blank::new(1),
+    );
     let verdict = if out.written() == wanted {
         "as wanted"
     } else {
@@ -133,13 +128,13 @@ fn inputs_of<R: Files + Alloc<A = Global>>(
     second: &str,
 ) -> Option<MemoryInputs> {
     let mut inputs = MemoryInputs::new(rt.alloc(), &[]).ok()?;
-    let bytes = fs::read(rt, first).ok()?;
+    let bytes = file_of(rt, first)?;
     let name = Word::from_bytes(rt.alloc(), b"first").ok()?;
     inputs.add(&name, &bytes, 4096).ok()?;
     if second.is_empty() {
         return Some(inputs);
     }
-    let bytes = fs::read(rt, second).ok()?;
+    let bytes = file_of(rt, second)?;
     let name = Word::from_bytes(rt.alloc(), b"second").ok()?;
     inputs.add(&name, &bytes, 4096).ok()?;
     Some(inputs)
@@ -171,15 +166,14 @@ fn example<R: Files + Alloc<A = Global> + Print>(rt: &R, line: &str) -> Option<(
     };
     let words = words_of(rt.alloc(), verb, names)?;
     let mut inputs = inputs_of(rt, first, second)?;
-    let text = fs::read(rt, wanted).ok()?;
+    let text = file_of(rt, wanted)?;
     tell(rt, &words, &mut inputs, &text, command)
 }
 
-fn main(rt: HostRuntime) -> ExitCode {
+/// Runs each example. None where a file can't be read, memory runs out or writing fails.
+pub fn run_examples<R: Files + Alloc<A = Global> + Print>(rt: &R) -> Option<()> {
     for line in EXAMPLES.lines() {
-        if example(&rt, line).is_none() {
-            return ExitCode::FAILURE;
-        }
+        example(rt, line)?;
     }
-    ExitCode::SUCCESS
+    Some(())
 }
