@@ -50,15 +50,17 @@ fn touch<L: Ledger>(
     Ok(())
 }
 
-/// The clock with this component of thread 1 alone.
+/// The clock that counts so many events of thread 1 alone.
 fn clock_of_one<L: Ledger>(
     alloc: Global,
-    component: u32,
+    events: u32,
     steps: &mut Steps<L>,
 ) -> Result<Clock, NoMemory> {
     let mut clock = Clock::new(alloc);
-    clock.reserve(2)?;
-    clock.raise(1, component, steps);
+    if events > 0 {
+        clock.reserve(2)?;
+        clock.raise(1, events, steps);
+    }
     Ok(clock)
 }
 
@@ -75,43 +77,116 @@ fn latest<L: Ledger>(
     }
 }
 
+/// A point of object 7 without a value.
+fn bare(class: u32) -> Point {
+    Point {
+        object: 7,
+        class,
+        value: None,
+    }
+}
+
+/// What is done with a store, or is so of it. A class is that of a point of object 7, and a clock counts so many events of thread 1.
+#[derive(Clone, Copy)]
+enum Step {
+    /// a call of a thread, with its place and its own number, is kept at the point
+    Touch(u32, u32, u32, u32),
+    /// of the latest call at the point that the clock doesn't cover, the place
+    Latest(u32, u32, Option<u32>),
+    /// cells that the clock covers go
+    Sweep(u32),
+    Cells(u128),
+    Entered(usize),
+}
+
+/// Keeps a call at the point of a class.
+fn touch_class<L: Ledger>(
+    alloc: Global,
+    store: &mut Store,
+    class: u32,
+    witness: Result<Rc<Witness>, NoMemory>,
+    steps: &mut Steps<L>,
+) -> Result<(), NoMemory> {
+    touch(alloc, store, &bare(class), witness?, steps)
+}
+
+/// The place of the latest call at the point of a class.
+fn latest_of_class<L: Ledger>(
+    alloc: Global,
+    store: &Store,
+    class: u32,
+    events: u32,
+    steps: &mut Steps<L>,
+) -> Result<Option<u32>, NoMemory> {
+    let clock = clock_of_one(alloc, events, steps)?;
+    Ok(latest(store, &bare(class), &clock, steps))
+}
+
+fn sweep_by<L: Ledger>(
+    alloc: Global,
+    store: &mut Store,
+    events: u32,
+    steps: &mut Steps<L>,
+) -> Result<(), NoMemory> {
+    store.sweep(&clock_of_one(alloc, events, steps)?);
+    Ok(())
+}
+
+/// Does the step, and says whether it is so.
+fn is_taken<L: Ledger>(alloc: Global, store: &mut Store, step: Step, steps: &mut Steps<L>) -> bool {
+    match step {
+        Step::Touch(class, thread, place, number) => {
+            let witness = seen(alloc, thread, place, number);
+            touch_class(alloc, store, class, witness, steps).is_ok()
+        }
+        Step::Latest(class, events, place) => {
+            latest_of_class(alloc, store, class, events, steps) == Ok(place)
+        }
+        Step::Sweep(events) => sweep_by(alloc, store, events, steps).is_ok(),
+        Step::Cells(cells) => store.cells() == cells,
+        Step::Entered(points) => store.entered() == points,
+    }
+}
+
+/// Takes the steps one after another.
+fn takes<L: Ledger>(
+    rt: &impl Abort,
+    alloc: Global,
+    store: &mut Store,
+    steps_of_it: &[Step],
+    steps: &mut Steps<L>,
+) {
+    for (number, step) in steps_of_it.iter().enumerate() {
+        let is_taken = is_taken(alloc, store, *step, steps);
+        assert!(rt; is_taken, "step {number}");
+    }
+}
+
+const TWO_THREADS: [Step; 14] = [
+    Step::Latest(3, 0, None),
+    Step::Touch(3, 0, 10, 1),
+    Step::Touch(3, 1, 11, 4),
+    Step::Touch(3, 1, 12, 5),
+    Step::Cells(2),
+    Step::Latest(3, 0, Some(12)),
+    Step::Latest(3, 4, Some(12)),
+    Step::Latest(3, 5, Some(10)),
+    Step::Latest(4, 0, None),
+    Step::Sweep(4),
+    Step::Cells(2),
+    Step::Sweep(5),
+    Step::Cells(1),
+    Step::Latest(3, 0, Some(10)),
+];
+
 fn two_threads_at_a_point<L: Ledger>(rt: &impl Abort, alloc: Global, blank: Blank)
     requires name { blank.name ≡ L.name }
     requires parts { blank.parts ≡ L.parts }
     requires some { 0 < blank.parts }
 {
     let mut steps = Steps::<L>::new(blank);
-    let point = Point {
-        object: 7,
-        class: 3,
-        value: None,
-    };
-    let other = Point {
-        object: 7,
-        class: 4,
-        value: None,
-    };
-    let empty = Clock::new(alloc);
-    let below = clock_of_one(alloc, 4, &mut steps).expect(rt, "memory");
-    let covers = clock_of_one(alloc, 5, &mut steps).expect(rt, "memory");
     let mut store = Store::new(alloc);
-    assert!(rt; latest(&store, &point, &empty, &mut steps).is_none());
-    let first = seen(alloc, 0, 10, 1).expect(rt, "memory");
-    touch(alloc, &mut store, &point, first, &mut steps).expect(rt, "memory");
-    let second = seen(alloc, 1, 11, 4).expect(rt, "memory");
-    touch(alloc, &mut store, &point, second, &mut steps).expect(rt, "memory");
-    let third = seen(alloc, 1, 12, 5).expect(rt, "memory");
-    touch(alloc, &mut store, &point, third, &mut steps).expect(rt, "memory");
-    assert!(rt; store.cells() == 2);
-    assert!(rt; latest(&store, &point, &empty, &mut steps) == Some(12));
-    assert!(rt; latest(&store, &point, &below, &mut steps) == Some(12));
-    assert!(rt; latest(&store, &point, &covers, &mut steps) == Some(10));
-    assert!(rt; latest(&store, &other, &empty, &mut steps).is_none());
-    store.sweep(&below);
-    assert!(rt; store.cells() == 2);
-    store.sweep(&covers);
-    assert!(rt; store.cells() == 1);
-    assert!(rt; latest(&store, &point, &empty, &mut steps) == Some(10));
+    takes(rt, alloc, &mut store, &TWO_THREADS, &mut steps);
 }
 
 /// The place of the latest call at the point at an index, of those that the clock doesn't cover.
@@ -135,29 +210,20 @@ fn two_points_by_seat<L: Ledger>(rt: &impl Abort, alloc: Global, blank: Blank)
     requires some { 0 < blank.parts }
 {
     let mut steps = Steps::<L>::new(blank);
-    let point = Point {
-        object: 7,
-        class: 3,
-        value: None,
-    };
-    let other = Point {
-        object: 7,
-        class: 4,
-        value: None,
-    };
-    let again = point.copy(alloc).expect(rt, "memory");
+    let point = bare(3);
+    let other = bare(4);
+    let again = bare(3);
     let empty = Clock::new(alloc);
     let mut store = Store::new(alloc);
     let early = store.enter(PointRef::new(&point), 1).expect(rt, "memory");
     let late = store.enter(PointRef::new(&other), 1).expect(rt, "memory");
     let seat = store.enter(PointRef::new(&again), 1).expect(rt, "memory");
-    assert!(rt; seat.index == early.index);
-    assert!(rt; seat.index != late.index);
+    assert!(rt; seat.index == early.index && seat.index != late.index);
     let witness = seen(alloc, 1, 11, 4).expect(rt, "memory");
     store.touch_at(seat, 1, witness, &mut steps);
-    assert!(rt; store.cells() == 1);
     assert!(rt; place_at(&store, seat.index, &empty, &mut steps) == Some(11));
-    assert!(rt; latest(&store, &other, &empty, &mut steps).is_none());
+    let behind = [Step::Cells(1), Step::Latest(4, 0, None)];
+    takes(rt, alloc, &mut store, &behind, &mut steps);
 }
 
 fn calls_in_the_same_memory<L: Ledger>(rt: &impl Abort, alloc: Global, blank: Blank)
@@ -166,11 +232,7 @@ fn calls_in_the_same_memory<L: Ledger>(rt: &impl Abort, alloc: Global, blank: Bl
     requires some { 0 < blank.parts }
 {
     let mut steps = Steps::<L>::new(blank);
-    let point = Point {
-        object: 7,
-        class: 3,
-        value: None,
-    };
+    let point = bare(3);
     let empty = Clock::new(alloc);
     let later = seen(alloc, 1, 12, 5).expect(rt, "memory");
     let call = &later.call;
@@ -196,16 +258,30 @@ fn calls_in_the_same_memory<L: Ledger>(rt: &impl Abort, alloc: Global, blank: Bl
     let done = store
         .touch_over(seat, over, &mut steps)
         .expect(rt, "memory");
-    assert!(rt; !done);
-    assert!(rt; latest(&store, &point, &empty, &mut steps) == Some(11));
+    let held = latest(&store, &point, &empty, &mut steps);
+    assert!(rt; !done && held == Some(11));
     drop(shared);
     let done = store
         .touch_over(seat, over, &mut steps)
         .expect(rt, "memory");
     assert!(rt; done);
-    assert!(rt; latest(&store, &point, &empty, &mut steps) == Some(12));
-    assert!(rt; store.cells() == 1);
+    let behind = [Step::Latest(3, 0, Some(12)), Step::Cells(1)];
+    takes(rt, alloc, &mut store, &behind, &mut steps);
 }
+
+// Behind 300 points with a cell each.
+const POINTS_WITHOUT_CELLS: [Step; 8] = [
+    // as many cells as points: these stay
+    Step::Sweep(9),
+    Step::Cells(0),
+    Step::Entered(300),
+    Step::Touch(8, 1, 300, 10),
+    // one cell, which the clock doesn't cover: all other points go
+    Step::Sweep(9),
+    Step::Cells(1),
+    Step::Entered(1),
+    Step::Latest(8, 0, Some(300)),
+];
 
 fn points_without_cells<L: Ledger>(rt: &impl Abort, alloc: Global, blank: Blank)
     requires name { blank.name ≡ L.name }
@@ -213,33 +289,17 @@ fn points_without_cells<L: Ledger>(rt: &impl Abort, alloc: Global, blank: Blank)
     requires some { 0 < blank.parts }
 {
     let mut steps = Steps::<L>::new(blank);
-    let floor = clock_of_one(alloc, 9, &mut steps).expect(rt, "memory");
     let mut store = Store::new(alloc);
     for class in 0..300 {
-        let point = Point {
-            object: 7,
-            class,
-            value: None,
-        };
-        let witness = seen(alloc, 1, class, 4).expect(rt, "memory");
-        touch(alloc, &mut store, &point, witness, &mut steps).expect(rt, "memory");
+        takes(
+            rt,
+            alloc,
+            &mut store,
+            &[Step::Touch(class, 1, class, 4)],
+            &mut steps,
+        );
     }
-    // as many cells as points: these stay
-    store.sweep(&floor);
-    assert!(rt; store.cells() == 0);
-    assert!(rt; store.entered() == 300);
-    let point = Point {
-        object: 7,
-        class: 8,
-        value: None,
-    };
-    let witness = seen(alloc, 1, 300, 10).expect(rt, "memory");
-    touch(alloc, &mut store, &point, witness, &mut steps).expect(rt, "memory");
-    // one cell, which the floor doesn't cover: all other points go
-    store.sweep(&floor);
-    assert!(rt; store.cells() == 1);
-    assert!(rt; store.entered() == 1);
-    assert!(rt; latest(&store, &point, &Clock::new(alloc), &mut steps) == Some(300));
+    takes(rt, alloc, &mut store, &POINTS_WITHOUT_CELLS, &mut steps);
 }
 
 #[test]
