@@ -198,18 +198,31 @@ fn calls_have_rows<L: Ledger>(
     Ok(right)
 }
 
-/// Has the tracker this floor, at the threads from 0 to 2?
-fn has_floor<L: Ledger>(
-    tracker: &Tracker,
-    floor: [u32; 3],
+/// The stamps of the events are those of the rows, and so are those of the calls where no other stamp is made.
+fn is_told_twice<L: Ledger>(
+    tracker: &mut Tracker,
+    passing: &mut Tracker,
+    events: &[Event],
+    rows: &[Row],
     steps: &mut Steps<L>,
-) -> Result<bool, NoMemory> {
-    let found = tracker.floor()?;
+) -> Result<bool, NoMemory>
+    requires all { (roots : ℕ → Bool) × MayTakeAll tracker.old roots events.now }
+    requires calls { (roots : ℕ → Bool) × MayTakeAll passing.old roots events.now }
+{
+    let known = has_rows(tracker, events, rows, steps)?;
+    Ok(calls_have_rows(passing, events, rows, steps)? && known)
+}
+
+/// Has the tracker this floor, at the threads from 0 to 2?
+fn has_floor<L: Ledger>(tracker: &Tracker, floor: [u32; 3], steps: &mut Steps<L>) -> bool {
+    let Ok(found) = tracker.floor() else {
+        return false;
+    };
     let mut right = true;
     for (thread, component) in floor.iter().enumerate() {
         right = has_component(&found, thread as u32, *component, steps) && right;
     }
-    Ok(right)
+    right
 }
 
 /// A thread forks two, each of which calls, joins both and calls. The calls have the same stamps where the rest has none. The thread that is
@@ -247,10 +260,8 @@ fn two_children<L: Ledger>(alloc: Global, steps: &mut Steps<L>) -> Result<bool, 
         (0, 4, [4, 1, 1]),
         (0, 5, [5, 1, 1]),
     ];
-    let known = has_rows(&mut tracker, &events, &rows, steps)?;
-    let passed = calls_have_rows(&mut passing, &events, &rows, steps)?;
-    let floored = has_floor(&tracker, [5, 1, 1], steps)?;
-    Ok(known && passed && floored)
+    let told = is_told_twice(&mut tracker, &mut passing, &events, &rows, steps);
+    Ok(told == Ok(true) && has_floor(&tracker, [5, 1, 1], steps))
 }
 
 /// Two roots call, one forks a thread, and that calls: none of the three was joined, and no call is known to all.
@@ -271,9 +282,8 @@ fn three_live<L: Ledger>(alloc: Global, steps: &mut Steps<L>) -> Result<bool, No
         (1, 2, [0, 2, 0]),
         (2, 1, [0, 2, 1]),
     ];
-    let known = has_rows(&mut tracker, &events, &rows, steps)?;
-    let floored = has_floor(&tracker, [0, 0, 0], steps)?;
-    Ok(known && floored)
+    let told = has_rows(&mut tracker, &events, &rows, steps);
+    Ok(told == Ok(true) && has_floor(&tracker, [0, 0, 0], steps))
 }
 
 /// A thread joins one that had no event, and that another forked after a call: it knows that call.
@@ -327,9 +337,7 @@ fn guarded<L: Ledger>(alloc: Global, steps: &mut Steps<L>) -> Result<bool, NoMem
         (1, 1, [3, 1, 0]),
         (1, 2, [3, 2, 0]),
     ];
-    let known = has_rows(&mut tracker, &events, &rows, steps)?;
-    let passed = calls_have_rows(&mut passing, &events, &rows, steps)?;
-    Ok(known && passed)
+    is_told_twice(&mut tracker, &mut passing, &events, &rows, steps)
 }
 
 /// A lock is given back by its thread, taken and given back by another, and so on: each acquire counts what was known where the

@@ -1,15 +1,10 @@
 //! Lines with what they say, and events by numbers.
+ghost use Rattle.rd_event.specs.Items.{IsSpellable};
 
 use crate::rows::{Act, Wanted, are, event};
-use rd_base::Bytes;
 use rd_event::{Call, Event, Line, LineEvent, LineRefused, read_into, read_line, spell};
 use std::alloc::Global;
 use std::process::Abort;
-
-// A line that the text spells in a version.
-fn read(rt: &impl Abort, alloc: Global, version: u8, text: &str) -> Line {
-    read_line(alloc, text.as_bytes(), version).expect(rt, "a line")
-}
 
 // The keyword of a line that is no call, and its words.
 fn words(line: &Line) -> (&str, &[u8], &[u8]) {
@@ -34,13 +29,92 @@ fn words(line: &Line) -> (&str, &[u8], &[u8]) {
     }
 }
 
-// Is the text read in a version as what its words say?
-fn says_its_words(rt: &impl Abort, alloc: Global, version: u8, text: &str) -> bool {
-    let line = read(rt, alloc, version, text);
-    let (keyword, first, second) = words(&line);
+// Is the line what the words of the text say?
+fn says_its_words(line: &Line, text: &str) -> bool {
+    let (keyword, first, second) = words(line);
     let (wanted, rest) = text.split_once(' ').unwrap_or((text, ""));
     let (wanted_first, wanted_second) = rest.split_once(' ').unwrap_or((rest, ""));
     keyword == wanted && first == wanted_first.as_bytes() && second == wanted_second.as_bytes()
+}
+
+// Is the line spelled so?
+fn is_spelled(rt: &impl Abort, alloc: Global, line: &Line, wanted: &str) -> bool
+    requires { IsSpellable line.now }
+{
+    let spelled = spell(alloc, line).expect(rt, "memory");
+    spelled.items() == wanted.as_bytes()
+}
+
+// Is the line a call with these names and slots?
+fn is_call(line: &Line, names: [&str; 3], wanted: &[Wanted]) -> bool {
+    match line {
+        Line::Event(
+            LineEvent::Call {
+                thread,
+                object,
+                method,
+                slots,
+            },
+        ) => {
+            thread.items() == names[0].as_bytes()
+                && object.items() == names[1].as_bytes()
+                && method.items() == names[2].as_bytes()
+                && are(wanted, slots.items())
+        }
+        _ => false,
+    }
+}
+
+/// What a text is read as.
+#[derive(Clone, Copy)]
+enum Read<'a> {
+    /// no line
+    Refused,
+    /// a line without an item
+    Skipped,
+    /// a line that is what its words say
+    ItsWords,
+    /// a line that is spelled as the text is
+    SpelledAsItIs,
+    /// a line that is spelled so
+    Spelled(&'a str),
+    /// a call with these names of a thread, an object and a method, and with these slots
+    Call(&'a str, &'a str, &'a str, &'a [Wanted<'a>]),
+}
+
+// Is the line of the text this?
+fn is_this(rt: &impl Abort, alloc: Global, line: &Line, text: &str, wanted: Read) -> bool
+    requires { IsSpellable line.now }
+{
+    match wanted {
+        Read::Refused => false,
+        Read::Skipped => matches!(line, Line::Skip),
+        Read::ItsWords => says_its_words(line, text),
+        Read::SpelledAsItIs => is_spelled(rt, alloc, line, text),
+        Read::Spelled(spelling) => is_spelled(rt, alloc, line, spelling),
+        Read::Call(thread, object, method, slots) => {
+            is_call(line, [thread, object, method], slots)
+        }
+    }
+}
+
+// Is the text read in a version as this?
+fn is_read(rt: &impl Abort, alloc: Global, version: u8, text: &str, wanted: Read) -> bool {
+    match &read_line(alloc, text.as_bytes(), version) {
+        Ok(line) => is_this(rt, alloc, line, text, wanted),
+        Err(LineRefused::BadLine) => matches!(wanted, Read::Refused),
+        Err(_) => false,
+    }
+}
+
+// Each of the texts, which have `|` between them, is read in a version as this.
+fn are_read(rt: &impl Abort, alloc: Global, version: u8, texts: &str, wanted: Read) {
+    for text in texts.split('|') {
+        assert!(rt;
+            is_read(rt, alloc, version, text, wanted),
+            "in version {version} at {text:?}"
+        );
+    }
 }
 
 // Lines that are a keyword and one word or two, with `|` between them. The last name has 64 bytes.
@@ -49,50 +123,35 @@ const ITEMS: &str = "\
     acquire p l|release p l|\
     thread aaaaaaaaaaaaaaaaaaaaaaaaaaaaaaaaaaaaaaaaaaaaaaaaaaaaaaaaaaaaaaaa";
 
+// Version 0 stands for the lines before the header.
 #[test]
 fn reads_each_item(rt: HostRuntime) {
-    for text in ITEMS.split('|') {
-        assert!(rt;
-            says_its_words(&rt, rt.alloc(), 0, text),
-            "before the header at {text}"
-        );
-        assert!(rt;
-            says_its_words(&rt, rt.alloc(), 1, text),
-            "in version 1 at {text}"
-        );
-        assert!(rt;
-            says_its_words(&rt, rt.alloc(), 2, text),
-            "in version 2 at {text}"
-        );
+    for version in 0..=2 {
+        are_read(&rt, rt.alloc(), version, ITEMS, Read::ItsWords);
     }
 }
 
+// Lines of version 2 alone, with `|` between them.
+const SHARES: &str = "share p l|unshare p l|share java.util.HashMap@1f2 l";
+
 #[test]
 fn reads_shares_in_version_two_alone(rt: HostRuntime) {
-    for text in ["share p l", "unshare p l", "share java.util.HashMap@1f2 l"] {
-        assert!(rt; says_its_words(&rt, rt.alloc(), 2, text), "at {text}");
-        assert!(rt;
-            is_refused(rt.alloc(), 0, text),
-            "before the header at {text}"
-        );
-        assert!(rt; is_refused(rt.alloc(), 1, text), "in version 1 at {text}");
-    }
+    are_read(&rt, rt.alloc(), 2, SHARES, Read::ItsWords);
+    are_read(&rt, rt.alloc(), 0, SHARES, Read::Refused);
+    are_read(&rt, rt.alloc(), 1, SHARES, Read::Refused);
 }
 
 #[test]
 fn reads_lines_without_an_item(rt: HostRuntime) {
-    for text in ["", "#", "#anything", "# fork a b"] {
-        assert!(rt;
-            matches!(read(&rt, rt.alloc(), 1, text), Line::Skip),
-            "at {text}"
-        );
-    }
+    // the first is the empty line
+    let texts = "|#|#anything|# fork a b";
+    are_read(&rt, rt.alloc(), 1, texts, Read::Skipped);
 }
 
 // Is the text read into the line as it is read anew?
 fn is_read_into(rt: &impl Abort, alloc: Global, text: &str, line: &mut Line) -> bool {
     read_into(alloc, text.as_bytes(), 2, line).expect(rt, "a line");
-    *line == read(rt, alloc, 2, text)
+    *line == read_line(alloc, text.as_bytes(), 2).expect(rt, "a line")
 }
 
 // The lines that are read one after another.
@@ -110,14 +169,6 @@ fn reads_into_a_line_that_is_kept(rt: HostRuntime) {
     assert!(rt; refused == Err(LineRefused::BadLine));
 }
 
-// Is the text no line of a version?
-fn is_refused(alloc: Global, version: u8, text: &str) -> bool {
-    matches!(
-        read_line(alloc, text.as_bytes(), version),
-        Err(LineRefused::BadLine)
-    )
-}
-
 // Texts that are no line, with `|` between them. The last name has 65 bytes.
 const NO_ITEMS: &str = "\
     rdtrace 0|rdtrace 3|rdtrace 12|rdtrace 01|rdtrace 02|rdtrace  1|rdtrace 1 |rdtrace| thread p|thread p |thread|thread |\
@@ -129,10 +180,8 @@ const NO_ITEMS: &str = "\
 
 #[test]
 fn refuses_what_is_no_item(rt: HostRuntime) {
-    for text in NO_ITEMS.split('|') {
-        assert!(rt; is_refused(rt.alloc(), 1, text), "in version 1 at {text:?}");
-        assert!(rt; is_refused(rt.alloc(), 2, text), "in version 2 at {text:?}");
-    }
+    are_read(&rt, rt.alloc(), 1, NO_ITEMS, Read::Refused);
+    are_read(&rt, rt.alloc(), 2, NO_ITEMS, Read::Refused);
 }
 
 // Texts that are no line of version 2 either, with `|` between them.
@@ -143,98 +192,76 @@ const NO_SHARES: &str = "\
 
 #[test]
 fn refuses_what_is_no_share(rt: HostRuntime) {
-    for text in NO_SHARES.split('|') {
-        assert!(rt; is_refused(rt.alloc(), 2, text), "at {text:?}");
-    }
+    are_read(&rt, rt.alloc(), 2, NO_SHARES, Read::Refused);
 }
 
-// Is the text read as a call with these names and slots?
-fn is_call(
-    rt: &impl Abort,
-    alloc: Global,
-    text: &str,
-    names: [&str; 3],
-    wanted: &[Wanted],
-) -> bool {
-    let Line::Event(
-        LineEvent::Call {
-            thread,
-            object,
-            method,
-            slots,
-        },
-    ) = read(rt, alloc, 1, text)
-    else {
-        return false;
-    };
-    thread.items() == names[0].as_bytes()
-        && object.items() == names[1].as_bytes()
-        && method.items() == names[2].as_bytes()
-        && are(wanted, slots.items())
-}
+/// The text of a call, its thread, object and method, and its slots.
+type CallRow = (&'static str, [&'static str; 3], &'static [Wanted<'static>]);
+
+const CALLS: [CallRow; 8] = [
+    (
+        "call a x write 7 -> nil",
+        ["a", "x", "write"],
+        &[Wanted::Int(7), Wanted::Nil],
+    ),
+    (
+        "call main x read -> 7",
+        ["main", "x", "read"],
+        &[Wanted::Int(7)],
+    ),
+    (
+        "call a d put \"k -> \\\"x\" 1 -> nil",
+        ["a", "d", "put"],
+        &[Wanted::Text(b"k -> \"x"), Wanted::Int(1), Wanted::Nil],
+    ),
+    (
+        "call a d get \"\\\\\" -> \" \\x0a -> \"",
+        ["a", "d", "get"],
+        &[Wanted::Text(b"\\"), Wanted::Text(b" \n -> ")],
+    ),
+    (
+        "call a d put \"ab\\x1f\" \"\\x7f\" -> \"ab\\\\\"",
+        ["a", "d", "put"],
+        &[
+            Wanted::Text(b"ab\x1f"),
+            Wanted::Text(b"\x7f"),
+            Wanted::Text(b"ab\\"),
+        ],
+    ),
+    (
+        "call a d put 999999999999999999 1000000000000000000 -> -999999999999999999",
+        ["a", "d", "put"],
+        &[
+            Wanted::Int(999_999_999_999_999_999),
+            Wanted::Int(1_000_000_000_000_000_000),
+            Wanted::Int(-999_999_999_999_999_999),
+        ],
+    ),
+    (
+        "call a d put 9223372036854775807 -> -9223372036854775808",
+        ["a", "d", "put"],
+        &[Wanted::Int(i64::MAX), Wanted::Int(i64::MIN)],
+    ),
+    (
+        "call - - - nil true false 0 -1 \"\" -> \"->\"",
+        ["-", "-", "-"],
+        &[
+            Wanted::Nil,
+            Wanted::Bool(true),
+            Wanted::Bool(false),
+            Wanted::Int(0),
+            Wanted::Int(-1),
+            Wanted::Text(b""),
+            Wanted::Text(b"->"),
+        ],
+    ),
+];
 
 #[test]
 fn reads_each_call(rt: HostRuntime) {
-    let rows = [
-        (
-            "call a x write 7 -> nil",
-            ["a", "x", "write"],
-            [Wanted::Int(7), Wanted::Nil].as_slice(),
-        ),
-        (
-            "call main x read -> 7",
-            ["main", "x", "read"],
-            &[Wanted::Int(7)],
-        ),
-        (
-            "call a d put \"k -> \\\"x\" 1 -> nil",
-            ["a", "d", "put"],
-            &[Wanted::Text(b"k -> \"x"), Wanted::Int(1), Wanted::Nil],
-        ),
-        (
-            "call a d get \"\\\\\" -> \" \\x0a -> \"",
-            ["a", "d", "get"],
-            &[Wanted::Text(b"\\"), Wanted::Text(b" \n -> ")],
-        ),
-        (
-            "call a d put \"ab\\x1f\" \"\\x7f\" -> \"ab\\\\\"",
-            ["a", "d", "put"],
-            &[
-                Wanted::Text(b"ab\x1f"),
-                Wanted::Text(b"\x7f"),
-                Wanted::Text(b"ab\\"),
-            ],
-        ),
-        (
-            "call a d put 999999999999999999 1000000000000000000 -> -999999999999999999",
-            ["a", "d", "put"],
-            &[
-                Wanted::Int(999_999_999_999_999_999),
-                Wanted::Int(1_000_000_000_000_000_000),
-                Wanted::Int(-999_999_999_999_999_999),
-            ],
-        ),
-        (
-            "call a d put 9223372036854775807 -> -9223372036854775808",
-            ["a", "d", "put"],
-            &[Wanted::Int(i64::MAX), Wanted::Int(i64::MIN)],
-        ),
-        (
-            "call - - - nil true false 0 -1 \"\" -> \"->\"",
-            ["-", "-", "-"],
-            &[
-                Wanted::Nil,
-                Wanted::Bool(true),
-                Wanted::Bool(false),
-                Wanted::Int(0),
-                Wanted::Int(-1),
-                Wanted::Text(b""),
-                Wanted::Text(b"->"),
-            ],
-        ),
-    ];
-    for (text, names, wanted) in rows {
-        assert!(rt; is_call(&rt, rt.alloc(), text, names, wanted), "at {text}");
+    for (text, names, slots) in &CALLS {
+        let wanted = Read::Call(names[0], names[1], names[2], slots);
+        assert!(rt; is_read(&rt, rt.alloc(), 1, text, wanted), "at {text}");
     }
 }
 
@@ -262,51 +289,34 @@ const NO_CALLS: &str = "\
 
 #[test]
 fn refuses_what_is_no_call(rt: HostRuntime) {
-    for text in NO_CALLS.split('|') {
-        assert!(rt; is_refused(rt.alloc(), 1, text), "at {text:?}");
-    }
+    are_read(&rt, rt.alloc(), 1, NO_CALLS, Read::Refused);
 }
 
 // A call with the text, of bytes that are spelled as they are, as its argument and as its result.
-fn echo(rt: &impl Abort, alloc: Global, text: &[u8]) -> Bytes {
-    let mut line = Bytes::new(alloc);
-    for part in [
-        b"call p x echo \"".as_slice(),
-        text,
-        b"\" -> \"",
-        text,
-        b"\"",
-    ] {
-        line.append(part).expect(rt, "memory");
-    }
+fn echo(rt: &impl Abort, alloc: Global, text: &str) -> String {
+    let mut line = String::new(alloc);
+    write!(line, "call p x echo \"{text}\" -> \"{text}\"").expect(rt, "memory");
     line
 }
 
-// Is such a call read?
-fn is_echo_read(rt: &impl Abort, alloc: Global, text: &[u8]) -> bool {
+// Is such a call read as it is where the text fits, and refused elsewhere?
+fn is_echo_read(rt: &impl Abort, alloc: Global, text: &str, fits: bool) -> bool {
     let line = echo(rt, alloc, text);
-    match read_line(alloc, line.items(), 1) {
-        Ok(Line::Event(LineEvent::Call { slots, .. })) => {
-            are(&[Wanted::Text(text), Wanted::Text(text)], slots.items())
-        }
-        _ => false,
-    }
+    let slots = [Wanted::Text(text.as_bytes()); 2];
+    let echoed = Read::Call("p", "x", "echo", &slots);
+    let is_echoed = is_read(rt, alloc, 1, line.as_str(), echoed);
+    let is_refused = is_read(rt, alloc, 1, line.as_str(), Read::Refused);
+    is_echoed == fits && is_refused != fits
 }
 
 #[test]
 fn reads_calls_with_texts_of_at_most_255_bytes(rt: HostRuntime) {
-    let bytes = [b'b'; 257];
+    let mut text = String::new(rt.alloc());
     for length in 0..=257 {
-        let is_read = is_echo_read(&rt, rt.alloc(), &bytes[..length]);
-        assert!(rt; is_read == (length <= 255), "at {length}");
+        let is_right = is_echo_read(&rt, rt.alloc(), text.as_str(), length <= 255);
+        assert!(rt; is_right, "at {length}");
+        text.push('b').expect(&rt, "memory");
     }
-}
-
-// Is the line of the first text spelled as the second?
-fn is_spelled(rt: &impl Abort, alloc: Global, text: &str, wanted: &str) -> bool {
-    let line = read_line(alloc, text.as_bytes(), 2).expect(rt, "a line");
-    let spelled = spell(alloc, &line).expect(rt, "memory");
-    spelled.items() == wanted.as_bytes()
 }
 
 // Lines as they are spelled.
@@ -322,14 +332,12 @@ const SPELLED: &str = "\
 
 #[test]
 fn spells_each_line_as_it_was(rt: HostRuntime) {
-    for text in SPELLED.split('|') {
-        assert!(rt; is_spelled(&rt, rt.alloc(), text, text), "at {text}");
-    }
+    are_read(&rt, rt.alloc(), 2, SPELLED, Read::SpelledAsItIs);
 }
 
 #[test]
 fn spells_a_skipped_line_as_the_empty_line(rt: HostRuntime) {
-    assert!(rt; is_spelled(&rt, rt.alloc(), "# a comment", ""));
+    are_read(&rt, rt.alloc(), 2, "# a comment", Read::Spelled(""));
 }
 
 // Is a copy of the call equal, with these slots?
@@ -339,55 +347,60 @@ fn is_call_copied(rt: &impl Abort, alloc: Global, call: &Call, wanted: &[Wanted]
 }
 
 // Is a copy of the event equal, and that of its call?
-fn is_copied(rt: &impl Abort, alloc: Global, thread: u32, act: Act) -> bool {
-    let event = event(rt, alloc, thread, act);
-    if let (Event::Call(call), Act::Call(_, _, _, wanted)) = (&event, act) {
-        assert!(rt; is_call_copied(rt, alloc, call, wanted));
-    }
+fn is_copied(rt: &impl Abort, alloc: Global, event: &Event, act: Act) -> bool {
     let copy = event.copy(alloc).expect(rt, "memory");
-    copy == event
+    copy == *event
+        && match (event, act) {
+            (Event::Call(call), Act::Call(_, _, _, wanted)) => {
+                is_call_copied(rt, alloc, call, wanted)
+            }
+            _ => true,
+        }
 }
+
+/// Threads with what they do.
+const COPIED: [(u32, Act<'static>); 10] = [
+    (
+        1,
+        Act::Call(2, 3, 4, &[Wanted::Text(b"k"), Wanted::Int(-5), Wanted::Nil]),
+    ),
+    (0, Act::Fork(1)),
+    (1, Act::Acquire(0)),
+    (
+        1,
+        Act::Call(0, 0, 0, &[Wanted::Text(b"x"), Wanted::Int(1), Wanted::Nil]),
+    ),
+    (1, Act::Release(0)),
+    (1, Act::Share(0)),
+    (1, Act::Unshare(0)),
+    (
+        2,
+        Act::Call(0, 0, 0, &[Wanted::Text(b"y"), Wanted::Int(2), Wanted::Nil]),
+    ),
+    (0, Act::Join(1)),
+    (0, Act::Call(0, 0, 3, &[Wanted::Int(2)])),
+];
 
 #[test]
 fn copies_are_equal(rt: HostRuntime) {
-    let rows = [
-        (
-            1,
-            Act::Call(2, 3, 4, &[Wanted::Text(b"k"), Wanted::Int(-5), Wanted::Nil]),
-        ),
-        (0, Act::Fork(1)),
-        (1, Act::Acquire(0)),
-        (
-            1,
-            Act::Call(0, 0, 0, &[Wanted::Text(b"x"), Wanted::Int(1), Wanted::Nil]),
-        ),
-        (1, Act::Release(0)),
-        (1, Act::Share(0)),
-        (1, Act::Unshare(0)),
-        (
-            2,
-            Act::Call(0, 0, 0, &[Wanted::Text(b"y"), Wanted::Int(2), Wanted::Nil]),
-        ),
-        (0, Act::Join(1)),
-        (0, Act::Call(0, 0, 3, &[Wanted::Int(2)])),
-    ];
-    for (index, (thread, act)) in rows.iter().enumerate() {
-        assert!(rt; is_copied(&rt, rt.alloc(), *thread, *act), "at row {index}");
+    for (index, (thread, act)) in COPIED.iter().enumerate() {
+        let event = event(&rt, rt.alloc(), *thread, *act);
+        assert!(rt; is_copied(&rt, rt.alloc(), &event, *act), "at row {index}");
     }
+}
+
+// Are the events of a thread that does the one or the other unequal?
+fn differ(rt: &impl Abort, alloc: Global, one: Act, other: Act) -> bool {
+    event(rt, alloc, 1, one) != event(rt, alloc, 1, other)
 }
 
 #[test]
 fn an_acquire_is_no_release(rt: HostRuntime) {
-    let acquire = event(&rt, rt.alloc(), 1, Act::Acquire(0));
-    let release = event(&rt, rt.alloc(), 1, Act::Release(0));
-    assert!(rt; acquire != release);
+    assert!(rt; differ(&rt, rt.alloc(), Act::Acquire(0), Act::Release(0)));
 }
 
 #[test]
 fn a_share_is_no_acquire(rt: HostRuntime) {
-    let acquire = event(&rt, rt.alloc(), 1, Act::Acquire(0));
-    let share = event(&rt, rt.alloc(), 1, Act::Share(0));
-    let unshare = event(&rt, rt.alloc(), 1, Act::Unshare(0));
-    assert!(rt; share != acquire);
-    assert!(rt; share != unshare);
+    assert!(rt; differ(&rt, rt.alloc(), Act::Share(0), Act::Acquire(0)));
+    assert!(rt; differ(&rt, rt.alloc(), Act::Share(0), Act::Unshare(0)));
 }

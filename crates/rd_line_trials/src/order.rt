@@ -29,28 +29,29 @@ fn has_edge(events: &[Event], i: u32, j: u32) -> bool {
     (i as usize) < events.len() && (j as usize) < events.len() && edge(events, i, j)
 }
 
+/// Threads with what they do, whether there is an edge between two places, and the path between two.
+struct Order {
+    acts: &'static [(u32, Act<'static>)],
+    edges: &'static [(u32, u32, bool)],
+    paths: &'static [(u32, u32, &'static [u32])],
+}
+
 // The events have these edges, and these paths.
-fn are_ordered(
-    rt: &impl Abort,
-    alloc: Global,
-    events: &[Event],
-    edges: &[(u32, u32, bool)],
-    paths: &[(u32, u32, &[u32])],
-) {
-    for (i, j, expected) in edges {
-        assert!(rt; has_edge(events, *i, *j) == *expected, "{i} {j}");
+fn are_ordered(rt: &impl Abort, alloc: Global, order: &Order) {
+    let events = events(rt, alloc, order.acts);
+    for (i, j, expected) in order.edges {
+        assert!(rt; has_edge(&events, *i, *j) == *expected, "{i} {j}");
     }
-    for (i, j, expected) in paths {
-        assert!(rt; has_path(rt, alloc, events, *i, *j, expected), "{i} {j}");
+    for (i, j, expected) in order.paths {
+        assert!(rt; has_path(rt, alloc, &events, *i, *j, expected), "{i} {j}");
     }
 }
 
-const CALL: Act = Act::Call(0, 0, 0, &[]);
+const CALL: Act<'static> = Act::Call(0, 0, 0, &[]);
 
 /// main forks a and b, each calls, main joins both and calls
-#[test]
-fn forks_and_joins_have_edges(rt: HostRuntime) {
-    let acts = [
+const FORKS: Order = Order {
+    acts: &[
         (0, Act::Fork(1)),
         (0, Act::Fork(2)),
         (1, CALL),
@@ -58,8 +59,8 @@ fn forks_and_joins_have_edges(rt: HostRuntime) {
         (0, Act::Join(1)),
         (0, Act::Join(2)),
         (0, CALL),
-    ];
-    let edges = [
+    ],
+    edges: &[
         (0, 1, true),
         (0, 2, true),
         (0, 3, false),
@@ -72,23 +73,25 @@ fn forks_and_joins_have_edges(rt: HostRuntime) {
         (2, 5, false),
         (2, 6, false),
         (4, 6, true),
-    ];
-    let paths = [
-        (2, 4, [2, 4].as_slice()),
+    ],
+    paths: &[
+        (2, 4, &[2, 4]),
         (2, 3, &[]),
         (0, 2, &[0, 2]),
         (2, 6, &[2, 4, 6]),
         (6, 2, &[]),
         (3, 3, &[]),
-    ];
-    let events = events(&rt, rt.alloc(), &acts);
-    are_ordered(&rt, rt.alloc(), &events, &edges, &paths);
+    ],
+};
+
+#[test]
+fn forks_and_joins_have_edges(rt: HostRuntime) {
+    are_ordered(&rt, rt.alloc(), &FORKS);
 }
 
 /// p writes while it has the lock, releases an inner hold and the lock, and q acquires it; r another one
-#[test]
-fn a_release_comes_before_each_later_acquire(rt: HostRuntime) {
-    let acts = [
+const RELEASES: Order = Order {
+    acts: &[
         (0, Act::Acquire(0)),
         (0, Act::Acquire(0)),
         (0, CALL),
@@ -97,23 +100,25 @@ fn a_release_comes_before_each_later_acquire(rt: HostRuntime) {
         (2, Act::Acquire(1)),
         (1, Act::Acquire(0)),
         (1, CALL),
-    ];
-    let edges = [
+    ],
+    edges: &[
         (0, 6, false),
         (3, 6, true),
         (4, 6, true),
         (4, 5, false),
         (2, 7, false),
-    ];
-    let paths = [(2, 7, [2, 4, 6, 7].as_slice()), (2, 5, &[]), (5, 7, &[])];
-    let events = events(&rt, rt.alloc(), &acts);
-    are_ordered(&rt, rt.alloc(), &events, &edges, &paths);
+    ],
+    paths: &[(2, 7, &[2, 4, 6, 7]), (2, 5, &[]), (5, 7, &[])],
+};
+
+#[test]
+fn a_release_comes_before_each_later_acquire(rt: HostRuntime) {
+    are_ordered(&rt, rt.alloc(), &RELEASES);
 }
 
 /// p releases a lock, q and r share it at once, p acquires and releases it again, and q shares it
-#[test]
-fn shares_come_behind_releases_and_before_acquires(rt: HostRuntime) {
-    let acts = [
+const SHARES: Order = Order {
+    acts: &[
         (0, Act::Acquire(0)),
         (0, Act::Release(0)),
         (1, Act::Share(0)),
@@ -123,8 +128,8 @@ fn shares_come_behind_releases_and_before_acquires(rt: HostRuntime) {
         (0, Act::Acquire(0)),
         (0, Act::Release(0)),
         (1, Act::Share(0)),
-    ];
-    let edges = [
+    ],
+    edges: &[
         (0, 2, false),
         (1, 2, true),
         (1, 3, true),
@@ -137,16 +142,19 @@ fn shares_come_behind_releases_and_before_acquires(rt: HostRuntime) {
         (5, 7, false),
         (5, 8, false),
         (7, 8, true),
-    ];
-    let paths = [
-        (2, 6, [2, 4, 6].as_slice()),
+    ],
+    paths: &[
+        (2, 6, &[2, 4, 6]),
         (3, 6, &[3, 5, 6]),
         (2, 5, &[]),
         (4, 5, &[]),
         (5, 8, &[5, 6, 7, 8]),
-    ];
-    let events = events(&rt, rt.alloc(), &acts);
-    are_ordered(&rt, rt.alloc(), &events, &edges, &paths);
+    ],
+};
+
+#[test]
+fn shares_come_behind_releases_and_before_acquires(rt: HostRuntime) {
+    are_ordered(&rt, rt.alloc(), &SHARES);
 }
 
 #[test]

@@ -29,23 +29,23 @@ impl Wanted<'_> {
 
     /// Is this the value?
     pub fn is(self, value: &Value) -> bool {
-        match (self, value) {
-            (Wanted::Nil, Value::Nil) => true,
-            (Wanted::Bool(wanted), Value::Bool(value)) => wanted == *value,
-            (Wanted::Int(wanted), Value::Int(value)) => wanted == *value,
-            (Wanted::Text(wanted), Value::Text(text)) => text.items() == wanted,
-            _ => false,
+        match self {
+            Wanted::Nil => matches!(value, Value::Nil),
+            Wanted::Bool(wanted) => matches!(value, Value::Bool(value) if *value == wanted),
+            Wanted::Int(wanted) => matches!(value, Value::Int(value) if *value == wanted),
+            Wanted::Text(wanted) => matches!(value, Value::Text(text) if text.items() == wanted),
         }
     }
 }
 
 /// Are these the values?
 pub fn are(wanted: &[Wanted], values: &[Value]) -> bool {
+    for (wanted, value) in wanted.iter().zip(values) {
+        if !wanted.is(value) {
+            return false;
+        }
+    }
     wanted.len() == values.len()
-        && wanted
-            .iter()
-            .zip(values)
-            .all(|(wanted, value)| wanted.is(value))
 }
 
 // A list with these values.

@@ -12,30 +12,45 @@ use std::mem::size_of;
 use std::process::Abort;
 use std::sync::ledger::{Blank, Ledger};
 
-#[test]
-fn names(rt: HostRuntime) {
-    let letters = [b'x'; 65];
-    let rows = [
-        (b"".as_slice(), false),
-        (b"a", true),
-        (b"a b", false),
-        (b"Az09_.:$#@-", true),
-        (b"a/b", false),
-        (&letters[..64], true),
-        (&letters, false),
-    ];
-    for (bytes, is_name) in rows {
-        match Name::from_bytes(bytes) {
-            Ok(name) => assert!(rt; is_name && name.items() == bytes && name.copy() == name),
-            Err(BadName) => assert!(rt; !is_name),
-        }
+/// Texts that are a name, and others. The long ones have 64 and 65 bytes.
+const NAMES: [(&str, bool); 7] = [
+    ("", false),
+    ("a", true),
+    ("a b", false),
+    ("Az09_.:$#@-", true),
+    ("a/b", false),
+    (
+        "xxxxxxxxxxxxxxxxxxxxxxxxxxxxxxxxxxxxxxxxxxxxxxxxxxxxxxxxxxxxxxxx",
+        true,
+    ),
+    (
+        "xxxxxxxxxxxxxxxxxxxxxxxxxxxxxxxxxxxxxxxxxxxxxxxxxxxxxxxxxxxxxxxxx",
+        false,
+    ),
+];
+
+// Is the text kept as a name, and copied, where it is one, and refused elsewhere?
+fn is_kept(text: &str, is_name: bool) -> bool {
+    match Name::from_bytes(text.as_bytes()) {
+        Ok(name) => is_name && name.items() == text.as_bytes() && name.copy() == name,
+        Err(BadName) => !is_name,
     }
 }
 
 #[test]
+fn names(rt: HostRuntime) {
+    for (text, is_name) in &NAMES {
+        assert!(rt; is_kept(text, *is_name), "at {text}");
+    }
+}
+
+/// Texts with how many bytes at their front are of a name.
+const ENDS: [(&str, usize); 5] = [("", 0), ("a-b c", 3), (" a", 0), ("a/b", 1), ("ab", 2)];
+
+#[test]
 fn ends_of_names(rt: HostRuntime) {
-    for (text, length) in [("", 0), ("a-b c", 3), (" a", 0), ("a/b", 1), ("ab", 2)] {
-        assert!(rt; name_length(text.as_bytes()) == length, "at {text}");
+    for (text, length) in &ENDS {
+        assert!(rt; name_length(text.as_bytes()) == *length, "at {text}");
     }
 }
 
@@ -94,37 +109,44 @@ fn has_spelling(rt: &impl Abort, alloc: Global, bytes: &[u8], wanted: Wanted) ->
     let read = read_value(alloc, bytes).expect(rt, "a value");
     let spelled = spell_value(alloc, &value).expect(rt, "memory");
     let copy = value.copy(alloc).expect(rt, "memory");
-    wanted.is(&read) && read == value && spelled.items() == bytes && copy == value
+    is_value(bytes)
+        && wanted.is(&read)
+        && read == value
+        && spelled.items() == bytes
+        && copy == value
 }
+
+/// Texts with the values that they spell.
+const VALUES: [(&str, Wanted<'static>); 17] = [
+    ("nil", Wanted::Nil),
+    ("true", Wanted::Bool(true)),
+    ("false", Wanted::Bool(false)),
+    ("0", Wanted::Int(0)),
+    ("7", Wanted::Int(7)),
+    ("-1", Wanted::Int(-1)),
+    ("10", Wanted::Int(10)),
+    ("999999999999999999", Wanted::Int(999_999_999_999_999_999)),
+    (
+        "1000000000000000000",
+        Wanted::Int(1_000_000_000_000_000_000),
+    ),
+    ("9223372036854775807", Wanted::Int(i64::MAX)),
+    ("-9223372036854775808", Wanted::Int(i64::MIN)),
+    ("\"\"", Wanted::Text(b"")),
+    ("\"a b\"", Wanted::Text(b"a b")),
+    ("\"nil\"", Wanted::Text(b"nil")),
+    ("\" ~\"", Wanted::Text(b" ~")),
+    ("\"\\x0a\\x00\\x7f\\x80\"", Wanted::Text(b"\n\x00\x7f\x80")),
+    ("\"\\\"\\\\\\xff\"", Wanted::Text(b"\x22\x5C\xFF")),
+];
 
 #[test]
 fn reads_and_spells_each_value(rt: HostRuntime) {
-    let rows = [
-        ("nil", Wanted::Nil),
-        ("true", Wanted::Bool(true)),
-        ("false", Wanted::Bool(false)),
-        ("0", Wanted::Int(0)),
-        ("7", Wanted::Int(7)),
-        ("-1", Wanted::Int(-1)),
-        ("10", Wanted::Int(10)),
-        ("999999999999999999", Wanted::Int(999_999_999_999_999_999)),
-        (
-            "1000000000000000000",
-            Wanted::Int(1_000_000_000_000_000_000),
-        ),
-        ("9223372036854775807", Wanted::Int(i64::MAX)),
-        ("-9223372036854775808", Wanted::Int(i64::MIN)),
-        ("\"\"", Wanted::Text(b"")),
-        ("\"a b\"", Wanted::Text(b"a b")),
-        ("\"nil\"", Wanted::Text(b"nil")),
-        ("\" ~\"", Wanted::Text(b" ~")),
-        ("\"\\x0a\\x00\\x7f\\x80\"", Wanted::Text(b"\n\x00\x7f\x80")),
-        ("\"\\\"\\\\\\xff\"", Wanted::Text(b"\x22\x5C\xFF")),
-    ];
-    for (text, wanted) in rows {
-        let bytes = text.as_bytes();
-        assert!(rt; is_value(bytes), "at {text}");
-        assert!(rt; has_spelling(&rt, rt.alloc(), bytes, wanted), "at {text}");
+    for (text, wanted) in &VALUES {
+        assert!(rt;
+            has_spelling(&rt, rt.alloc(), text.as_bytes(), *wanted),
+            "at {text}"
+        );
     }
 }
 
@@ -178,36 +200,38 @@ fn is_below(rt: &impl Abort, alloc: Global, one: Wanted, other: Wanted) -> bool 
     one.value(rt, alloc) < other.value(rt, alloc)
 }
 
+/// Values, each below the next one.
+const RISING: [Wanted<'static>; 25] = [
+    Wanted::Nil,
+    Wanted::Bool(false),
+    Wanted::Bool(true),
+    Wanted::Int(i64::MIN),
+    Wanted::Int(-1),
+    Wanted::Int(0),
+    Wanted::Int(i64::MAX),
+    Wanted::Text(b""),
+    Wanted::Text(b"a"),
+    Wanted::Text(b"aa"),
+    Wanted::Text(b"b"),
+    Wanted::Text(b"key"),
+    Wanted::Text(b"key-"),
+    Wanted::Text(b"key-123"),
+    Wanted::Text(b"key-1234"),
+    Wanted::Text(b"key-12345"),
+    Wanted::Text(b"key-1234567890abcd"),
+    Wanted::Text(b"key-1234567890abcde"),
+    Wanted::Text(b"key-1234567890abcdef"),
+    Wanted::Text(b"key-1234567890abcdf"),
+    Wanted::Text(b"key-1235"),
+    Wanted::Text(b"key-124"),
+    Wanted::Text(b"key-\xff"),
+    Wanted::Text(b"kez"),
+    Wanted::Text(b"\xff"),
+];
+
 #[test]
 fn orders_values(rt: HostRuntime) {
-    let rising = [
-        Wanted::Nil,
-        Wanted::Bool(false),
-        Wanted::Bool(true),
-        Wanted::Int(i64::MIN),
-        Wanted::Int(-1),
-        Wanted::Int(0),
-        Wanted::Int(i64::MAX),
-        Wanted::Text(b""),
-        Wanted::Text(b"a"),
-        Wanted::Text(b"aa"),
-        Wanted::Text(b"b"),
-        Wanted::Text(b"key"),
-        Wanted::Text(b"key-"),
-        Wanted::Text(b"key-123"),
-        Wanted::Text(b"key-1234"),
-        Wanted::Text(b"key-12345"),
-        Wanted::Text(b"key-1234567890abcd"),
-        Wanted::Text(b"key-1234567890abcde"),
-        Wanted::Text(b"key-1234567890abcdef"),
-        Wanted::Text(b"key-1234567890abcdf"),
-        Wanted::Text(b"key-1235"),
-        Wanted::Text(b"key-124"),
-        Wanted::Text(b"key-\xff"),
-        Wanted::Text(b"kez"),
-        Wanted::Text(b"\xff"),
-    ];
-    for pair in rising.windows(2) {
-        assert!(rt; is_below(&rt, rt.alloc(), pair[0], pair[1]));
+    for (one, other) in RISING.iter().zip(&RISING[1..]) {
+        assert!(rt; is_below(&rt, rt.alloc(), *one, *other));
     }
 }

@@ -2,9 +2,8 @@ use Rattle.rd_order.specs.TestLists.{two_roots}
 use Rattle.rd_line_trials.proofs.LockLemmas.{guarded_may}
 use Rattle.rd_line_trials.proofs.clocks.guarded.Goals as goal
 
-pub has_rows-requires : goal.has_rows-requires
-has_rows-requires g c = (two_roots, rw (c.call.ensures, c.call-2.ensures) (guarded_may c.in_ok-tracker.tracker c.in_ok-tracker.ensures.stands c.in_ok-tracker.ensures.count))
-
-pub calls_have_rows-requires : goal.calls_have_rows-requires
-calls_have_rows-requires g c =
-    (two_roots, rw (c.call.ensures, c.call-2.ensures) (guarded_may c.in_ok-passing.passing c.in_ok-passing.ensures.stands c.in_ok-passing.ensures.count))
+pub is_told_twice-requires : goal.is_told_twice-requires
+is_told_twice-requires g c = record {
+  all = (two_roots, rw (c.call.ensures, c.call-2.ensures) (guarded_may c.in_ok-tracker.tracker c.in_ok-tracker.ensures.stands c.in_ok-tracker.ensures.count));
+  calls = (two_roots, rw (c.call.ensures, c.call-2.ensures) (guarded_may c.in_ok-passing.passing c.in_ok-passing.ensures.stands c.in_ok-passing.ensures.count));
+}
