@@ -9,5 +9,3 @@ mod reports;
 mod roster;
 #[cfg(test)]
 mod samples;
-#[cfg(test)]
-mod single_calls;

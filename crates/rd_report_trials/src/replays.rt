@@ -1,11 +1,13 @@
 //! Replays of calls on one object.
-ghost use Rattle.std.specs.Prelude.{◌≡◌, ℕ};
+ghost use Rattle.std.specs.Prelude.{◌≡◌, ℕ, List};
 ghost use Rattle.rd_kinds.specs.Machines.{machine_of};
 ghost use Rattle.rd_kinds.specs.Shipped.{shipped_kinds};
+ghost use Rattle.rd_replay.specs.Replays.{Recorded, replay_end};
+ghost use Rattle.rd_replay.specs.Replayer.{ReplayerStandsFor};
 ghost use Rattle.rd_report_trials.specs.Replays.{FitsMachine, HasOne};
 
-use crate::samples::{built_in, has_slots, is_so, is_state, slots, value};
-use rd_base::Slots;
+use crate::samples::{built_in, has_slots, is_so, is_state, slots};
+use rd_base::{Slots, Value};
 use rd_ecl::Spec;
 use rd_event::Call;
 use rd_object::{Expected, ReplayEnd};
@@ -75,20 +77,26 @@ fn replayed(rt: &impl Abort, alloc: Global, kind: u32, rows: &[Row<'_>]) -> Repl
     replayer
 }
 
-// The replay ends so.
-fn ends(rt: &impl Abort, replayer: &Replayer, wanted: &ReplayEnd)
-    requires { (kind : ℕ) × HasOne replayer.now kind }
-{
+// The replay of these calls of one object of this kind ends so.
+fn ends_so(rt: &impl Abort, alloc: Global, kind: u32, rows: &[Row<'_>], wanted: &ReplayEnd) {
+    let replayer = replayed(rt, alloc, kind, rows);
     let end = replayer.end().expect(rt, "memory");
     assert!(rt; end == *wanted);
 }
 
-// Each call gave what was recorded, and the line of the state of the object is this.
-fn has_state(rt: &impl Abort, alloc: Global, replayer: &Replayer, wanted: &str)
-    requires { (kind : ℕ) × HasOne replayer.now kind }
+// Each call gave what was recorded.
+fn is_exact(rt: &impl Abort, replayer: &Replayer)
+    ensures { (kinds : List ℕ) (calls : List Recorded) → ReplayerStandsFor replayer.now kinds calls →
+        replay_end kinds calls ≡ ReplayEnd.Exact }
 {
     let end = replayer.end().expect(rt, "memory");
     assert!(rt; matches!(end, ReplayEnd::Exact));
+}
+
+// Each call of one object of this kind gives what was recorded, and then the line of its state is this.
+fn leaves(rt: &impl Abort, alloc: Global, kind: u32, rows: &[Row<'_>], wanted: &str) {
+    let replayer = replayed(rt, alloc, kind, rows);
+    is_exact(rt, &replayer);
     let shape = replayer.state(0).expect(rt, "memory");
     is_state(rt, alloc, &shape, wanted);
 }
@@ -102,8 +110,8 @@ const DICTIONARY: [Row<'static>; 3] = [
 
 #[test]
 fn calls_of_a_dictionary(rt: HostRuntime) {
-    let replayer = replayed(&rt, rt.alloc(), 3, &DICTIONARY);
-    has_state(&rt, rt.alloc(), &replayer, "state o map \"x\" 1 \"y\" 2\n");
+    let wanted = "state o map \"x\" 1 \"y\" 2\n";
+    leaves(&rt, rt.alloc(), 3, &DICTIONARY, wanted);
 }
 
 // `add 1 -> nil`, `get -> 0` and `get -> 1`
@@ -115,9 +123,9 @@ const COUNTER: [Row<'static>; 3] = [
 
 #[test]
 fn a_counter_that_differs(rt: HostRuntime) {
-    let replayer = replayed(&rt, rt.alloc(), 1, &COUNTER);
-    let expected = Expected::Value(value(&rt, rt.alloc(), "1"));
-    ends(&rt, &replayer, &ReplayEnd::Differs { line: 6, expected });
+    let expected = Expected::Value(Value::Int(1));
+    let wanted = ReplayEnd::Differs { line: 6, expected };
+    ends_so(&rt, rt.alloc(), 1, &COUNTER, &wanted);
 }
 
 const NOT_BUILT_IN: [Row<'static>; 2] = [
@@ -127,6 +135,5 @@ const NOT_BUILT_IN: [Row<'static>; 2] = [
 
 #[test]
 fn an_object_of_a_kind_that_is_not_built_in(rt: HostRuntime) {
-    let replayer = replayed(&rt, rt.alloc(), 4, &NOT_BUILT_IN);
-    ends(&rt, &replayer, &ReplayEnd::NotShipped);
+    ends_so(&rt, rt.alloc(), 4, &NOT_BUILT_IN, &ReplayEnd::NotShipped);
 }

@@ -4,7 +4,7 @@ ghost use Rattle.rd_report.specs.Races.{IsKnownRace};
 ghost use Rattle.rd_report.specs.Texts.{naming_in};
 ghost use Rattle.rd_report_trials.specs.Reports.{HasOneMethod, IsOfOne};
 
-use crate::samples::{built_in, is_text, kind_at, name, opens, roster_over, slots, spec_of, value};
+use crate::samples::{built_in, is_so, is_text, name, opens, roster_over, slots, spec_of, value};
 use rd_base::{Bytes, LimitName, Limits, Slots, Steps, Value};
 use rd_clock::{Clock, Stamp};
 use rd_ecl::Spec;
@@ -117,21 +117,6 @@ fn race_of(
     }
 }
 
-// The text of the race is this.
-fn is_written(
-    rt: &impl Abort,
-    alloc: Global,
-    spec: &Spec,
-    names: &Roster,
-    race: &Race,
-    wanted: &str,
-)
-    requires { IsKnownRace spec.now (naming_in names.now) race.now }
-{
-    let text = race_text(alloc, race, spec, names).expect(rt, "memory");
-    is_text(rt, text.items(), wanted);
-}
-
 // A text, and the same as JSON.
 type Wanted<'a> = (&'a str, &'a str);
 
@@ -168,12 +153,21 @@ fn is_appended(
     is_behind(rt, &text, wanted.1);
 }
 
-// So it is written as JSON.
-fn is_object(rt: &impl Abort, alloc: Global, spec: &Spec, names: &Roster, race: &Race, wanted: &str)
+// The text of the race is this, and so it is written as JSON.
+fn is_written(
+    rt: &impl Abort,
+    alloc: Global,
+    spec: &Spec,
+    names: &Roster,
+    race: &Race,
+    wanted: Wanted<'_>,
+)
     requires { IsKnownRace spec.now (naming_in names.now) race.now }
 {
+    let text = race_text(alloc, race, spec, names).expect(rt, "memory");
+    is_text(rt, text.items(), wanted.0);
     let text = race_json(alloc, race, spec, names).expect(rt, "memory");
-    is_text(rt, text.items(), wanted);
+    is_text(rt, text.items(), wanted.1);
 }
 
 // The race of the two calls is told so.
@@ -191,9 +185,8 @@ fn is_told(
     requires earlier { IsOfOne earlier.value.call }
 {
     let race = race_of(rt, spec, names, later, earlier);
-    is_written(rt, alloc, spec, names, &race, wanted.0);
+    is_written(rt, alloc, spec, names, &race, wanted);
     is_appended(rt, alloc, spec, names, &race, wanted);
-    is_object(rt, alloc, spec, names, &race, wanted.1);
 }
 
 // Two calls of the first flag, with one counter for their clocks.
@@ -215,23 +208,24 @@ fn both_calls<L: Ledger>(
     (first, call_of(rt, alloc, second, &mut steps))
 }
 
+// The lines of a trace, the later and the earlier of two calls, and how their race is told.
+type RaceRow<'a> = (&'a str, (Told<'a>, Told<'a>), Wanted<'a>);
+
 // Two threads set a flag, on these lines of a trace. The race is told so.
-fn is_race(
-    rt: &impl Abort,
-    alloc: Global,
-    lines: &str,
-    (later, earlier): (Told<'_>, Told<'_>),
-    wanted: Wanted<'_>,
-) {
-    let (later, earlier) = both_calls::<Brand>(rt, alloc, Blank::new(1), later, earlier);
+fn is_race(rt: &impl Abort, alloc: Global, row: &RaceRow<'_>) {
+    let (lines, (later, earlier), wanted) = row;
+    let (later, earlier) = both_calls::<Brand>(rt, alloc, Blank::new(1), *later, *earlier);
     let spec = spec_of(rt, alloc, FLAGS);
     has_one_method(rt, &spec);
     let names = roster_of(rt, alloc, lines);
-    is_told(rt, alloc, &spec, &names, later, earlier, wanted);
+    is_told(rt, alloc, &spec, &names, later, earlier, *wanted);
 }
 
-// The lines of a trace, the later and the earlier of two calls, and how their race is told.
-type RaceRow<'a> = (&'a str, (Told<'a>, Told<'a>), Wanted<'a>);
+fn are_races(rt: &impl Abort, alloc: Global, rows: &[RaceRow<'_>]) {
+    for row in rows {
+        is_race(rt, alloc, row);
+    }
+}
 
 const RACES: [RaceRow<'static>; 3] = [
     (
@@ -270,53 +264,35 @@ const RACES: [RaceRow<'static>; 3] = [
 
 #[test]
 fn a_race_of_two_calls(rt: HostRuntime) {
-    for (lines, calls, wanted) in &RACES {
-        is_race(&rt, rt.alloc(), lines, *calls, *wanted);
-    }
+    are_races(&rt, rt.alloc(), &RACES);
 }
 
-// How the lines of a trace end, without values.
+// How the lines of a trace end, where each call gave what was recorded.
 #[derive(Clone, Copy)]
 enum Closing {
-    Exact,
-    ExactRaced,
-    LockHeld,
-    BadLine,
-    NoFinalNewline,
-    LongLine,
+    Exact { shown: bool },
+    Refused(u64, TraceCause),
     Fault,
 }
 
-fn refusal(line: u64, cause: TraceCause) -> Ending {
-    Ending::Refused { line, cause }
-}
-
-fn ending(closing: Closing, line: u64) -> Ending {
+fn ending(closing: Closing) -> Ending {
     match closing {
-        Closing::Exact => Ending::End {
+        Closing::Exact { shown } => Ending::End {
             replay: ReplayEnd::Exact,
-            shown: true,
+            shown,
         },
-        Closing::ExactRaced => Ending::End {
-            replay: ReplayEnd::Exact,
-            shown: false,
-        },
-        Closing::LockHeld => refusal(line, TraceCause::Wf(WfCause::LockHeld(0))),
-        Closing::BadLine => refusal(line, TraceCause::BadLine),
-        Closing::NoFinalNewline => refusal(line, TraceCause::NoFinalNewline),
-        Closing::LongLine => refusal(line, TraceCause::Limit(LimitName::Line, 8192)),
+        Closing::Refused(line, cause) => Ending::Refused { line, cause },
         Closing::Fault => Ending::Fault,
     }
 }
 
-// How many races there are, how the lines end, at which line, and how it is told.
-type EndingRow<'a> = (u64, Closing, u64, Wanted<'a>);
+// How many races there are, how the lines end, and how it is told.
+type EndingRow<'a> = (u64, Closing, Wanted<'a>);
 
 const ENDINGS: [EndingRow<'static>; 7] = [
     (
         0,
-        Closing::Exact,
-        0,
+        Closing::Exact { shown: true },
         (
             "races 0\nreplay exact\nverdict deterministic\n",
             "{\"ending\":\"end\",\"races\":0,\"replay\":\"exact\",\"verdict\":\"deterministic\"}\n",
@@ -324,8 +300,7 @@ const ENDINGS: [EndingRow<'static>; 7] = [
     ),
     (
         2,
-        Closing::ExactRaced,
-        0,
+        Closing::Exact { shown: false },
         (
             "races 2\nreplay exact\nverdict not shown\n",
             "{\"ending\":\"end\",\"races\":2,\"replay\":\"exact\",\"verdict\":\"not shown\"}\n",
@@ -333,8 +308,7 @@ const ENDINGS: [EndingRow<'static>; 7] = [
     ),
     (
         1,
-        Closing::LockHeld,
-        10,
+        Closing::Refused(10, TraceCause::Wf(WfCause::LockHeld(0))),
         (
             "races 1\nrefused line 10 lock-held p\n",
             "{\"ending\":\"refused line 10 lock-held p\",\"races\":1}\n",
@@ -342,8 +316,7 @@ const ENDINGS: [EndingRow<'static>; 7] = [
     ),
     (
         0,
-        Closing::BadLine,
-        2,
+        Closing::Refused(2, TraceCause::BadLine),
         (
             "races 0\nrefused line 2 bad-line\n",
             "{\"ending\":\"refused line 2 bad-line\",\"races\":0}\n",
@@ -351,8 +324,7 @@ const ENDINGS: [EndingRow<'static>; 7] = [
     ),
     (
         3,
-        Closing::NoFinalNewline,
-        7,
+        Closing::Refused(7, TraceCause::NoFinalNewline),
         (
             "races 3\nrefused line 7 no-final-newline\n",
             "{\"ending\":\"refused line 7 no-final-newline\",\"races\":3}\n",
@@ -360,8 +332,7 @@ const ENDINGS: [EndingRow<'static>; 7] = [
     ),
     (
         0,
-        Closing::LongLine,
-        2,
+        Closing::Refused(2, TraceCause::Limit(LimitName::Line, 8192)),
         (
             "races 0\nrefused line 2 limit line 8192\n",
             "{\"ending\":\"refused line 2 limit line 8192\",\"races\":0}\n",
@@ -370,7 +341,6 @@ const ENDINGS: [EndingRow<'static>; 7] = [
     (
         0,
         Closing::Fault,
-        0,
         (
             "races 0\nfault input\n",
             "{\"ending\":\"fault input\",\"races\":0}\n",
@@ -378,154 +348,128 @@ const ENDINGS: [EndingRow<'static>; 7] = [
     ),
 ];
 
-fn end_so(rt: &impl Abort, alloc: Global, names: &Roster, rows: &[EndingRow<'_>]) {
-    for (races, closing, line, wanted) in rows {
-        let ending = ending(*closing, *line);
-        let text = ending_text(alloc, *races, &ending, names).expect(rt, "memory");
-        is_text(rt, text.items(), wanted.0);
-        let object = ending_json(alloc, *races, &ending, names).expect(rt, "memory");
-        is_text(rt, object.items(), wanted.1);
-    }
+fn ends_so(rt: &impl Abort, alloc: Global, names: &Roster, row: &EndingRow<'_>) {
+    let (races, closing, wanted) = row;
+    let ending = ending(*closing);
+    let text = ending_text(alloc, *races, &ending, names).expect(rt, "memory");
+    is_text(rt, text.items(), wanted.0);
+    let object = ending_json(alloc, *races, &ending, names).expect(rt, "memory");
+    is_text(rt, object.items(), wanted.1);
 }
 
-fn is_refusal(rt: &impl Abort, alloc: Global, names: &Roster, cause: TraceCause, wanted: &str) {
-    let text = refused_text(alloc, 4, cause, names).expect(rt, "memory");
-    is_text(rt, text.items(), wanted);
+fn end_so(rt: &impl Abort, alloc: Global, rows: &[EndingRow<'_>]) {
+    let names = roster_of(rt, alloc, "rdtrace 1;thread p;thread q");
+    for row in rows {
+        ends_so(rt, alloc, &names, row);
+    }
 }
 
 #[test]
 fn endings(rt: HostRuntime) {
+    end_so(&rt, rt.alloc(), &ENDINGS);
+}
+
+#[test]
+fn a_refusal(rt: HostRuntime) {
     let names = roster_of(&rt, rt.alloc(), "rdtrace 1;thread p;thread q");
-    end_so(&rt, rt.alloc(), &names, &ENDINGS);
     let cause = TraceCause::Wf(WfCause::LockHeld(1));
-    is_refusal(
-        &rt,
-        rt.alloc(),
-        &names,
-        cause,
-        "refused line 4 lock-held q\n",
-    );
+    let text = refused_text(rt.alloc(), 4, cause, &names).expect(&rt, "memory");
+    is_text(&rt, text.items(), "refused line 4 lock-held q\n");
 }
 
-// How a replay ends, without values.
-#[derive(Clone, Copy)]
-enum Replayed<'a> {
-    Exact,
-    Value(u64, &'a str),
-    BadArgument(u64, u8),
-    NotShipped,
+fn is_replay(rt: &impl Abort, alloc: Global, end: &ReplayEnd, wanted: &str) {
+    let text = replay_text(alloc, end).expect(rt, "memory");
+    is_text(rt, text.items(), wanted);
 }
 
-fn replay_end(rt: &impl Abort, alloc: Global, replayed: Replayed<'_>) -> ReplayEnd {
-    match replayed {
-        Replayed::Exact => ReplayEnd::Exact,
-        Replayed::Value(line, spelling) => ReplayEnd::Differs {
-            line,
-            expected: Expected::Value(value(rt, alloc, spelling)),
-        },
-        Replayed::BadArgument(line, slot) => ReplayEnd::Differs {
-            line,
-            expected: Expected::BadArgument(slot),
-        },
-        Replayed::NotShipped => ReplayEnd::NotShipped,
-    }
-}
-
-const REPLAYS: [(Replayed<'static>, &str); 4] = [
-    (Replayed::Exact, "replay exact\n"),
-    (
-        Replayed::Value(12, "nil"),
-        "replay differs line 12 expected nil\n",
-    ),
-    (
-        Replayed::BadArgument(7, 0),
-        "replay differs line 7 argument 1\n",
-    ),
-    (Replayed::NotShipped, "replay not shipped\n"),
-];
-
-fn are_replays(rt: &impl Abort, alloc: Global, rows: &[(Replayed<'_>, &str)]) {
-    for (replayed, wanted) in rows {
-        let end = replay_end(rt, alloc, *replayed);
-        let text = replay_text(alloc, &end).expect(rt, "memory");
-        is_text(rt, text.items(), wanted);
-    }
+// It gives this in place of what was recorded.
+fn differs(rt: &impl Abort, alloc: Global, line: u64, expected: Expected, wanted: &str) {
+    is_replay(rt, alloc, &ReplayEnd::Differs { line, expected }, wanted);
 }
 
 #[test]
 fn replays(rt: HostRuntime) {
-    are_replays(&rt, rt.alloc(), &REPLAYS);
+    let alloc = rt.alloc();
+    is_replay(&rt, alloc, &ReplayEnd::Exact, "replay exact\n");
+    is_replay(&rt, alloc, &ReplayEnd::NotShipped, "replay not shipped\n");
+    let nil = "replay differs line 12 expected nil\n";
+    differs(&rt, alloc, 12, Expected::Value(Value::Nil), nil);
+    let argument = "replay differs line 7 argument 1\n";
+    differs(&rt, alloc, 7, Expected::BadArgument(0), argument);
 }
 
 // What an object holds, without values.
 #[derive(Clone, Copy)]
 enum Held {
     One,
-    Number,
+    Number(i64),
     Items,
     Map,
-    Counts,
+    Counts(u64, u64),
     Row,
 }
 
+// The values of the keys.
 fn pairs(rt: &impl Abort, alloc: Global, keys: &str, values: &str) -> ValuePairs {
-    let mut made = Vec::new(alloc);
+    let mut pairs = ValuePairs::new(alloc);
     for (key, held) in keys.split(' ').zip(values.split(' ')) {
-        let pair = (value(rt, alloc, key), value(rt, alloc, held));
-        made.push(pair).expect(rt, "memory");
+        pairs
+            .push(value(rt, alloc, key), value(rt, alloc, held))
+            .expect(rt, "memory");
     }
-    ValuePairs::from_pairs(made)
+    pairs
 }
 
-fn counts(rt: &impl Abort, alloc: Global, row: &State<'_>) -> ValueCounts {
-    let (_, first, second, _, count, other, _) = *row;
-    let mut made = Vec::new(alloc);
-    made.push((value(rt, alloc, first), count))
+// How often each of two values is there.
+fn counts(rt: &impl Abort, alloc: Global, first: (&str, u64), second: (&str, u64)) -> ValueCounts {
+    let mut counts = ValueCounts::new(alloc);
+    counts
+        .push(value(rt, alloc, first.0), first.1)
         .expect(rt, "memory");
-    made.push((value(rt, alloc, second), other))
+    counts
+        .push(value(rt, alloc, second.0), second.1)
         .expect(rt, "memory");
-    ValueCounts::from_counts(made)
+    counts
 }
 
-fn shape(rt: &impl Abort, alloc: Global, row: &State<'_>) -> Shape {
-    match row.0 {
-        Held::One => Shape::One(value(rt, alloc, row.1)),
-        Held::Number => Shape::Number(row.3),
-        Held::Items => Shape::Items(slots(rt, alloc, row.1)),
-        Held::Map => Shape::Map(pairs(rt, alloc, row.1, row.2)),
-        Held::Counts => Shape::Counts(counts(rt, alloc, row)),
-        Held::Row => Shape::Row(slots(rt, alloc, row.1)),
+// What an object holds: its values, with a blank between two, or keys; the values of keys, or a second value; and its line.
+type State<'a> = (Held, &'a str, &'a str, &'a str);
+
+fn shape(rt: &impl Abort, alloc: Global, row: State<'_>) -> Shape {
+    let (held, values, others, _) = row;
+    match held {
+        Held::One => Shape::One(value(rt, alloc, values)),
+        Held::Number(number) => Shape::Number(number),
+        Held::Items => Shape::Items(slots(rt, alloc, values)),
+        Held::Map => Shape::Map(pairs(rt, alloc, values, others)),
+        Held::Counts(first, second) => Shape::Counts(counts(
+            rt,
+            alloc,
+            (values, first),
+            (others, second),
+        )),
+        Held::Row => Shape::Row(slots(rt, alloc, values)),
     }
 }
-
-// What an object holds: its values, with a blank between two, or keys; the values of keys, or a second value; a number; how often each of
-// two values is there; and the line.
-type State<'a> = (Held, &'a str, &'a str, i64, u64, u64, &'a str);
 
 const STATES: [State<'static>; 7] = [
-    (Held::One, "nil", "", 0, 0, 0, "state o one nil\n"),
-    (Held::Number, "", "", -5, 0, 0, "state o number -5\n"),
-    (Held::Items, "-1 10", "", 0, 0, 0, "state o items -1 10\n"),
+    (Held::One, "nil", "", "state o one nil\n"),
+    (Held::Number(-5), "", "", "state o number -5\n"),
+    (Held::Items, "-1 10", "", "state o items -1 10\n"),
     (
         Held::Map,
         "\"a\" \"b\"",
         "1 true",
-        0,
-        0,
-        0,
         "state o map \"a\" 1 \"b\" true\n",
     ),
     (
-        Held::Counts,
+        Held::Counts(3, 1),
         "nil",
         "\"\\\"\"",
-        0,
-        3,
-        1,
         "state o counts nil 3 \"\\\"\" 1\n",
     ),
-    (Held::Row, "-3 -4", "", 0, 0, 0, "state o row -3 -4\n"),
-    (Held::Items, "", "", 0, 0, 0, "state o items\n"),
+    (Held::Row, "-3 -4", "", "state o row -3 -4\n"),
+    (Held::Items, "", "", "state o items\n"),
 ];
 
 // What is put behind the text is this.
@@ -540,8 +484,8 @@ fn appends_state(rt: &impl Abort, text: &mut Bytes, shape: &Shape, wanted: &str)
 fn append_states(rt: &impl Abort, alloc: Global, rows: &[State<'_>]) {
     let mut text = Bytes::new(alloc);
     for row in rows {
-        let shape = shape(rt, alloc, row);
-        appends_state(rt, &mut text, &shape, row.6);
+        let shape = shape(rt, alloc, *row);
+        appends_state(rt, &mut text, &shape, row.3);
     }
 }
 
@@ -550,59 +494,72 @@ fn states(rt: HostRuntime) {
     append_states(&rt, rt.alloc(), &STATES);
 }
 
+// The text of the kinds that are built in.
+const BUILT_IN: &str = "\
+    rdspec 1\n\
+    kind register\n\
+    method read -> value\n\
+    method write value -> done\n\
+    method swap value -> prev\n\
+    commute read read when true\n\
+    commute read write when false\n\
+    commute read swap when value@2 = prev@2\n\
+    commute write write when false\n\
+    commute write swap when false\n\
+    commute swap swap when value@1 = prev@1 and value@2 = prev@2\n\
+    kind counter\n\
+    method add amount -> done\n\
+    method get -> total\n\
+    commute add add when true\n\
+    commute add get when amount@1 = 0\n\
+    commute get get when true\n\
+    kind set\n\
+    method add item -> done\n\
+    method remove item -> done\n\
+    method contains item -> found\n\
+    method size -> n\n\
+    commute add add when item@1 != item@2 or done@1 = false and done@2 = false\n\
+    commute add remove when item@1 != item@2 or done@1 = false and done@2 = false\n\
+    commute add contains when item@1 != item@2 or done@1 = false\n\
+    commute add size when done@1 = false\n\
+    commute remove remove when item@1 != item@2 or done@1 = false and done@2 = false\n\
+    commute remove contains when item@1 != item@2 or done@1 = false\n\
+    commute remove size when done@1 = false\n\
+    commute contains contains when true\n\
+    commute contains size when true\n\
+    commute size size when true\n\
+    kind dictionary\n\
+    method put key value -> prev\n\
+    method get key -> value\n\
+    method size -> n\n\
+    commute put put when key@1 != key@2 or value@1 = prev@1 and value@2 = prev@2\n\
+    commute put get when key@1 != key@2 or value@1 = prev@1\n\
+    commute put size when value@1 = nil and prev@1 = nil or value@1 != nil and prev@1 != nil\n\
+    commute get get when true\n\
+    commute get size when true\n\
+    commute size size when true\n";
+
+fn is_printed(rt: &impl Abort, alloc: Global, kinds: &Spec, wanted: &str) {
+    let text = print(alloc, kinds).expect(rt, "memory");
+    is_text(rt, text.items(), wanted);
+}
+
 #[test]
 fn the_text_of_all(rt: HostRuntime) {
-    let spec = built_in(&rt, rt.alloc());
-    let text = "rdspec 1\n\
-        kind register\n\
-        method read -> value\n\
-        method write value -> done\n\
-        method swap value -> prev\n\
-        commute read read when true\n\
-        commute read write when false\n\
-        commute read swap when value@2 = prev@2\n\
-        commute write write when false\n\
-        commute write swap when false\n\
-        commute swap swap when value@1 = prev@1 and value@2 = prev@2\n\
-        kind counter\n\
-        method add amount -> done\n\
-        method get -> total\n\
-        commute add add when true\n\
-        commute add get when amount@1 = 0\n\
-        commute get get when true\n\
-        kind set\n\
-        method add item -> done\n\
-        method remove item -> done\n\
-        method contains item -> found\n\
-        method size -> n\n\
-        commute add add when item@1 != item@2 or done@1 = false and done@2 = false\n\
-        commute add remove when item@1 != item@2 or done@1 = false and done@2 = false\n\
-        commute add contains when item@1 != item@2 or done@1 = false\n\
-        commute add size when done@1 = false\n\
-        commute remove remove when item@1 != item@2 or done@1 = false and done@2 = false\n\
-        commute remove contains when item@1 != item@2 or done@1 = false\n\
-        commute remove size when done@1 = false\n\
-        commute contains contains when true\n\
-        commute contains size when true\n\
-        commute size size when true\n\
-        kind dictionary\n\
-        method put key value -> prev\n\
-        method get key -> value\n\
-        method size -> n\n\
-        commute put put when key@1 != key@2 or value@1 = prev@1 and value@2 = prev@2\n\
-        commute put get when key@1 != key@2 or value@1 = prev@1\n\
-        commute put size when value@1 = nil and prev@1 = nil or value@1 != nil and prev@1 != nil\n\
-        commute get get when true\n\
-        commute get size when true\n\
-        commute size size when true\n";
-    let printed = print(rt.alloc(), &spec).expect(&rt, "memory");
-    is_text(&rt, printed.items(), text);
+    is_printed(&rt, rt.alloc(), &built_in(&rt, rt.alloc()), BUILT_IN);
+}
+
+#[test]
+fn the_printed_text_is_read_again(rt: HostRuntime) {
+    let again = spec_of(&rt, rt.alloc(), BUILT_IN);
+    is_so(&rt, again.kinds().len() == 4, "four kinds");
+    is_printed(&rt, rt.alloc(), &again, BUILT_IN);
 }
 
 #[test]
 fn a_formula_of_counters(rt: HostRuntime) {
     let spec = built_in(&rt, rt.alloc());
-    let counter = kind_at(&rt, &spec, 1);
+    let counter = spec.kinds().get(1).expect(&rt, "a kind");
     assert!(rt; counter.methods().len() == 2);
     let text = formula_text(rt.alloc(), counter, 0, 1).expect(&rt, "memory");
     is_text(&rt, text.items(), "add get when amount@1 = 0");

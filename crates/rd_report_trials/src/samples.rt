@@ -1,5 +1,5 @@
 //! Values, formulas, kinds and lines that are made from texts.
-ghost use Rattle.std.specs.Prelude.{◌≡◌, ◌≢◌, ◌<◌, ◌^◌, AllPairs, IsTrue, Some, length, slice_get};
+ghost use Rattle.std.specs.Prelude.{◌≡◌, ◌≢◌, ◌<◌, ◌^◌, AllPairs, IsTrue, length};
 ghost use Rattle.rd_base.specs.Limits.{AreUsable};
 ghost use Rattle.rd_ecl.specs.Kinds.{kind_names, kinds_of};
 ghost use Rattle.rd_ecl.specs.Specified.{slots_at};
@@ -64,13 +64,6 @@ pub fn built_in(rt: &impl Abort, alloc: Global) -> Spec
     shipped(alloc).expect(rt, "memory")
 }
 
-/// The kind with this number.
-pub fn kind_at<'a>(rt: &impl Abort, kinds: &'a Spec, number: u32) -> &'a KindSpec
-    ensures { slice_get kinds.now number ≡ Some result.now }
-{
-    kinds.kinds().get(number as usize).expect(rt, "a kind")
-}
-
 /// Does the kind have this method, with so many slots?
 pub fn has_slots(kind: &KindSpec, method: u8, count: usize) -> bool
     ensures { IsTrue result → (method < length kind.now.methods) × (slots_at kind.now.methods method ≡ count) }
@@ -120,13 +113,7 @@ pub fn opens(rt: &impl Abort, alloc: Global, roster: &mut Roster, lines: &str, l
 
 /// The line of a state under the name `o` is this.
 pub fn is_state(rt: &impl Abort, alloc: Global, shape: &Shape, wanted: &str) {
-    let text = state_line(rt, alloc, shape);
-    is_text(rt, text.items(), wanted);
-}
-
-/// The line of a state under the name `o`.
-pub fn state_line(rt: &impl Abort, alloc: Global, shape: &Shape) -> Bytes {
     let mut text = Bytes::new(alloc);
     append_state(&mut text, &name(rt, "o"), shape).expect(rt, "memory");
-    text
+    is_text(rt, text.items(), wanted);
 }

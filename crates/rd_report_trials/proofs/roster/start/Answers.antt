@@ -2,7 +2,7 @@ use Rattle.std.proofs.Common.{◌≢◌, subst, sym}
 use Rattle.std.specs.Prelude.{AllPairs}
 use Rattle.rd_ecl.specs.Kinds.{kind_names, kinds_of}
 use Rattle.rd_kinds.proofs.NameLemmas.{listed_differ}
-use Rattle.rd_report_trials.proofs.single_calls.start.Goals as goal
+use Rattle.rd_report_trials.proofs.roster.start.Goals as goal
 
 pub new-requires-clause-different : goal.new-requires-clause-different
 new-requires-clause-different g c =
