@@ -3,8 +3,9 @@ ghost use Rattle.std.specs.Prelude.{◌≡◌, ◌≤◌, ◌+◌, ◌*◌};
 ghost use Rattle.rd_ecl.specs.Formulas.{nodes, tree_of};
 ghost use Rattle.rd_base.specs.declared.limits.TheConstants.{MOST_TOKENS};
 
-use crate::samples::{draft_of, is_so_at, is_text, outline};
-use rd_base::Value;
+use crate::samples::{append_outline, draft_of, is_so_at, is_text};
+use rd_base::{Bytes, Value};
+use rd_ecl::Side::{First, Second};
 use rd_ecl::{Formula, KindDraft, Rel, Side, Term};
 use std::alloc::Global;
 use std::process::Abort;
@@ -28,8 +29,9 @@ fn has_puts_alone(draft: &KindDraft) -> bool {
 #[test]
 fn what_is_drafted(rt: HostRuntime) {
     let draft = draft_of(&rt, rt.alloc(), PUTS_OF_A_CELL);
-    let text = outline(&rt, rt.alloc(), draft.name(), draft.methods());
-    is_text(&rt, text.items(), "cell; put value prev; get value");
+    let mut text = Bytes::new(rt.alloc());
+    append_outline(&rt, &mut text, draft.name(), draft.methods());
+    is_text(&rt, text.items(), "cell; put value prev; get value\n");
     assert!(rt; has_puts_alone(&draft));
 }
 
@@ -74,7 +76,7 @@ fn relation(sketch: Sketch) -> Formula
             Term::Const(Value::Int(value)),
             Term::Slot(0),
         ),
-        Sketch::Keeps => equal(Side::First, Term::Slot(0), Term::Slot(1)),
+        Sketch::Keeps => equal(First, Term::Slot(0), Term::Slot(1)),
     }
 }
 
@@ -91,155 +93,121 @@ fn integers(rt: &impl Abort, alloc: Global, side: Side, first: u8, count: u8) ->
     Formula::And(rest, Box::new(alloc, last).expect(rt, "memory"))
 }
 
-// Integers on side 1, or not the relation.
-fn or_not(rt: &impl Abort, alloc: Global, count: u8, sketch: Sketch) -> Formula
-    ensures { nodes (tree_of result) ≡ 2 * count + 4 }
-{
-    let integers = integers(rt, alloc, Side::First, 0, count);
-    let relation = Box::new(alloc, relation(sketch)).expect(rt, "memory");
-    let not = Box::new(alloc, Formula::Not(relation)).expect(rt, "memory");
-    Formula::Or(Box::new(alloc, integers).expect(rt, "memory"), not)
+// What stands behind a side's integers: `and` those of a side, or `or not` a relation.
+#[derive(Clone, Copy)]
+enum Rest {
+    And(Side, u8, u8),
+    OrNot(Sketch),
 }
 
-// Has the method of the draft room?
-fn has_room(
+// The integers of a side, the first and how many, and what stands behind them.
+fn formula(rt: &impl Abort, alloc: Global, side: Side, first: u8, count: u8, rest: Rest) -> Formula
+    ensures { nodes (tree_of result) ≤ MOST_TOKENS }
+{
+    assert!(rt; count < 100);
+    let left = Box::new(alloc, integers(rt, alloc, side, first, count)).expect(rt, "memory");
+    match rest {
+        Rest::And(side, first, count) => {
+            assert!(rt; count < 100);
+            let right = integers(rt, alloc, side, first, count);
+            Formula::And(left, Box::new(alloc, right).expect(rt, "memory"))
+        }
+        Rest::OrNot(sketch) => {
+            let right = Box::new(alloc, relation(sketch)).expect(rt, "memory");
+            Formula::Or(
+                left,
+                Box::new(alloc, Formula::Not(right)).expect(rt, "memory"),
+            )
+        }
+    }
+}
+
+// A pair of methods, the integers that its formula names on a side, the first and how many, what stands behind these, and the rooms of
+// `put` and of `get`. `put` has one relation already, that its two slots are equal.
+type Rooms = ((u8, u8), (Side, u8, u8), Rest, bool, bool);
+
+const ROOMS: [Rooms; 14] = [
+    ((0, 1), (First, 0, 4), Rest::And(First, 0, 0), true, true),
+    ((0, 1), (First, 0, 5), Rest::And(First, 0, 0), false, true),
+    // equal relations count once
+    ((0, 1), (First, 0, 4), Rest::And(First, 0, 4), true, true),
+    ((0, 1), (First, 0, 4), Rest::And(First, 3, 2), false, true),
+    // each side is that of one method
+    ((0, 1), (Second, 0, 5), Rest::And(First, 0, 4), true, true),
+    ((0, 1), (Second, 0, 6), Rest::And(First, 0, 4), true, false),
+    // both sides are those of one method
+    ((1, 1), (First, 0, 3), Rest::And(Second, 3, 2), true, true),
+    ((1, 1), (First, 0, 3), Rest::And(Second, 3, 3), true, false),
+    ((1, 1), (First, 0, 5), Rest::And(Second, 0, 5), true, true),
+    // a relation that is turned round is another one
+    (
+        (0, 1),
+        (First, 0, 3),
+        Rest::OrNot(Sketch::IntegerIs(First, 0)),
+        true,
+        true,
+    ),
+    (
+        (0, 1),
+        (First, 0, 4),
+        Rest::OrNot(Sketch::IntegerIs(First, 0)),
+        false,
+        true,
+    ),
+    (
+        (0, 1),
+        (First, 0, 4),
+        Rest::OrNot(Sketch::IsInteger(First, 0)),
+        true,
+        true,
+    ),
+    // one that the pair of `put` and `put` has counts once with that
+    (
+        (0, 1),
+        (First, 0, 4),
+        Rest::OrNot(Sketch::Keeps),
+        true,
+        true,
+    ),
+    (
+        (0, 1),
+        (First, 0, 5),
+        Rest::OrNot(Sketch::Keeps),
+        false,
+        true,
+    ),
+];
+
+// Are these the rooms of `put` and of `get` for the formula of a pair?
+fn are_rooms(
     rt: &impl Abort,
     draft: &KindDraft,
-    first: u8,
-    second: u8,
+    pair: (u8, u8),
     formula: &Formula,
-    method: u8,
+    put: bool,
+    get: bool,
 ) -> bool
     requires { nodes (tree_of formula.now) ≤ MOST_TOKENS }
 {
+    let (first, second) = pair;
     let count = draft.methods().len();
-    assert!(rt; first <= second && usize::from(second) < count && usize::from(method) < count);
-    draft.has_room(first, second, formula, method)
+    assert!(rt; first <= second && usize::from(second) < count && 1 < count);
+    draft.has_room(first, second, formula, 0) == put
+        && draft.has_room(first, second, formula, 1) == get
 }
 
-// A pair of methods, the integers that its formula names on a side and again, the first and how many, and the rooms of `put` and of `get`.
-// `put` has one relation already, that its two slots are equal.
-type Rooms = ((u8, u8), (Side, u8, u8), (Side, u8, u8), bool, bool);
-
-const ROOMS: [Rooms; 9] = [
-    ((0, 1), (Side::First, 0, 4), (Side::First, 0, 0), true, true),
-    (
-        (0, 1),
-        (Side::First, 0, 5),
-        (Side::First, 0, 0),
-        false,
-        true,
-    ),
-    // equal relations count once
-    ((0, 1), (Side::First, 0, 4), (Side::First, 0, 4), true, true),
-    (
-        (0, 1),
-        (Side::First, 0, 4),
-        (Side::First, 3, 2),
-        false,
-        true,
-    ),
-    // each side is that of one method
-    (
-        (0, 1),
-        (Side::Second, 0, 5),
-        (Side::First, 0, 4),
-        true,
-        true,
-    ),
-    (
-        (0, 1),
-        (Side::Second, 0, 6),
-        (Side::First, 0, 4),
-        true,
-        false,
-    ),
-    // both sides are those of one method
-    (
-        (1, 1),
-        (Side::First, 0, 3),
-        (Side::Second, 3, 2),
-        true,
-        true,
-    ),
-    (
-        (1, 1),
-        (Side::First, 0, 3),
-        (Side::Second, 3, 3),
-        true,
-        false,
-    ),
-    (
-        (1, 1),
-        (Side::First, 0, 5),
-        (Side::Second, 0, 5),
-        true,
-        true,
-    ),
-];
-
-// Has the method room for both?
-fn has_room_for(
-    rt: &impl Abort,
-    alloc: Global,
-    draft: &KindDraft,
-    row: &Rooms,
-    method: u8,
-) -> bool {
-    let (pair, some, more, _, _) = *row;
-    assert!(rt; some.2 < 100 && more.2 < 100);
-    let some = integers(rt, alloc, some.0, some.1, some.2);
-    let more = integers(rt, alloc, more.0, more.1, more.2);
-    let some = Box::new(alloc, some).expect(rt, "memory");
-    let formula = Formula::And(some, Box::new(alloc, more).expect(rt, "memory"));
-    has_room(rt, draft, pair.0, pair.1, &formula, method)
-}
-
-fn have_rooms(rt: &impl Abort, alloc: Global, draft: &KindDraft, rows: &[Rooms]) {
-    for (number, row) in rows.iter().enumerate() {
-        is_so_at(rt, has_room_for(rt, alloc, draft, row, 0) == row.3, number);
-        is_so_at(rt, has_room_for(rt, alloc, draft, row, 1) == row.4, number);
-    }
-}
-
-// A relation that is turned round is another one. One that the pair of `put` and `put` has counts once with that. In a row are a relation,
-// how many others there are, and the room of `put`.
-const ONE_MORE: [(Sketch, u8, bool); 5] = [
-    (Sketch::IntegerIs(Side::First, 0), 3, true),
-    (Sketch::IntegerIs(Side::First, 0), 4, false),
-    (Sketch::IsInteger(Side::First, 0), 4, true),
-    (Sketch::Keeps, 4, true),
-    (Sketch::Keeps, 5, false),
-];
-
-// Has `put` room for these?
-fn has_room_for_one_more(
-    rt: &impl Abort,
-    alloc: Global,
-    draft: &KindDraft,
-    count: u8,
-    sketch: Sketch,
-) -> bool {
-    assert!(rt; count < 100);
-    let formula = or_not(rt, alloc, count, sketch);
-    has_room(rt, draft, 0, 1, &formula, 0)
-}
-
-fn have_room_for_one_more(
-    rt: &impl Abort,
-    alloc: Global,
-    draft: &KindDraft,
-    rows: &[(Sketch, u8, bool)],
-) {
-    for (number, (sketch, count, expected)) in rows.iter().enumerate() {
-        let has_room = has_room_for_one_more(rt, alloc, draft, *count, *sketch);
-        is_so_at(rt, has_room == *expected, number);
-    }
+// Has the row these rooms?
+fn has_rooms(rt: &impl Abort, alloc: Global, draft: &KindDraft, row: &Rooms) -> bool {
+    let (pair, (side, first, count), rest, put, get) = *row;
+    let formula = formula(rt, alloc, side, first, count, rest);
+    let formula = Box::new(alloc, formula).expect(rt, "memory");
+    are_rooms(rt, draft, pair, &formula, put, get)
 }
 
 #[test]
 fn rooms_of_methods(rt: HostRuntime) {
     let draft = draft_of(&rt, rt.alloc(), PUTS_OF_A_CELL);
-    have_rooms(&rt, rt.alloc(), &draft, &ROOMS);
-    have_room_for_one_more(&rt, rt.alloc(), &draft, &ONE_MORE);
+    for (number, row) in ROOMS.iter().enumerate() {
+        is_so_at(&rt, has_rooms(&rt, rt.alloc(), &draft, row), number);
+    }
 }

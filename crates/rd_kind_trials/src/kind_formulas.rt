@@ -135,6 +135,21 @@ fn made(rt: &impl Abort, alloc: Global, sketch: Sketch) -> Formula
     }
 }
 
+// What is said of a formula.
+#[derive(Clone, Copy)]
+enum Claim {
+    // it holds of two calls, or doesn't
+    Holds(bool),
+    // the same of these turned round
+    HoldsTurned(bool),
+    // no node is outside the fragment
+    Inside,
+    // the first node outside, and why
+    Outside(u32, Reason),
+    // how many nodes and levels it has
+    Size(u32, u32),
+}
+
 // Does it hold of two calls, or of these turned round?
 fn holds(formula: &Formula, turned: bool) -> bool
     requires { Fits (tree_of formula.now) 2 2 × (nodes (tree_of formula.now) ≤ 8) }
@@ -148,110 +163,104 @@ fn holds(formula: &Formula, turned: bool) -> bool
     }
 }
 
-// A formula, whether the calls are turned round, and whether it holds.
-const CALLS: [(Sketch, bool, bool); 15] = [
-    (Sketch::True, false, true),
-    (Sketch::False, false, false),
-    // slot 0 of the call on side 2 is 1
-    (Sketch::Sided, false, true),
-    (Sketch::Sided, true, false),
-    // 5 differs from 7, and 1 doesn't differ from 1
-    (Sketch::Crossing, false, true),
-    (Sketch::Crossing, true, false),
-    // 7 isn't at most 5, and 1 is at most 1
-    (Sketch::AtMost, false, false),
-    (Sketch::AtMost, true, true),
-    (Sketch::Straight, false, true),
-    (Sketch::NotSided, false, false),
-    (Sketch::NotSided, true, true),
-    (Sketch::SidedAndCrossing, false, true),
-    (Sketch::SidedAndAtMost, false, false),
-    (Sketch::AtMostOrSided, false, true),
-    (Sketch::SidedOrCrossing, true, false),
-];
-
-// Does the formula hold?
-fn sketch_holds(rt: &impl Abort, alloc: Global, sketch: Sketch, turned: bool) -> bool {
-    holds(&made(rt, alloc, sketch), turned)
-}
-
-fn hold_so(rt: &impl Abort, alloc: Global, rows: &[(Sketch, bool, bool)]) {
-    for (number, (sketch, turned, expected)) in rows.iter().enumerate() {
-        let found = sketch_holds(rt, alloc, *sketch, *turned);
-        is_so_at(rt, found == *expected, number);
+// Is this the first node outside?
+fn is_place(found: Option<Outside>, node: u32, reason: Reason) -> bool {
+    match found {
+        Some(outside) => outside.node == node && outside.reason == reason,
+        None => false,
     }
 }
+
+// Is the claim right?
+fn is_right(formula: &Formula, claim: Claim) -> bool
+    requires { Fits (tree_of formula.now) 2 2 × (nodes (tree_of formula.now) ≤ 8) }
+{
+    match claim {
+        Claim::Holds(expected) => holds(formula, false) == expected,
+        Claim::HoldsTurned(expected) => holds(formula, true) == expected,
+        Claim::Inside => formula.place_outside().is_none(),
+        Claim::Outside(node, reason) => is_place(formula.place_outside(), node, reason),
+        Claim::Size(nodes, levels) => formula.nodes() == nodes && formula.levels() == levels,
+    }
+}
+
+// Is the claim of this formula right?
+fn sketch_is_right(rt: &impl Abort, alloc: Global, sketch: Sketch, claim: Claim) -> bool {
+    // a box is dropped by one call
+    let formula = Box::new(alloc, made(rt, alloc, sketch)).expect(rt, "memory");
+    is_right(&formula, claim)
+}
+
+// The claims are right.
+fn are_right(rt: &impl Abort, alloc: Global, rows: &[(Sketch, Claim)]) {
+    for (number, (sketch, claim)) in rows.iter().enumerate() {
+        is_so_at(rt, sketch_is_right(rt, alloc, *sketch, *claim), number);
+    }
+}
+
+const CALLS: [(Sketch, Claim); 15] = [
+    (Sketch::True, Claim::Holds(true)),
+    (Sketch::False, Claim::Holds(false)),
+    // slot 0 of the call on side 2 is 1
+    (Sketch::Sided, Claim::Holds(true)),
+    (Sketch::Sided, Claim::HoldsTurned(false)),
+    // 5 differs from 7, and 1 doesn't differ from 1
+    (Sketch::Crossing, Claim::Holds(true)),
+    (Sketch::Crossing, Claim::HoldsTurned(false)),
+    // 7 isn't at most 5, and 1 is at most 1
+    (Sketch::AtMost, Claim::Holds(false)),
+    (Sketch::AtMost, Claim::HoldsTurned(true)),
+    (Sketch::Straight, Claim::Holds(true)),
+    (Sketch::NotSided, Claim::Holds(false)),
+    (Sketch::NotSided, Claim::HoldsTurned(true)),
+    (Sketch::SidedAndCrossing, Claim::Holds(true)),
+    (Sketch::SidedAndAtMost, Claim::Holds(false)),
+    (Sketch::AtMostOrSided, Claim::Holds(true)),
+    (Sketch::SidedOrCrossing, Claim::HoldsTurned(false)),
+];
 
 #[test]
 fn formulas_of_two_calls(rt: HostRuntime) {
-    hold_so(&rt, rt.alloc(), &CALLS);
+    are_right(&rt, rt.alloc(), &CALLS);
 }
 
-// A formula, and the number of the first node outside with the reason. Where there is none, so is no reason.
-const OUTSIDE: [(Sketch, u32, Option<Reason>); 13] = [
-    (Sketch::False, 0, None),
-    (Sketch::Sided, 0, None),
-    (Sketch::Crossing, 0, None),
-    (Sketch::NotSided, 0, None),
-    (Sketch::CrossingAndCrossing, 0, None),
-    (Sketch::CrossingOrSided, 0, None),
-    (Sketch::SidedOrCrossing, 0, None),
-    (Sketch::Guarded, 0, None),
-    (Sketch::AtMost, 0, Some(Reason::CrossRelation)),
-    (Sketch::NotCrossing, 1, Some(Reason::NotOverCross)),
-    (Sketch::CrossingOrCrossing, 2, Some(Reason::OrOfCross)),
+const FRAGMENT: [(Sketch, Claim); 13] = [
+    (Sketch::False, Claim::Inside),
+    (Sketch::Sided, Claim::Inside),
+    (Sketch::Crossing, Claim::Inside),
+    (Sketch::NotSided, Claim::Inside),
+    (Sketch::CrossingAndCrossing, Claim::Inside),
+    (Sketch::CrossingOrSided, Claim::Inside),
+    (Sketch::SidedOrCrossing, Claim::Inside),
+    (Sketch::Guarded, Claim::Inside),
+    (Sketch::AtMost, Claim::Outside(0, Reason::CrossRelation)),
+    (Sketch::NotCrossing, Claim::Outside(1, Reason::NotOverCross)),
+    (
+        Sketch::CrossingOrCrossing,
+        Claim::Outside(2, Reason::OrOfCross),
+    ),
     // the part on the right of the `or` comes before the `or`
-    (Sketch::CrossingOrAtMost, 1, Some(Reason::CrossRelation)),
+    (
+        Sketch::CrossingOrAtMost,
+        Claim::Outside(1, Reason::CrossRelation),
+    ),
     // 0 and 1 are on one side, 2 is the `and` of them, 3 the crossing one, 4 the `not`
-    (Sketch::LateNot, 4, Some(Reason::NotOverCross)),
+    (Sketch::LateNot, Claim::Outside(4, Reason::NotOverCross)),
 ];
-
-// Is this the first node outside?
-fn is_place(found: Option<Outside>, node: u32, reason: Option<Reason>) -> bool {
-    match found {
-        Some(outside) => outside.node == node && reason == Some(outside.reason),
-        None => reason.is_none(),
-    }
-}
-
-// The first node outside.
-fn place_of(rt: &impl Abort, alloc: Global, sketch: Sketch) -> Option<Outside> {
-    made(rt, alloc, sketch).place_outside()
-}
-
-fn lie_outside(rt: &impl Abort, alloc: Global, rows: &[(Sketch, u32, Option<Reason>)]) {
-    for (number, (sketch, node, reason)) in rows.iter().enumerate() {
-        let found = place_of(rt, alloc, *sketch);
-        is_so_at(rt, is_place(found, *node, *reason), number);
-    }
-}
 
 #[test]
 fn first_nodes_outside(rt: HostRuntime) {
-    lie_outside(&rt, rt.alloc(), &OUTSIDE);
+    are_right(&rt, rt.alloc(), &FRAGMENT);
 }
 
-// How many nodes and levels has it?
-fn size(rt: &impl Abort, alloc: Global, sketch: Sketch) -> (u32, u32) {
-    let formula = made(rt, alloc, sketch);
-    (formula.nodes(), formula.levels())
-}
+const SIZES: [(Sketch, Claim); 2] = [
+    (Sketch::Guarded, Claim::Size(8, 4)),
+    (Sketch::LateNot, Claim::Size(6, 3)),
+];
 
 #[test]
 fn nodes_and_levels(rt: HostRuntime) {
-    assert!(rt; size(&rt, rt.alloc(), Sketch::Guarded) == (8, 4));
-    assert!(rt; size(&rt, rt.alloc(), Sketch::LateNot) == (6, 3));
-}
-
-// A relation of two values.
-fn related(rel: Rel, left: Value, right: Value) -> bool {
-    let formula = Formula::Atom {
-        side: Side::First,
-        rel,
-        left: Term::Const(left),
-        right: Term::Const(right),
-    };
-    formula.holds(&[], &[])
+    are_right(&rt, rt.alloc(), &SIZES);
 }
 
 // Two values, and `=`, `<` and `<=` of them.
@@ -280,23 +289,29 @@ const RELATIONS: [Relations<'static>; 13] = [
     ("\"ab\"", "\"ac\"", false, false, false),
 ];
 
+// The relation of two values.
 fn relates(rt: &impl Abort, alloc: Global, left: &str, right: &str, rel: Rel) -> bool {
-    related(rel, value(rt, alloc, left), value(rt, alloc, right))
+    let formula = Formula::Atom {
+        side: Side::First,
+        rel,
+        left: Term::Const(value(rt, alloc, left)),
+        right: Term::Const(value(rt, alloc, right)),
+    };
+    let formula = Box::new(alloc, formula).expect(rt, "memory");
+    formula.holds(&[], &[])
 }
 
-fn are_related(rt: &impl Abort, alloc: Global, rows: &[Relations<'_>]) {
-    for (left, right, equal, below, at_most) in rows {
-        is_so(rt, relates(rt, alloc, left, right, Rel::Eq) == *equal, left);
-        is_so(rt, relates(rt, alloc, left, right, Rel::Lt) == *below, left);
-        is_so(
-            rt,
-            relates(rt, alloc, left, right, Rel::Le) == *at_most,
-            left,
-        );
-    }
+// Are the three relations these?
+fn are_so(rt: &impl Abort, alloc: Global, row: &Relations<'_>) -> bool {
+    let (left, right, equal, below, at_most) = *row;
+    relates(rt, alloc, left, right, Rel::Eq) == equal
+        && relates(rt, alloc, left, right, Rel::Lt) == below
+        && relates(rt, alloc, left, right, Rel::Le) == at_most
 }
 
 #[test]
 fn relations_of_values(rt: HostRuntime) {
-    are_related(&rt, rt.alloc(), &RELATIONS);
+    for row in &RELATIONS {
+        is_so(&rt, are_so(&rt, rt.alloc(), row), row.0);
+    }
 }

@@ -1,7 +1,9 @@
 //! Kinds, their methods, and calls that commute or don't.
 
-use crate::samples::{built_in, commute, is_so, is_text, kind_at, name, outline, spec_of};
-use rd_base::Name;
+use crate::samples::{
+    append_name, append_outline, built_in, commute, is_so, is_text, kind_at, name, spec_of,
+};
+use rd_base::Bytes;
 use rd_ecl::{KindDraft, KindSpec, Names, Spec};
 use rd_kinds::{KindTable, dictionary_table, law_of_shipped_kinds, reserved, shipped_count};
 use std::alloc::Global;
@@ -11,37 +13,34 @@ use std::process::Abort;
 const CELL_AND_FLAG: &str =
     "rdspec 1\nkind cell\nmethod put value -> prev\nmethod get -> value\ncommute put put when value@1 = prev@1 and value@2 = prev@2\ncommute put get when value@1 = prev@1\ncommute get get when true\nkind flag\nmethod set -> done\ncommute set set when done@1 = true\n";
 
-// The kind has this outline.
-fn has_outline(rt: &impl Abort, alloc: Global, kind: &KindSpec, wanted: &str) {
-    let text = outline(rt, alloc, kind.name(), kind.methods());
-    is_text(rt, text.items(), wanted);
-}
-
-// The outlines of the kinds are these, by their numbers.
-fn have_outlines(rt: &impl Abort, alloc: Global, kinds: &[KindSpec], outlines: &[&str]) {
-    assert!(rt; kinds.len() == outlines.len());
-    for (kind, wanted) in kinds.iter().zip(outlines) {
-        has_outline(rt, alloc, kind, wanted);
+// The outlines of the kinds, by their numbers, are these.
+fn has_kinds(rt: &impl Abort, alloc: Global, spec: Spec, outlines: &str) {
+    let mut text = Bytes::new(alloc);
+    for kind in spec.kinds() {
+        append_outline(rt, &mut text, kind.name(), kind.methods());
     }
+    is_text(rt, text.items(), outlines);
 }
 
-const BUILT_IN: [&str; 4] = [
-    "register; read value; write value done; swap value prev",
-    "counter; add amount done; get total",
-    "set; add item done; remove item done; contains item found; size n",
-    "dictionary; put key value prev; get key value; size n",
-];
+const BUILT_IN: &str = "\
+    register; read value; write value done; swap value prev\n\
+    counter; add amount done; get total\n\
+    set; add item done; remove item done; contains item found; size n\n\
+    dictionary; put key value prev; get key value; size n\n";
 
-const SAID: [&str; 2] = ["cell; put value prev; get value", "flag; set done"];
+const SAID: &str = "\
+    cell; put value prev; get value\n\
+    flag; set done\n";
+
+const FLAG: &str = "rdspec 1\nkind flag\nmethod set -> done\ncommute set set when done@1 = true\n";
 
 // The kinds that are built in, and one behind them.
-const FLAG_BEHIND: [&str; 5] = [
-    "register; read value; write value done; swap value prev",
-    "counter; add amount done; get total",
-    "set; add item done; remove item done; contains item found; size n",
-    "dictionary; put key value prev; get key value; size n",
-    "flag; set done",
-];
+const FLAG_BEHIND: &str = "\
+    register; read value; write value done; swap value prev\n\
+    counter; add amount done; get total\n\
+    set; add item done; remove item done; contains item found; size n\n\
+    dictionary; put key value prev; get key value; size n\n\
+    flag; set done\n";
 
 // The kinds that are built in, and these behind them.
 fn behind(rt: &impl Abort, alloc: Global, kinds: Spec) -> Spec {
@@ -49,29 +48,27 @@ fn behind(rt: &impl Abort, alloc: Global, kinds: Spec) -> Spec {
 }
 
 #[test]
-fn a_kind_behind_the_built_in_ones(rt: HostRuntime) {
-    let flag = "rdspec 1\nkind flag\nmethod set -> done\ncommute set set when done@1 = true\n";
-    let all = behind(&rt, rt.alloc(), spec_of(&rt, rt.alloc(), flag));
-    have_outlines(&rt, rt.alloc(), all.kinds(), &FLAG_BEHIND);
-}
-
-#[test]
 fn kinds_by_number(rt: HostRuntime) {
     law_of_shipped_kinds();
     assert!(rt; shipped_count() == 4);
-    let spec = built_in(&rt, rt.alloc());
-    have_outlines(&rt, rt.alloc(), spec.kinds(), &BUILT_IN);
-    let spec = spec_of(&rt, rt.alloc(), CELL_AND_FLAG);
-    have_outlines(&rt, rt.alloc(), spec.kinds(), &SAID);
+    has_kinds(&rt, rt.alloc(), built_in(&rt, rt.alloc()), BUILT_IN);
+    has_kinds(
+        &rt,
+        rt.alloc(),
+        spec_of(&rt, rt.alloc(), CELL_AND_FLAG),
+        SAID,
+    );
+    let all = behind(&rt, rt.alloc(), spec_of(&rt, rt.alloc(), FLAG));
+    has_kinds(&rt, rt.alloc(), all, FLAG_BEHIND);
 }
 
 // The number of a kind, two calls by the numbers of their methods and their slots, and whether they commute.
 type Pair<'a> = (u32, u8, &'a str, u8, &'a str, bool);
 
 // The calls of these pairs commute or don't.
-fn answer_pairs(rt: &impl Abort, alloc: Global, spec: &Spec, pairs: &[Pair<'_>]) {
+fn answer_pairs(rt: &impl Abort, alloc: Global, spec: Spec, pairs: &[Pair<'_>]) {
     for (number, first, slots, second, others, expected) in pairs {
-        let kind = kind_at(rt, spec, *number);
+        let kind = kind_at(rt, &spec, *number);
         let found = commute(rt, alloc, kind, (*first, slots), (*second, others));
         is_so(rt, found == *expected, slots);
     }
@@ -96,10 +93,10 @@ const CELL_AND_FLAG_PAIRS: [Pair<'static>; 11] = [
 #[test]
 fn calls_of_a_cell_and_a_flag(rt: HostRuntime) {
     let spec = spec_of(&rt, rt.alloc(), CELL_AND_FLAG);
-    answer_pairs(&rt, rt.alloc(), &spec, &CELL_AND_FLAG_PAIRS);
+    answer_pairs(&rt, rt.alloc(), spec, &CELL_AND_FLAG_PAIRS);
 }
 
-const BUILT_IN_PAIRS: [Pair<'static>; 17] = [
+const BUILT_IN_PAIRS: [Pair<'static>; 33] = [
     (0, 0, "1", 0, "1", true),
     (0, 0, "1", 2, "1 1", true),
     (0, 2, "1 1", 2, "1 1", true),
@@ -117,10 +114,7 @@ const BUILT_IN_PAIRS: [Pair<'static>; 17] = [
     (3, 0, "1 5 nil", 2, "2", false),
     (3, 0, "1 6 5", 2, "2", true),
     (3, 2, "2", 0, "1 nil nil", true),
-];
-
-// An `add` or a `remove` of a set, with a `size` and with a `contains` of 1.
-const SET_PAIRS: [Pair<'static>; 16] = [
+    // an `add` or a `remove` of a set, with a `size` and with a `contains` of 1
     (2, 0, "1 true", 3, "3", false),
     (2, 2, "1 true", 0, "1 true", false),
     (2, 1, "1 true", 3, "3", false),
@@ -142,8 +136,7 @@ const SET_PAIRS: [Pair<'static>; 16] = [
 #[test]
 fn calls_of_kinds_that_are_built_in(rt: HostRuntime) {
     let spec = built_in(&rt, rt.alloc());
-    answer_pairs(&rt, rt.alloc(), &spec, &BUILT_IN_PAIRS);
-    answer_pairs(&rt, rt.alloc(), &spec, &SET_PAIRS);
+    answer_pairs(&rt, rt.alloc(), spec, &BUILT_IN_PAIRS);
 }
 
 // How many nodes the formula of two methods has.
@@ -163,7 +156,7 @@ fn nodes_of_formulas(rt: HostRuntime) {
 // Puts a kind without methods behind the others.
 fn push_bare(rt: &impl Abort, alloc: Global, spec: &mut Spec) {
     let draft = KindDraft::new(alloc, name(rt, "bare")).expect(rt, "memory");
-    assert!(rt; spec.push(draft.finish()).is_ok());
+    spec.push(draft.finish()).ok().expect(rt, "memory");
 }
 
 #[test]
@@ -172,30 +165,18 @@ fn no_kinds(rt: HostRuntime) {
     assert!(rt; spec.kinds().is_empty());
     assert!(rt; Names::new(rt.alloc()).items().is_empty());
     push_bare(&rt, rt.alloc(), &mut spec);
-    have_outlines(&rt, rt.alloc(), spec.kinds(), &["bare"]);
+    has_kinds(&rt, rt.alloc(), spec, "bare\n");
 }
 
-const TAKEN: [&str; 8] = [
-    "register",
-    "counter",
-    "set",
-    "dictionary",
-    "bag",
-    "peak",
-    "queue",
-    "tally",
-];
-
-fn are_names(rt: &impl Abort, names: &[Name], rows: &[&str]) {
-    assert!(rt; names.len() == rows.len());
-    for (name, wanted) in names.iter().zip(rows) {
-        is_text(rt, name.items(), wanted);
-    }
-}
+const TAKEN: &str = " register counter set dictionary bag peak queue tally";
 
 #[test]
 fn taken_names(rt: HostRuntime) {
-    are_names(&rt, &reserved(), &TAKEN);
+    let mut text = Bytes::new(rt.alloc());
+    for name in &reserved() {
+        append_name(&rt, &mut text, b" ", name);
+    }
+    is_text(&rt, text.items(), TAKEN);
 }
 
 // A name and the number of its method, and a number and how many arguments its method has.
@@ -208,8 +189,11 @@ const METHODS: [(&str, Option<u8>, u8, Option<u8>); 4] = [
 
 fn has_methods(rt: &impl Abort, table: &KindTable<3>, rows: &[(&str, Option<u8>, u8, Option<u8>)]) {
     for (text, number, method, args) in rows {
-        is_so(rt, table.find(&name(rt, text)) == *number, text);
-        is_so(rt, table.args(*method) == *args, text);
+        is_so(
+            rt,
+            table.find(&name(rt, text)) == *number && table.args(*method) == *args,
+            text,
+        );
     }
 }
 

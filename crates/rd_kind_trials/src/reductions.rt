@@ -26,42 +26,42 @@ const PREV: u8 = 2;
 // A slot is equal to another one, or to `nil`.
 type Equality = (u8, Option<u8>);
 
-// The predicate that says so.
-fn equality(row: Equality) -> Predicate {
-    let right = match row.1 {
-        Some(slot) => Term::Slot(slot),
-        None => Term::Const(Value::Nil),
+// Does the predicate say so?
+fn is_equality(predicate: &Predicate, row: Equality) -> bool {
+    let is_right = match (&predicate.right, row.1) {
+        (Term::Slot(slot), Some(wanted)) => *slot == wanted,
+        (Term::Const(Value::Nil), None) => true,
+        _ => false,
     };
-    Predicate {
-        rel: Rel::Eq,
-        left: Term::Slot(row.0),
-        right,
-    }
+    is_right
+        && predicate.rel == Rel::Eq
+        && matches!(&predicate.left, Term::Slot(slot) if *slot == row.0)
 }
 
 // The predicates are these.
 fn are_equalities(rt: &impl Abort, predicates: &Predicates, rows: &[Equality]) {
     assert!(rt; predicates.items().len() == rows.len());
-    for (number, (found, row)) in predicates.items().iter().zip(rows).enumerate() {
-        is_so_at(rt, *found == equality(*row), number);
+    for (found, row) in predicates.items().iter().zip(rows) {
+        is_so(rt, is_equality(found, *row), "a predicate");
     }
-}
-
-// The predicates of a method of the kind.
-fn predicates(rt: &impl Abort, alloc: Global, kind: &KindSpec, method: u8) -> Predicates {
-    assert!(rt; usize::from(method) < kind.methods().len());
-    kind.predicates(alloc, method).expect(rt, "memory")
 }
 
 // The formulas of a `put` with each other method, with each `put` on side 1.
 const OF_A_PUT: [Equality; 3] = [(VALUE, Some(PREV)), (VALUE, None), (PREV, None)];
 
+// The predicates of a method of the kind are these.
+fn has_predicates(rt: &impl Abort, alloc: Global, kind: &KindSpec, method: u8, rows: &[Equality]) {
+    assert!(rt; usize::from(method) < kind.methods().len());
+    let predicates = kind.predicates(alloc, method).expect(rt, "memory");
+    are_equalities(rt, &predicates, rows);
+}
+
 #[test]
 fn predicates_of_methods(rt: HostRuntime) {
     let kinds = built_in(&rt, rt.alloc());
     let kind = kind_at(&rt, &kinds, DICTIONARY);
-    are_equalities(&rt, &predicates(&rt, rt.alloc(), kind, PUT), &OF_A_PUT);
-    are_equalities(&rt, &predicates(&rt, rt.alloc(), kind, GET), &[]);
+    has_predicates(&rt, rt.alloc(), kind, PUT, &OF_A_PUT);
+    has_predicates(&rt, rt.alloc(), kind, GET, &[]);
 }
 
 // What is left of a formula: for the pairs, the one that there is.
@@ -72,13 +72,17 @@ enum Left {
     Pair(u8, u8),
 }
 
+// Are the pairs these?
+fn are_pairs(pairs: &SlotPairs, wanted: &[(u8, u8)]) -> bool {
+    pairs.items() == wanted
+}
+
 // Is this what is left?
-fn is_left(found: &Reduced, left: Left) -> bool {
-    match (found, left) {
+fn is_left(found: Reduced, left: Left) -> bool {
+    match (&found, left) {
         (Reduced::True, Left::True) => true,
         (Reduced::False, Left::False) => true,
-        (Reduced::Pairs(pairs), Left::Pair(first, second)) => pairs.items()
-            == [(first, second)].as_slice(),
+        (Reduced::Pairs(pairs), Left::Pair(first, second)) => are_pairs(pairs, &[(first, second)]),
         _ => false,
     }
 }
@@ -119,7 +123,20 @@ fn reduced_formulas(rt: HostRuntime) {
     let kind = kind_at(&rt, &kinds, DICTIONARY);
     for (number, (first, second, left)) in REDUCTIONS.iter().enumerate() {
         let found = reduced(&rt, rt.alloc(), kind, *first, *second);
-        is_so_at(&rt, is_left(&found, *left), number);
+        is_so_at(&rt, is_left(found, *left), number);
+    }
+}
+
+// The predicate that says that a slot is equal to another one, or to `nil`.
+fn equality(row: Equality) -> Predicate {
+    let right = match row.1 {
+        Some(slot) => Term::Slot(slot),
+        None => Term::Const(Value::Nil),
+    };
+    Predicate {
+        rel: Rel::Eq,
+        left: Term::Slot(row.0),
+        right,
     }
 }
 
@@ -127,23 +144,32 @@ fn reduced_formulas(rt: HostRuntime) {
 fn lists_of_predicates(rt: HostRuntime) {
     let mut predicates = Predicates::new(rt.alloc());
     are_equalities(&rt, &predicates, &[]);
-    for row in OF_A_PUT {
-        predicates.push(equality(row)).expect(&rt, "memory");
+    for row in &OF_A_PUT {
+        predicates.push(equality(*row)).expect(&rt, "memory");
     }
     are_equalities(&rt, &predicates, &OF_A_PUT);
 }
 
+const PAIRS: [(u8, u8); 2] = [(2, 1), (0, 3)];
+
+// The list of these pairs.
+fn listed(rt: &impl Abort, alloc: Global, rows: &[(u8, u8)]) -> SlotPairs {
+    let mut pairs = SlotPairs::new(alloc);
+    for row in rows {
+        pairs.push(*row).expect(rt, "memory");
+    }
+    pairs
+}
+
 #[test]
 fn pairs_of_slots(rt: HostRuntime) {
-    let mut pairs = SlotPairs::new(rt.alloc());
-    is_so(&rt, pairs.items().is_empty(), "no pairs");
-    pairs.push((2, 1)).expect(&rt, "memory");
-    pairs.push((0, 3)).expect(&rt, "memory");
     is_so(
         &rt,
-        pairs.items() == [(2, 1), (0, 3)].as_slice(),
-        "two pairs",
+        are_pairs(&listed(&rt, rt.alloc(), &[]), &[]),
+        "no pairs",
     );
-    is_so(&rt, pairs.has(2, 1), "a pair that is there");
-    is_so(&rt, !pairs.has(1, 2), "a pair turned round");
+    let pairs = listed(&rt, rt.alloc(), &PAIRS);
+    is_so(&rt, are_pairs(&pairs, &PAIRS), "two pairs");
+    // a pair that is there, and the same turned round
+    is_so(&rt, pairs.has(2, 1) && !pairs.has(1, 2), "one pair");
 }

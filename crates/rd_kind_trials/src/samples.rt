@@ -3,9 +3,8 @@ ghost use Rattle.std.specs.Prelude.{◌≡◌, ◌<◌, IsTrue, Some, length, sl
 ghost use Rattle.rd_ecl.specs.Specified.{slots_at};
 ghost use Rattle.rd_kinds.specs.Shipped.{shipped_kinds};
 
-use rd_base::{Bytes, Name, Slots, Value, read_value, spell_value};
+use rd_base::{Bytes, Name, Slots, Value, read_value};
 use rd_ecl::{KindDraft, KindSpec, Method, Spec};
-use rd_event::read_line;
 use rd_kinds::shipped;
 use rd_object::Shape;
 use rd_reading::Known;
@@ -19,13 +18,10 @@ pub fn value(rt: &impl Abort, alloc: Global, spelling: &str) -> Value {
     read_value(alloc, spelling.as_bytes()).expect(rt, "a value")
 }
 
-/// The values with these spellings, with a blank between two.
+/// The values with these spellings, with blanks between them.
 pub fn slots(rt: &impl Abort, alloc: Global, spellings: &str) -> Slots {
     let mut slots = Slots::new(alloc);
-    if spellings.is_empty() {
-        return slots;
-    }
-    for spelling in spellings.split(' ') {
+    for spelling in spellings.split_whitespace() {
         slots.push(value(rt, alloc, spelling)).expect(rt, "memory");
     }
     slots
@@ -49,12 +45,6 @@ pub fn is_so_at(rt: &impl Abort, holds: bool, row: usize) {
 /// The bytes are this text.
 pub fn is_text(rt: &impl Abort, found: &[u8], wanted: &str) {
     is_so(rt, found == wanted.as_bytes(), wanted);
-}
-
-/// Is this the spelling of the value?
-pub fn is_spelled(rt: &impl Abort, alloc: Global, value: &Value, spelling: &str) -> bool {
-    let spelled = spell_value(alloc, value).expect(rt, "memory");
-    spelled.items() == spelling.as_bytes()
 }
 
 /// The kinds that a text says.
@@ -112,39 +102,31 @@ pub fn commute(
 ) -> bool {
     let a = slots(rt, alloc, first.1);
     let b = slots(rt, alloc, second.1);
-    assert!(rt; has_slots(kind, first.0, a.items().len()));
-    assert!(rt; has_slots(kind, second.0, b.items().len()));
+    assert!(rt;
+        has_slots(kind, first.0, a.items().len()) && has_slots(kind, second.0, b.items().len())
+    );
     kind.commute(first.0, a.items(), second.0, b.items())
 }
 
-/// The line of a state under the name `o` is this.
-pub fn is_state(rt: &impl Abort, alloc: Global, shape: &Shape, wanted: &str) {
-    let text = state_line(rt, alloc, shape);
-    is_text(rt, text.items(), wanted);
+/// Puts the line of a state under the name `o` behind the text.
+pub fn append_held(rt: &impl Abort, text: &mut Bytes, shape: Shape) {
+    append_state(text, &name(rt, "o"), &shape).expect(rt, "memory");
 }
 
-/// The line of a state under the name `o`.
-pub fn state_line(rt: &impl Abort, alloc: Global, shape: &Shape) -> Bytes {
-    let mut text = Bytes::new(alloc);
-    append_state(&mut text, &name(rt, "o"), shape).expect(rt, "memory");
-    text
-}
-
-// Puts a name behind the text, behind this separator.
-fn append_name(rt: &impl Abort, text: &mut Bytes, separator: &[u8], name: &Name) {
+/// Puts a name behind the text, behind this separator.
+pub fn append_name(rt: &impl Abort, text: &mut Bytes, separator: &[u8], name: &Name) {
     text.append(separator).expect(rt, "memory");
     text.append(name.items()).expect(rt, "memory");
 }
 
-/// A name, and behind it each method with its variables.
-pub fn outline(rt: &impl Abort, alloc: Global, name: &Name, methods: &[Method]) -> Bytes {
-    let mut text = Bytes::new(alloc);
-    append_name(rt, &mut text, b"", name);
+/// Puts a line behind the text: a name, and each method with its variables.
+pub fn append_outline(rt: &impl Abort, text: &mut Bytes, name: &Name, methods: &[Method]) {
+    append_name(rt, text, b"", name);
     for method in methods {
-        append_name(rt, &mut text, b"; ", &method.name);
+        append_name(rt, text, b"; ", &method.name);
         for variable in method.variables.items() {
-            append_name(rt, &mut text, b" ", variable);
+            append_name(rt, text, b" ", variable);
         }
     }
-    text
+    text.append(b"\n").expect(rt, "memory");
 }
