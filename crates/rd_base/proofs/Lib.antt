@@ -6,3 +6,4 @@ pub mod FoundLemmas
 pub mod ValueLemmas
 pub mod OrderLemmas
 pub mod ByteOrderLemmas
+pub mod ListedLemmas

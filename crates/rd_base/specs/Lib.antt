@@ -3,4 +3,5 @@ pub mod Limits
 pub mod Names
 pub mod Order
 pub mod ReadingValues
+pub mod Slots
 pub mod Spelling

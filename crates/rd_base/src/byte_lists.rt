@@ -87,6 +87,14 @@ impl Bytes {
         self.held.clear();
     }
 
+    /// Takes room for this many bytes more at once. Its bytes stay.
+    pub fn reserve(&mut self, more: usize) -> Result<(), NoMemory>
+        ensures { self.new ≡ self.old }
+    {
+        self.held.reserve(more)?;
+        Ok(())
+    }
+
     /// Puts a byte last. After want of memory the text is as before.
     pub fn push(&mut self, byte: u8) -> Result<(), NoMemory>
         ensures ok { OnOk result (self.new ≡ self.old ++ byte ∷ []) }

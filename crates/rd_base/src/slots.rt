@@ -3,16 +3,88 @@ ghost use Rattle.std.specs.Prelude.{◌≡◌, [], ◌∷◌, ◌++◌, IfOk};
 
 use crate::memory::NoMemory;
 use crate::values::Value;
+use arrayvec::ArrayVec;
 use std::alloc::Global;
 use std::marker::Model;
 use std::rc::Rc;
 
-/// The arguments of a call, then its result. Copies share one list in memory. Contracts see it as the list of the values.
+/// Values one after another: up to three without memory of their own. Contracts see it as the list of the values.
+#[derive(Debug, Drop)]
+pub struct ValueList {
+    few: ArrayVec<Value, 3>,
+    // all of them, where there are more than three
+    many: Vec<Value>,
+}
+
+impl Model for ValueList {
+    ghost use Rattle.std.specs.Prelude.{List};
+    ghost use Rattle.rd_base.specs.Slots.{held_values};
+    ghost use Rattle.rd_base.specs.declared.values.Value.{Value as Item};
+
+    ghost Value = { List Item };
+
+    ghost view = { λ s. held_values s.few.items s.many.items };
+}
+
+impl ValueList {
+    ghost use Rattle.std.specs.Prelude.{◌≡◌, [], ◌∷◌, ◌++◌, OnOk, OnErr};
+
+    /// No values. It takes no memory.
+    pub fn new(alloc: Global) -> ValueList
+        ensures { result ≡ [] }
+    {
+        ValueList {
+            few: ArrayVec::new(),
+            many: Vec::new(alloc),
+        }
+    }
+
+    /// The values.
+    pub fn items(&self) -> &[Value]
+        ensures { result.now ≡ self.now }
+    {
+        if self.many.is_empty() {
+            self.few.as_slice()
+        } else {
+            self.many.as_slice()
+        }
+    }
+
+    /// Puts a value last. Only a fourth one and those behind it take memory; after want of it the list is as before.
+    pub fn push(&mut self, alloc: Global, value: Value) -> Result<(), NoMemory>
+        ensures ok { OnOk result (self.new ≡ self.old ++ value ∷ []) }
+        ensures err { OnErr result (self.new ≡ self.old) }
+    {
+        if self.many.is_empty() && !self.few.is_full() {
+            self.few.push(value);
+            return Ok(());
+        }
+        self.push_to_many(alloc, value)
+    }
+
+    #[inline(never)]
+    fn push_to_many(&mut self, alloc: Global, value: Value) -> Result<(), NoMemory>
+        ensures ok { OnOk result (self.new ≡ self.old ++ value ∷ []) }
+        ensures err { OnErr result (self.new ≡ self.old) }
+    {
+        if self.many.is_empty() {
+            let mut list = copies(alloc, self.few.as_slice())?;
+            list.push(value)?;
+            self.many = list;
+            return Ok(());
+        }
+        self.many.push(value)?;
+        Ok(())
+    }
+}
+
+/// The arguments of a call, then its result. Copies share one block of memory, which up to three values lie in. Contracts see it as the
+/// list of the values.
 #[derive(Debug, Drop)]
 pub struct Slots {
     alloc: Global,
     // None where there is no value
-    held: Option<Rc<Vec<Value>>>,
+    held: Option<Rc<ValueList>>,
 }
 
 impl Model for Slots {
@@ -22,7 +94,7 @@ impl Model for Slots {
 
     ghost Value = { List Item };
 
-    ghost view = { λ s. unwrap_or (option_map (λ held. held.value.items) s.held) [] };
+    ghost view = { λ s. unwrap_or (option_map (λ held. held.value) s.held) [] };
 }
 
 // Copies of the values.
@@ -37,11 +109,14 @@ fn copies(alloc: Global, values: &[Value]) -> Result<Vec<Value>, NoMemory>
 }
 
 // Copies of the values, and one value more.
-fn with_last(alloc: Global, values: &[Value], last: Value) -> Result<Rc<Vec<Value>>, NoMemory>
-    ensures { IfOk result (λ held. held.value.items ≡ values.now ++ last ∷ []) }
+fn with_last(alloc: Global, values: &[Value], last: Value) -> Result<Rc<ValueList>, NoMemory>
+    ensures { IfOk result (λ held. held.value ≡ values.now ++ last ∷ []) }
 {
-    let mut list = copies(alloc, values)?;
-    list.push(last)?;
+    let mut list = ValueList {
+        few: ArrayVec::new(),
+        many: copies(alloc, values)?,
+    };
+    list.push(alloc, last)?;
     Ok(Rc::new(alloc, list)?)
 }
 
@@ -59,10 +134,21 @@ impl Slots {
     pub fn from_values(alloc: Global, values: Vec<Value>) -> Result<Slots, NoMemory>
         ensures { IfOk result (λ slots. slots ≡ values.items) }
     {
-        Ok(Slots {
+        let list = ValueList {
+            few: ArrayVec::new(),
+            many: values,
+        };
+        Ok(Slots::from_shared(alloc, Rc::new(alloc, list)?))
+    }
+
+    /// The list with the values of that one, in its memory.
+    pub fn from_shared(alloc: Global, list: Rc<ValueList>) -> Slots
+        ensures { result ≡ list.value }
+    {
+        Slots {
             alloc,
-            held: Some(Rc::new(alloc, values)?),
-        })
+            held: Some(list),
+        }
     }
 
     /// Puts a value last. After want of memory the list is as before.
@@ -70,20 +156,13 @@ impl Slots {
         ensures ok { OnOk result (self.new ≡ self.old ++ value ∷ []) }
         ensures err { OnErr result (self.new ≡ self.old) }
     {
-        match &mut self.held {
-            None => {
-                self.held = Some(with_last(self.alloc, &[], value)?);
-                Ok(())
-            }
-            Some(held) => {
-                if let Some(list) = Rc::get_mut(held) {
-                    list.push(value)?;
-                    return Ok(());
-                }
-                *held = with_last(self.alloc, held.as_slice(), value)?;
-                Ok(())
-            }
+        if let Some(held) = &mut self.held
+            && let Some(list) = Rc::get_mut(held)
+        {
+            return list.push(self.alloc, value);
         }
+        self.held = Some(with_last(self.alloc, self.items(), value)?);
+        Ok(())
     }
 
     /// The values.
@@ -91,7 +170,7 @@ impl Slots {
         ensures { result.now ≡ self.now }
     {
         match &self.held {
-            Some(held) => held.as_slice(),
+            Some(held) => held.items(),
             None => &[],
         }
     }
@@ -103,7 +182,7 @@ impl Slots {
         ensures memory { OnErr result (self.now ≢ []) }
     {
         match &self.held {
-            Some(held) if !held.is_empty() => Ok(Slots {
+            Some(held) if !held.items().is_empty() => Ok(Slots {
                 alloc,
                 held: Some(held.clone()?),
             }),

@@ -170,6 +170,12 @@ pub enum Value {
     Text(Text),
 }
 
+impl Default for Value {
+    fn default() -> Value {
+        Value::Nil
+    }
+}
+
 impl Value {
     /// An equal value. Only a text that isn't empty takes memory.
     pub fn copy(&self, alloc: Global) -> Result<Value, NoMemory>

@@ -10,6 +10,8 @@ mod spelling;
 
 pub use events::{Call, Event};
 pub use items::{Line, LineEvent};
-pub use reading::{LineRefused, is_skipped, law_of_calls, law_of_spelling, read_into, read_line};
+pub use reading::{
+    LineRefused, behind, is_skipped, law_of_calls, law_of_spelling, read_into, read_line,
+};
 pub use slots::read_slots;
 pub use spelling::{append_call, spell};

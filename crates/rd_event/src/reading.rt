@@ -42,8 +42,9 @@ pub(crate) fn bytes_are(bytes: &[u8], text: &str) -> bool
     bytes == text.as_bytes()
 }
 
-// What stands behind the text, if the bytes begin with it. Most texts are told apart by their first byte.
-fn behind<'a>(bytes: &'a [u8], text: &[u8]) -> Option<&'a [u8]>
+/// What stands behind the text, if the bytes begin with it. Most texts are told apart by their first byte.
+#[inline(always)]
+pub fn behind<'a>(bytes: &'a [u8], text: &[u8]) -> Option<&'a [u8]>
     ensures { IfSome result (λ rest. bytes.now ≡ text.now ++ rest.now) }
 {
     if bytes.first() != text.first() {

@@ -7,8 +7,9 @@ ghost use Rattle.rd_event.specs.ReadingSlots.{ends_value, next_place, value_leng
 
 use crate::front::{Front, front_of};
 use crate::reading::{LineRefused, bytes_are};
-use rd_base::{Slots, Text, Value, ValueRefused, is_value, read_value};
+use rd_base::{Slots, Text, Value, ValueList, ValueRefused, is_value, read_value};
 use std::alloc::Global;
+use std::rc::Rc;
 
 // Where a reader of values stands: outside quotes, between quotes, or behind a `\` between quotes.
 #[derive(Clone, Copy)]
@@ -177,15 +178,15 @@ fn value_with(alloc: Global, front: Front<'_>) -> Option<Value>
 // Puts the first of the values that the bytes spell behind the others, and tells how long its spelling is, where a front tells
 // it and memory is there. Else the values are as before.
 #[inline]
-fn push_front(alloc: Global, bytes: &[u8], values: &mut Vec<Value>) -> Option<usize>
+fn push_front(alloc: Global, bytes: &[u8], values: &mut ValueList) -> Option<usize>
     ensures length { IfSome result (λ length. length ≡ value_length Outside bytes.now) }
     ensures found { IfSome result (λ _. (value : Value)
-        × (value_of (first_value bytes.now) ≡ Some value) × (values.new.items ≡ values.old.items ++ value ∷ [])) }
-    ensures none { IfNone result (values.new.items ≡ values.old.items) }
+        × (value_of (first_value bytes.now) ≡ Some value) × (values.new ≡ values.old ++ value ∷ [])) }
+    ensures none { IfNone result (values.new ≡ values.old) }
 {
     let (front, length) = front_of(bytes)?;
     let value = value_with(alloc, front)?;
-    let Ok(()) = values.push(value) else {
+    let Ok(()) = values.push(alloc, value) else {
         return None;
     };
     Some(length)
@@ -193,13 +194,13 @@ fn push_front(alloc: Global, bytes: &[u8], values: &mut Vec<Value>) -> Option<us
 
 // Puts the value that the bytes spell behind the others.
 #[inline(never)]
-fn push_value(alloc: Global, bytes: &[u8], values: &mut Vec<Value>) -> Result<(), ValueRefused>
+fn push_value(alloc: Global, bytes: &[u8], values: &mut ValueList) -> Result<(), ValueRefused>
     ensures found { OnOk result ((value : Value)
-        × (value_of bytes.now ≡ Some value) × (values.new.items ≡ values.old.items ++ value ∷ [])) }
+        × (value_of bytes.now ≡ Some value) × (values.new ≡ values.old ++ value ∷ [])) }
     ensures none { IfErr result (λ e. e ≡ ValueRefused.NotAValue → value_of bytes.now ≡ None) }
 {
     let value = read_value(alloc, bytes)?;
-    let Ok(()) = values.push(value) else {
+    let Ok(()) = values.push(alloc, value) else {
         return Err(ValueRefused::NoMemory);
     };
     Ok(())
@@ -210,10 +211,10 @@ fn push_value(alloc: Global, bytes: &[u8], values: &mut Vec<Value>) -> Result<()
 fn push_first_value<'a>(
     alloc: Global,
     bytes: &'a [u8],
-    values: &mut Vec<Value>,
+    values: &mut ValueList,
 ) -> Result<&'a [u8], ValueRefused>
     ensures found { OnOk result ((value : Value)
-        × (value_of (first_value bytes.now) ≡ Some value) × (values.new.items ≡ values.old.items ++ value ∷ [])) }
+        × (value_of (first_value bytes.now) ≡ Some value) × (values.new ≡ values.old ++ value ∷ [])) }
     ensures rest { IfOk result (λ rest. rest.now ≡ other_values bytes.now) }
     ensures none { IfErr result (λ e. e ≡ ValueRefused.NotAValue → value_of (first_value bytes.now) ≡ None) }
 {
@@ -254,13 +255,13 @@ fn cut_arrow(bytes: &[u8]) -> (bool, &[u8])
 
 // Puts the arguments and the result, at most 7 values, that the bytes spell into an empty list: each by its front, or, where
 // that tells nothing, by way of its word.
-fn push_slots(alloc: Global, bytes: &[u8], values: &mut Vec<Value>) -> Result<(), ValueRefused>
-    requires { values.old.items ≡ [] }
-    ensures slots { OnOk result (slots_read 7 bytes.now ≡ Some values.new.items) }
+fn push_slots(alloc: Global, bytes: &[u8], values: &mut ValueList) -> Result<(), ValueRefused>
+    requires { values.old ≡ [] }
+    ensures slots { OnOk result (slots_read 7 bytes.now ≡ Some values.new) }
     ensures none { IfErr result (λ e. e ≡ ValueRefused.NotAValue → slots_read 7 bytes.now ≡ None) }
 {
     let mut rest = bytes;
-    while values.len() < 7 {
+    while values.items().len() < 7 {
         let (is_last, from) = cut_arrow(rest);
         match push_front(alloc, from, values) {
             Some(length) => {
@@ -301,7 +302,7 @@ fn why_refused(refused: ValueRefused, bytes: &[u8]) -> LineRefused
 }
 
 /// The arguments and the result of a call, at most 7 values, that the bytes behind its names spell. The answer is `BadLine` exactly if
-/// they spell none.
+/// they spell none, and `NoMemory` only if they spell some.
 pub fn read_slots(alloc: Global, bytes: &[u8]) -> Result<Slots, LineRefused>
     ensures slots { IfOk result (λ slots. slots_read 7 bytes.now ≡ Some slots) }
     ensures none { IfErr result (λ e. e ≡ LineRefused.BadLine → slots_read 7 bytes.now ≡ None) }
@@ -309,15 +310,15 @@ pub fn read_slots(alloc: Global, bytes: &[u8]) -> Result<Slots, LineRefused>
         (λ e. e ≡ LineRefused.NoMemory → (slots : List Value)
         × (slots_read 7 bytes.now ≡ Some slots)) }
 {
-    // most calls have at most three
-    let Ok(mut values) = Vec::with_capacity(alloc, 3) else {
+    let Ok(mut shared) = Rc::new(alloc, ValueList::new(alloc)) else {
         return Err(want_of_memory(bytes));
     };
-    if let Err(refused) = push_slots(alloc, bytes, &mut values) {
+    // nothing else has it
+    let Some(values) = Rc::get_mut(&mut shared) else {
+        return Err(want_of_memory(bytes));
+    };
+    if let Err(refused) = push_slots(alloc, bytes, values) {
         return Err(why_refused(refused, bytes));
     }
-    let Ok(slots) = Slots::from_values(alloc, values) else {
-        return Err(want_of_memory(bytes));
-    };
-    Ok(slots)
+    Ok(Slots::from_shared(alloc, shared))
 }

@@ -14,7 +14,7 @@ if_err (Err e) then has = then e has
 
 pub returns-then-is_last-clause-slots : goal.returns-then-is_last-clause-slots
 returns-then-is_last-clause-slots c =
-    let room : length c.loop-rest.values.items < 7 = search rules in
+    let room : length c.loop-rest.values < 7 = search rules in
     let found = c.in-Some.ensures.found in
     on_ok_weaker c.whole.result (λ all.
     result_found _ _ _ _ found.0 c.loop-rest.invariant room (c.cut_arrow-is_last.ensures.arrow c.if-is_last.true) (ap value_of (sym all) ∙ found.1)
@@ -22,13 +22,13 @@ returns-then-is_last-clause-slots c =
 
 pub returns-then-is_last-clause-none : goal.returns-then-is_last-clause-none
 returns-then-is_last-clause-none c =
-    let room : length c.loop-rest.values.items < 7 = search rules in
+    let room : length c.loop-rest.values < 7 = search rules in
     if_err c.whole.result (λ e none bad.
     result_missed _ _ _ _ c.loop-rest.invariant room (c.cut_arrow-is_last.ensures.arrow c.if-is_last.true) none) c.whole.ensures.none
 
 pub returns-then-length-from-clause-none : goal.returns-then-length-from-clause-none
 returns-then-length-from-clause-none c = λ bad.
-    let room : length c.loop-rest.values.items < 7 = search rules in
+    let room : length c.loop-rest.values < 7 = search rules in
     let found = c.in-Some.ensures.found in
     let same = c.cut_arrow-is_last.ensures.all c.if-is_last.false in
     let all : length c.loop-rest.rest.now ≤ value_length Outside c.loop-rest.rest.now =
@@ -37,7 +37,7 @@ returns-then-length-from-clause-none c = λ bad.
 
 pub loop-rest-preserved-in-Some : goal.loop-rest-preserved-in-Some
 loop-rest-preserved-in-Some c =
-    let room : length c.loop-rest.values.items < 7 = search rules in
+    let room : length c.loop-rest.values < 7 = search rules in
     let found = c.in-Some.ensures.found in
     let from = c.cut_arrow-is_last.result.1.now in
     let same = c.cut_arrow-is_last.ensures.all c.if-is_last.false in
@@ -49,20 +49,20 @@ loop-rest-preserved-in-Some c =
 
 pub returns-then-is_last-2-clause-slots : goal.returns-then-is_last-2-clause-slots
 returns-then-is_last-2-clause-slots c =
-    let room : length c.loop-rest.values.items < 7 = search rules in
+    let room : length c.loop-rest.values < 7 = search rules in
     on_ok_weaker c.push_value.result (λ found.
     result_found _ _ _ _ found.0 c.loop-rest.invariant room (c.cut_arrow-is_last.ensures.arrow c.if-is_last-2.true) found.1
     ∙ ap (λ items. Some (items ++ found.0 ∷ [])) (sym c.in-None.ensures.none) ∙ ap (λ slots. Some slots) (sym found.2)) c.push_value.ensures.found
 
 pub returns-then-is_last-2-clause-none : goal.returns-then-is_last-2-clause-none
 returns-then-is_last-2-clause-none c =
-    let room : length c.loop-rest.values.items < 7 = search rules in
+    let room : length c.loop-rest.values < 7 = search rules in
     if_err c.push_value.result (λ e none bad.
     result_missed _ _ _ _ c.loop-rest.invariant room (c.cut_arrow-is_last.ensures.arrow c.if-is_last-2.true) (none bad)) c.push_value.ensures.none
 
 pub loop-rest-preserved : goal.loop-rest-preserved
 loop-rest-preserved c =
-    let room : length c.loop-rest.values.items < 7 = search rules in
+    let room : length c.loop-rest.values < 7 = search rules in
     let found = c.in-Ok.ensures.found in
     let same = c.cut_arrow-is_last.ensures.all c.if-is_last-2.false in
     rw (found.2, c.in-None.ensures.none, c.in-Ok.ensures.rest, same)
@@ -70,12 +70,12 @@ loop-rest-preserved c =
 
 pub returns-in-Err-clause-none : goal.returns-in-Err-clause-none
 returns-in-Err-clause-none c = λ bad.
-    let room : length c.loop-rest.values.items < 7 = search rules in
+    let room : length c.loop-rest.values < 7 = search rules in
     let same = c.cut_arrow-is_last.ensures.all c.if-is_last-2.false in
     argument_missed _ _ _ c.loop-rest.invariant room (c.cut_arrow-is_last.ensures.none c.if-is_last-2.false)
     (ap (λ bytes. value_of (first_value bytes)) (sym same) ∙ c.in-Err.ensures.none bad)
 
 pub returns-clause-none : goal.returns-clause-none
 returns-clause-none c = λ bad.
-    let full : 7 ≤ length c.loop-rest.values.items = search rules in
+    let full : 7 ≤ length c.loop-rest.values = search rules in
     too_many _ _ _ c.loop-rest.invariant full
