@@ -18,7 +18,7 @@ use Rattle.rd_order.specs.Order.{forked_thread}
 use Rattle.rd_order.specs.Order.{thread_of}
 use Rattle.rd_hb.specs.Tracker.{IsNextEvent, IsStamp, TrackerStandsFor, Tracking, event_bound, last_stamp}
 use Rattle.rd_detect.proofs.CellLemmas.{stands_quiet, stands_unbegun}
-use Rattle.rd_wf.proofs.EventsLemmas.{all_roots, events_more, no_events, roots_more, threads_more, told_formed, told_more}
+use Rattle.rd_rules.proofs.EventsLemmas.{all_roots, events_more, no_events, roots_more, threads_more, told_formed, told_more}
 use Rattle.rd_detect.proofs.RaceLemmas.{not_reported}
 use Rattle.rd_check.proofs.ReportLemmas.{answer_text, event_numbers_more, events_all, next_races_is, next_text_is, passing, quiet_events, quiet_numbers, quiet_races, quiet_texts, races_more, races_within, texts_more}
 use Rattle.rd_walk.proofs.WalkLemmas.{items_more}
@@ -30,20 +30,20 @@ use Rattle.rd_report.specs.Races.{IsKnownRace, IsNamed}
 use Rattle.rd_report.specs.Texts.{Naming, naming}
 use Rattle.rd_store.specs.declared.Race.{Race}
 use Rattle.rd_check.proofs.NamingLemmas.{all_named}
-use Rattle.rd_wf.specs.Events.{AreTold, event_of, events_of, root_count, roots_of}
+use Rattle.rd_rules.specs.Events.{AreTold, event_of, events_of, root_count, roots_of}
 use Rattle.rd_walk.specs.Analysis.{IsNextEntry}
 use Rattle.rd_ecl.specs.Kinds.{Kind, kinds_of}
 use Rattle.rd_ecl.specs.Specified.{SpecifiedKind}
-use Rattle.rd_wf.specs.MayFollow.{MayFollow, accepted_of, begun_name, events, is_event, is_root, is_skip, numbered_event, threads_of}
+use Rattle.rd_rules.specs.MayFollow.{MayFollow, accepted_of, begun_name, events, is_event, is_root, is_skip, numbered_event, threads_of}
 use Rattle.rd_check.specs.Checked.{check_bound, detector_bound, entry_events, event_numbers, race_at, race_texts, races_of, text_with}
 use Rattle.rd_detect.specs.RaceTests.{latest_of}
 use Rattle.rd_json.specs.declared.forms.Form.{Form}
 use Rattle.rd_walk.specs.Walk.{Entry, items, tracking_bound}
 use Rattle.rd_check.specs.declared.checking.Check.{Check}
 use Rattle.rd_wf.specs.declared.roster.Roster.{Roster}
-use Rattle.rd_wf.specs.declared.causes.Accepted.{Accepted}
-use Rattle.rd_wf.specs.declared.causes.Accepted.TheVariants as accepted
-use Rattle.rd_wf.proofs.FollowLemmas.{met}
+use Rattle.rd_rules.specs.declared.causes.Accepted.{Accepted}
+use Rattle.rd_rules.specs.declared.causes.Accepted.TheVariants as accepted
+use Rattle.rd_rules.proofs.FollowLemmas.{met}
 
 module _ (kinds : List Kind) where
   -- ---- the line that was accepted

@@ -4,7 +4,7 @@ use Rattle.rd_base.specs.Limits.{AreUsable}
 use Rattle.rd_base.specs.declared.limits.Limits.{Limits}
 use Rattle.rd_json.specs.Forms.{ending_in}
 use Rattle.rd_json.specs.declared.forms.Form.{Form}
-use Rattle.rd_wf.specs.Events.{AreAccepted}
+use Rattle.rd_rules.specs.Events.{AreAccepted}
 use Rattle.rd_event.specs.declared.items.Line.{Line}
 use Rattle.rd_io.proofs.FaultLemmas.{front_reading}
 use Rattle.rd_io.specs.Lines.{IsFrontOfReading, Stop, Reading, reading}
@@ -21,7 +21,7 @@ use Rattle.rd_check.specs.Checked.{check_outcome, entries_ending, race_texts, ra
 use Rattle.rd_replaying.specs.Endings.{thread_names}
 use Rattle.rd_walk.specs.Walk.{Entry, Walked, after, ending_of, ends, entries_of, goes, goes_or_ends, items, judgement_of, trace_of, walk}
 use Rattle.rd_walk.specs.declared.walk.WalkEnd.TheVariants.{Fault}
-use Rattle.rd_wf.specs.declared.causes.TraceCause.{TraceCause}
+use Rattle.rd_rules.specs.declared.causes.TraceCause.{TraceCause}
 
 -- the walk is that of the whole, or was cut by a fault behind some of its entries
 IsCutOf : Walked → Walked → Type 0

@@ -19,7 +19,7 @@ use Rattle.rd_check.proofs.VerdictLemmas.{verdicts}
 use Rattle.rd_check.specs.Verdicts.{kinds_in}
 use Rattle.std.proofs.lemmas.Bool.Decides.{Decides-eqb}
 use Rattle.std.specs.Prelude.{IsTrue}
-use Rattle.rd_wf.proofs.EventsLemmas.{accepted_told, told_formed}
+use Rattle.rd_rules.proofs.EventsLemmas.{accepted_told, told_formed}
 use Rattle.rd_ecl.specs.Kinds.{kinds_of}
 use Rattle.rd_ecl.specs.Specified.{SpecifiedKind}
 use Rattle.rd_walk.proofs.AcceptedLemmas.{trace_accepted}

@@ -31,9 +31,9 @@ use Rattle.rd_json.specs.declared.forms.Form.TheVariants.{Text, Json, EndingOnly
 use Rattle.rd_report.specs.Races.{Told, clock_text, counts_from, failed_line, race_text, told_by, told_text, with_commas}
 use Rattle.rd_report.specs.Texts.{name_of, naming}
 use Rattle.rd_store.specs.declared.Witness.{Witness}
-use Rattle.rd_wf.specs.Events.{AreTold, events_of, roots_of}
-use Rattle.rd_wf.specs.MayFollow.{begun_name, declared_name, object_kinds, objects_of, threads_of}
-use Rattle.rd_wf.proofs.EventsLemmas.{kinds_placed}
+use Rattle.rd_rules.specs.Events.{AreTold, events_of, roots_of}
+use Rattle.rd_rules.specs.MayFollow.{begun_name, declared_name, object_kinds, objects_of, threads_of}
+use Rattle.rd_rules.proofs.EventsLemmas.{kinds_placed}
 use Rattle.rd_check.specs.Checking.{AreNamed}
 use Rattle.rd_check.specs.Checked.{calls_text, number_at, race_at, told_at}
 

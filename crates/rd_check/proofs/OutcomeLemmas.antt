@@ -20,8 +20,8 @@ use Rattle.rd_walk.specs.declared.status.Status.TheVariants.{NoMemory}
 use Rattle.rd_walk.specs.declared.status.Status.{Status}
 use Rattle.rd_walk.specs.declared.walk.WalkEnd.TheVariants.{End}
 use Rattle.rd_walk.specs.declared.walk.WalkEnd.{WalkEnd}
-use Rattle.rd_wf.proofs.EventsLemmas.{accepted_told}
-use Rattle.rd_wf.specs.Events.{AreAccepted, AreAcceptedFrom}
+use Rattle.rd_rules.proofs.EventsLemmas.{accepted_told}
+use Rattle.rd_rules.specs.Events.{AreAccepted, AreAcceptedFrom}
 use Rattle.std.proofs.Common.{◌≡◌, ℕ, List, [], ◌++◌, sym, ap, ◌∙◌, subst, ◌∷◌}
 use Rattle.std.proofs.lemmas.List.{append-nil, append_assoc, map-append}
 

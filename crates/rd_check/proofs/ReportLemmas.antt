@@ -13,16 +13,16 @@ use Rattle.rd_event.specs.declared.items.Line.TheVariants.{Skip, Header, Thread,
 use Rattle.rd_event.specs.declared.items.LineEvent.{LineEvent}
 use Rattle.rd_order.proofs.OrderLemmas.{length_more}
 use Rattle.std.specs.Prelude.{slice_get}
-use Rattle.rd_wf.proofs.EventsLemmas.{events_more, told_from}
+use Rattle.rd_rules.proofs.EventsLemmas.{events_more, told_from}
 use Rattle.rd_detect.proofs.RaceLemmas.{latest_is, latest_longer, latest_none, latest_some}
 use Rattle.rd_walk.proofs.WalkLemmas.{items_more}
 use Rattle.rd_check.specs.Checking.{next_races, next_text}
 use Rattle.rd_detect.specs.Commuting.{Commute, calls_commute}
 use Rattle.rd_detect.specs.Detect.{IsAnswer}
-use Rattle.rd_wf.specs.Events.{AreAcceptedFrom, AreTold, IsAccepted, event_of, events_from, events_of}
+use Rattle.rd_rules.specs.Events.{AreAcceptedFrom, AreTold, IsAccepted, event_of, events_from, events_of}
 use Rattle.rd_ecl.specs.Kinds.{Kind, kinds_of}
 use Rattle.rd_ecl.specs.Specified.{SpecifiedKind}
-use Rattle.rd_wf.specs.MayFollow.{is_event, numbered_event}
+use Rattle.rd_rules.specs.MayFollow.{is_event, numbered_event}
 use Rattle.rd_json.specs.Forms.{race_in}
 use Rattle.rd_json.specs.declared.forms.Form.{Form}
 use Rattle.rd_report.specs.Races.{told_by}

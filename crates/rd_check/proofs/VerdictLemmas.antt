@@ -17,7 +17,7 @@ use Rattle.rd_linear.proofs.DeterminismLemmas.{deterministic}
 use Rattle.rd_object.specs.declared.shapes.ReplayEnd.TheVariants.{Exact}
 use Rattle.rd_replay.proofs.LawLemmas.{exact_where}
 use Rattle.rd_replaying.proofs.DeclaredLemmas.{calls_declared}
-use Rattle.rd_wf.proofs.EventsLemmas.{accepted_told}
+use Rattle.rd_rules.proofs.EventsLemmas.{accepted_told}
 use Rattle.rd_event.specs.declared.events.Call.{Call as CallOf}
 use Rattle.rd_event.specs.declared.events.Event.{Event}
 use Rattle.rd_event.specs.declared.events.Event.TheVariants.{Call}
@@ -32,8 +32,8 @@ use Rattle.rd_order.specs.Order.{call_in}
 use Rattle.rd_replay.specs.Replays.{Recorded, ReplaysAll, calls_on, held_shape, is_on, object_machine, result_of, shape_after, shape_by, step_at}
 use Rattle.rd_replaying.specs.Replaying.{recorded_from, recorded_of, replay_of}
 use Rattle.rd_walk.specs.Walk.{Entry, items}
-use Rattle.rd_wf.specs.Events.{AreAccepted, AreTold, roots_of, event_of, events_from, events_of}
-use Rattle.rd_wf.specs.MayFollow.{object_kinds}
+use Rattle.rd_rules.specs.Events.{AreAccepted, AreTold, roots_of, event_of, events_from, events_of}
+use Rattle.rd_rules.specs.MayFollow.{object_kinds}
 
 -- ---- the number of a line doesn't matter
 

@@ -20,8 +20,8 @@ use Rattle.rd_replaying.specs.Replaying.{replay_of}
 use Rattle.rd_walk.specs.Traces.{ReportTexts}
 use Rattle.rd_walk.specs.Walk.{Entry, Walked, ending_of, entries_of, items, tracking_bound}
 use Rattle.rd_walk.specs.declared.walk.WalkEnd.{WalkEnd}
-use Rattle.rd_wf.specs.Events.{event_of, events_of}
-use Rattle.rd_wf.specs.MayFollow.{is_event, threads_of}
+use Rattle.rd_rules.specs.Events.{event_of, events_of}
+use Rattle.rd_rules.specs.MayFollow.{is_event, threads_of}
 use Rattle.std.specs.Prelude.{ℕ, zero, suc, ◌+◌, Bool, List, [], ◌∷◌, ◌++◌, length, filter_map, slice_get, Option, Some, None, is_some, unwrap_or, if◌then◌else◌}
 
 -- the number of the line of an event

@@ -16,13 +16,13 @@ use Rattle.rd_json.specs.declared.forms.Form.{Form}
 use Rattle.rd_order.specs.EventLists.{WellFormedWith}
 use Rattle.rd_report.specs.Races.{IsNamed}
 use Rattle.rd_report.specs.Texts.{Naming, naming}
-use Rattle.rd_wf.specs.Events.{AreTold, events_of, roots_of}
-use Rattle.rd_wf.specs.MayFollow.{MayFollow, accepted_of, threads_of}
+use Rattle.rd_rules.specs.Events.{AreTold, events_of, roots_of}
+use Rattle.rd_rules.specs.MayFollow.{MayFollow, accepted_of, threads_of}
 use Rattle.rd_check.specs.Checked.{entry_events, event_numbers, race_at, races_of, text_with}
 use Rattle.rd_walk.specs.Walk.{Entry, items}
 use Rattle.rd_check.specs.declared.checking.Check.{Check}
-use Rattle.rd_wf.specs.declared.causes.Accepted.{Accepted}
-use Rattle.rd_wf.specs.declared.causes.Accepted.TheVariants as accepted
+use Rattle.rd_rules.specs.declared.causes.Accepted.{Accepted}
+use Rattle.rd_rules.specs.declared.causes.Accepted.TheVariants as accepted
 
 -- the tracker stands for the events of these lines, which are a well-formed list, and has their threads
 pub record Tracks (kinds : List Kind) (tracker : Tracking) (lines : List Line) : Type 0 where

@@ -11,7 +11,7 @@ use Rattle.rd_hb.specs.ClockTests.{clock_at}
 use Rattle.rd_hb.specs.EventClocks.{IsClock}
 use Rattle.rd_io.specs.Lines.{Reading, Stop}
 use Rattle.rd_io.specs.SaidLines.{SaysLines}
-use Rattle.rd_wf.specs.Events.{roots_of}
+use Rattle.rd_rules.specs.Events.{roots_of}
 use Rattle.rd_ecl.specs.Kinds.{kinds_of}
 use Rattle.rd_ecl.specs.Specified.{SpecifiedKind}
 use Rattle.rd_json.specs.Forms.{ending_in}

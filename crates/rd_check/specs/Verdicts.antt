@@ -8,8 +8,8 @@ use Rattle.rd_object.specs.declared.shapes.Shape.{Shape}
 use Rattle.rd_replay.specs.Replays.{held_shape}
 use Rattle.rd_replaying.specs.Replaying.{recorded_of}
 use Rattle.rd_walk.specs.Walk.{Entry, items}
-use Rattle.rd_wf.specs.Events.{roots_of}
-use Rattle.rd_wf.specs.MayFollow.{object_kinds}
+use Rattle.rd_rules.specs.Events.{roots_of}
+use Rattle.rd_rules.specs.MayFollow.{object_kinds}
 
 -- the kinds of the objects of accepted lines, by their numbers
 abbrev pub kinds_in : List SpecifiedKind → List Entry → List ℕ

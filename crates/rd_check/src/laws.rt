@@ -14,7 +14,7 @@ ghost use Rattle.rd_replaying.specs.Replaying.{replay_of};
 ghost use Rattle.rd_check.specs.Reports.{IsChecked, IsReport};
 ghost use Rattle.rd_check.specs.Verdicts.{AreDeterministic};
 ghost use Rattle.rd_kinds.specs.Shipped.{shipped_kinds};
-ghost use Rattle.rd_wf.specs.Events.{AreAccepted};
+ghost use Rattle.rd_rules.specs.Events.{AreAccepted};
 ghost use Rattle.rd_walk.specs.Walk.{Entry, Walked, ending_of, entries_of, items, trace_of};
 ghost use Rattle.rd_ecl.specs.Kinds.{kinds_of};
 ghost use Rattle.rd_ecl.specs.Specified.{SpecifiedKind};

@@ -18,13 +18,13 @@ use Rattle.rd_hb.specs.Knows.{GivesBack, KnownCount}
 use Rattle.rd_hb.specs.Tracker.{TrackerStandsFor, Tracking, handed_by}
 use Rattle.rd_order.specs.EventLists.{WellFormedWith, forks, joins, threads_after}
 use Rattle.rd_order.specs.Order.{Hold, exclusive, forked_thread, shared}
-use Rattle.rd_wf.specs.Events.{AreTold, event_of, events_of, root_count, roots_of}
-use Rattle.rd_wf.specs.MayFollow.{MayFollow, accepted_of, begun_name, events, is_root, is_skip, numbered_event, threads_of}
-use Rattle.rd_wf.specs.declared.causes.Accepted.{Accepted}
-use Rattle.rd_wf.specs.declared.causes.Accepted.TheVariants as accepted
-use Rattle.rd_wf.specs.laws.NoLines.{told_none}
-use Rattle.rd_wf.proofs.EventsLemmas.{all_roots, events_more, no_events, roots_more, threads_more, told_formed, told_more}
-use Rattle.rd_wf.proofs.FollowLemmas.{met}
+use Rattle.rd_rules.specs.Events.{AreTold, event_of, events_of, root_count, roots_of}
+use Rattle.rd_rules.specs.MayFollow.{MayFollow, accepted_of, begun_name, events, is_root, is_skip, numbered_event, threads_of}
+use Rattle.rd_rules.specs.declared.causes.Accepted.{Accepted}
+use Rattle.rd_rules.specs.declared.causes.Accepted.TheVariants as accepted
+use Rattle.rd_rules.specs.laws.NoLines.{told_none}
+use Rattle.rd_rules.proofs.EventsLemmas.{all_roots, events_more, no_events, roots_more, threads_more, told_formed, told_more}
+use Rattle.rd_rules.proofs.FollowLemmas.{met}
 use Rattle.rd_detect_trials.specs.Courses.{IsNext, MayHappenNext, Stands}
 
 -- ---- lines

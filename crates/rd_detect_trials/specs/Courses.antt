@@ -10,10 +10,10 @@ use Rattle.rd_event.specs.declared.items.Line.{Line}
 use Rattle.rd_hb.specs.Tracker.{TrackerStandsFor, Tracking}
 use Rattle.rd_order.specs.EventLists.{WellFormedWith}
 use Rattle.rd_order.specs.Order.{forked_thread}
-use Rattle.rd_wf.specs.Events.{AreTold, events_of, roots_of}
-use Rattle.rd_wf.specs.MayFollow.{MayFollow, accepted_of, threads_of}
+use Rattle.rd_rules.specs.Events.{AreTold, events_of, roots_of}
+use Rattle.rd_rules.specs.MayFollow.{MayFollow, accepted_of, threads_of}
 use Rattle.rd_wf.specs.Roster.{RosterStandsFor}
-use Rattle.rd_wf.specs.declared.causes.Accepted.{Accepted}
+use Rattle.rd_rules.specs.declared.causes.Accepted.{Accepted}
 use Rattle.rd_wf.specs.declared.roster.Roster.{Roster}
 
 -- the tracker and the detector stand for the events of these lines

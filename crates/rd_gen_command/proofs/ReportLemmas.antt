@@ -9,10 +9,10 @@ use Rattle.rd_gen_command.specs.GeneratedWalks.{walk_items}
 use Rattle.rd_walk.proofs.WalkLemmas.{bound_front, entries_after}
 use Rattle.rd_walk.specs.Output.{IsFront}
 use Rattle.rd_walk.specs.Walk.{Entry, Walked, accepted_or, after, entries_of, goes_or_ends, items, step_bound}
-use Rattle.rd_wf.proofs.FollowLemmas.{follows_from_none}
-use Rattle.rd_wf.specs.Events.{AreAcceptedFrom}
-use Rattle.rd_wf.specs.MayFollow.{first_broken}
-use Rattle.rd_wf.specs.declared.causes.WfCause.{WfCause}
+use Rattle.rd_rules.proofs.FollowLemmas.{follows_from_none}
+use Rattle.rd_rules.specs.Events.{AreAcceptedFrom}
+use Rattle.rd_rules.specs.MayFollow.{first_broken}
+use Rattle.rd_rules.specs.declared.causes.WfCause.{WfCause}
 
 -- the items that a walk accepts are accepted, each after those in front of it
 pub items_accepted : (kinds : List Kind) (limits : Limits) → AreUsable limits → limits.threads < 2 ^ 32 → (before : List Line) (number : ℕ) (lines : List Line)

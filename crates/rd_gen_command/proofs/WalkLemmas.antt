@@ -8,9 +8,9 @@ use Rattle.rd_io.specs.Lines.LinesEnding.{at_end}
 use Rattle.rd_walk.proofs.WalkLemmas.{after_more, after_none, items_more}
 use Rattle.rd_walk.specs.Walk.{Entry, Walked, accepted_or, after, ends, goes, goes_or_ends, items, trace_end_of}
 use Rattle.rd_walk.specs.declared.walk.WalkEnd.TheVariants.{Refused}
-use Rattle.rd_wf.specs.MayFollow.{first_broken}
-use Rattle.rd_wf.specs.declared.causes.TraceCause.TheVariants.{Wf}
-use Rattle.rd_wf.specs.declared.causes.WfCause.{WfCause}
+use Rattle.rd_rules.specs.MayFollow.{first_broken}
+use Rattle.rd_rules.specs.declared.causes.TraceCause.TheVariants.{Wf}
+use Rattle.rd_rules.specs.declared.causes.WfCause.{WfCause}
 
 module _ (kinds : List Kind) (limits : Limits) where
   stops : (before : List Line) (number : ℕ) → walk_items kinds limits before number [] ≡ ends (trace_end_of limits before number at_end)

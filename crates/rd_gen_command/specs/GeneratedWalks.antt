@@ -11,7 +11,7 @@ use Rattle.rd_walk.specs.Output.{Outcome}
 use Rattle.rd_walk.specs.Walk.{Walked, accepted_or, ending_of, ends, entries_of, goes_or_ends, step_bound, trace_end_of}
 use Rattle.rd_walk.specs.declared.status.Status.TheVariants.{NoMemory}
 use Rattle.rd_walk.specs.declared.walk.WalkEnd.TheVariants.{End}
-use Rattle.rd_wf.specs.MayFollow.{first_broken}
+use Rattle.rd_rules.specs.MayFollow.{first_broken}
 
 -- The walk over lines that come behind the accepted ones, the first of them with this number: each is accepted or refused as a line of a
 -- trace is, and behind the last they end as the lines of a trace do. No bytes say them, so no limit on bytes is asked.

@@ -8,7 +8,7 @@ ghost use Rattle.rd_io.specs.Lines.LinesEnding.{at_end};
 ghost use Rattle.rd_io.specs.Sinks.{Appends};
 ghost use Rattle.rd_walk.specs.Analysis.{TellsFault, WritesBetween, WritesFront};
 ghost use Rattle.rd_walk.specs.Walk.{Entry, Walked, after, ends, items, step_bound, trace_end_of};
-ghost use Rattle.rd_wf.specs.MayFollow.{first_broken};
+ghost use Rattle.rd_rules.specs.MayFollow.{first_broken};
 ghost use Rattle.rd_wf.specs.Roster.{RosterStandsFor, kinds_in};
 
 use rd_base::Steps;

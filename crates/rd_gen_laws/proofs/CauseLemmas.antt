@@ -10,9 +10,9 @@ use Rattle.rd_event.specs.declared.items.Line.{Line}
 use Rattle.rd_gen_command.specs.GeneratedWalks.{walk_items}
 use Rattle.rd_gen_laws.specs.WellEnded.{IsWellEnded}
 use Rattle.rd_walk.specs.Walk.{accepted_or, ending_of, goes_or_ends}
-use Rattle.rd_wf.specs.MayFollow.{causes, first_broken, threads_of}
-use Rattle.rd_wf.specs.declared.causes.WfCause.{WfCause}
-use Rattle.rd_wf.specs.declared.causes.WfCause.TheVariants.{HeaderFirst, LateRoot, NameTaken, UnknownThread, ThreadEnded, OwnThread, UnknownKind, UnknownObject, UnknownMethod, WrongCount, LockHeld, NotHeld, Limit}
+use Rattle.rd_rules.specs.MayFollow.{causes, first_broken, threads_of}
+use Rattle.rd_rules.specs.declared.causes.WfCause.{WfCause}
+use Rattle.rd_rules.specs.declared.causes.WfCause.TheVariants.{HeaderFirst, LateRoot, NameTaken, UnknownThread, ThreadEnded, OwnThread, UnknownKind, UnknownObject, UnknownMethod, WrongCount, LockHeld, NotHeld, Limit}
 
 abbrev pub IsFine : Option WfCause → Type 0
 IsFine None = ⊤

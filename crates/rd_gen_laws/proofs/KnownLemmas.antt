@@ -8,8 +8,8 @@ use Rattle.rd_ecl.specs.Kinds.{Kind, kinds_of}
 use Rattle.rd_event.specs.declared.items.Line.{Line}
 use Rattle.rd_gen.specs.Generated.{opening}
 use Rattle.rd_kinds.specs.Shipped.{counter_kind, dictionary_kind, register_kind, set_kind, shipped_kinds}
-use Rattle.rd_wf.specs.MayFollow.{acquires, acting_name, begun_name, declared_kind, declared_name, headers, is_acquire_of, is_header, is_release_of, is_share_of, is_unshare_of, joined_name, joined_of, object_kinds, objects_of, passes, releases, same_name, shared_name, shares, threads_of, unshared_name, unshares}
-use Rattle.rd_wf.proofs.EventsLemmas.{shares_more, unshares_more}
+use Rattle.rd_rules.specs.MayFollow.{acquires, acting_name, begun_name, declared_kind, declared_name, headers, is_acquire_of, is_header, is_release_of, is_share_of, is_unshare_of, joined_name, joined_of, object_kinds, objects_of, passes, releases, same_name, shared_name, shares, threads_of, unshared_name, unshares}
+use Rattle.rd_rules.proofs.EventsLemmas.{shares_more, unshares_more}
 
 abbrev pub kinds : List Kind
 kinds = kinds_of shipped_kinds

@@ -12,7 +12,7 @@ use Rattle.rd_gen.specs.Generated.{arguments_for, method_name, worker_name}
 use Rattle.rd_kinds.specs.Shipped.{counter_kind, dictionary_kind, register_kind, set_kind}
 use Rattle.rd_gen_laws.proofs.CauseLemmas.{IsFine, fine_causes}
 use Rattle.rd_gen_laws.proofs.KnownLemmas.{Knows, acquires_more, and_none, and_true, held_by, kinds, knows_more, nobody, releases_more, threads}
-use Rattle.rd_wf.specs.MayFollow.{acquires, first_broken, is_among, is_broken, joined_of, methods_of, object_kinds, passes, place, releases, same_name, shares, threads_of, unshares}
+use Rattle.rd_rules.specs.MayFollow.{acquires, first_broken, is_among, is_broken, joined_of, methods_of, object_kinds, passes, place, releases, same_name, shares, threads_of, unshares}
 
 -- ---- names
 

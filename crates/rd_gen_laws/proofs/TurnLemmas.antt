@@ -14,9 +14,9 @@ use Rattle.rd_kinds.specs.Machines.{Entries, dictionary_row}
 use Rattle.rd_kinds.specs.Shipped.{counter_kind, dictionary_kind, register_kind, set_kind}
 use Rattle.rd_walk.specs.Walk.{ending_of, ends}
 use Rattle.rd_walk.specs.declared.walk.WalkEnd.TheVariants.{End, Refused}
-use Rattle.rd_wf.specs.MayFollow.{first_broken, is_broken}
-use Rattle.rd_wf.specs.declared.causes.TraceCause.TheVariants.{Wf}
-use Rattle.rd_wf.specs.declared.causes.WfCause.TheVariants.{HeaderFirst}
+use Rattle.rd_rules.specs.MayFollow.{first_broken, is_broken}
+use Rattle.rd_rules.specs.declared.causes.TraceCause.TheVariants.{Wf}
+use Rattle.rd_rules.specs.declared.causes.WfCause.TheVariants.{HeaderFirst}
 
 module _ (limits : Limits) where
   -- a call of a worker

@@ -3,8 +3,8 @@ use Rattle.std.specs.Prelude.{◌≡◌, ◌⊎◌, ℕ}
 use Rattle.rd_base.specs.declared.limits.LimitName.{LimitName}
 use Rattle.rd_walk.specs.Walk.{Walked, ending_of}
 use Rattle.rd_walk.specs.declared.walk.WalkEnd.TheVariants.{End, Refused}
-use Rattle.rd_wf.specs.declared.causes.TraceCause.TheVariants.{Wf}
-use Rattle.rd_wf.specs.declared.causes.WfCause.TheVariants.{Limit}
+use Rattle.rd_rules.specs.declared.causes.TraceCause.TheVariants.{Wf}
+use Rattle.rd_rules.specs.declared.causes.WfCause.TheVariants.{Limit}
 
 -- it ends at the end, or at a line that would pass a limit on counts
 abbrev pub IsWellEnded : Walked → Type 0

@@ -8,12 +8,12 @@ use Rattle.rd_ecl.specs.Kinds.{Kind}
 use Rattle.rd_event.specs.declared.events.Event.{Event as Numbered}
 use Rattle.rd_event.specs.declared.items.Line.{Line}
 use Rattle.rd_event.specs.declared.items.Line.TheVariants.{Skip, Header, Thread, Object, Event}
-use Rattle.rd_wf.specs.Events.{event_of}
-use Rattle.rd_wf.specs.MayFollow.{MayFollow, accepted_of, threads_of}
+use Rattle.rd_rules.specs.Events.{event_of}
+use Rattle.rd_rules.specs.MayFollow.{MayFollow, accepted_of, threads_of}
 use Rattle.rd_wf.specs.Roster.{RosterStandsFor}
-use Rattle.rd_wf.specs.declared.causes.Accepted.{Accepted}
+use Rattle.rd_rules.specs.declared.causes.Accepted.{Accepted}
 use Rattle.rd_wf.specs.declared.roster.Roster.{Roster}
-use Rattle.rd_wf.proofs.EventsLemmas.{events_more, told_more}
+use Rattle.rd_rules.proofs.EventsLemmas.{events_more, told_more}
 use Rattle.rd_linear_trials.specs.Courses.{IsCourse, event_in}
 
 -- what is told of a success, where there is one

@@ -3,10 +3,10 @@ use Rattle.std.specs.Prelude.{◌≡◌, List, Option, Some, None}
 use Rattle.rd_ecl.specs.Kinds.{Kind}
 use Rattle.rd_event.specs.declared.events.Event.{Event as Numbered}
 use Rattle.rd_event.specs.declared.items.Line.{Line}
-use Rattle.rd_wf.specs.Events.{AreTold, events_of}
+use Rattle.rd_rules.specs.Events.{AreTold, events_of}
 use Rattle.rd_wf.specs.Roster.{RosterStandsFor}
-use Rattle.rd_wf.specs.declared.causes.Accepted.{Accepted}
-use Rattle.rd_wf.specs.declared.causes.Accepted.TheVariants.{Event}
+use Rattle.rd_rules.specs.declared.causes.Accepted.{Accepted}
+use Rattle.rd_rules.specs.declared.causes.Accepted.TheVariants.{Event}
 use Rattle.rd_wf.specs.declared.roster.Roster.{Roster}
 
 -- the event that an accepted line is

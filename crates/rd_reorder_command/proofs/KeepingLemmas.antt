@@ -11,14 +11,14 @@ use Rattle.rd_reorder_command.specs.declared.reordering.Reordering.{Reordering}
 use Rattle.rd_walk.proofs.WalkLemmas.{items_more}
 use Rattle.rd_walk.specs.Analysis.{IsNextEntry}
 use Rattle.rd_walk.specs.Walk.{Entry, items}
-use Rattle.rd_wf.proofs.EventsLemmas.{all_roots, events_more, roots_more, threads_more, told_more}
-use Rattle.rd_wf.proofs.FollowLemmas.{met}
-use Rattle.rd_wf.specs.Events.{AreTold, event_of, root_count}
-use Rattle.rd_wf.specs.MayFollow.{accepted_of, declared_kind, is_skip, threads_of}
-use Rattle.rd_wf.specs.declared.causes.Accepted.{Accepted}
-use Rattle.rd_wf.specs.declared.causes.Accepted.TheVariants as accepted
+use Rattle.rd_rules.proofs.EventsLemmas.{all_roots, events_more, roots_more, threads_more, told_more}
+use Rattle.rd_rules.proofs.FollowLemmas.{met}
+use Rattle.rd_rules.specs.Events.{AreTold, event_of, root_count}
+use Rattle.rd_rules.specs.MayFollow.{accepted_of, declared_kind, is_skip, threads_of}
+use Rattle.rd_rules.specs.declared.causes.Accepted.{Accepted}
+use Rattle.rd_rules.specs.declared.causes.Accepted.TheVariants as accepted
 use Rattle.rd_wf.specs.declared.roster.Roster.{Roster}
-use Rattle.rd_wf.specs.laws.NoLines.{told_none}
+use Rattle.rd_rules.specs.laws.NoLines.{told_none}
 
 -- ---- lines that follow one another
 

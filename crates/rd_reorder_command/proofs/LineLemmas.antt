@@ -16,9 +16,9 @@ use Rattle.rd_reorder_command.specs.Keeping.{ArePlaces, KeepsNamed}
 use Rattle.rd_reorder_command.specs.Naming.{HasNames, kind_name, named_event, object_name, thread_name}
 use Rattle.rd_reorder_command.specs.Reordered.{reordered}
 use Rattle.rd_reorder_command.specs.declared.reordering.Reordering.{Reordering}
-use Rattle.rd_wf.proofs.EventsLemmas.{kinds_placed}
-use Rattle.rd_wf.specs.Events.{AreTold, events_of}
-use Rattle.rd_wf.specs.MayFollow.{events, object_kinds, version_of}
+use Rattle.rd_rules.proofs.EventsLemmas.{kinds_placed}
+use Rattle.rd_rules.specs.Events.{AreTold, events_of}
+use Rattle.rd_rules.specs.MayFollow.{events, object_kinds, version_of}
 use Rattle.rd_wf.specs.Roster.{lock_count, object_count, thread_count}
 use Rattle.rd_wf.specs.declared.roster.Roster.{Roster}
 

@@ -18,13 +18,13 @@ use Rattle.rd_order.specs.Order.{exclusive, shared}
 use Rattle.rd_report.specs.Texts.{name_of}
 use Rattle.rd_reorder_command.specs.Keeping.{FollowFrom, IsFollower}
 use Rattle.rd_reorder_command.specs.Naming.{HasNames, named_event}
-use Rattle.rd_wf.proofs.EventsLemmas.{kinds_placed, locks_more, told_more}
-use Rattle.rd_wf.proofs.FollowLemmas.{Meets, met}
-use Rattle.rd_wf.proofs.PlaceLemmas.{got_left, place_below, place_named, with_lock_has, with_lock_known, with_lock_new, with_lock_place}
-use Rattle.rd_wf.proofs.UseLemmas.{held_more}
-use Rattle.rd_wf.specs.Events.{AreTold, events_from, events_of}
-use Rattle.rd_wf.specs.laws.NoLines.{told_none}
-use Rattle.rd_wf.specs.MayFollow.{acquires, begun_name, declared_name, is_among, is_event, is_skip, kind_number, locks_of, methods_of, numbered_event, objects_of, place, releases, shares, taken_name, threads_of, unshares, with_lock, with_locks}
+use Rattle.rd_rules.proofs.EventsLemmas.{kinds_placed, locks_more, told_more}
+use Rattle.rd_rules.proofs.FollowLemmas.{Meets, met}
+use Rattle.rd_rules.proofs.PlaceLemmas.{got_left, place_below, place_named, with_lock_has, with_lock_known, with_lock_new, with_lock_place}
+use Rattle.rd_rules.proofs.UseLemmas.{held_more}
+use Rattle.rd_rules.specs.Events.{AreTold, events_from, events_of}
+use Rattle.rd_rules.specs.laws.NoLines.{told_none}
+use Rattle.rd_rules.specs.MayFollow.{acquires, begun_name, declared_name, is_among, is_event, is_skip, kind_number, locks_of, methods_of, numbered_event, objects_of, place, releases, shares, taken_name, threads_of, unshares, with_lock, with_locks}
 
 -- ---- lines behind leave the numbers of names
 

@@ -17,8 +17,8 @@ use Rattle.rd_order.specs.Order.{thread_of}
 use Rattle.rd_reorder_command.proofs.NamingLemmas.{IsNamed, all_named}
 use Rattle.rd_reorder_command.specs.Keeping.{FollowFrom}
 use Rattle.rd_reorder_command.specs.Outcomes.{places_by}
-use Rattle.rd_wf.specs.Events.{events_of}
-use Rattle.rd_wf.specs.MayFollow.{threads_of}
+use Rattle.rd_rules.specs.Events.{events_of}
+use Rattle.rd_rules.specs.MayFollow.{threads_of}
 
 -- the thread of an event whose numbers have names has one
 thread_below : (kinds : List Kind) (lines : List Line) (e : Numbered) → IsNamed kinds lines e → thread_of e < length (threads_of lines)

@@ -15,11 +15,11 @@ use Rattle.rd_event.specs.declared.items.Line.TheVariants.{Skip, Header, Thread,
 use Rattle.rd_reorder_command.specs.Keeping.{FollowFrom, IsFollower}
 use Rattle.rd_reorder_command.specs.Reordered.{is_declaration, reordered}
 use Rattle.rd_reorder_command.specs.Reports.{is_counted}
-use Rattle.rd_wf.proofs.EventsLemmas.{told_from}
-use Rattle.rd_wf.proofs.FollowLemmas.{meets}
-use Rattle.rd_wf.specs.Events.{AreAcceptedFrom, AreTold}
-use Rattle.rd_wf.specs.declared.causes.WfCause.TheVariants.{HeaderFirst}
-use Rattle.rd_wf.specs.declared.causes.TraceCause.TheVariants.{Wf}
+use Rattle.rd_rules.proofs.EventsLemmas.{told_from}
+use Rattle.rd_rules.proofs.FollowLemmas.{meets}
+use Rattle.rd_rules.specs.Events.{AreAcceptedFrom, AreTold}
+use Rattle.rd_rules.specs.declared.causes.WfCause.TheVariants.{HeaderFirst}
+use Rattle.rd_rules.specs.declared.causes.TraceCause.TheVariants.{Wf}
 use Rattle.rd_walk.specs.AcceptedLines.{IsWalk}
 use Rattle.rd_walk.specs.Walk.{Entry, items, trace_end_of}
 use Rattle.rd_walk.specs.declared.walk.WalkEnd.{WalkEnd}
@@ -28,7 +28,7 @@ use Rattle.rd_io.specs.Lines.{LinesEnding, Reading}
 use Rattle.rd_io.specs.Lines.LinesEnding.{at_end, bytes_limit, faulted, line_too_long, no_final_newline}
 use Rattle.rd_io.specs.Lines.Reading.{stops, line}
 use Rattle.rd_base.specs.declared.limits.Limits.{Limits}
-use Rattle.rd_wf.specs.MayFollow.{Rule, headers, is_event, is_header, is_root, is_skip, version_of}
+use Rattle.rd_rules.specs.MayFollow.{Rule, headers, is_event, is_header, is_root, is_skip, version_of}
 
 -- ---- the lines by what they say
 

@@ -15,10 +15,10 @@ use Rattle.rd_reorder_command.proofs.NamingLemmas.{as_line, lines_spelled}
 use Rattle.rd_reorder_command.specs.Keeping.{FollowFrom, IsFollower}
 use Rattle.rd_reorder_command.specs.Naming.{kind_name, named_event, object_name, thread_name}
 use Rattle.rd_reorder_command.specs.Reordered.{is_declaration, reordered}
-use Rattle.rd_wf.proofs.FollowLemmas.{met}
-use Rattle.rd_wf.proofs.PlaceLemmas.{got_left, place_named}
-use Rattle.rd_wf.specs.Events.{events_of, root_count}
-use Rattle.rd_wf.specs.MayFollow.{events, forked_name, is_event, is_root, is_skip, object_kinds, objects_of, place, threads_of, version_of}
+use Rattle.rd_rules.proofs.FollowLemmas.{met}
+use Rattle.rd_rules.proofs.PlaceLemmas.{got_left, place_named}
+use Rattle.rd_rules.specs.Events.{events_of, root_count}
+use Rattle.rd_rules.specs.MayFollow.{events, forked_name, is_event, is_root, is_skip, object_kinds, objects_of, place, threads_of, version_of}
 
 -- what stands behind a list
 got_behind : {X : Type 0} (xs ys : List X) (i : ℕ) → slice_get (xs ++ ys) (length xs + i) ≡ slice_get ys i

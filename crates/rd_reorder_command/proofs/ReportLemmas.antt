@@ -16,9 +16,9 @@ use Rattle.rd_replaying.specs.States.{built_in_kinds}
 use Rattle.rd_walk.proofs.AcceptedLemmas.{trace_accepted}
 use Rattle.rd_walk.proofs.AcceptedLineLemmas.{trace_walk}
 use Rattle.rd_walk.specs.Walk.{ending_of, entries_of, items, trace_of}
-use Rattle.rd_wf.specs.Events.{events_of}
-use Rattle.rd_wf.specs.MayFollow.{is_event}
-use Rattle.rd_wf.specs.laws.NoLines.{told_none}
+use Rattle.rd_rules.specs.Events.{events_of}
+use Rattle.rd_rules.specs.MayFollow.{is_event}
+use Rattle.rd_rules.specs.laws.NoLines.{told_none}
 
 pub reordered_so : (number : ℕ) (limits : Limits) → AreUsable limits → limits.threads < 2 ^ 32 → (stop : Stop) (bytes : List ℕ)
     → IsReordered limits stop bytes (reorder_outcome number built_in_kinds (trace_of built_in_kinds limits stop bytes))

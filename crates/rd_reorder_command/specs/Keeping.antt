@@ -8,11 +8,11 @@ use Rattle.rd_event.specs.declared.events.Event.{Event}
 use Rattle.rd_event.specs.declared.items.Line.{Line}
 use Rattle.rd_reorder_command.specs.declared.reordering.Reordering.{Reordering}
 use Rattle.rd_walk.specs.Walk.{Entry, items}
-use Rattle.rd_wf.specs.Events.{events_of, root_count}
-use Rattle.rd_wf.specs.MayFollow.{MayFollow, object_kinds, threads_of}
+use Rattle.rd_rules.specs.Events.{events_of, root_count}
+use Rattle.rd_rules.specs.MayFollow.{MayFollow, object_kinds, threads_of}
 use Rattle.rd_wf.specs.Roster.{RosterStandsFor}
-use Rattle.rd_wf.specs.declared.causes.Accepted.{Accepted}
-use Rattle.rd_wf.specs.declared.causes.Accepted.TheVariants as accepted
+use Rattle.rd_rules.specs.declared.causes.Accepted.{Accepted}
+use Rattle.rd_rules.specs.declared.causes.Accepted.TheVariants as accepted
 use Rattle.rd_wf.specs.declared.roster.Roster.{Roster}
 
 -- the line may follow those in front of it, within some usable limits, and their threads and its own fit 32 bits

@@ -7,7 +7,7 @@ use Rattle.rd_event.specs.declared.items.Line.{Line}
 use Rattle.rd_event.specs.declared.items.LineEvent.{LineEvent}
 use Rattle.rd_event.specs.declared.items.LineEvent.TheVariants.{Fork, Join, Acquire, Release, Share, Unshare, Call}
 use Rattle.rd_report.specs.Texts.{name_of}
-use Rattle.rd_wf.specs.MayFollow.{locks_of, objects_of, threads_of}
+use Rattle.rd_rules.specs.MayFollow.{locks_of, objects_of, threads_of}
 
 -- the names of a thread, a lock and an object with these numbers, as the lines give them
 abbrev pub thread_name : List Line → ℕ → List ℕ

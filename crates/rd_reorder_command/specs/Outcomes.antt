@@ -15,8 +15,8 @@ use Rattle.rd_walk.specs.Walk.{Walked, ending_of, entries_of, items}
 use Rattle.rd_walk.specs.declared.status.Status.TheVariants.{Clean}
 use Rattle.rd_walk.specs.declared.walk.WalkEnd.TheVariants.{End, Refused, Fault}
 use Rattle.rd_walk.specs.declared.walk.WalkEnd.{WalkEnd}
-use Rattle.rd_wf.specs.Events.{events_of}
-use Rattle.rd_wf.specs.MayFollow.{threads_of}
+use Rattle.rd_rules.specs.Events.{events_of}
+use Rattle.rd_rules.specs.MayFollow.{threads_of}
 
 -- the places of the events in the order that the number picks, of all threads of the lines
 abbrev pub places_by : List Kind → List Line → ℕ → List ℕ

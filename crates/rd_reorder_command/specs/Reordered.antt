@@ -3,7 +3,7 @@ use Rattle.std.specs.Prelude.{ℕ, Bool, true, false, List, ◌∷◌, ◌++◌,
 use Rattle.rd_event.specs.Items.{line_spelling}
 use Rattle.rd_event.specs.declared.items.Line.{Line}
 use Rattle.rd_event.specs.declared.items.Line.TheVariants.{Header, Object}
-use Rattle.rd_wf.specs.MayFollow.{is_event, is_root, version_of}
+use Rattle.rd_rules.specs.MayFollow.{is_event, is_root, version_of}
 
 -- the line declares an object
 abbrev pub is_declaration : Line → Bool

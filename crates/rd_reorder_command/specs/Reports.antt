@@ -13,8 +13,8 @@ use Rattle.rd_walk.specs.Output.{Outcome}
 use Rattle.rd_walk.specs.Walk.{Entry, items}
 use Rattle.rd_walk.specs.declared.walk.WalkEnd.TheVariants.{End}
 use Rattle.rd_walk.specs.declared.walk.WalkEnd.{WalkEnd}
-use Rattle.rd_wf.specs.Events.{events_of}
-use Rattle.rd_wf.specs.MayFollow.{is_skip}
+use Rattle.rd_rules.specs.Events.{events_of}
+use Rattle.rd_rules.specs.MayFollow.{is_skip}
 
 -- the line isn't skipped
 abbrev pub is_counted : Line → Bool

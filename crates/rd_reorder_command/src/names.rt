@@ -4,7 +4,7 @@ ghost use Rattle.rd_ecl.specs.Kinds.{Kind, kinds_of, kind_names, methods_at};
 ghost use Rattle.rd_event.specs.Items.{event_spelling, line_spelling, words_apart};
 ghost use Rattle.rd_event.specs.declared.items.Line.{Line as LineOf};
 ghost use Rattle.rd_reorder_command.specs.Naming.{HasNames, kind_name, lock_name, method_name, named_event, object_name, thread_name};
-ghost use Rattle.rd_wf.specs.MayFollow.{version_of};
+ghost use Rattle.rd_rules.specs.MayFollow.{version_of};
 ghost use Rattle.rd_wf.specs.Roster.{RosterStandsFor, lock_count, object_count, thread_count};
 
 use rd_base::{Bytes, Name, NoMemory, append_number};

@@ -12,11 +12,11 @@ use Rattle.rd_event.specs.declared.items.Line.TheVariants.{Skip, Header, Thread,
 use Rattle.rd_event.specs.declared.items.LineEvent.TheVariants.{Fork, Join, Acquire, Release, Share, Unshare, Call}
 use Rattle.rd_order.specs.Order.{call_in}
 use Rattle.rd_replay.specs.Replays.{Recorded}
-use Rattle.rd_wf.specs.Events.{AreAccepted, AreAcceptedFrom, IsAccepted, event_of}
-use Rattle.rd_wf.specs.MayFollow.{declared_kind, is_skip, object_kinds, objects_of}
-use Rattle.rd_wf.proofs.EventsLemmas.{kinds_placed}
-use Rattle.rd_wf.proofs.FollowLemmas.{met}
-use Rattle.rd_wf.proofs.PlaceLemmas.{place_below}
+use Rattle.rd_rules.specs.Events.{AreAccepted, AreAcceptedFrom, IsAccepted, event_of}
+use Rattle.rd_rules.specs.MayFollow.{declared_kind, is_skip, object_kinds, objects_of}
+use Rattle.rd_rules.proofs.EventsLemmas.{kinds_placed}
+use Rattle.rd_rules.proofs.FollowLemmas.{met}
+use Rattle.rd_rules.proofs.PlaceLemmas.{place_below}
 use Rattle.rd_replaying.specs.Replaying.{recorded_at, recorded_from, recorded_of}
 use Rattle.rd_walk.specs.Walk.{Entry, items}
 

@@ -25,14 +25,14 @@ use Rattle.rd_order.specs.Order.{call_in}
 use Rattle.rd_replay.specs.Replays.{Recorded}
 use Rattle.rd_replay.specs.Replayer.{IsRecordable, ReplayerStandsFor}
 use Rattle.rd_replay.specs.declared.replayer.Replayer.{Replayer}
-use Rattle.rd_wf.specs.Events.{AreTold, event_of, events_of}
-use Rattle.rd_wf.specs.MayFollow.{MayFollow, accepted_of, declared_kind, is_skip, object_kinds, objects_of, place}
-use Rattle.rd_wf.specs.declared.causes.Accepted.{Accepted}
-use Rattle.rd_wf.specs.declared.causes.Accepted.TheVariants as accepted
+use Rattle.rd_rules.specs.Events.{AreTold, event_of, events_of}
+use Rattle.rd_rules.specs.MayFollow.{MayFollow, accepted_of, declared_kind, is_skip, object_kinds, objects_of, place}
+use Rattle.rd_rules.specs.declared.causes.Accepted.{Accepted}
+use Rattle.rd_rules.specs.declared.causes.Accepted.TheVariants as accepted
 use Rattle.rd_wf.specs.declared.roster.Roster.{Roster}
-use Rattle.rd_wf.proofs.EventsLemmas.{events_more, kinds_placed, told_more}
-use Rattle.rd_wf.proofs.FollowLemmas.{met}
-use Rattle.rd_wf.proofs.PlaceLemmas.{place_below}
+use Rattle.rd_rules.proofs.EventsLemmas.{events_more, kinds_placed, told_more}
+use Rattle.rd_rules.proofs.FollowLemmas.{met}
+use Rattle.rd_rules.proofs.PlaceLemmas.{place_below}
 use Rattle.rd_walk.specs.Analysis.{IsNextEntry}
 use Rattle.rd_replaying.specs.Replaying.{BeginWithBuiltIn, Replayed, recorded_at, recorded_from, recorded_of}
 use Rattle.rd_walk.specs.Walk.{Entry, items}

@@ -15,7 +15,7 @@ use Rattle.rd_replaying.specs.States.{built_in_kinds, replay_outcome}
 use Rattle.rd_walk.proofs.AcceptedLemmas.{trace_accepted}
 use Rattle.rd_walk.proofs.AcceptedLineLemmas.{trace_walk}
 use Rattle.rd_walk.specs.Walk.{ending_of, entries_of, items, trace_of}
-use Rattle.rd_wf.specs.MayFollow.{object_kinds}
+use Rattle.rd_rules.specs.MayFollow.{object_kinds}
 
 module _ (kinds : List ℕ) (calls : List Recorded) (declared : All (λ (recorded : Recorded). recorded.1.object < length kinds) calls) where
   pub ends_so : (replay : ReplayEnd) → replay_end kinds calls ≡ replay → ReplayEndsSo kinds calls replay

@@ -3,16 +3,16 @@ use Rattle.rd_object.specs.declared.shapes.ReplayEnd.TheVariants.{Exact, Differs
 use Rattle.rd_object.specs.declared.shapes.ReplayEnd.{ReplayEnd}
 use Rattle.rd_report.specs.declared.endings.Ending.TheVariants as report
 use Rattle.rd_report.specs.declared.endings.Ending.{Ending}
-use Rattle.rd_wf.specs.declared.causes.TraceCause.TheVariants as cause
-use Rattle.rd_wf.specs.declared.causes.TraceCause.{TraceCause}
+use Rattle.rd_rules.specs.declared.causes.TraceCause.TheVariants as cause
+use Rattle.rd_rules.specs.declared.causes.TraceCause.{TraceCause}
 use Rattle.rd_walk.specs.Walk.{Entry, items}
 use Rattle.rd_walk.specs.declared.status.Status.TheVariants.{Clean, Raced, TraceRefused, ReplayDiffers, InputFault, LimitReached}
 use Rattle.rd_walk.specs.declared.status.Status.{Status}
 use Rattle.rd_walk.specs.declared.walk.WalkEnd.TheVariants.{End, Refused, Fault}
 use Rattle.rd_walk.specs.declared.walk.WalkEnd.{WalkEnd}
-use Rattle.rd_wf.specs.MayFollow.{threads_of}
-use Rattle.rd_wf.specs.declared.causes.WfCause.TheVariants as wf
-use Rattle.rd_wf.specs.declared.causes.WfCause.{WfCause}
+use Rattle.rd_rules.specs.MayFollow.{threads_of}
+use Rattle.rd_rules.specs.declared.causes.WfCause.TheVariants as wf
+use Rattle.rd_rules.specs.declared.causes.WfCause.{WfCause}
 use Rattle.std.specs.Prelude.{ℕ, ◌==◌, Bool, true, false, List, if◌then◌else◌}
 
 -- the names of the threads of the accepted lines, by their numbers

@@ -11,8 +11,8 @@ use Rattle.rd_order.specs.Order.{call_in}
 use Rattle.rd_replay.specs.Replays.{Recorded, replay_end}
 use Rattle.rd_replay.specs.Replayer.{ReplayerStandsFor}
 use Rattle.rd_replay.specs.declared.replayer.Replayer.{Replayer}
-use Rattle.rd_wf.specs.Events.{AreTold, event_of}
-use Rattle.rd_wf.specs.MayFollow.{object_kinds}
+use Rattle.rd_rules.specs.Events.{AreTold, event_of}
+use Rattle.rd_rules.specs.MayFollow.{object_kinds}
 use Rattle.rd_walk.specs.Walk.{Entry, items}
 
 -- the call of a line behind others, with the number of the line

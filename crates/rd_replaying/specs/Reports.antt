@@ -12,7 +12,7 @@ use Rattle.rd_walk.specs.AcceptedLines.{IsWalk}
 use Rattle.rd_walk.specs.Output.{Outcome}
 use Rattle.rd_walk.specs.Walk.{Entry, items}
 use Rattle.rd_walk.specs.declared.walk.WalkEnd.{WalkEnd}
-use Rattle.rd_wf.specs.MayFollow.{object_kinds}
+use Rattle.rd_rules.specs.MayFollow.{object_kinds}
 
 -- How the replay of calls on objects of these kinds ends: each object's calls alone lead its machine from the first shape to one that it has in
 -- the end; or this line has the first call that gives something else than was recorded, and this is what the machine gives there; or some kind

@@ -14,7 +14,7 @@ use Rattle.rd_walk.specs.Output.{Outcome}
 use Rattle.rd_replaying.specs.Replaying.{recorded_of, replay_of}
 use Rattle.rd_walk.specs.Traces.{ReportTexts}
 use Rattle.rd_walk.specs.Walk.{Entry, Walked, ending_of, entries_of, items}
-use Rattle.rd_wf.specs.MayFollow.{object_kinds, objects_of}
+use Rattle.rd_rules.specs.MayFollow.{object_kinds, objects_of}
 use Rattle.std.specs.Prelude.{ℕ, Bool, true, false, zero, suc, List, [], ◌++◌, length, Option, Some, None}
 
 -- the line that tells what an object with this name holds, where its calls lead it to a shape

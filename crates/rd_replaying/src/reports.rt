@@ -6,7 +6,7 @@ ghost use Rattle.rd_replaying.specs.Replaying.{Replayed};
 ghost use Rattle.rd_walk.specs.Analysis.{TellsFault};
 ghost use Rattle.rd_walk.specs.Output.{IsFront, IsOutput, IsWell, Outcome, report_status};
 ghost use Rattle.rd_walk.specs.Walk.{Entry, Walked, after, ending_of, ends, entries_of, items};
-ghost use Rattle.rd_wf.specs.Events.{AreAccepted};
+ghost use Rattle.rd_rules.specs.Events.{AreAccepted};
 ghost use Rattle.rd_wf.specs.Roster.{RosterStandsFor};
 
 use crate::replaying::Replaying;

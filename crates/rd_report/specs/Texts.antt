@@ -8,13 +8,13 @@ use Rattle.rd_object.specs.declared.shapes.Expected.{Expected}
 use Rattle.rd_object.specs.declared.shapes.Expected.TheVariants.{Value, BadArgument}
 use Rattle.rd_object.specs.declared.shapes.ReplayEnd.{ReplayEnd}
 use Rattle.rd_object.specs.declared.shapes.ReplayEnd.TheVariants.{Exact, Differs, NotShipped}
-use Rattle.rd_wf.specs.MayFollow.{objects_of, threads_of}
+use Rattle.rd_rules.specs.MayFollow.{objects_of, threads_of}
 use Rattle.rd_wf.specs.Roster.{names_in, object_names_in}
-use Rattle.rd_wf.specs.declared.causes.WfCause.{WfCause}
-use Rattle.rd_wf.specs.declared.causes.WfCause.TheVariants as wf
+use Rattle.rd_rules.specs.declared.causes.WfCause.{WfCause}
+use Rattle.rd_rules.specs.declared.causes.WfCause.TheVariants as wf
 use Rattle.rd_wf.specs.declared.roster.Roster.{Roster}
-use Rattle.rd_wf.specs.declared.causes.TraceCause.{TraceCause}
-use Rattle.rd_wf.specs.declared.causes.TraceCause.TheVariants as cause
+use Rattle.rd_rules.specs.declared.causes.TraceCause.{TraceCause}
+use Rattle.rd_rules.specs.declared.causes.TraceCause.TheVariants as cause
 use Rattle.rd_report.specs.declared.endings.Ending.{Ending}
 use Rattle.rd_report.specs.declared.endings.Ending.TheVariants.{End, Refused, Fault}
 

@@ -28,7 +28,7 @@ use Rattle.rd_walk.specs.declared.analysis.Halt.{Halt}
 use Rattle.std.specs.Result.{IsErr, IsErrAnd}
 use Rattle.rd_walk.specs.Meanings.{Runs}
 use Rattle.rd_walk.specs.declared.status.Status.{Status}
-use Rattle.rd_wf.specs.MayFollow.{same_name}
+use Rattle.rd_rules.specs.MayFollow.{same_name}
 use Rattle.std.proofs.Common.{◌≡◌, ◌≢◌, ℕ, zero, suc, ◌<◌, Bool, true, false, cond, List, [], Option, Some, None, Result, Ok, Err, refl, sym, subst, ◌∙◌, arith}
 use Rattle.std.specs.Option.{option_and_then}
 use Rattle.std.specs.Prelude.{codes, slice_get}

@@ -22,7 +22,7 @@ use Rattle.rd_run.specs.declared.commands.Said.TheVariants.{Spec, Points}
 use Rattle.rd_run.specs.declared.commands.Said.{Said}
 use Rattle.rd_run.specs.declared.commands.Command.TheVariants.{Check, CheckWith, Replay, Reorder, OfSpec, Kind as BuiltIn, Gen, GenText}
 use Rattle.rd_run.specs.declared.commands.Command.{Command as Asked}
-use Rattle.rd_wf.specs.MayFollow.{same_name}
+use Rattle.rd_rules.specs.MayFollow.{same_name}
 use Rattle.std.specs.Prelude.{◌≡◌, ℕ, List, Option, Some, None, codes, option_and_then, option_map, slice_get, if◌then◌else◌, [], ◌∷◌, ⊤, find}
 
 -- what the words ask for

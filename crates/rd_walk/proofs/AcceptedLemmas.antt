@@ -6,13 +6,13 @@ use Rattle.rd_io.specs.Lines.Reading.{stops, line}
 use Rattle.rd_base.specs.declared.limits.Limits.{Limits}
 use Rattle.rd_event.specs.Reading.{item_of}
 use Rattle.rd_event.specs.declared.items.Line.{Line}
-use Rattle.rd_wf.proofs.FollowLemmas.{follows_from_none}
-use Rattle.rd_wf.specs.Events.{AreAccepted, AreAcceptedFrom}
+use Rattle.rd_rules.proofs.FollowLemmas.{follows_from_none}
+use Rattle.rd_rules.specs.Events.{AreAccepted, AreAcceptedFrom}
 use Rattle.rd_ecl.specs.Kinds.{Kind}
-use Rattle.rd_wf.specs.MayFollow.{MayFollow, first_broken, version_of}
+use Rattle.rd_rules.specs.MayFollow.{MayFollow, first_broken, version_of}
 use Rattle.rd_walk.specs.Walk.{accepted_or, entries_of, goes_or_ends, items, judgement_of, judgement_of_item, trace_of, walk}
-use Rattle.rd_wf.specs.declared.causes.TraceCause.{TraceCause}
-use Rattle.rd_wf.specs.declared.causes.WfCause.{WfCause}
+use Rattle.rd_rules.specs.declared.causes.TraceCause.{TraceCause}
+use Rattle.rd_rules.specs.declared.causes.WfCause.{WfCause}
 
 module _ (kinds : List Kind) (limits : Limits) (before : List Line) (item : Line) where
   abbrev said : Line → Result Line TraceCause

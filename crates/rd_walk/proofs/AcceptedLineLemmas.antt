@@ -9,10 +9,10 @@ use Rattle.rd_io.specs.Lines.Reading.{stops, line}
 use Rattle.rd_io.specs.Lines.{Stop, Reading, reading}
 use Rattle.rd_walk.specs.AcceptedLines.{IsAcceptedLine, IsRefusedLine, IsWalk, SaysItem}
 use Rattle.rd_walk.specs.Walk.{Walked, accepted_or, ending_of, entries_of, goes_or_ends, judgement_of, judgement_of_item, trace_of, walk}
-use Rattle.rd_wf.proofs.FollowLemmas.{broken_from_some, follows_from_none}
-use Rattle.rd_wf.specs.MayFollow.{first_broken, version_of}
-use Rattle.rd_wf.specs.declared.causes.TraceCause.{TraceCause}
-use Rattle.rd_wf.specs.declared.causes.WfCause.{WfCause}
+use Rattle.rd_rules.proofs.FollowLemmas.{broken_from_some, follows_from_none}
+use Rattle.rd_rules.specs.MayFollow.{first_broken, version_of}
+use Rattle.rd_rules.specs.declared.causes.TraceCause.{TraceCause}
+use Rattle.rd_rules.specs.declared.causes.WfCause.{WfCause}
 
 module _ (kinds : List Kind) (limits : Limits) (before : List Line) (bytes : List ℕ) where
   -- what is judged of a line: it is accepted, or refused for a cause

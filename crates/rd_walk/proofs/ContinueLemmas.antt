@@ -10,13 +10,13 @@ use Rattle.rd_base.specs.declared.limits.Limits.{Limits}
 use Rattle.rd_io.specs.declared.lines.ReadEnd.{ReadEnd}
 use Rattle.rd_io.specs.declared.lines.ReadEnd.TheVariants.{ReadFault, LineTooLong, BytesLimit, NoFinalNewline}
 use Rattle.rd_event.specs.declared.items.Line.{Line}
-use Rattle.rd_wf.specs.MayFollow.{headers}
+use Rattle.rd_rules.specs.MayFollow.{headers}
 use Rattle.rd_ecl.specs.Kinds.{Kind}
 use Rattle.rd_walk.specs.Walk.{Entry, after, trace_end_of, ends, items, judgement_of, trace_of, walk}
 use Rattle.rd_walk.specs.Progress.{Continues, WalksOn, WalksTo, ending_for}
-use Rattle.rd_wf.specs.declared.causes.TraceCause.{TraceCause}
-use Rattle.rd_wf.specs.declared.causes.TraceCause.TheVariants.{Wf}
-use Rattle.rd_wf.specs.declared.causes.WfCause.TheVariants.{HeaderFirst}
+use Rattle.rd_rules.specs.declared.causes.TraceCause.{TraceCause}
+use Rattle.rd_rules.specs.declared.causes.TraceCause.TheVariants.{Wf}
+use Rattle.rd_rules.specs.declared.causes.WfCause.TheVariants.{HeaderFirst}
 use Rattle.rd_walk.specs.declared.walk.WalkEnd.TheVariants.{End, Refused}
 use Rattle.rd_walk.proofs.WalkLemmas.{after_more, items_more, walk_accepts, walk_refuses, walk_stops}
 

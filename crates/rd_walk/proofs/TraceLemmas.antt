@@ -11,7 +11,7 @@ use Rattle.rd_io.specs.Lines.Stop.{end, fault}
 use Rattle.rd_walk.specs.declared.analysis.Halt.TheVariants as halt
 use Rattle.rd_walk.specs.declared.walk.WalkEnd.{WalkEnd}
 use Rattle.rd_walk.specs.declared.walk.WalkEnd.TheVariants.{End, Refused, Fault}
-use Rattle.rd_wf.specs.Events.{AreAccepted}
+use Rattle.rd_rules.specs.Events.{AreAccepted}
 use Rattle.rd_walk.specs.Traces.{HasReported, IsReadWhole, IsTraceOutcome, ReportTexts, ReportsTrace, walk_of, walk_on}
 use Rattle.rd_walk.specs.Output.{IsFront, IsOutput, IsWell, report_status, unopened_outcome}
 use Rattle.rd_walk.specs.declared.analysis.Halt.{Halt}

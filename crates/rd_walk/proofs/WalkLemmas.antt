@@ -11,15 +11,15 @@ use Rattle.rd_event.specs.declared.items.Line.TheVariants.{Skip}
 use Rattle.rd_ecl.specs.Kinds.{Kind}
 use Rattle.rd_base.specs.Limits.{AreUsable}
 use Rattle.rd_walk.specs.Analysis.{IsNextEntry}
-use Rattle.rd_wf.specs.MayFollow.{accepted_of, first_broken, threads_of, version_of}
+use Rattle.rd_rules.specs.MayFollow.{accepted_of, first_broken, threads_of, version_of}
 use Rattle.rd_wf.specs.Roster.{AcceptsAs, RosterStandsFor}
-use Rattle.rd_wf.specs.declared.causes.Accepted.{Accepted}
-use Rattle.rd_wf.specs.declared.causes.Accepted.TheVariants.{Nothing}
+use Rattle.rd_rules.specs.declared.causes.Accepted.{Accepted}
+use Rattle.rd_rules.specs.declared.causes.Accepted.TheVariants.{Nothing}
 use Rattle.rd_wf.specs.declared.roster.Roster.{Roster}
 use Rattle.rd_walk.specs.Walk.{Entry, Walked, accepted_or, after, bound_from, trace_end_of, ending_of, ends, entries_of, goes, goes_or_ends, items, judgement_of, judgement_of_item, walk}
-use Rattle.rd_wf.specs.declared.causes.WfCause.{WfCause}
-use Rattle.rd_wf.specs.declared.causes.TraceCause.{TraceCause}
-use Rattle.rd_wf.specs.declared.causes.TraceCause.TheVariants.{Wf}
+use Rattle.rd_rules.specs.declared.causes.WfCause.{WfCause}
+use Rattle.rd_rules.specs.declared.causes.TraceCause.{TraceCause}
+use Rattle.rd_rules.specs.declared.causes.TraceCause.TheVariants.{Wf}
 use Rattle.rd_walk.specs.declared.walk.WalkEnd.TheVariants.{Refused}
 
 pub judged_broken : (kinds : List Kind) (limits : Limits) (before : List Line) (bytes : List ℕ) (item : Line) (cause : WfCause)

@@ -9,10 +9,10 @@ use Rattle.rd_io.specs.Lines.Reading.{stops, line}
 use Rattle.rd_walk.specs.Walk.{Entry, trace_end_of}
 use Rattle.rd_walk.specs.declared.walk.WalkEnd.TheVariants.{Refused}
 use Rattle.rd_walk.specs.declared.walk.WalkEnd.{WalkEnd}
-use Rattle.rd_wf.specs.MayFollow.{IsBrokenFirst, MayFollow, version_of}
-use Rattle.rd_wf.specs.declared.causes.TraceCause.TheVariants.{BadLine, Wf}
-use Rattle.rd_wf.specs.declared.causes.TraceCause.{TraceCause}
-use Rattle.rd_wf.specs.declared.causes.WfCause.{WfCause}
+use Rattle.rd_rules.specs.MayFollow.{IsBrokenFirst, MayFollow, version_of}
+use Rattle.rd_rules.specs.declared.causes.TraceCause.TheVariants.{BadLine, Wf}
+use Rattle.rd_rules.specs.declared.causes.TraceCause.{TraceCause}
+use Rattle.rd_rules.specs.declared.causes.WfCause.{WfCause}
 
 -- the bytes of a line say no item of this version
 abbrev pub SaysNone : ℕ → List ℕ → Type 0

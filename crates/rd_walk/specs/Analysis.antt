@@ -6,9 +6,9 @@ use Rattle.rd_event.specs.declared.items.Line.{Line}
 use Rattle.rd_io.specs.Inputs.{Rose}
 use Rattle.rd_io.specs.Sinks.{Appends}
 use Rattle.rd_ecl.specs.Kinds.{Kind}
-use Rattle.rd_wf.specs.MayFollow.{MayFollow, accepted_of, threads_of}
+use Rattle.rd_rules.specs.MayFollow.{MayFollow, accepted_of, threads_of}
 use Rattle.rd_wf.specs.Roster.{RosterStandsFor}
-use Rattle.rd_wf.specs.declared.causes.Accepted.{Accepted}
+use Rattle.rd_rules.specs.declared.causes.Accepted.{Accepted}
 use Rattle.rd_wf.specs.declared.roster.Roster.{Roster}
 use Rattle.rd_walk.specs.Walk.{Entry, items}
 use Rattle.rd_walk.specs.declared.analysis.Halt.{Halt}

@@ -11,7 +11,7 @@ use Rattle.rd_base.specs.declared.limits.LimitName.TheVariants.{Bytes, Line}
 use Rattle.rd_ecl.specs.Kinds.{Kind}
 use Rattle.rd_walk.specs.Output.{IsFront}
 use Rattle.rd_walk.specs.Walk.{Entry, Walked, after, ends, items, trace_of, walk}
-use Rattle.rd_wf.specs.declared.causes.TraceCause.TheVariants.{NoFinalNewline, Limit}
+use Rattle.rd_rules.specs.declared.causes.TraceCause.TheVariants.{NoFinalNewline, Limit}
 use Rattle.rd_walk.specs.declared.walk.WalkEnd.{WalkEnd}
 use Rattle.rd_walk.specs.declared.walk.WalkEnd.TheVariants.{End, Refused, Fault}
 

@@ -9,11 +9,11 @@ use Rattle.std.specs.List.{before_first}
 use Rattle.rd_event.specs.Reading.{is_call_keyword, is_space, item_of}
 use Rattle.rd_event.specs.declared.items.Line.{Line}
 use Rattle.rd_ecl.specs.Kinds.{Kind}
-use Rattle.rd_wf.specs.MayFollow.{first_broken, is_call, headers, is_event, threads_of, version_of}
-use Rattle.rd_wf.specs.declared.causes.WfCause.{WfCause}
-use Rattle.rd_wf.specs.declared.causes.WfCause.TheVariants.{HeaderFirst}
-use Rattle.rd_wf.specs.declared.causes.TraceCause.{TraceCause}
-use Rattle.rd_wf.specs.declared.causes.TraceCause.TheVariants.{BadLine, NoFinalNewline, Wf, Limit}
+use Rattle.rd_rules.specs.MayFollow.{first_broken, is_call, headers, is_event, threads_of, version_of}
+use Rattle.rd_rules.specs.declared.causes.WfCause.{WfCause}
+use Rattle.rd_rules.specs.declared.causes.WfCause.TheVariants.{HeaderFirst}
+use Rattle.rd_rules.specs.declared.causes.TraceCause.{TraceCause}
+use Rattle.rd_rules.specs.declared.causes.TraceCause.TheVariants.{BadLine, NoFinalNewline, Wf, Limit}
 use Rattle.rd_walk.specs.declared.walk.WalkEnd.{WalkEnd}
 use Rattle.rd_walk.specs.declared.walk.WalkEnd.TheVariants.{End, Refused, Fault}
 

@@ -6,7 +6,7 @@ ghost use Rattle.rd_event.specs.declared.items.Line.{Line as Item};
 ghost use Rattle.rd_walk.specs.Walk.{judgement_of};
 ghost use Rattle.rd_ecl.specs.Kinds.{Kind};
 ghost use Rattle.rd_walk.specs.Walk.{IsCallLine};
-ghost use Rattle.rd_wf.specs.MayFollow.{MayFollow, TakesMemory, accepted_of, threads_of, version_of};
+ghost use Rattle.rd_rules.specs.MayFollow.{MayFollow, TakesMemory, accepted_of, threads_of, version_of};
 ghost use Rattle.rd_wf.specs.Roster.{RosterStandsFor};
 
 use rd_base::Limits;

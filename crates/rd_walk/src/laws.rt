@@ -6,7 +6,7 @@ ghost use Rattle.rd_order.specs.EventLists.{WellFormedWith};
 ghost use Rattle.rd_io.specs.Lines.{Stop, reading};
 ghost use Rattle.rd_walk.specs.AcceptedLines.{IsWalk};
 ghost use Rattle.rd_walk.specs.Walk.{ending_of, entries_of, items, trace_of};
-ghost use Rattle.rd_wf.specs.Events.{AreAccepted, events_of, roots_of};
+ghost use Rattle.rd_rules.specs.Events.{AreAccepted, events_of, roots_of};
 ghost use Rattle.rd_ecl.specs.Kinds.{Kind};
 
 /// The walk over the bytes of a trace accepts those lines that say an item which may follow, up to the first that doesn't, and tells why

@@ -10,7 +10,7 @@ ghost use Rattle.rd_walk.specs.Analysis.{TellsFault, TellsFaults};
 ghost use Rattle.rd_walk.specs.Output.{IsFront, IsOutput, IsWell, Outcome, report_status};
 ghost use Rattle.rd_walk.specs.Progress.{IsBegun, IsTakenOfTrace};
 ghost use Rattle.rd_walk.specs.Walk.{Entry, Walked, after, ending_of, ends, entries_of, items, step_bound};
-ghost use Rattle.rd_wf.specs.Events.{AreAccepted};
+ghost use Rattle.rd_rules.specs.Events.{AreAccepted};
 ghost use Rattle.rd_wf.specs.Roster.{RosterStandsFor, kinds_in};
 
 use crate::analysis::{Analysis, Halt};

@@ -10,7 +10,7 @@ ghost use Rattle.rd_io.specs.Sinks.{Appends};
 ghost use Rattle.rd_walk.specs.Analysis.{TellsFault, WritesBetween, WritesFront};
 ghost use Rattle.rd_walk.specs.Output.{IsFront};
 ghost use Rattle.rd_walk.specs.Progress.{IsBegun, IsTakenOfTrace, WalksOn, WalksTo, ending_for};
-ghost use Rattle.rd_wf.specs.MayFollow.{MayFollow, version_of};
+ghost use Rattle.rd_rules.specs.MayFollow.{MayFollow, version_of};
 ghost use Rattle.rd_walk.specs.Walk.{Entry, IsCallLine, trace_end_of, items, judgement_of, step_bound};
 ghost use Rattle.rd_ecl.specs.Kinds.{Kind};
 ghost use Rattle.rd_wf.specs.Roster.{RosterStandsFor, kinds_in};

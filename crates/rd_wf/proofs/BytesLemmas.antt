@@ -5,9 +5,9 @@ use Rattle.rd_ecl.specs.Kinds.{Kind}
 use Rattle.rd_event.specs.Items.{LineInRange}
 use Rattle.rd_event.specs.Reading.{item_of}
 use Rattle.rd_event.specs.declared.items.Line.{Line}
-use Rattle.rd_wf.specs.MayFollow.{version_of}
+use Rattle.rd_rules.specs.MayFollow.{version_of}
 use Rattle.rd_wf.specs.Roster.{Accepts, AcceptsAs, RosterStandsFor}
-use Rattle.rd_wf.specs.declared.causes.Accepted.{Accepted}
+use Rattle.rd_rules.specs.declared.causes.Accepted.{Accepted}
 use Rattle.rd_wf.specs.declared.roster.Roster.{Roster}
 use Rattle.rd_wf.proofs.NextLemmas.{ok_few, ok_follows}
 use Rattle.rd_wf.proofs.RangeLemmas.{ok_range}

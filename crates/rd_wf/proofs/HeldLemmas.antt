@@ -9,13 +9,14 @@ use Rattle.rd_event.specs.declared.items.Line.{Line}
 use Rattle.rd_event.specs.declared.items.Line.TheVariants.{Event}
 use Rattle.rd_event.specs.declared.items.LineEvent.{LineEvent}
 use Rattle.rd_event.specs.declared.items.LineEvent.TheVariants.{Acquire, Release}
-use Rattle.rd_wf.specs.declared.causes.Accepted.TheVariants as accepted
-use Rattle.rd_wf.specs.declared.roster.Lock.{Lock}
+use Rattle.rd_rules.specs.declared.causes.Accepted.TheVariants as accepted
+use Rattle.rd_tables.specs.declared.locks.Lock.{Lock}
 use Rattle.rd_wf.specs.declared.roster.Roster.{Roster}
-use Rattle.rd_wf.specs.declared.roster.judge.FoundLock.{FoundLock}
-use Rattle.rd_wf.specs.MayFollow.{accepted_of, first_broken, place, threads_of}
-use Rattle.rd_wf.specs.Roster.{IsFoundLock, RosterStandsFor, depth_of, lock_count, lock_in}
-use Rattle.rd_wf.proofs.FollowLemmas.{known_thread}
+use Rattle.rd_tables.specs.declared.found.FoundLock.{FoundLock}
+use Rattle.rd_rules.specs.MayFollow.{accepted_of, first_broken, place, threads_of}
+use Rattle.rd_tables.specs.Tables.{depth_of}
+use Rattle.rd_wf.specs.Roster.{IsFoundLock, RosterStandsFor, lock_count, lock_in}
+use Rattle.rd_rules.proofs.FollowLemmas.{known_thread}
 use Rattle.rd_wf.proofs.NextLemmas.{IsWritten, after_acquire, after_release, lock_below, same_locks, written_known}
 
 module _ (kinds : List Kind) (limits : Limits) (old new : Roster) (lines : List Line) (stands : RosterStandsFor kinds old lines)

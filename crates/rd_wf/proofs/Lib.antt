@@ -1,14 +1,8 @@
 pub mod BytesLemmas
 pub mod CauseLemmas
-pub mod EventsLemmas
-pub mod FollowLemmas
 pub mod HeldLemmas
 pub mod LockLemmas
 pub mod NearLemmas
 pub mod NextLemmas
-pub mod PlaceLemmas
 pub mod RangeLemmas
 pub mod RosterLemmas
-pub mod ShareLemmas
-pub mod TableLemmas
-pub mod UseLemmas

@@ -1,48 +1,18 @@
 -- What stands at a number of a roster is what its name is looked up to.
-use Rattle.std.proofs.Common.{◌≡◌, ℕ, Bool, true, false, not, cond, ◌<◌, List, [], ◌∷◌, ◌++◌, length, position, slice_get, Option, Some, None, option_map, refl, sym, ap, subst, ◌∙◌}
-use Rattle.std.specs.List.{IsDistinct, position_or_len}
-use Rattle.std.specs.Map.{keys_of, lookup}
-use Rattle.std.proofs.lemmas.Bool.{lt-ltb}
+use Rattle.std.proofs.Common.{◌≡◌, ℕ, Bool, true, false, not, cond, List, [], ◌∷◌, ◌++◌, slice_get, Option, Some, None, option_map, refl, sym, ap, ◌∙◌}
+use Rattle.std.specs.List.{IsDistinct}
 use Rattle.std.specs.Cmp.Lexicographic.{nat_list_eq_equiv}
 use Rattle.std.proofs.lemmas.Map.Keys.{IsDistinct-push}
-use Rattle.std.proofs.lemmas.Option.{same_Some, slice_get-map, slice_get_within, get_or_from_slice_get}
+use Rattle.std.proofs.lemmas.Option.{same_Some, slice_get-map}
 use Rattle.rd_event.specs.declared.items.Line.{Line}
 use Rattle.rd_ecl.specs.Kinds.{Kind}
-use Rattle.rd_wf.specs.MayFollow.{taken_name, threads_of, locks_of, same_name, is_among, place, with_lock, with_locks}
+use Rattle.rd_rules.specs.MayFollow.{taken_name, threads_of, locks_of, same_name, is_among, place, with_lock, with_locks}
 use Rattle.rd_wf.specs.Roster.{RosterStandsFor, thread_entry, found_thread}
-use Rattle.rd_wf.specs.declared.roster.Lock.{Lock}
+use Rattle.rd_tables.specs.declared.locks.Lock.{Lock}
 use Rattle.rd_wf.specs.declared.roster.Roster.{Roster}
-use Rattle.rd_wf.proofs.LockLemmas.{place_at}
-use Rattle.rd_wf.proofs.PlaceLemmas.{got_contained}
-use Rattle.rd_wf.proofs.RosterLemmas.{lock_at, lookup-at, thread_keys}
-
--- ---- names that differ
-
--- a name stands at its place
-place_of : (names : List (List ℕ)) → IsDistinct same_name names → (i : ℕ) (name : List ℕ) → slice_get names i ≡ Some name → place names name ≡ i
-place_of names differ i name at =
-    subst (λ n. place names n ≡ i) (get_or_from_slice_get names i name [] at) (place_at names differ i (slice_get_within names i name at))
-
--- and is found there
-pub place_found : (names : List (List ℕ)) → IsDistinct same_name names → (i : ℕ) (name : List ℕ) → slice_get names i ≡ Some name → Some i ≡ position (same_name name) names
-place_found names differ i name at =
-    let is : position_or_len (same_name name) names ≡ i = place_of names differ i name at in
-    let inside : i < length names = slice_get_within names i name at in
-    rw (is, lt-ltb i (length names) inside) refl
-
--- so a look-up by that name finds what stands there
-module _ {X : Type 0} (entries : List (List ℕ × X)) (differ : IsDistinct same_name (keys_of entries)) (i : ℕ) (name : List ℕ) (value : X) (at : slice_get entries i ≡ Some (name, value)) where
-  key_at : slice_get (keys_of entries) i ≡ Some name
-  key_at = slice_get-map (λ entry. entry.0) entries i ∙ ap (option_map (λ entry. entry.0)) at
-
-  pub index_near : position (same_name name) (keys_of entries) ≡ Some i
-  index_near = sym (place_found (keys_of entries) differ i name key_at)
-
-  pub value_near : lookup (same_name name) entries ≡ Some value
-  value_near =
-      sym (lookup-at (same_name name) entries)
-      ∙ ap (λ n. option_map (λ entry. entry.1) (slice_get entries n)) (place_of (keys_of entries) differ i name key_at)
-      ∙ ap (option_map (λ entry. entry.1)) at
+use Rattle.rd_rules.proofs.PlaceLemmas.{got_contained}
+use Rattle.rd_wf.proofs.RosterLemmas.{lock_at, thread_keys}
+use Rattle.rd_tables.proofs.LookupLemmas.{place_of}
 
 -- no two locks have one name
 lock_differs : (locks : List (List ℕ)) (acquired : Option (List ℕ)) → IsDistinct same_name locks → IsDistinct same_name (with_lock locks acquired)

@@ -20,19 +20,22 @@ use Rattle.rd_event.specs.declared.items.Line.{Line}
 use Rattle.rd_event.specs.declared.items.Line.TheVariants.{Skip, Header, Thread, Object, Event}
 use Rattle.rd_event.specs.declared.items.LineEvent.TheVariants.{Fork, Join, Acquire, Release, Share, Unshare, Call}
 use Rattle.rd_ecl.specs.Kinds.{Kind, kind_names}
-use Rattle.rd_wf.specs.declared.causes.WfCause.{WfCause}
-use Rattle.rd_wf.specs.declared.causes.WfRefused.{WfRefused}
-use Rattle.rd_wf.specs.declared.causes.WfRefused.TheVariants.{Cause, NoMemory}
-use Rattle.rd_wf.specs.declared.causes.Accepted.{Accepted}
-use Rattle.rd_wf.specs.declared.roster.Lock.{Lock}
+use Rattle.rd_rules.specs.declared.causes.WfCause.{WfCause}
+use Rattle.rd_rules.specs.declared.causes.WfRefused.{WfRefused}
+use Rattle.rd_rules.specs.declared.causes.WfRefused.TheVariants.{Cause, NoMemory}
+use Rattle.rd_rules.specs.declared.causes.Accepted.{Accepted}
+use Rattle.rd_tables.specs.declared.locks.Lock.{Lock}
 use Rattle.rd_wf.specs.declared.roster.Roster.{Roster}
-use Rattle.rd_wf.specs.MayFollow.{begun_name, acting_name, joined_name, acquired_name, released_name, shared_name, unshared_name, taken_name, is_event, passes, threads_of, joined_of, with_lock, locks_of, is_acquire_of, is_release_of, acquires, releases, shares, unshares, header_of, same_name, is_among, place, first_broken, MayFollow, IsBrokenFirst, TakesMemory}
-use Rattle.rd_wf.specs.Shares.{share_depth}
-use Rattle.rd_wf.specs.Roster.{RosterStandsFor, kinds_in, kind_entry, thread_entry, object_entry, free_lock, lock_in, depth_of, thread_count, lock_count, Accepts, Refuses}
-use Rattle.rd_wf.proofs.FollowLemmas.{among_decides, follows_from_none, broken_from_some}
-use Rattle.rd_wf.proofs.LockLemmas.{and-true, and-false, place_known, place_below, found_written, found_pushed, same_place, depth_stays, deeper, shallower, added, both_stay, with_lock_more, locks_push, acquires_push, releases_push, shares_push, unshares_push}
-use Rattle.rd_wf.proofs.PlaceLemmas.{with_lock_has, with_lock_place}
-use Rattle.rd_wf.proofs.RosterLemmas.{known_in, none_is, or-false, or-true, keys-objects, not_joined, inserted_lock}
+use Rattle.rd_rules.specs.MayFollow.{begun_name, acting_name, joined_name, acquired_name, released_name, shared_name, unshared_name, taken_name, is_event, passes, threads_of, joined_of, with_lock, locks_of, is_acquire_of, is_release_of, acquires, releases, shares, unshares, header_of, same_name, is_among, place, first_broken, MayFollow, IsBrokenFirst, TakesMemory}
+use Rattle.rd_tables.specs.Shares.{share_depth}
+use Rattle.rd_tables.specs.Tables.{kind_entry, free_lock, depth_of}
+use Rattle.rd_wf.specs.Roster.{RosterStandsFor, kinds_in, thread_entry, object_entry, lock_in, thread_count, lock_count, Accepts, Refuses}
+use Rattle.rd_rules.proofs.FollowLemmas.{among_decides, follows_from_none, broken_from_some}
+use Rattle.rd_tables.proofs.NameLemmas.{place_known, place_below, same_place}
+use Rattle.rd_wf.proofs.LockLemmas.{and-true, and-false, found_written, found_pushed, depth_stays, deeper, shallower, added, both_stay, with_lock_more, locks_push, acquires_push, releases_push, shares_push, unshares_push}
+use Rattle.rd_rules.proofs.PlaceLemmas.{with_lock_has, with_lock_place}
+use Rattle.rd_tables.proofs.LookupLemmas.{known_in, none_is}
+use Rattle.rd_wf.proofs.RosterLemmas.{or-false, or-true, keys-objects, not_joined, inserted_lock}
 
 -- ---- threads and whether each is joined
 

@@ -11,13 +11,14 @@ use Rattle.rd_event.specs.declared.items.Line.TheVariants.{Skip, Header, Thread,
 use Rattle.rd_event.specs.declared.items.LineEvent.{LineEvent}
 use Rattle.rd_event.specs.declared.items.LineEvent.TheVariants.{Fork, Join, Acquire, Release, Share, Unshare, Call}
 use Rattle.rd_ecl.specs.Kinds.{Kind, kind_names, method_names, methods_at}
-use Rattle.rd_wf.specs.declared.causes.Accepted.{Accepted}
-use Rattle.rd_wf.specs.declared.causes.WfRefused.{WfRefused}
-use Rattle.rd_wf.specs.declared.methods.Methods.{Methods}
+use Rattle.rd_rules.specs.declared.causes.Accepted.{Accepted}
+use Rattle.rd_rules.specs.declared.causes.WfRefused.{WfRefused}
+use Rattle.rd_tables.specs.declared.methods.Methods.{Methods}
 use Rattle.rd_wf.specs.declared.roster.Roster.{Roster}
-use Rattle.rd_wf.specs.Events.{AcceptedInRange}
-use Rattle.rd_wf.specs.MayFollow.{accepted_of, kind_number, method_number, numbered_event, object_kinds, objects_of, place, threads_of, locks_of, methods_of}
-use Rattle.rd_wf.specs.Roster.{Accepts, RosterStandsFor, method_entry, methods_in}
+use Rattle.rd_rules.specs.Events.{AcceptedInRange}
+use Rattle.rd_rules.specs.MayFollow.{accepted_of, kind_number, method_number, numbered_event, object_kinds, objects_of, place, threads_of, locks_of, methods_of}
+use Rattle.rd_tables.specs.Tables.{method_entry, methods_in}
+use Rattle.rd_wf.specs.Roster.{Accepts, RosterStandsFor}
 use Rattle.rd_wf.proofs.RosterLemmas.{kind_methods, kinds_total, no_methods}
 
 place_le : (names : List (List ℕ)) (name : List ℕ) → place names name ≤ length names

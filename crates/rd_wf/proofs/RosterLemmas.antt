@@ -1,12 +1,11 @@
 -- What a roster tells of the accepted lines that it stands for.
-use Rattle.std.proofs.Common.{◌≡◌, ℕ, zero, suc, ◌+◌, ◌<◌, ◌≤◌, Bool, true, false, not, cond, ◌==◌, ◌||◌, ◌&&◌, ltb, leb, List, [], ◌∷◌, ◌++◌, map, Option, Some, None, is_some, IfSome, filter_map, length, position, get_or, slice_get, option_map, unwrap_or, if◌then◌else◌, nat_lt, nat_le, refl, sym, ap, subst, ◌∙◌, arith, true≢false}
-use Rattle.std.specs.List.{list_any, position_or_len}
+use Rattle.std.proofs.Common.{◌≡◌, ℕ, zero, suc, ◌+◌, ◌<◌, Bool, true, false, not, cond, ◌==◌, ◌||◌, ◌&&◌, ltb, leb, List, [], ◌∷◌, ◌++◌, map, Option, Some, None, is_some, IfSome, filter_map, length, get_or, slice_get, option_map, unwrap_or, if◌then◌else◌, nat_lt, nat_le, refl, sym, ap, subst, ◌∙◌, arith, true≢false}
 use Rattle.std.specs.Map.{lookup, keys_of}
 use Rattle.std.specs.Cmp.Lexicographic.{bytes_decides, nat_list_eq_equiv}
 use Rattle.std.proofs.lemmas.Bool.Decides.{Decides-ltb, nat_tests}
 use Rattle.std.proofs.lemmas.List.{length-map}
-use Rattle.std.proofs.lemmas.List.Sums.{prefix_len-le-length, sum_by-cons}
-use Rattle.std.proofs.lemmas.Bool.{false_from_ne_true, ltb-false, or_parts}
+use Rattle.std.proofs.lemmas.List.Sums.{sum_by-cons}
+use Rattle.std.proofs.lemmas.Bool.{false_from_ne_true, or_parts}
 use Rattle.std.proofs.Math.Bool.{not-not}
 use Rattle.indexmap.specs.IndexMap.{get_by, index_map_len, index_of_by, insert_entry}
 use Rattle.indexmap.proofs.CallerLemmas.{insert_entry-new}
@@ -17,25 +16,30 @@ use Rattle.rd_base.specs.declared.limits.LimitName.TheVariants.{Events, Threads,
 use Rattle.rd_event.specs.declared.items.Line.{Line}
 use Rattle.rd_event.specs.declared.items.Line.TheVariants.{Skip, Header, Thread, Object, Event}
 use Rattle.rd_event.specs.declared.items.LineEvent.TheVariants.{Fork, Join, Acquire, Release, Share, Unshare, Call}
-use Rattle.rd_wf.specs.declared.causes.WfCause.TheVariants.{HeaderFirst, LateRoot, NameTaken, UnknownThread, ThreadEnded, OwnThread, UnknownKind, UnknownObject, UnknownMethod, WrongCount, LockHeld, NotHeld, Limit}
+use Rattle.rd_rules.specs.declared.causes.WfCause.TheVariants.{HeaderFirst, LateRoot, NameTaken, UnknownThread, ThreadEnded, OwnThread, UnknownKind, UnknownObject, UnknownMethod, WrongCount, LockHeld, NotHeld, Limit}
 use Rattle.rd_wf.specs.declared.roster.Roster.{Roster}
-use Rattle.rd_wf.specs.declared.methods.FoundMethod.{FoundMethod}
-use Rattle.rd_wf.specs.declared.methods.Methods.{Methods}
-use Rattle.rd_wf.specs.declared.roster.judge.FoundObject.{FoundObject}
-use Rattle.rd_wf.specs.declared.roster.judge.FoundThread.{FoundThread}
-use Rattle.rd_wf.proofs.FollowLemmas.{among_decides, late}
+use Rattle.rd_tables.specs.declared.methods.FoundMethod.{FoundMethod}
+use Rattle.rd_tables.specs.declared.methods.Methods.{Methods}
+use Rattle.rd_tables.specs.declared.found.FoundObject.{FoundObject}
+use Rattle.rd_tables.specs.declared.found.FoundThread.{FoundThread}
+use Rattle.rd_rules.proofs.FollowLemmas.{among_decides, late}
 use Rattle.std.specs.Prelude.{find}
-use Rattle.rd_wf.specs.declared.roster.Lock.{Lock}
-use Rattle.rd_wf.specs.declared.roster.judge.Broken.{Broken}
-use Rattle.rd_wf.specs.declared.roster.judge.FoundLock.{FoundLock}
-use Rattle.rd_wf.proofs.CauseLemmas.{least_found, same_found, none_holds}
-use Rattle.rd_wf.proofs.LockLemmas.{and-false, same_place, place_at, place_known, place_unknown, free_test, not_held_test, deep_test, holder_below, holder_known, holder_least}
-use Rattle.rd_wf.proofs.ShareLemmas.{least_within}
-use Rattle.rd_wf.specs.MayFollow.{threads_of, joined_of, locks_of, objects_of, acquires, releases, shares, unshares, header_of, headers, is_header, events, same_name, is_among, passes, place, methods_of, object_kinds, holders, causes, is_broken, first_broken}
-use Rattle.rd_ecl.specs.Kinds.{Kind, KindMethod, kind_names, method_names, methods_at, kind_slots_at}
-use Rattle.rd_wf.specs.Shares.{is_other_sharer, share_depth}
-use Rattle.rd_wf.specs.Sharers.{IsLeast}
-use Rattle.rd_wf.specs.Roster.{RosterStandsFor, kind_entry, method_entry, methods_in, thread_entry, object_entry, thread_count, lock_count, object_count, lock_in, depth_of, is_other_holder, other_holder, flag, found_method, found_thread, found_object, nothing_broken}
+use Rattle.rd_tables.specs.declared.locks.Lock.{Lock}
+use Rattle.rd_rules.specs.declared.broken.Broken.{Broken}
+use Rattle.rd_tables.specs.declared.found.FoundLock.{FoundLock}
+use Rattle.rd_rules.proofs.CauseLemmas.{none_holds}
+use Rattle.rd_wf.proofs.CauseLemmas.{least_found, same_found}
+use Rattle.rd_tables.proofs.NameLemmas.{same_place, place_at, place_known, place_unknown}
+use Rattle.rd_wf.proofs.LockLemmas.{and-false, free_test, not_held_test, deep_test, holder_below, holder_known, holder_least}
+use Rattle.rd_tables.proofs.ShareLemmas.{least_within}
+use Rattle.rd_rules.specs.MayFollow.{threads_of, joined_of, locks_of, objects_of, acquires, releases, shares, unshares, header_of, headers, is_header, events, same_name, is_among, passes, place, methods_of, object_kinds, holders, causes, is_broken, first_broken}
+use Rattle.rd_ecl.specs.Kinds.{Kind, kind_names, methods_at}
+use Rattle.rd_tables.specs.Shares.{is_other_sharer, share_depth}
+use Rattle.rd_tables.specs.Sharers.{IsLeast}
+use Rattle.rd_rules.specs.Broken.{flag, nothing_broken}
+use Rattle.rd_tables.specs.Tables.{kind_entry, methods_in, depth_of, is_other_holder, other_holder, found_method}
+use Rattle.rd_wf.specs.Roster.{RosterStandsFor, thread_entry, object_entry, thread_count, lock_count, object_count, lock_in, found_thread, found_object}
+use Rattle.rd_tables.proofs.LookupLemmas.{known_in, unknown_in, place_in, entry_in, none_is}
 
 -- where a part in front holds, what holds behind it isn't told
 behind_unknown : {X : Type 0} (unknown ended own other : Bool) (x y z w : Option X) → (unknown ≡ false → own ≡ other)
@@ -57,51 +61,6 @@ module _ {X : Type 0} (entry : List ℕ → List ℕ × X) (named : (name : List
   keys-entries : (names : List (List ℕ)) → keys_of (map entry names) ≡ names
   keys-entries [] = refl
   keys-entries (x ∷ xs) = λ i. named x i ∷ keys-entries xs i
-
--- what look-ups find in a table with these names, whose place is the next one for any other name
-module _ {X : Type 0} (test : List ℕ → Bool) where
-  is_some-lookup : (entries : List (List ℕ × X)) → is_some (lookup test entries) ≡ list_any test (keys_of entries)
-  is_some-lookup [] = refl
-  is_some-lookup (e ∷ es) = by (test e.0) (is_some-lookup es)
-    where
-      by : (b : Bool) → is_some (lookup test es) ≡ list_any test (keys_of es) → is_some (cond b (Some e.1) (lookup test es)) ≡ (b || list_any test (keys_of es))
-      by true rest = refl
-      by false rest = rest
-
-  pub lookup-at : (entries : List (List ℕ × X)) → option_map (λ e. e.1) (slice_get entries (position_or_len test (keys_of entries))) ≡ lookup test entries
-  lookup-at [] = refl
-  lookup-at (e ∷ es) = by (test e.0) (lookup-at es)
-    where
-      At : ℕ → Bool → Type 0
-      At n b = option_map (λ e. e.1) (slice_get (e ∷ es) n) ≡ cond b (Some e.1) (lookup test es)
-
-      by : (b : Bool) → option_map (λ e. e.1) (slice_get es (position_or_len test (keys_of es))) ≡ lookup test es → At (cond (not b) (1 + position_or_len test (keys_of es)) 0) b
-      by true rest = refl
-      by false rest = let next : suc (position_or_len test (keys_of es)) ≡ 1 + position_or_len test (keys_of es) = omega arith in subst (λ n. At n false) next rest
-
-position-or_next : (test : List ℕ → Bool) (names : List (List ℕ)) → unwrap_or (position test names) (length names) ≡ position_or_len test names
-position-or_next test names = by (ltb (position_or_len test names) (length names)) refl
-  where
-    by : (b : Bool) → ltb (position_or_len test names) (length names) ≡ b → unwrap_or (cond b (Some (position_or_len test names)) None) (length names) ≡ position_or_len test names
-    by true e = refl
-    by false e =
-        let most : position_or_len test names ≤ length names = prefix_len-le-length (λ name. not (test name)) names in
-        let least : length names ≤ position_or_len test names = ltb-false _ _ e in omega arith
-
-module _ {X : Type 0} (entries : List (List ℕ × X)) (names : List (List ℕ)) (keys : keys_of entries ≡ names) (name : List ℕ) where
-  pub known_in : is_some (lookup (same_name name) entries) ≡ is_among names name
-  known_in = is_some-lookup (same_name name) entries ∙ ap (λ names. is_among names name) keys
-
-  unknown_in : (value : Option X) → lookup (same_name name) entries ≡ value → not (is_among names name) ≡ not (is_some value)
-  unknown_in value e = ap not (sym known_in ∙ ap is_some e)
-
-  place_in : (index : Option ℕ) → position (same_name name) (keys_of entries) ≡ index → place names name ≡ unwrap_or index (length entries)
-  place_in index e =
-      ap (λ names. place names name) (sym keys) ∙ sym (position-or_next (same_name name) (keys_of entries))
-      ∙ (λ i. unwrap_or (e i) (length-map entries (λ e. e.0) i))
-
-  entry_in : (value : Option X) → lookup (same_name name) entries ≡ value → option_map (λ e. e.1) (slice_get entries (place names name)) ≡ value
-  entry_in value e = ap (λ names. option_map (λ e. e.1) (slice_get entries (place names name))) (sym keys) ∙ lookup-at (same_name name) entries ∙ e
 
 -- what a look-up finds is the entry of the name
 lookup-entries : (lines : List Line) (name : List ℕ) (names : List (List ℕ)) (joined : Bool) → lookup (same_name name) (map (thread_entry lines) names) ≡ Some joined
@@ -140,10 +99,6 @@ kinds-objects kinds (Event event ∷ lines) = kinds-objects kinds lines
 names-kinds : (entries : List (List ℕ × Methods)) → keys_of entries ≡ kind_names (map kind_entry entries)
 names-kinds [] = refl
 names-kinds (e ∷ es) = ap (λ names. e.0 ∷ names) (names-kinds es)
-
-names-methods : (entries : List (List ℕ × ℕ)) → keys_of entries ≡ method_names (map method_entry entries)
-names-methods [] = refl
-names-methods (e ∷ es) = ap (λ names. e.0 ∷ names) (names-methods es)
 
 -- ---- headers
 
@@ -188,32 +143,6 @@ module _ (roster : Roster) (limits : Limits) (first : Bool) where
 
   abbrev pub release_flags : FoundThread → ℕ → Broken
   release_flags actor depth = record (event_flags actor) { not_held = depth == 0 }
-
--- ---- methods
-
-method_slots : (entries : List (List ℕ × ℕ)) (i : ℕ) → kind_slots_at (map method_entry entries) i ≡ unwrap_or (option_map (λ e. e.1) (slice_get entries i)) 0
-method_slots entries i = ap (λ o. unwrap_or (option_map (λ (m : KindMethod). m.slots) o) 0) (slice_get-map method_entry entries i) ∙ by (slice_get entries i)
-  where
-    by : (o : Option (List ℕ × ℕ)) → unwrap_or (option_map (λ (m : KindMethod). m.slots) (option_map method_entry o)) 0 ≡ unwrap_or (option_map (λ e. e.1) o) 0
-    by None = refl
-    by (Some e) = refl
-
--- what a look-up of a method finds
-pub method_found : (methods : Methods) (name : List ℕ) (index slots : Option ℕ) → index_of_by (same_name name) methods.slots ≡ index → get_by (same_name name) methods.slots ≡ slots
-    → found_method (methods_in methods) name ≡ record { number = unwrap_or index (index_map_len methods.slots); unknown = not (is_some slots); slots = unwrap_or slots 0 }
-method_found methods name index slots at value =
-    let entries = methods.slots.entries in
-    let names = method_names (methods_in methods) in
-    let keys : keys_of entries ≡ names = names-methods entries in
-    λ i. record {
-      number = place_in entries names keys name index at i;
-      unknown = unknown_in entries names keys name slots value i;
-      slots = (method_slots entries (place names name) ∙ ap (λ o. unwrap_or o 0) (entry_in entries names keys name slots value)) i;
-    }
-
-pub none_is : {X : Type 0} (o : Option X) → is_some o ≡ false → o ≡ None
-none_is None e = refl
-none_is (Some x) e = absurd (true≢false e)
 
 -- where a name is taken by none before, it is not joined
 pub not_joined : (kinds : List Kind) (roster : Roster) (lines : List Line) → RosterStandsFor kinds roster lines → (name : List ℕ) → is_among (threads_of lines) name ≡ false → is_among (joined_of lines) name ≡ false

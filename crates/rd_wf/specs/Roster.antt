@@ -1,29 +1,26 @@
 -- What a roster holds of the accepted lines of a trace: this project's profile.
-use Rattle.std.specs.Prelude.{◌≡◌, ℕ, ◌+◌, ◌<◌, ◌==◌, Bool, false, ◌≤◌, nat_lt, ◌&&◌, not, if◌then◌else◌, List, [], ◌∷◌, ◌++◌, map, length, Contains, filter_map, Option, Some, None, unwrap_or}
+use Rattle.std.specs.Prelude.{◌≡◌, ℕ, ◌+◌, ◌<◌, Bool, ◌≤◌, not, List, [], ◌∷◌, ◌++◌, map, length, Contains, filter_map, Option, Some, None, unwrap_or}
 use Rattle.std.specs.List.{IsDistinct}
 use Rattle.indexmap.specs.IndexMap.{get_by, index_map_len}
 use Rattle.rd_base.specs.declared.limits.Limits.{Limits}
 use Rattle.rd_event.specs.Reading.{item_of}
 use Rattle.rd_event.specs.declared.items.Line.{Line}
 use Rattle.rd_event.specs.declared.items.Line.TheVariants.{Object}
-use Rattle.rd_wf.specs.declared.causes.Accepted.{Accepted}
-use Rattle.rd_base.specs.declared.limits.LimitName.TheVariants.{Events, Threads, Locks, Objects, Depth}
-use Rattle.rd_wf.specs.declared.causes.WfCause.{WfCause}
-use Rattle.rd_wf.specs.declared.causes.WfCause.TheVariants.{HeaderFirst, LateRoot, NameTaken, UnknownThread, ThreadEnded, OwnThread, UnknownKind, UnknownObject, UnknownMethod, WrongCount, LockHeld, NotHeld, Limit}
-use Rattle.rd_wf.specs.declared.causes.WfRefused.{WfRefused}
-use Rattle.rd_wf.specs.declared.causes.WfRefused.TheVariants.{Cause, NoMemory}
+use Rattle.rd_rules.specs.declared.causes.Accepted.{Accepted}
+use Rattle.rd_rules.specs.declared.causes.WfCause.{WfCause}
+use Rattle.rd_rules.specs.declared.causes.WfRefused.{WfRefused}
+use Rattle.rd_rules.specs.declared.causes.WfRefused.TheVariants.{Cause, NoMemory}
 use Rattle.rd_wf.specs.declared.roster.Roster.{Roster}
-use Rattle.rd_wf.specs.declared.roster.judge.Broken.{Broken}
-use Rattle.rd_wf.specs.declared.roster.Lock.{Lock}
-use Rattle.rd_wf.specs.declared.roster.judge.FoundLock.{FoundLock}
-use Rattle.rd_wf.specs.declared.roster.judge.FoundObject.{FoundObject}
-use Rattle.rd_wf.specs.declared.roster.judge.FoundThread.{FoundThread}
-use Rattle.rd_wf.specs.Events.{AcceptedInRange}
-use Rattle.rd_wf.specs.Shares.{share_depth}
-use Rattle.rd_wf.specs.declared.methods.FoundMethod.{FoundMethod}
-use Rattle.rd_wf.specs.declared.methods.Methods.{Methods}
-use Rattle.rd_wf.specs.MayFollow.{threads_of, joined_of, locks_of, objects_of, acquires, releases, shares, unshares, header_of, events, is_among, passes, same_name, kind_number, place, version_of, first_broken, accepted_of, MayFollow, TakesMemory}
-use Rattle.rd_ecl.specs.Kinds.{Kind, KindMethod, kind_names, method_names, kind_slots_at, methods_at}
+use Rattle.rd_tables.specs.declared.locks.Lock.{Lock}
+use Rattle.rd_tables.specs.declared.found.FoundLock.{FoundLock}
+use Rattle.rd_tables.specs.declared.found.FoundObject.{FoundObject}
+use Rattle.rd_tables.specs.declared.found.FoundThread.{FoundThread}
+use Rattle.rd_rules.specs.Events.{AcceptedInRange}
+use Rattle.rd_tables.specs.Shares.{share_depth}
+use Rattle.rd_tables.specs.Tables.{depth_of, found_method, free_lock, kind_entry}
+use Rattle.rd_tables.specs.declared.methods.FoundMethod.{FoundMethod}
+use Rattle.rd_rules.specs.MayFollow.{threads_of, joined_of, locks_of, objects_of, acquires, releases, shares, unshares, header_of, events, is_among, same_name, kind_number, place, version_of, first_broken, accepted_of, MayFollow, TakesMemory}
+use Rattle.rd_ecl.specs.Kinds.{Kind, kind_names, methods_at}
 
 -- how many threads, locks and objects the roster numbers
 abbrev pub thread_count : Roster → ℕ
@@ -52,45 +49,11 @@ names_in roster = map (λ entry. entry.0) roster.threads.entries
 abbrev pub object_names_in : Roster → List (List ℕ)
 object_names_in roster = map (λ entry. entry.0) roster.objects.entries
 
--- a lock that no thread has
-abbrev pub free_lock : Lock
-free_lock = record { holder = 0; depth = 0 }
-
 -- what the roster holds of the lock of that name
 abbrev pub lock_in : Roster → List ℕ → Lock
 lock_in roster name = unwrap_or (get_by (same_name name) roster.locks) free_lock
 
--- how often the thread with this number has acquired the lock and not released it
-abbrev pub depth_of : Lock → ℕ → ℕ
-depth_of lock thread = if thread == lock.holder then lock.depth else 0
-
--- the thread that has the lock, if it is another one than that with this number
-abbrev pub other_holder : Lock → ℕ → Option ℕ
-other_holder lock thread = if nat_lt 0 lock.depth && not (thread == lock.holder) then Some lock.holder else None
-
--- a second thread has the lock, and it is another one than the first
-abbrev pub is_other_holder : Lock → ℕ → ℕ → Bool
-is_other_holder lock thread other = not (thread == other) && not (depth_of lock other == 0)
-
--- the methods that a roster's table says, and the kind that an entry of its kinds says
-abbrev pub method_entry : List ℕ × ℕ → KindMethod
-method_entry entry = record { name = entry.0; slots = entry.1 }
-
-abbrev pub methods_in : Methods → List KindMethod
-methods_in methods = map method_entry methods.slots.entries
-
-abbrev pub kind_entry : List ℕ × Methods → Kind
-kind_entry entry = record { name = entry.0; methods = methods_in entry.1 }
-
 -- ---- what look-ups find
-
--- the method of that name: its number, and how many slots it has; the next number and none where there is no such method
-abbrev pub found_method : List KindMethod → List ℕ → FoundMethod
-found_method methods name = record {
-  number = place (method_names methods) name;
-  unknown = not (is_among (method_names methods) name);
-  slots = kind_slots_at methods (place (method_names methods) name);
-}
 
 -- the thread of that name: its number, which is the next one where it was not begun, and whether the lines join it
 abbrev pub found_thread : List Line → List ℕ → FoundThread
@@ -107,51 +70,6 @@ found_object kinds lines name = record {
   unknown = not (is_among (objects_of lines) name);
   kind = kind_number kinds lines name;
 }
-
--- ---- the rules that a line breaks
-
--- none
-abbrev pub nothing_broken : Broken
-nothing_broken = record {
-  header_first = false;
-  late_root = false;
-  name_taken = false;
-  unknown_thread = false;
-  thread_ended = false;
-  own_thread = false;
-  unknown_kind = false;
-  unknown_object = false;
-  unknown_method = false;
-  wrong_count = false;
-  held_by = None;
-  not_held = false;
-  events = false;
-  threads = false;
-  locks = false;
-  objects = false;
-  depth = false;
-}
-
--- the flag of a cause
-abbrev pub flag : Broken → WfCause → Bool
-flag broken HeaderFirst = broken.header_first
-flag broken LateRoot = broken.late_root
-flag broken NameTaken = broken.name_taken
-flag broken UnknownThread = broken.unknown_thread
-flag broken ThreadEnded = broken.thread_ended
-flag broken OwnThread = broken.own_thread
-flag broken UnknownKind = broken.unknown_kind
-flag broken UnknownObject = broken.unknown_object
-flag broken UnknownMethod = broken.unknown_method
-flag broken WrongCount = broken.wrong_count
-flag broken (LockHeld holder) = passes broken.held_by (λ other. other == holder)
-flag broken NotHeld = broken.not_held
-flag broken (Limit Events most) = broken.events
-flag broken (Limit Threads most) = broken.threads
-flag broken (Limit Locks most) = broken.locks
-flag broken (Limit Objects most) = broken.objects
-flag broken (Limit Depth most) = broken.depth
-flag broken (Limit name most) = false
 
 -- ---- what a roster holds
 

@@ -1,15 +1,9 @@
-//! Which line may follow the accepted lines of a trace, and the events of these lines by numbers.
+//! The roster of the accepted lines of a trace, which says of the next line whether it may follow.
 #![tactic(auto)]
 
-mod causes;
-mod laws;
-mod methods;
 mod roster;
-mod sharers;
-mod shares;
 
-pub use causes::{Accepted, TraceCause, WfCause, WfRefused};
-pub use laws::{law_of_events, law_of_following};
+pub use rd_rules::{Accepted, TraceCause, WfCause, WfRefused, law_of_events, law_of_following};
 pub use roster::{
     AcquireLine, CallLine, JoinLine, KnownLine, ReleaseLine, Roster, ShareLine, UnshareLine,
 };

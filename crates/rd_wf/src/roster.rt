@@ -6,25 +6,14 @@ mod judge;
 mod known;
 mod near;
 
-use crate::causes::{Accepted, WfCause, WfRefused};
-use crate::methods::Methods;
-use crate::shares::Shares;
 use indexmap::IndexMap;
-use judge::{Declared, FREE};
 pub use known::{AcquireLine, CallLine, JoinLine, KnownLine, ReleaseLine, ShareLine, UnshareLine};
-use near::{NEAR_LENGTH, near_place};
 use rd_base::{Limits, Name, NoMemory, Slots};
 use rd_ecl::Spec;
 use rd_event::{Call, Event, Line, LineEvent};
+use rd_rules::{Accepted, WfCause, WfRefused};
+use rd_tables::{Declared, FREE, Lock, Methods, NEAR_LENGTH, Shares, near_place};
 use std::alloc::Global;
-
-/// What is held of a lock: the number of the thread that acquired it last, and how often that thread acquired it and hasn't
-/// released it.
-#[derive(Clone, Copy, Debug)]
-struct Lock {
-    holder: u32,
-    depth: u32,
-}
 
 /// The accepted lines of a trace, as names with numbers, flags and counts. It says of the next line
 /// whether it may follow.
@@ -59,8 +48,8 @@ impl Roster {
     ghost use Rattle.rd_base.specs.Limits.{AreUsable};
     ghost use Rattle.rd_event.specs.Items.{LineInRange};
     ghost use Rattle.rd_event.specs.declared.items.Line.{Line as LineOf};
-    ghost use Rattle.rd_wf.specs.Events.{AcceptedInRange};
-    ghost use Rattle.rd_wf.specs.MayFollow.{IsBrokenFirst, MayFollow, first_broken, accepted_of, same_name, threads_of, locks_of, objects_of, headers, events, version_of, TakesMemory};
+    ghost use Rattle.rd_rules.specs.Events.{AcceptedInRange};
+    ghost use Rattle.rd_rules.specs.MayFollow.{IsBrokenFirst, MayFollow, first_broken, accepted_of, threads_of, locks_of, objects_of, headers, events, version_of, TakesMemory};
     ghost use Rattle.std.specs.List.{AllPairs};
     ghost use Rattle.rd_ecl.specs.Kinds.{Kind, kind_names, kinds_of};
     ghost use Rattle.rd_wf.specs.Roster.{RosterStandsFor, Accepts, Refuses, names_in, object_names_in, thread_count, lock_count, object_count};

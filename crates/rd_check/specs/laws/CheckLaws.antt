@@ -6,9 +6,9 @@ use Rattle.rd_order.specs.EventLists.{WellFormedWith, forks, joins}
 use Rattle.rd_hb.specs.Knows.{GivesBack, KnownCount}
 use Rattle.rd_hb.specs.Tracker.{TrackerStandsFor, Tracking, handed_by}
 use Rattle.rd_order.specs.Order.{Hold, exclusive, shared}
-use Rattle.rd_wf.specs.Events.{events_of, roots_of}
+use Rattle.rd_rules.specs.Events.{events_of, roots_of}
 use Rattle.rd_ecl.specs.Kinds.{Kind, kinds_of}
-use Rattle.rd_wf.specs.laws.NoLines.{told_none}
+use Rattle.rd_rules.specs.laws.NoLines.{told_none}
 use Rattle.rd_check.specs.Checking.{CheckBegins, CheckLeads}
 use Rattle.rd_check.specs.Checked.{race_texts, races_before, races_of, texts_before}
 use Rattle.rd_check.specs.declared.checking.Check.{Check}

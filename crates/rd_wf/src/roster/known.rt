@@ -5,10 +5,9 @@ ghost use Rattle.rd_ecl.specs.Kinds.{Kind};
 ghost use Rattle.rd_wf.specs.Roster.{RosterStandsFor, AcceptsAs};
 
 use super::Roster;
-use super::near::behind;
-use crate::causes::Accepted;
 use rd_base::Limits;
-use rd_event::{Event, law_of_calls, law_of_spelling};
+use rd_event::{Event, behind, law_of_calls, law_of_spelling};
+use rd_rules::Accepted;
 
 /// A sort of lines that a roster accepts by their bytes. Each is a type of its own, so that a line pays for nothing that those of
 /// another sort hold.

@@ -1,59 +1,13 @@
 //! Names that are found near, and lines whose names are.
-ghost use Rattle.std.specs.Prelude.{◌≡◌, ◌++◌, ◌∷◌, IfSome};
+ghost use Rattle.std.specs.Prelude.{◌≡◌, IfSome};
 
-use super::judge::{FoundLock, FoundObject, FoundThread, Pair};
-use super::{Lock, Roster};
-use crate::methods::FoundMethod;
-use rd_base::{Limits, Name};
+use super::Roster;
+use rd_base::Limits;
 use rd_event::{Call, read_slots};
-
-/// The length of a table of near numbers.
-pub(super) const NEAR_LENGTH: usize = 1024;
-
-/// Where a name with these bytes is looked for first: its place in the tables of near numbers, modulo their length, by its last bytes.
-#[inline(always)]
-fn near_bytes(bytes: &[u8]) -> usize {
-    match bytes {
-        [.., third, second, last] => {
-            (usize::from(*third) * 10 + usize::from(*second)) * 10 + usize::from(*last)
-        }
-        [.., last] => usize::from(*last),
-        [] => 0,
-    }
-}
-
-/// Where the name is looked for first.
-#[inline(always)]
-pub(super) fn near_place(name: &Name) -> usize {
-    near_bytes(name.items())
-}
-
-// What stands before the first space, and what stands after it.
-#[inline(always)]
-fn cut_at_space(bytes: &[u8]) -> Option<(&[u8], &[u8])>
-    ensures { IfSome result (λ parts. bytes.now ≡ parts.0.now ++ 32 ∷ parts.1.now) }
-{
-    let space = bytes.iter().position(|byte| *byte == b' ')?;
-    Some((&bytes[..space], &bytes[space + 1..]))
-}
-
-// What stands behind the keyword, if the bytes begin with it. Most keywords are told apart by their first byte.
-#[inline(always)]
-pub(super) fn behind<'a>(bytes: &'a [u8], keyword: &[u8]) -> Option<&'a [u8]>
-    ensures front { IfSome result (λ rest. bytes.now ≡ keyword.now ++ rest.now) }
-{
-    if bytes.first() != keyword.first() {
-        return None;
-    }
-    bytes.strip_prefix(keyword)
-}
-
-/// The numbers of a thread and of the lock that its line names.
-#[derive(Clone, Copy)]
-pub(super) struct LockUse {
-    pub(super) thread: u32,
-    pub(super) lock: u32,
-}
+use rd_tables::{
+    FoundLock, FoundMethod, FoundObject, FoundThread, Lock, LockUse, NEAR_LENGTH, Pair,
+    cut_at_space, near_bytes,
+};
 
 impl Roster {
     ghost use Rattle.std.specs.Prelude.{◌≡◌, ◌<◌, List, ℕ, false, Some, IfNone, IfSome, IsSome};
@@ -65,8 +19,8 @@ impl Roster {
     ghost use Rattle.rd_event.specs.declared.items.LineEvent.TheVariants as spelled;
     ghost use Rattle.rd_event.specs.declared.items.Line.{Line as LineOf};
     ghost use Rattle.rd_ecl.specs.Kinds.{Kind};
-    ghost use Rattle.rd_wf.specs.MayFollow.{version_of};
-    ghost use Rattle.rd_wf.specs.declared.causes.Accepted.{Accepted};
+    ghost use Rattle.rd_rules.specs.MayFollow.{version_of};
+    ghost use Rattle.rd_rules.specs.declared.causes.Accepted.{Accepted};
     ghost use Rattle.rd_wf.specs.Roster.{RosterStandsFor, Accepts, IsFoundThread, IsFoundObject, IsFoundMethod, IsFoundLock, thread_count, lock_count};
 
     // The thread with this number, if this is its name.
@@ -153,7 +107,7 @@ impl Roster {
         ensures named { IsSome result → IsName name.now }
     {
         let (_kind, methods) = self.kinds.get_index(kind as usize)?;
-        methods.find_near(name)
+        methods.find_by_bytes(name)
     }
 
     // Accepts the line by which a thread waits for another, by the names that stand behind its keyword.

@@ -1,5 +1,5 @@
 use Rattle.rd_ecl.specs.Kinds.{kinds_of}
-use Rattle.rd_wf.specs.Events.{events_of, roots_of}
+use Rattle.rd_rules.specs.Events.{events_of, roots_of}
 use Rattle.rd_detect_trials.proofs.CourseLemmas.{on_ok}
 use Rattle.rd_detect_trials.proofs.LineLemmas.{event_next, event_stands, quiet_stands, root_below, root_numbered, root_stands}
 use Rattle.rd_detect_trials.proofs.course.follow.Goals as goal

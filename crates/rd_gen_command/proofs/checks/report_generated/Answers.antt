@@ -6,7 +6,7 @@ use Rattle.rd_io.proofs.SinkLemmas.{appends_on}
 use Rattle.rd_walk.proofs.OutputLemmas.{report_cut}
 use Rattle.rd_walk.specs.Output.{IsOutput, report_status}
 use Rattle.rd_walk.specs.Walk.{entries_of, items}
-use Rattle.rd_wf.specs.Events.{AreAccepted}
+use Rattle.rd_rules.specs.Events.{AreAccepted}
 use Rattle.rd_wf.specs.Roster.{kinds_in}
 use Rattle.rd_gen_command.proofs.checks.report_generated.Goals as goal
 

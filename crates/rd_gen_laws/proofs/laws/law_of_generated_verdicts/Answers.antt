@@ -10,7 +10,7 @@ use Rattle.rd_object.specs.declared.shapes.ReplayEnd.TheVariants.{Exact}
 use Rattle.rd_replaying.specs.Replaying.{replay_of}
 use Rattle.rd_replaying.specs.States.{built_in_kinds}
 use Rattle.rd_walk.specs.Walk.{entries_of, items}
-use Rattle.rd_wf.specs.Events.{AreAccepted}
+use Rattle.rd_rules.specs.Events.{AreAccepted}
 use Rattle.rd_check.specs.Verdicts.{AreDeterministic}
 use Rattle.rd_gen_laws.proofs.laws.law_of_generated_verdicts.Goals as goal
 

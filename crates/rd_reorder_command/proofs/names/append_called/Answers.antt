@@ -4,7 +4,7 @@ use Rattle.std.proofs.lemmas.List.{append_assoc}
 use Rattle.std.proofs.lemmas.Result.{on_ok_weaker}
 use Rattle.rd_event.specs.Items.{call_text}
 use Rattle.rd_reorder_command.proofs.NamingLemmas.{named}
-use Rattle.rd_wf.specs.MayFollow.{objects_of, threads_of}
+use Rattle.rd_rules.specs.MayFollow.{objects_of, threads_of}
 use Rattle.rd_reorder_command.proofs.names.append_called.Goals as goal
 
 pub returns : goal.returns

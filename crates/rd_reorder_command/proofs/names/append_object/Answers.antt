@@ -3,7 +3,7 @@ use Rattle.std.specs.Prelude.{codes}
 use Rattle.std.proofs.lemmas.Result.{on_ok_weaker}
 use Rattle.rd_event.specs.Items.{words_apart}
 use Rattle.rd_reorder_command.proofs.NamingLemmas.{named}
-use Rattle.rd_wf.specs.MayFollow.{objects_of}
+use Rattle.rd_rules.specs.MayFollow.{objects_of}
 use Rattle.rd_reorder_command.proofs.names.append_object.Goals as goal
 
 pub returns : goal.returns

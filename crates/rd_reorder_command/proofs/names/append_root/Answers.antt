@@ -3,7 +3,7 @@ use Rattle.std.specs.Prelude.{codes}
 use Rattle.std.proofs.lemmas.List.{append_assoc}
 use Rattle.std.proofs.lemmas.Result.{on_ok_weaker}
 use Rattle.rd_reorder_command.proofs.NamingLemmas.{named}
-use Rattle.rd_wf.specs.MayFollow.{threads_of}
+use Rattle.rd_rules.specs.MayFollow.{threads_of}
 use Rattle.rd_reorder_command.proofs.names.append_root.Goals as goal
 
 pub returns : goal.returns

@@ -2,7 +2,7 @@ use Rattle.std.proofs.Common.{◌≡◌, ◌++◌, ◌∙◌}
 use Rattle.std.proofs.lemmas.Result.{on_ok_weaker}
 use Rattle.rd_event.specs.Items.{words_apart}
 use Rattle.rd_reorder_command.proofs.NamingLemmas.{named}
-use Rattle.rd_wf.specs.MayFollow.{locks_of, threads_of}
+use Rattle.rd_rules.specs.MayFollow.{locks_of, threads_of}
 use Rattle.rd_reorder_command.proofs.names.append_use.Goals as goal
 
 pub returns : goal.returns

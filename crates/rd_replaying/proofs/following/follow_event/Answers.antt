@@ -1,7 +1,7 @@
 use Rattle.std.proofs.Common.{ℕ, List, [], ◌∷◌, ◌++◌, ap}
 use Rattle.std.proofs.lemmas.Result.{on_ok_weaker}
-use Rattle.rd_wf.specs.MayFollow.{object_kinds}
-use Rattle.rd_wf.specs.declared.causes.Accepted.TheVariants as accepted
+use Rattle.rd_rules.specs.MayFollow.{object_kinds}
+use Rattle.rd_rules.specs.declared.causes.Accepted.TheVariants as accepted
 use Rattle.rd_replay.specs.Replays.{Recorded}
 use Rattle.rd_replay.specs.Replayer.{IsRecordable, ReplayerStandsFor}
 use Rattle.rd_replaying.specs.Replaying.{recorded_of}

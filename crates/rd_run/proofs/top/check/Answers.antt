@@ -2,7 +2,7 @@ use Rattle.std.specs.Prelude.{nat_lt, ⊤}
 use Rattle.std.proofs.Common.{[], refl, ◌∙◌, subst, sym, ap}
 use Rattle.rd_io.proofs.SinkLemmas.{appends_none}
 use Rattle.rd_ecl.specs.Kinds.{kinds_of}
-use Rattle.rd_wf.specs.laws.NoLines.{told_none}
+use Rattle.rd_rules.specs.laws.NoLines.{told_none}
 use Rattle.rd_wf.specs.Roster.{kinds_in}
 use Rattle.either.specs.Either.{MatchEither}
 use Rattle.rd_check.specs.Checking.{CheckBegins}

@@ -19,7 +19,7 @@ use Rattle.rd_walk.specs.Output.{IsOutput, report_status}
 use Rattle.rd_walk.specs.Walk.{ending_of, entries_of, step_bound}
 use Rattle.rd_walk.specs.declared.status.TraceStatus.TheVariants.{InputFault}
 use Rattle.rd_walk.specs.declared.walk.WalkEnd.TheVariants.{End}
-use Rattle.rd_wf.specs.laws.NoLines.{told_none}
+use Rattle.rd_rules.specs.laws.NoLines.{told_none}
 use Rattle.rd_wf.specs.Roster.{kinds_in}
 use Rattle.rd_run.proofs.top.generate.Goals as goal
 

@@ -1,7 +1,7 @@
 use Rattle.std.proofs.Common.{◌≡◌, ◌∙◌, Some, ap, inr, sym, Err}
 use Rattle.rd_event.specs.Reading.{item_of}
-use Rattle.rd_wf.specs.declared.causes.TraceCause.TheVariants.{Wf}
-use Rattle.rd_wf.specs.MayFollow.{version_of}
+use Rattle.rd_rules.specs.declared.causes.TraceCause.TheVariants.{Wf}
+use Rattle.rd_rules.specs.MayFollow.{version_of}
 use Rattle.rd_walk.proofs.WalkLemmas.{judged_broken}
 use Rattle.rd_walk.proofs.judging.judge.Goals as goal
 

@@ -1,7 +1,7 @@
 use Rattle.rd_walk.specs.Walk.{entries_of, items, trace_of}
 use Rattle.rd_walk.proofs.AcceptedLemmas.{trace_accepted}
 use Rattle.rd_walk.proofs.AcceptedLineLemmas.{trace_walk}
-use Rattle.rd_wf.proofs.EventsLemmas.{accepted_told, told_formed}
+use Rattle.rd_rules.proofs.EventsLemmas.{accepted_told, told_formed}
 use Rattle.rd_walk.proofs.laws.law_of_walks.Goals as goal
 
 pub returns : goal.returns

@@ -1,6 +1,6 @@
 use Rattle.std.proofs.Common.{◌≡◌, ◌∙◌, ap, Err, inl, inr, sym, subst}
 use Rattle.rd_base.specs.Limits.{AreUsable}
-use Rattle.rd_wf.specs.MayFollow.{MayFollow}
+use Rattle.rd_rules.specs.MayFollow.{MayFollow}
 use Rattle.rd_wf.specs.Roster.{RosterStandsFor}
 use Rattle.rd_walk.specs.Analysis.{IsNextEntry}
 use Rattle.rd_walk.specs.Walk.{items}

@@ -9,11 +9,11 @@ use Rattle.rd_event.specs.declared.events.Event.TheVariants as event
 use Rattle.rd_json.specs.Forms.{race_in}
 use Rattle.rd_report.specs.Races.{told_by}
 use Rattle.rd_report.specs.Texts.{naming_in}
-use Rattle.rd_wf.specs.declared.causes.Accepted.TheVariants as accepted
+use Rattle.rd_rules.specs.declared.causes.Accepted.TheVariants as accepted
 use Rattle.rd_walk.specs.Analysis.{WritesFront}
 use Rattle.rd_check.specs.Checking.{Tracks}
 use Rattle.rd_check.specs.Checked.{entry_events, event_numbers, race_texts}
-use Rattle.rd_wf.specs.Events.{roots_of}
+use Rattle.rd_rules.specs.Events.{roots_of}
 use Rattle.rd_walk.specs.Walk.{Entry, items}
 use Rattle.rd_walk.proofs.OutputLemmas.{always_ok}
 use Rattle.rd_check.proofs.CheckLemmas.{call_cost, call_next, call_races, checks_call, checks_quiet, event_cost, event_next, event_tracks, known_race, races_call, text_call, texts_quiet}

@@ -1,4 +1,4 @@
-use Rattle.rd_wf.specs.declared.causes.Accepted.TheVariants.{Root}
+use Rattle.rd_rules.specs.declared.causes.Accepted.TheVariants.{Root}
 use Rattle.rd_ecl.specs.Kinds.{kinds_of}
 use Rattle.rd_walk.specs.Walk.{items}
 use Rattle.rd_check.proofs.CheckLemmas.{checks_quiet, root_below, root_numbered, root_tracks}

@@ -6,10 +6,10 @@ use Rattle.rd_event.specs.declared.events.Event.{Event as Numbered}
 use Rattle.rd_event.specs.declared.items.Line.{Line}
 use Rattle.rd_ecl.specs.Kinds.{Kind, kinds_of}
 use Rattle.rd_report.specs.Texts.{naming_in}
-use Rattle.rd_wf.specs.MayFollow.{events}
+use Rattle.rd_rules.specs.MayFollow.{events}
 use Rattle.rd_wf.specs.declared.roster.Roster.{Roster}
-use Rattle.rd_wf.specs.declared.causes.Accepted.{Accepted}
-use Rattle.rd_wf.specs.declared.causes.Accepted.TheVariants as accepted
+use Rattle.rd_rules.specs.declared.causes.Accepted.{Accepted}
+use Rattle.rd_rules.specs.declared.causes.Accepted.TheVariants as accepted
 use Rattle.rd_wf.proofs.RosterLemmas.{object_keys, thread_keys}
 use Rattle.rd_walk.specs.Analysis.{IsNextEntry, WritesBetween, WritesFront}
 use Rattle.rd_check.specs.Checking.{Checks, IsNextEventLine, IsNextLine, CheckLeads}

@@ -1,7 +1,7 @@
 use Rattle.std.proofs.Common.{◌∙◌, inl, refl}
 use Rattle.std.proofs.lemmas.List.{append-nil}
 use Rattle.rd_event.specs.declared.items.Line.TheVariants.{Skip}
-use Rattle.rd_wf.specs.declared.causes.Accepted.TheVariants.{Nothing}
+use Rattle.rd_rules.specs.declared.causes.Accepted.TheVariants.{Nothing}
 use Rattle.rd_walk.specs.Walk.{Entry}
 use Rattle.rd_check.specs.Checked.{race_texts}
 use Rattle.rd_check.proofs.QuietLemmas.{quiet_leads, quiet_text}

@@ -1,6 +1,6 @@
 use Rattle.std.proofs.Common.{[], ◌++◌, refl, sym, subst}
 use Rattle.rd_io.proofs.SinkLemmas.{appends_none}
-use Rattle.rd_wf.specs.MayFollow.{object_kinds}
+use Rattle.rd_rules.specs.MayFollow.{object_kinds}
 use Rattle.rd_wf.proofs.RosterLemmas.{thread_keys}
 use Rattle.rd_walk.specs.Output.{IsOutput, report_status}
 use Rattle.rd_walk.specs.Walk.{after, ends, items}

@@ -4,7 +4,7 @@ use Rattle.rd_ecl.specs.Kinds.{kind_names, kinds_of}
 use Rattle.rd_kinds.proofs.NameLemmas.{listed_differ}
 use Rattle.rd_kinds.specs.Shipped.{shipped_kinds}
 use Rattle.rd_wf.specs.Roster.{RosterStandsFor}
-use Rattle.rd_wf.specs.laws.NoLines.{told_none}
+use Rattle.rd_rules.specs.laws.NoLines.{told_none}
 use Rattle.rd_linear_trials.proofs.CourseLemmas.{if_ok}
 use Rattle.rd_linear_trials.proofs.course.Course.new.Goals as goal
 

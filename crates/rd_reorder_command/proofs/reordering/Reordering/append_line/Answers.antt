@@ -7,7 +7,7 @@ use Rattle.rd_event.specs.declared.items.Line.TheVariants.{Event, Header, Object
 use Rattle.rd_reorder_command.proofs.LineLemmas.{counted, event_at, event_known, header_at, kind_known, object_at, objects_kept, root_at, root_known, same_line}
 use Rattle.rd_reorder_command.specs.Naming.{kind_name, named_event, object_name, thread_name}
 use Rattle.rd_reorder_command.specs.Reordered.{reordered}
-use Rattle.rd_wf.specs.MayFollow.{version_of}
+use Rattle.rd_rules.specs.MayFollow.{version_of}
 use Rattle.rd_wf.specs.Roster.{RosterStandsFor}
 use Rattle.rd_reorder_command.proofs.reordering.Reordering.append_line.Goals as goal
 

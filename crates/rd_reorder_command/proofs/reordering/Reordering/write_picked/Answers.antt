@@ -10,7 +10,7 @@ use Rattle.rd_reorder_command.proofs.OrderLemmas.{linear_counted, linear_inside,
 use Rattle.rd_reorder_command.specs.Keeping.{ArePlaces, KeepsNamed}
 use Rattle.rd_reorder_command.specs.Reordered.{lines_text, reordered}
 use Rattle.rd_walk.specs.Analysis.{WritesFront}
-use Rattle.rd_wf.specs.Events.{roots_of}
+use Rattle.rd_rules.specs.Events.{roots_of}
 use Rattle.rd_reorder_command.proofs.reordering.Reordering.write_picked.Goals as goal
 
 pub reorder-requires : goal.reorder-requires

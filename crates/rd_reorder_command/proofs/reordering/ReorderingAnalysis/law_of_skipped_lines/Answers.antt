@@ -1,5 +1,5 @@
 use Rattle.rd_event.specs.declared.items.Line.TheVariants.{Skip}
-use Rattle.rd_wf.specs.declared.causes.Accepted.TheVariants.{Nothing}
+use Rattle.rd_rules.specs.declared.causes.Accepted.TheVariants.{Nothing}
 use Rattle.rd_reorder_command.proofs.KeepingLemmas.{leads_more, nothing_more}
 use Rattle.rd_reorder_command.proofs.reordering.ReorderingAnalysis.law_of_skipped_lines.Goals as goal
 

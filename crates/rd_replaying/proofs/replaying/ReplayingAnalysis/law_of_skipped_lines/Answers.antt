@@ -1,6 +1,6 @@
 use Rattle.std.proofs.Common.{refl}
 use Rattle.rd_event.specs.declared.items.Line.TheVariants.{Skip}
-use Rattle.rd_wf.specs.declared.causes.Accepted.TheVariants.{Nothing}
+use Rattle.rd_rules.specs.declared.causes.Accepted.TheVariants.{Nothing}
 use Rattle.rd_walk.specs.Walk.{Entry}
 use Rattle.rd_replaying.proofs.ReplayingLemmas.{nothing_no_call, nothing_no_object, replayed_quiet}
 use Rattle.rd_replaying.proofs.replaying.ReplayingAnalysis.law_of_skipped_lines.Goals as goal

@@ -1,9 +1,9 @@
 use Rattle.std.proofs.Common.{◌≡◌, [], length, refl, sym, ap, ◌∙◌, subst}
 use Rattle.std.specs.Prelude.{IsTrue}
 use Rattle.rd_io.proofs.SinkLemmas.{appends_none}
-use Rattle.rd_wf.specs.MayFollow.{object_kinds, objects_of}
+use Rattle.rd_rules.specs.MayFollow.{object_kinds, objects_of}
 use Rattle.rd_wf.specs.Roster.{object_names_in}
-use Rattle.rd_wf.proofs.EventsLemmas.{kinds_placed}
+use Rattle.rd_rules.proofs.EventsLemmas.{kinds_placed}
 use Rattle.rd_wf.proofs.RosterLemmas.{object_keys, thread_keys}
 use Rattle.rd_walk.specs.Output.{IsOutput, report_status}
 use Rattle.rd_walk.specs.Walk.{after, ends, items}

@@ -6,11 +6,12 @@ use Rattle.indexmap.proofs.CallerLemmas.{index_map_len-with_value_at}
 use Rattle.rd_ecl.specs.Kinds.{Kind}
 use Rattle.rd_event.specs.declared.items.Line.{Line}
 use Rattle.rd_event.specs.declared.items.LineEvent.TheVariants as spelled
-use Rattle.rd_wf.specs.declared.roster.Lock.{Lock}
-use Rattle.rd_wf.specs.MayFollow.{is_among, place, threads_of, locks_of, accepted_of}
-use Rattle.rd_wf.specs.Roster.{RosterStandsFor, depth_of, lock_in}
-use Rattle.rd_wf.proofs.FollowLemmas.{known_thread}
-use Rattle.rd_wf.proofs.PlaceLemmas.{not_known}
+use Rattle.rd_tables.specs.declared.locks.Lock.{Lock}
+use Rattle.rd_rules.specs.MayFollow.{is_among, place, threads_of, locks_of, accepted_of}
+use Rattle.rd_tables.specs.Tables.{depth_of}
+use Rattle.rd_wf.specs.Roster.{RosterStandsFor, lock_in}
+use Rattle.rd_rules.proofs.FollowLemmas.{known_thread}
+use Rattle.rd_rules.proofs.PlaceLemmas.{not_known}
 use Rattle.rd_wf.proofs.NextLemmas.{IsWritten, written_new, written_known, after_acquire}
 use Rattle.rd_wf.proofs.roster.Roster.accept_acquire.Goals as goal
 use Rattle.rd_wf.proofs.roster.Roster.accept_acquire.Goals.{then-found+in_ok-put_last, else-found}

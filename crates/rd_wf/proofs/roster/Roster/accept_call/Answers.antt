@@ -1,7 +1,7 @@
 use Rattle.std.proofs.Common.{refl, ap, length, sym, ◌∙◌}
 use Rattle.rd_event.specs.declared.events.Call.{Call as CallOf}
 use Rattle.rd_event.specs.declared.events.Event.TheVariants as numbered
-use Rattle.rd_wf.specs.declared.causes.Accepted.TheVariants as accepted
+use Rattle.rd_rules.specs.declared.causes.Accepted.TheVariants as accepted
 use Rattle.rd_wf.proofs.NextLemmas.{after_call}
 use Rattle.rd_wf.proofs.roster.Roster.accept_call.Goals as goal
 

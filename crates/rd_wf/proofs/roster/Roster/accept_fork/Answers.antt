@@ -1,7 +1,7 @@
 use Rattle.std.proofs.Common.{false, refl, ap, ◌∙◌}
 use Rattle.indexmap.specs.IndexMap.{insert_entry}
-use Rattle.rd_wf.specs.MayFollow.{same_name}
-use Rattle.rd_wf.proofs.FollowLemmas.{fresh_child}
+use Rattle.rd_rules.specs.MayFollow.{same_name}
+use Rattle.rd_rules.proofs.FollowLemmas.{fresh_child}
 use Rattle.rd_wf.proofs.RosterLemmas.{inserted_thread}
 use Rattle.rd_wf.proofs.NextLemmas.{after_fork}
 use Rattle.rd_wf.proofs.roster.Roster.accept_fork.Goals as goal

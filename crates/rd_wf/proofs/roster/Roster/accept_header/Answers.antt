@@ -1,7 +1,8 @@
 use Rattle.std.proofs.Common.{◌≡◌, false, Some, None, is_some, if◌then◌else◌, refl, sym, ap, ◌∙◌}
-use Rattle.rd_wf.specs.declared.causes.WfCause.TheVariants.{HeaderFirst}
-use Rattle.rd_wf.specs.MayFollow.{accepted_of}
-use Rattle.rd_wf.proofs.RosterLemmas.{header_judged, none_is}
+use Rattle.rd_rules.specs.declared.causes.WfCause.TheVariants.{HeaderFirst}
+use Rattle.rd_rules.specs.MayFollow.{accepted_of}
+use Rattle.rd_tables.proofs.LookupLemmas.{none_is}
+use Rattle.rd_wf.proofs.RosterLemmas.{header_judged}
 use Rattle.rd_wf.proofs.NextLemmas.{after_header}
 use Rattle.rd_wf.proofs.roster.Roster.accept_header.Goals as goal
 

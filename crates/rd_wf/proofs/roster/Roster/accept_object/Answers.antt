@@ -1,8 +1,8 @@
 use Rattle.std.proofs.Common.{◌≡◌, [], ◌∷◌, ◌++◌, refl, ap, ◌∙◌}
 use Rattle.indexmap.specs.IndexMap.{insert_entry}
-use Rattle.rd_wf.specs.MayFollow.{same_name, place, accepted_of}
+use Rattle.rd_rules.specs.MayFollow.{same_name, place, accepted_of}
 use Rattle.rd_ecl.specs.Kinds.{kind_names}
-use Rattle.rd_wf.proofs.FollowLemmas.{fresh_object}
+use Rattle.rd_rules.proofs.FollowLemmas.{fresh_object}
 use Rattle.rd_wf.proofs.RosterLemmas.{inserted_object}
 use Rattle.rd_wf.proofs.NextLemmas.{after_object}
 use Rattle.rd_wf.proofs.roster.Roster.accept_object.Goals as goal

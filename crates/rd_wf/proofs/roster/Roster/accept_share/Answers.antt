@@ -3,11 +3,12 @@ use Rattle.std.proofs.Math.Bool.{not-not}
 use Rattle.std.specs.Map.{lookup, keys_of}
 use Rattle.std.specs.Prelude.{Some}
 use Rattle.rd_event.specs.declared.items.LineEvent.TheVariants as spelled
-use Rattle.rd_wf.specs.declared.roster.Lock.{Lock}
-use Rattle.rd_wf.specs.MayFollow.{is_among, place, same_name, threads_of, locks_of, with_lock, accepted_of}
-use Rattle.rd_wf.specs.Roster.{free_lock, lock_in}
-use Rattle.rd_wf.specs.Shares.{share_depth}
-use Rattle.rd_wf.proofs.FollowLemmas.{known_thread}
+use Rattle.rd_tables.specs.declared.locks.Lock.{Lock}
+use Rattle.rd_rules.specs.MayFollow.{is_among, place, same_name, threads_of, locks_of, with_lock, accepted_of}
+use Rattle.rd_tables.specs.Tables.{free_lock}
+use Rattle.rd_wf.specs.Roster.{lock_in}
+use Rattle.rd_tables.specs.Shares.{share_depth}
+use Rattle.rd_rules.proofs.FollowLemmas.{known_thread}
 use Rattle.rd_wf.proofs.NextLemmas.{after_share, free_as_before, same_locks, written_new}
 use Rattle.rd_wf.proofs.roster.Roster.accept_share.Goals as goal
 use Rattle.rd_wf.proofs.roster.Roster.accept_share.Goals.{else-found, then-found+in-Ok}

@@ -1,9 +1,9 @@
 use Rattle.std.proofs.Common.{◌≡◌, ◌<◌, ◌+◌, ◌==◌, ◌&&◌, if◌then◌else◌, length, subst, refl, ◌∙◌}
 use Rattle.rd_event.specs.declared.items.LineEvent.TheVariants as spelled
-use Rattle.rd_wf.specs.MayFollow.{place, threads_of, locks_of, accepted_of}
-use Rattle.rd_wf.specs.Shares.{share_depth}
-use Rattle.rd_wf.proofs.FollowLemmas.{known_thread}
-use Rattle.rd_wf.proofs.LockLemmas.{place_below}
+use Rattle.rd_rules.specs.MayFollow.{place, threads_of, locks_of, accepted_of}
+use Rattle.rd_tables.specs.Shares.{share_depth}
+use Rattle.rd_rules.proofs.FollowLemmas.{known_thread}
+use Rattle.rd_tables.proofs.NameLemmas.{place_below}
 use Rattle.rd_wf.proofs.NextLemmas.{after_unshare}
 use Rattle.rd_wf.proofs.roster.Roster.accept_unshare.Goals as goal
 

@@ -3,7 +3,7 @@ use Rattle.std.specs.Prelude.{slice_get}
 use Rattle.std.specs.Map.{keys_of}
 use Rattle.std.specs.Cmp.Lexicographic.{bytes_decides}
 use Rattle.std.proofs.lemmas.Option.{slice_get-map}
-use Rattle.rd_wf.proofs.NearLemmas.{place_found}
+use Rattle.rd_tables.proofs.LookupLemmas.{place_found}
 use Rattle.rd_wf.proofs.roster.Roster.find_kind.Goals as goal
 
 pub returns-clause-index : goal.returns-clause-index

@@ -2,8 +2,8 @@ use Rattle.std.proofs.Common.{◌≡◌, Some, sym, ap, ◌∙◌}
 use Rattle.std.specs.Prelude.{unwrap_or}
 use Rattle.std.specs.Cmp.Lexicographic.{bytes_decides}
 use Rattle.indexmap.specs.IndexMap.{get_by}
-use Rattle.rd_wf.specs.MayFollow.{same_name}
-use Rattle.rd_wf.specs.Roster.{free_lock}
+use Rattle.rd_rules.specs.MayFollow.{same_name}
+use Rattle.rd_tables.specs.Tables.{free_lock}
 use Rattle.rd_wf.proofs.NearLemmas.{lock_near}
 use Rattle.rd_wf.proofs.roster.Roster.find_lock.Goals as goal
 

@@ -1,5 +1,5 @@
 use Rattle.std.proofs.Common.{sym, ap, ◌∙◌}
-use Rattle.rd_wf.specs.Roster.{found_method}
+use Rattle.rd_tables.specs.Tables.{found_method}
 use Rattle.rd_wf.proofs.RosterLemmas.{kind_methods, no_methods}
 use Rattle.rd_wf.proofs.roster.Roster.find_method.Goals as goal
 

@@ -1,6 +1,6 @@
 use Rattle.std.proofs.Common.{◌≡◌, is_some, nat_lt, refl, sym, ap, arith, ◌∙◌}
 use Rattle.std.proofs.lemmas.Bool.Decides.{nat_tests}
-use Rattle.rd_wf.specs.MayFollow.{headers}
+use Rattle.rd_rules.specs.MayFollow.{headers}
 use Rattle.rd_wf.proofs.RosterLemmas.{header_test}
 use Rattle.rd_wf.proofs.roster.Roster.finish.Goals as goal
 

@@ -1,8 +1,8 @@
 use Rattle.std.proofs.Common.{◌≡◌, true, refl, ap}
 use Rattle.indexmap.specs.Layout.{set_value_at}
 use Rattle.indexmap.proofs.CallerLemmas.{index_map_len-with_value_at}
-use Rattle.rd_wf.specs.MayFollow.{place, threads_of, accepted_of}
-use Rattle.rd_wf.proofs.FollowLemmas.{known_child}
+use Rattle.rd_rules.specs.MayFollow.{place, threads_of, accepted_of}
+use Rattle.rd_rules.proofs.FollowLemmas.{known_child}
 use Rattle.rd_wf.proofs.NextLemmas.{after_join}
 use Rattle.rd_wf.proofs.roster.Roster.join_near.Goals as goal
 

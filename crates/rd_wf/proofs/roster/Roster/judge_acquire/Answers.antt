@@ -1,7 +1,7 @@
 use Rattle.std.proofs.Common.{sym, ◌∙◌}
 use Rattle.rd_event.specs.declared.events.Event.TheVariants as numbered
-use Rattle.rd_wf.specs.declared.causes.Accepted.TheVariants as accepted
-use Rattle.rd_wf.specs.MayFollow.{accepted_of}
+use Rattle.rd_rules.specs.declared.causes.Accepted.TheVariants as accepted
+use Rattle.rd_rules.specs.MayFollow.{accepted_of}
 use Rattle.rd_wf.proofs.RosterLemmas.{acquire_judged, against_within}
 use Rattle.rd_wf.proofs.roster.Roster.judge_acquire.Goals as goal
 

@@ -1,8 +1,8 @@
 use Rattle.std.proofs.Common.{sym, ◌∙◌}
 use Rattle.rd_event.specs.declared.events.Call.{Call as CallOf}
 use Rattle.rd_event.specs.declared.events.Event.TheVariants as numbered
-use Rattle.rd_wf.specs.declared.causes.Accepted.TheVariants as accepted
-use Rattle.rd_wf.specs.MayFollow.{accepted_of}
+use Rattle.rd_rules.specs.declared.causes.Accepted.TheVariants as accepted
+use Rattle.rd_rules.specs.MayFollow.{accepted_of}
 use Rattle.rd_wf.proofs.RosterLemmas.{call_judged, called_method}
 use Rattle.rd_wf.proofs.roster.Roster.judge_call.Goals as goal
 

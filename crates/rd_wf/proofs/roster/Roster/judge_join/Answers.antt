@@ -1,8 +1,8 @@
 use Rattle.std.proofs.Common.{sym, ◌∙◌}
 use Rattle.std.proofs.lemmas.Bool.{or_parts}
 use Rattle.rd_event.specs.declared.events.Event.TheVariants as numbered
-use Rattle.rd_wf.specs.declared.causes.Accepted.TheVariants as accepted
-use Rattle.rd_wf.specs.MayFollow.{accepted_of}
+use Rattle.rd_rules.specs.declared.causes.Accepted.TheVariants as accepted
+use Rattle.rd_rules.specs.MayFollow.{accepted_of}
 use Rattle.rd_wf.proofs.RosterLemmas.{join_judged}
 use Rattle.rd_wf.proofs.roster.Roster.judge_join.Goals as goal
 

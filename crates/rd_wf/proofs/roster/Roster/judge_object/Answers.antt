@@ -1,6 +1,6 @@
 use Rattle.std.proofs.Common.{unwrap_or, sym, ap, ◌∙◌}
-use Rattle.rd_wf.specs.declared.causes.Accepted.TheVariants as accepted
-use Rattle.rd_wf.specs.MayFollow.{accepted_of}
+use Rattle.rd_rules.specs.declared.causes.Accepted.TheVariants as accepted
+use Rattle.rd_rules.specs.MayFollow.{accepted_of}
 use Rattle.rd_wf.proofs.RosterLemmas.{object_judged, kind_place}
 use Rattle.rd_wf.proofs.roster.Roster.judge_object.Goals as goal
 

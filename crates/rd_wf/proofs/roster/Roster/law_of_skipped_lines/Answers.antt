@@ -1,5 +1,5 @@
 use Rattle.std.proofs.Common.{refl, arith}
-use Rattle.rd_wf.specs.MayFollow.{first_broken}
+use Rattle.rd_rules.specs.MayFollow.{first_broken}
 use Rattle.rd_wf.proofs.NextLemmas.{after_skip}
 use Rattle.rd_wf.proofs.roster.Roster.law_of_skipped_lines.Goals as goal
 

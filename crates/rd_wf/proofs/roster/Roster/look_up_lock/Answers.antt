@@ -1,6 +1,6 @@
 use Rattle.std.proofs.Common.{None, Some, ap, sym, ◌∙◌}
 use Rattle.std.specs.Prelude.{unwrap_or}
-use Rattle.rd_wf.specs.Roster.{free_lock}
+use Rattle.rd_tables.specs.Tables.{free_lock}
 use Rattle.rd_wf.proofs.RosterLemmas.{lock_number, lock_unknown}
 use Rattle.rd_wf.proofs.roster.Roster.look_up_lock.Goals as goal
 

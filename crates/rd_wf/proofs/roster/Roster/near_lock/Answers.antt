@@ -1,8 +1,8 @@
 use Rattle.std.proofs.Common.{◌≡◌, Some, not, sym, ap, ◌∙◌}
 use Rattle.std.proofs.Math.Bool.{not-not}
 use Rattle.std.specs.Cmp.Lexicographic.{bytes_decides}
-use Rattle.rd_wf.specs.MayFollow.{same_name}
-use Rattle.rd_wf.specs.Roster.{free_lock}
+use Rattle.rd_rules.specs.MayFollow.{same_name}
+use Rattle.rd_tables.specs.Tables.{free_lock}
 use Rattle.indexmap.specs.IndexMap.{get_by}
 use Rattle.std.specs.Prelude.{unwrap_or}
 use Rattle.rd_wf.proofs.NearLemmas.{lock_near}

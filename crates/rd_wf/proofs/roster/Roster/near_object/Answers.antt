@@ -2,7 +2,7 @@ use Rattle.std.proofs.Common.{◌≡◌, Some, not, sym, ap, ◌∙◌}
 use Rattle.std.proofs.Math.Bool.{not-not}
 use Rattle.std.specs.Prelude.{slice_get}
 use Rattle.std.specs.Cmp.Lexicographic.{bytes_decides}
-use Rattle.rd_wf.proofs.NearLemmas.{index_near, value_near}
+use Rattle.rd_tables.proofs.LookupLemmas.{index_near, value_near}
 use Rattle.rd_wf.proofs.RosterLemmas.{object_found}
 use Rattle.rd_wf.proofs.roster.Roster.near_object.Goals as goal
 

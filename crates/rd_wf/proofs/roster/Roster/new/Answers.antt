@@ -3,10 +3,10 @@ use Rattle.std.specs.List.{AllPairs}
 use Rattle.std.proofs.lemmas.List.{take_all}
 use Rattle.indexmap.specs.IndexMap.{insert_entry}
 use Rattle.rd_ecl.specs.Kinds.{kind_names, kind_of, kinds_of}
-use Rattle.rd_wf.specs.MayFollow.{same_name}
-use Rattle.rd_wf.specs.Roster.{kind_entry}
+use Rattle.rd_rules.specs.MayFollow.{same_name}
+use Rattle.rd_tables.specs.Tables.{kind_entry}
 use Rattle.rd_wf.proofs.NextLemmas.{empty_stands}
-use Rattle.rd_wf.proofs.TableLemmas.{kind_added}
+use Rattle.rd_tables.proofs.TableLemmas.{kind_added}
 use Rattle.rd_wf.proofs.roster.Roster.new.Goals as goal
 
 pub loop-kind-init : goal.loop-kind-init

@@ -1,6 +1,6 @@
 use Rattle.std.proofs.Common.{◌≡◌, map, take}
 use Rattle.rd_ecl.specs.Kinds.{kind_of}
-use Rattle.rd_wf.specs.Roster.{kind_entry}
+use Rattle.rd_tables.specs.Tables.{kind_entry}
 use Rattle.rd_wf.proofs.roster.Roster.new.Given as goal
 
 -- the first kinds are kept

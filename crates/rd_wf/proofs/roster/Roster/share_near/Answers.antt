@@ -1,9 +1,9 @@
 use Rattle.std.proofs.Common.{◌≡◌, ◌+◌, ◌==◌, ◌&&◌, if◌then◌else◌, refl, sym, ◌∙◌}
 use Rattle.rd_event.specs.declared.items.LineEvent.TheVariants as spelled
-use Rattle.rd_wf.specs.MayFollow.{place, threads_of, accepted_of}
-use Rattle.rd_wf.specs.Roster.{free_lock}
-use Rattle.rd_wf.specs.Shares.{share_depth}
-use Rattle.rd_wf.proofs.FollowLemmas.{known_thread}
+use Rattle.rd_rules.specs.MayFollow.{place, threads_of, accepted_of}
+use Rattle.rd_tables.specs.Tables.{free_lock}
+use Rattle.rd_tables.specs.Shares.{share_depth}
+use Rattle.rd_rules.proofs.FollowLemmas.{known_thread}
 use Rattle.rd_wf.proofs.NextLemmas.{after_share, lock_below, same_locks}
 use Rattle.rd_wf.proofs.roster.Roster.share_near.Goals as goal
 

@@ -1,5 +1,5 @@
 use Rattle.std.proofs.Common.{refl}
-use Rattle.rd_wf.specs.MayFollow.{accepted_of, first_broken}
+use Rattle.rd_rules.specs.MayFollow.{accepted_of, first_broken}
 use Rattle.rd_wf.proofs.NextLemmas.{after_skip}
 use Rattle.rd_wf.proofs.roster.Roster.take.Goals as goal
 

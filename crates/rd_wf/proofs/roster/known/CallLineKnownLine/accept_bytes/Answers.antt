@@ -10,7 +10,7 @@ pub returns-clause-some : goal.returns-clause-some
 returns-clause-some c = λ kinds lines stands.
     let (thread, object, method, values, words, thread_is, object_is, method_is, slots, accepts) = c.in_ok-call.ensures.some in
     let line : Line = Event (Call thread object method c.in_ok-call.call.slots) in
-    let behind = c.in_ok-words.ensures.front in
+    let behind = c.in_ok-words.ensures in
     let says : (version : ℕ) → item_of version c.args.bytes.now ≡ Some line =
     λ version. ap (item_of version) (behind ∙ ap (λ rest. codes "call " ++ rest) words)
     ∙ c.law_of_calls.ensures version thread object method values c.in_ok-call.call.slots thread_is object_is method_is slots in (

@@ -9,7 +9,7 @@ pub returns-clause-some : goal.returns-clause-some
 returns-clause-some c = λ kinds lines stands.
     let (thread, lock, names, thread_is, lock_is, accepts) = c.in_ok-used.ensures.some in
     let line : Line = Event (Release thread lock) in
-    let behind = c.in_ok-names.ensures.front in (
+    let behind = c.in_ok-names.ensures in (
       line,
       accepts_as c.args.roster.now c.release_near.new.self c.args.limits.now c.args.bytes.now line _ accepts (thread_is, lock_is)
           (λ version. (c.law_of_spelling.ensures.test version c.args.bytes.now line (thread_is, lock_is)).1 (tt, behind ∙ ap (λ rest. codes "release " ++ rest) names)) kinds lines stands,

@@ -1,0 +1,4 @@
+pub mod LookupLemmas
+pub mod NameLemmas
+pub mod ShareLemmas
+pub mod TableLemmas

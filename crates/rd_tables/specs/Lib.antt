@@ -1,0 +1,5 @@
+pub mod Sharers
+pub mod Shares
+pub mod Tables
+pub use Rattle.rd_ecl.specs.Kinds
+pub use Rattle.rd_rules.specs.MayFollow

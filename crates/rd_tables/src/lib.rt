@@ -1,0 +1,16 @@
+//! The tables of a roster: the methods of kinds by name, what is held of locks, and where a name is looked for first.
+#![tactic(auto)]
+
+mod found;
+mod locks;
+mod methods;
+mod near;
+mod sharers;
+mod shares;
+
+pub use found::{Declared, FoundLock, FoundObject, FoundThread, LockUse, Pair};
+pub use locks::{FREE, Lock};
+pub use methods::{FoundMethod, Methods};
+pub use near::{NEAR_LENGTH, cut_at_space, near_bytes, near_place};
+pub use sharers::lesser;
+pub use shares::Shares;
