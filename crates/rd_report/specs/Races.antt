@@ -78,8 +78,7 @@ earlier_line kinds naming earlier = codes "with line " ++ told_text kinds naming
 -- the text of a race: the later call, the earlier one, and the formula that they fail
 unfoldable pub race_text : List SpecifiedKind → Naming → Told → Told → List ℕ
 race_text kinds naming later earlier =
-    codes "race line " ++ told_text kinds naming later ++ codes "with line " ++ told_text kinds naming earlier
-    ++ failed_line kinds later.call earlier.call
+    later_line kinds naming later ++ earlier_line kinds naming earlier ++ failed_line kinds later.call earlier.call
 
 -- in a text that begins with these bytes, the first two lines of a race end at these places
 abbrev pub EndLines : List ℕ → List SpecifiedKind → Naming → Told → Told → RaceEnds → Type 0

@@ -8,7 +8,7 @@ ghost use Rattle.rd_report.specs.Texts.{naming_in};
 ghost use Rattle.rd_report.specs.Writing.{ArePlain};
 
 use crate::clocks::append_clock;
-use rd_base::{Bytes, Name, NoMemory, Steps, append_number};
+use rd_base::{Bytes, MOST_NAME_BYTES, Name, NoMemory, Steps, append_number};
 use rd_clock::Clock;
 use rd_ecl::{KindSpec, Spec};
 use rd_event::{Call, append_call};
@@ -102,6 +102,25 @@ fn append_told<L: Ledger>(
     text.push(b'\n')
 }
 
+/// The most bytes of a part of a clock: a comma, a name, a colon and a number of 32 bits.
+const MOST_PART_BYTES: usize = MOST_NAME_BYTES + 12;
+
+/// The most bytes of a value in a call: a space, and a text of 255 bytes between quotes, each spelled by four.
+const MOST_VALUE_BYTES: usize = 1023;
+
+/// The most bytes of the rest of a call's line: two words in front, a number of 64 bits, three names, an arrow, the word in front of the
+/// clock, and what stands between them.
+const MOST_OTHER_BYTES: usize = 3 * MOST_NAME_BYTES + 44;
+
+// A bound on the bytes of the line of a call in a race, by how many names, numbers and values stand in it.
+fn told_room(told: &Witness, names: &Roster) -> usize {
+    let parts = (names.threads() as usize).min(told.stamp.clock.room());
+    let values = told.call.slots.items().len();
+    (parts.saturating_mul(MOST_PART_BYTES))
+        .saturating_add(values.saturating_mul(MOST_VALUE_BYTES))
+        .saturating_add(MOST_OTHER_BYTES)
+}
+
 /// Where the first two of the three lines of a race end in a text.
 #[derive(Clone, Copy, Debug, PartialEq, Eq)]
 pub struct RaceEnds {
@@ -135,6 +154,9 @@ fn append_race_with<L: Ledger>(
         (told_by race.now.later.value) (told_by race.now.earlier.value)) }
 {
     let mut steps = Steps::<L>::new(blank);
+    // room for all three lines at once
+    let room = told_room(&race.later, names).saturating_add(told_room(&race.earlier, names));
+    text.reserve(room.saturating_add(formula.len()))?;
     text.append(b"race line ")?;
     append_told(
         text,
