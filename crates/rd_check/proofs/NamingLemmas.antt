@@ -196,7 +196,7 @@ module _ (kinds : List SpecifiedKind) (lines : List Line) (told : AreTold (kinds
   race_same Text j i b a at_j at_i =
       let later = text_same j b at_j in
       let earlier = text_same i a at_i in
-      λ k. codes "race line " ++ later k ++ codes "with line " ++ earlier k ++ failed_line kinds b a
+      λ k. (codes "race line " ++ later k) ++ (codes "with line " ++ earlier k) ++ failed_line kinds b a
   race_same Json j i b a at_j at_i =
       let later = json_same j b at_j in
       let earlier = json_same i a at_i in
