@@ -1,5 +1,5 @@
 //! The kind `counter`, which holds a number.
-ghost use Rattle.std.specs.Prelude.{◌≡◌, codes, IfOk, OnOk};
+ghost use Rattle.std.specs.Prelude.{◌≡◌, [], codes, IfOk, OnOk};
 ghost use Rattle.rd_ecl.specs.Formulas.{tree_of};
 ghost use Rattle.rd_kinds.specs.Shipped.{adds_nothing, counter_kind, counter_methods, no_pairs};
 
@@ -11,13 +11,13 @@ use std::alloc::Global;
 
 // Its methods.
 #[tactic(auto, unfolding(rd_base::specs::Names::is_name))]
-fn methods(alloc: Global) -> Result<KindDraft, NoMemory>
-    ensures { IfOk result (λ draft. draft ≡ no_pairs (codes "counter") counter_methods) }
+fn set_methods(alloc: Global, kind: &mut KindDraft) -> Result<(), NoMemory>
+    requires { kind.old ≡ no_pairs (codes "counter") [] }
+    ensures { OnOk result (kind.new ≡ no_pairs (codes "counter") counter_methods) }
 {
-    let mut kind = KindDraft::new(alloc, name(b"counter"))?;
     kind.method(name(b"add"), two(alloc, b"amount", b"done")?)?;
     kind.method(name(b"get"), one(alloc, b"total")?)?;
-    Ok(kind)
+    Ok(())
 }
 
 // The `add` of side 1 adds nothing.
@@ -38,10 +38,12 @@ fn set_pairs(kind: &mut KindDraft) -> Result<(), NoMemory>
     Ok(())
 }
 
+#[tactic(auto, unfolding(rd_base::specs::Names::is_name))]
 pub(crate) fn counter(alloc: Global) -> Result<KindSpec, NoMemory>
     ensures { IfOk result (λ kind. kind ≡ counter_kind) }
 {
-    let mut kind = methods(alloc)?;
+    let mut kind = KindDraft::new(alloc, name(b"counter"))?;
+    set_methods(alloc, &mut kind)?;
     set_pairs(&mut kind)?;
     Ok(kind.finish())
 }

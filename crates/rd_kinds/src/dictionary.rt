@@ -1,5 +1,5 @@
 //! The kind `dictionary`, which holds a value for each key.
-ghost use Rattle.std.specs.Prelude.{◌≡◌, codes, IfOk, OnOk};
+ghost use Rattle.std.specs.Prelude.{◌≡◌, [], codes, IfOk, OnOk};
 ghost use Rattle.rd_ecl.specs.declared.formulas.Side.TheVariants.{First, Second};
 ghost use Rattle.rd_ecl.specs.Formulas.{tree_of, both, either};
 ghost use Rattle.rd_kinds.specs.Shipped.{dictionary_kind, dictionary_methods, firsts_differ, is_nil, no_pairs, puts_the_same, stays_in, stays_out};
@@ -12,14 +12,14 @@ use std::alloc::Global;
 
 // Its methods.
 #[tactic(auto, unfolding(rd_base::specs::Names::is_name))]
-fn methods(alloc: Global) -> Result<KindDraft, NoMemory>
-    ensures { IfOk result (λ draft. draft ≡ no_pairs (codes "dictionary") dictionary_methods) }
+fn set_methods(alloc: Global, kind: &mut KindDraft) -> Result<(), NoMemory>
+    requires { kind.old ≡ no_pairs (codes "dictionary") [] }
+    ensures { OnOk result (kind.new ≡ no_pairs (codes "dictionary") dictionary_methods) }
 {
-    let mut kind = KindDraft::new(alloc, name(b"dictionary"))?;
     kind.method(name(b"put"), three(alloc, b"key", b"value", b"prev")?)?;
     kind.method(name(b"get"), two(alloc, b"key", b"value")?)?;
     kind.method(name(b"size"), one(alloc, b"n")?)?;
-    Ok(kind)
+    Ok(())
 }
 
 // The `put` of that side leaves the value of its key as it is.
@@ -50,14 +50,26 @@ fn put_put(alloc: Global) -> Result<Formula, NoMemory>
     or(alloc, firsts_differ(), both)
 }
 
+// The `put` leaves its key without a value.
+fn stays_out(alloc: Global) -> Result<Formula, NoMemory>
+    ensures { IfOk result (λ formula. tree_of formula ≡ stays_out) }
+{
+    and(alloc, is_nil(1), is_nil(2))
+}
+
+// The `put` leaves its key with a value.
+fn stays_in(alloc: Global) -> Result<Formula, NoMemory>
+    ensures { IfOk result (λ formula. tree_of formula ≡ stays_in) }
+{
+    let put = not(alloc, is_nil(1))?;
+    and(alloc, put, not(alloc, is_nil(2))?)
+}
+
 // Of `put` and `size`: the `put` leaves its key without a value, or leaves it with one.
 fn put_size(alloc: Global) -> Result<Formula, NoMemory>
     ensures { IfOk result (λ formula. tree_of formula ≡ either stays_out stays_in) }
 {
-    let out = and(alloc, is_nil(1), is_nil(2))?;
-    let put = not(alloc, is_nil(1))?;
-    let had = not(alloc, is_nil(2))?;
-    or(alloc, out, and(alloc, put, had)?)
+    or(alloc, stays_out(alloc)?, stays_in(alloc)?)
 }
 
 // Of `put` and `get`: the keys differ, or the `put` leaves the value as it is.
@@ -82,10 +94,12 @@ fn set_pairs(alloc: Global, kind: &mut KindDraft) -> Result<(), NoMemory>
     Ok(())
 }
 
+#[tactic(auto, unfolding(rd_base::specs::Names::is_name))]
 pub(crate) fn dictionary(alloc: Global) -> Result<KindSpec, NoMemory>
     ensures { IfOk result (λ kind. kind ≡ dictionary_kind) }
 {
-    let mut kind = methods(alloc)?;
+    let mut kind = KindDraft::new(alloc, name(b"dictionary"))?;
+    set_methods(alloc, &mut kind)?;
     set_pairs(alloc, &mut kind)?;
     Ok(kind.finish())
 }

@@ -1,5 +1,5 @@
 //! The kind `register`, which holds a value.
-ghost use Rattle.std.specs.Prelude.{◌≡◌, codes, IfOk, OnOk};
+ghost use Rattle.std.specs.Prelude.{◌≡◌, [], codes, IfOk, OnOk};
 ghost use Rattle.rd_ecl.specs.declared.formulas.Side.TheVariants.{First, Second};
 ghost use Rattle.rd_ecl.specs.Formulas.{tree_of, both};
 ghost use Rattle.rd_kinds.specs.Shipped.{keeps, no_pairs, register_kind, register_methods};
@@ -12,14 +12,14 @@ use std::alloc::Global;
 
 // Its methods.
 #[tactic(auto, unfolding(rd_base::specs::Names::is_name))]
-fn methods(alloc: Global) -> Result<KindDraft, NoMemory>
-    ensures { IfOk result (λ draft. draft ≡ no_pairs (codes "register") register_methods) }
+fn set_methods(alloc: Global, kind: &mut KindDraft) -> Result<(), NoMemory>
+    requires { kind.old ≡ no_pairs (codes "register") [] }
+    ensures { OnOk result (kind.new ≡ no_pairs (codes "register") register_methods) }
 {
-    let mut kind = KindDraft::new(alloc, name(b"register"))?;
     kind.method(name(b"read"), one(alloc, b"value")?)?;
     kind.method(name(b"write"), two(alloc, b"value", b"done")?)?;
     kind.method(name(b"swap"), two(alloc, b"value", b"prev")?)?;
-    Ok(kind)
+    Ok(())
 }
 
 // The `swap` of that side leaves the value as it is.
@@ -50,10 +50,12 @@ fn set_pairs(alloc: Global, kind: &mut KindDraft) -> Result<(), NoMemory>
     Ok(())
 }
 
+#[tactic(auto, unfolding(rd_base::specs::Names::is_name))]
 pub(crate) fn register(alloc: Global) -> Result<KindSpec, NoMemory>
     ensures { IfOk result (λ kind. kind ≡ register_kind) }
 {
-    let mut kind = methods(alloc)?;
+    let mut kind = KindDraft::new(alloc, name(b"register"))?;
+    set_methods(alloc, &mut kind)?;
     set_pairs(alloc, &mut kind)?;
     Ok(kind.finish())
 }

@@ -1,5 +1,5 @@
 //! The kind `set`, which holds items.
-ghost use Rattle.std.specs.Prelude.{◌≡◌, codes, take, IfOk, OnOk};
+ghost use Rattle.std.specs.Prelude.{◌≡◌, [], codes, take, IfOk, OnOk};
 ghost use Rattle.rd_ecl.specs.Formulas.{tree_of};
 ghost use Rattle.rd_kinds.specs.Shipped.{idle, no_pairs, other_or_first_idle, other_or_idle, set_kind, set_methods, set_pairs, with_pairs};
 
@@ -11,15 +11,15 @@ use std::alloc::Global;
 
 // Its methods.
 #[tactic(auto, unfolding(rd_base::specs::Names::is_name))]
-fn methods(alloc: Global) -> Result<KindDraft, NoMemory>
-    ensures { IfOk result (λ draft. draft ≡ no_pairs (codes "set") set_methods) }
+fn set_methods(alloc: Global, kind: &mut KindDraft) -> Result<(), NoMemory>
+    requires { kind.old ≡ no_pairs (codes "set") [] }
+    ensures { OnOk result (kind.new ≡ no_pairs (codes "set") set_methods) }
 {
-    let mut kind = KindDraft::new(alloc, name(b"set"))?;
     kind.method(name(b"add"), two(alloc, b"item", b"done")?)?;
     kind.method(name(b"remove"), two(alloc, b"item", b"done")?)?;
     kind.method(name(b"contains"), two(alloc, b"item", b"found")?)?;
     kind.method(name(b"size"), one(alloc, b"n")?)?;
-    Ok(kind)
+    Ok(())
 }
 
 // The `add` or `remove` of that side leaves the set as it is.
@@ -71,10 +71,12 @@ fn set_others(alloc: Global, kind: &mut KindDraft) -> Result<(), NoMemory>
     Ok(())
 }
 
+#[tactic(auto, unfolding(rd_base::specs::Names::is_name))]
 pub(crate) fn set(alloc: Global) -> Result<KindSpec, NoMemory>
     ensures { IfOk result (λ kind. kind ≡ set_kind) }
 {
-    let mut kind = methods(alloc)?;
+    let mut kind = KindDraft::new(alloc, name(b"set"))?;
+    set_methods(alloc, &mut kind)?;
     set_adds(alloc, &mut kind)?;
     set_others(alloc, &mut kind)?;
     Ok(kind.finish())
