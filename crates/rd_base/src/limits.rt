@@ -55,7 +55,7 @@ pub const MOST_PREDICATES: usize = 5;
 
 /// How much of each a trace may have. A call that takes limits asks that `line` is at least 1,
 /// `events` at most 4,294,967,294 and `bytes` at most 18,446,744,073,709,551,614.
-#[derive(Clone, Copy, Debug, PartialEq, Eq)]
+#[derive(Clone, Copy, PartialEq, Eq)]
 pub struct Limits {
     /// bytes of the trace
     pub bytes: u64,

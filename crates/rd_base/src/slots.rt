@@ -9,7 +9,7 @@ use std::marker::Model;
 use std::rc::Rc;
 
 /// Values one after another: up to three without memory of their own. Contracts see it as the list of the values.
-#[derive(Debug, Drop)]
+#[derive(Drop)]
 pub struct ValueList {
     few: ArrayVec<Value, 3>,
     // all of them, where there are more than three
@@ -80,7 +80,7 @@ impl ValueList {
 
 /// The arguments of a call, then its result. Copies share one block of memory, which up to three values lie in. Contracts see it as the
 /// list of the values.
-#[derive(Debug, Drop)]
+#[derive(Drop)]
 pub struct Slots {
     alloc: Global,
     // None where there is no value

@@ -37,7 +37,7 @@ impl From<AllocError> for TextRefused {
 }
 
 /// A text of at most 255 bytes, any bytes. Contracts see it as the list of its bytes, by which it is compared and hashed.
-#[derive(Debug, Drop)]
+#[derive(Drop)]
 pub struct Text {
     bytes: Vec<u8>,
 }
@@ -162,7 +162,7 @@ impl Hash for Text {
 }
 
 /// An argument or a result of a call. The order is `Nil`, `false`, `true`, integers by size, texts by bytes.
-#[derive(Debug, Drop, PartialEq, Eq, PartialOrd, Ord, Hash)]
+#[derive(Drop, PartialEq, Eq, PartialOrd, Ord, Hash)]
 pub enum Value {
     Nil,
     Bool(bool),

@@ -16,7 +16,7 @@ use std::alloc::Global;
 use std::sync::ledger::Ledger;
 
 /// Keeps the clocks of the threads and the cells of the calls, counts the calls that are reported, and writes each race.
-#[derive(Debug, Drop)]
+#[derive(Drop)]
 pub struct Check<'a> {
     alloc: Global,
     /// the form of the report

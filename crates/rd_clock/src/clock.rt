@@ -11,7 +11,7 @@ use std::sync::ledger::Ledger;
 /// How many events of each thread are counted: a vector clock (Fidge 1988, Mattern 1989). Contracts see it as the list of its
 /// components, one for each thread from 0. The length of the list is its room, and the component of a thread past the
 /// end is 0.
-#[derive(Debug, Drop)]
+#[derive(Drop)]
 pub struct Clock {
     components: Vec<u32>,
 }
@@ -206,7 +206,7 @@ impl Clock {
 
 /// Where an event stands: its thread, its own number in that thread, from 1, and its clock, which counts for each thread the
 /// events that are this one or reach it.
-#[derive(Debug, Drop)]
+#[derive(Drop)]
 pub struct Stamp {
     pub thread: u32,
     pub number: u32,
@@ -214,7 +214,7 @@ pub struct Stamp {
 }
 
 /// A stamp whose clock is lent.
-#[derive(Clone, Copy, Debug)]
+#[derive(Clone, Copy)]
 pub struct StampRef<'a> {
     pub thread: u32,
     pub number: u32,

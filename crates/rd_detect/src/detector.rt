@@ -59,7 +59,7 @@ fn tables(alloc: Global, kinds: &[KindSpec]) -> Result<Vec<Table>, NoMemory>
 
 /// Finds the calls that race. It keeps the merged table of access points of each kind; a cell for each point and each thread that touched
 /// it, with the thread's last call there; and how many cells were left by the last sweep. Contracts see it as these three.
-#[derive(Debug, Drop)]
+#[derive(Drop)]
 pub struct Detector {
     alloc: Global,
     tables: Vec<Table>,

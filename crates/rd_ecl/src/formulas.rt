@@ -18,7 +18,7 @@ pub enum Side {
 }
 
 /// A relation of two terms.
-#[derive(Clone, Copy, Debug, PartialEq, Eq)]
+#[derive(Clone, Copy, PartialEq, Eq)]
 pub enum Rel {
     /// equal values
     Eq,
@@ -29,7 +29,7 @@ pub enum Rel {
 }
 
 /// A term of a relation.
-#[derive(Debug, Drop, PartialEq, Eq)]
+#[derive(Drop, PartialEq, Eq)]
 pub enum Term {
     /// a slot of the relation's side, by its number
     Slot(u8),
@@ -37,7 +37,7 @@ pub enum Term {
 }
 
 /// A relation on one side, without its side.
-#[derive(Debug, Drop, PartialEq, Eq)]
+#[derive(Drop, PartialEq, Eq)]
 pub struct Predicate {
     pub rel: Rel,
     pub left: Term,
@@ -45,7 +45,7 @@ pub struct Predicate {
 }
 
 /// When two calls commute: a condition on the slots of both.
-#[derive(Debug, Drop)]
+#[derive(Drop)]
 pub enum Formula {
     True,
     False,
@@ -85,7 +85,7 @@ pub enum Reason {
 }
 
 /// The first node of a formula that isn't in the fragment.
-#[derive(Clone, Copy, Debug, PartialEq, Eq)]
+#[derive(Clone, Copy, PartialEq, Eq)]
 pub struct Outside {
     /// its number in post-order, from 0
     pub node: u32,

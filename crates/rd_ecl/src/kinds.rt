@@ -16,7 +16,7 @@ use std::alloc::Global;
 use std::marker::Model;
 
 /// A method of a kind. Its slots are its arguments, then its result.
-#[derive(Debug, Drop)]
+#[derive(Drop)]
 pub struct Method {
     pub name: Name,
     /// one for each slot, which it names
@@ -24,7 +24,7 @@ pub struct Method {
 }
 
 /// A kind of objects: its name, and at most 16 methods of different names. Contracts see it as the name and the methods.
-#[derive(Debug, Drop)]
+#[derive(Drop)]
 pub struct KindSpec {
     name: Name,
     methods: Vec<Method>,
@@ -153,7 +153,7 @@ fn add_pairs(pairs: &mut Vec<Option<Formula>>) -> Result<(), NoMemory>
 }
 
 /// A kind that is being made. Contracts see it as a kind: its name and the methods so far.
-#[derive(Debug, Drop)]
+#[derive(Drop)]
 pub struct KindDraft {
     name: Name,
     methods: Vec<Method>,

@@ -6,7 +6,7 @@ use std::alloc::Global;
 use std::marker::Model;
 
 /// Names, one after another. Contracts see it as the list of the names.
-#[derive(Debug, Drop)]
+#[derive(Drop)]
 pub struct Names {
     held: Vec<Name>,
 }

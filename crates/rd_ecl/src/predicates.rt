@@ -7,7 +7,7 @@ use std::alloc::Global;
 use std::marker::Model;
 
 /// Predicates, one after another. Contracts see it as the list of the predicates.
-#[derive(Debug, Drop)]
+#[derive(Drop)]
 pub struct Predicates {
     held: Vec<Predicate>,
 }

@@ -13,13 +13,13 @@ use rd_base::NoMemory;
 use std::alloc::Global;
 
 /// The truth values of a method's predicates, the first in the lowest bit.
-#[derive(Clone, Copy, Debug, PartialEq, Eq)]
+#[derive(Clone, Copy, PartialEq, Eq)]
 pub struct Valuation {
     pub bits: u8,
 }
 
 /// A formula whose relations on one side have truth values.
-#[derive(Debug, Drop)]
+#[derive(Drop)]
 pub enum Reduced {
     True,
     False,

@@ -7,7 +7,7 @@ use std::alloc::Global;
 use std::marker::Model;
 
 /// Pairs of a slot of side 1 and a slot of side 2, one after another. Contracts see it as the list of the pairs.
-#[derive(Debug, Drop)]
+#[derive(Drop)]
 pub struct SlotPairs {
     held: Vec<(u8, u8)>,
 }

@@ -5,11 +5,12 @@ ghost use Rattle.rd_ecl.specs.Specified.{IsKind};
 use crate::kinds::KindSpec;
 use rd_base::NoMemory;
 use std::alloc::Global;
+use std::fmt::{self, Debug, Formatter, Write};
 use std::marker::Model;
 use thiserror::Error;
 
 /// A specification: kinds, which are numbered in their order. Contracts see it as the list of the kinds.
-#[derive(Debug, Drop)]
+#[derive(Drop)]
 pub struct Spec {
     kinds: Vec<KindSpec>,
 }
@@ -30,11 +31,17 @@ impl Model for Spec {
 }
 
 /// Why two specifications weren't put together: memory ran out. It hands both back.
-#[derive(Debug, Drop, Error)]
+#[derive(Drop, Error)]
 #[error("out of memory")]
 pub struct AppendRefused {
     pub left: Spec,
     pub right: Spec,
+}
+
+impl Debug for AppendRefused {
+    fn fmt<W: Write>(&self, f: &mut Formatter<W>) -> fmt::Result {
+        f.debug_struct("AppendRefused").finish_non_exhaustive()
+    }
 }
 
 impl Spec {

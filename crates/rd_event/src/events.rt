@@ -7,7 +7,7 @@ use std::alloc::Global;
 
 /// A call by numbers. Threads and objects have the place, from 0, of the line that began or declared each among all such
 /// lines; a kind has its place among the kinds, and a method its place in its kind.
-#[derive(Debug, Drop, PartialEq, Eq)]
+#[derive(Drop, PartialEq, Eq)]
 pub struct Call {
     pub thread: u32,
     pub object: u32,
@@ -34,7 +34,7 @@ impl Call {
 }
 
 /// An event of a trace, by numbers. A lock has the place, from 0, of the line that first acquired or shared it among all such first lines.
-#[derive(Debug, Drop, PartialEq, Eq)]
+#[derive(Drop, PartialEq, Eq)]
 pub enum Event {
     /// the thread begins the child
     Fork { thread: u32, child: u32 },

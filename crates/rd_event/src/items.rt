@@ -3,7 +3,7 @@
 use rd_base::{Name, Slots};
 
 /// An event as a line spells it, by names.
-#[derive(Debug, Drop, PartialEq, Eq)]
+#[derive(Drop, PartialEq, Eq)]
 pub enum LineEvent {
     /// `fork T U`: thread T begins thread U
     Fork {
@@ -46,7 +46,7 @@ pub enum LineEvent {
 }
 
 /// What a line of a trace says.
-#[derive(Debug, Drop, PartialEq, Eq)]
+#[derive(Drop, PartialEq, Eq)]
 pub enum Line {
     /// an empty line, or one whose first byte is `#`
     Skip,

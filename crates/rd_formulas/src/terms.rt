@@ -13,7 +13,7 @@ use rd_tokens::{Said, read_term};
 use std::alloc::Global;
 
 /// What a term stands for.
-#[derive(Debug, Drop)]
+#[derive(Drop)]
 pub enum Meant {
     /// a slot of the call on a side
     Slot { side: Side, slot: u8 },

@@ -16,7 +16,7 @@ use std::alloc::Global;
 use std::marker::Model;
 
 // Where a generator stands.
-#[derive(Clone, Copy, Debug)]
+#[derive(Clone, Copy)]
 pub(crate) enum Stage {
     /// so many of the first lines were given
     Opening(u8),
@@ -31,7 +31,7 @@ pub(crate) enum Stage {
 }
 
 /// Makes the lines of a trace, one after another. Contracts see it as the lines that it has still to give, and whether it has failed.
-#[derive(Debug, Drop)]
+#[derive(Drop)]
 pub struct Generator {
     alloc: Global,
     locked: bool,

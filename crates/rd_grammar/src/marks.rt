@@ -37,7 +37,7 @@ pub enum Symbol {
 }
 
 /// A token of a formula: what it is, and its number among the tokens.
-#[derive(Clone, Copy, Debug, PartialEq, Eq)]
+#[derive(Clone, Copy, PartialEq, Eq)]
 pub struct Mark {
     pub symbol: Symbol,
     pub token: u32,

@@ -7,7 +7,7 @@ use rd_base::NoMemory;
 use thiserror::Error;
 
 /// A formula as it was read. Each node has the number of its token, and a relation those of its two terms as well.
-#[derive(Debug, Drop)]
+#[derive(Drop)]
 pub enum Parsed {
     /// `true` or `false`
     Truth {

@@ -23,7 +23,7 @@ use std::mem;
 use std::sync::ledger::Ledger;
 
 /// A thread: the clock that its next event carries on from, how many events it had, and whether it was joined.
-#[derive(Debug, Drop)]
+#[derive(Drop)]
 struct Tracked {
     clock: Clock,
     events: u32,
@@ -32,7 +32,7 @@ struct Tracked {
 
 /// The clocks of all threads of a trace, root or forked, and of its locks, by their numbers. Contracts see it as the list of the
 /// threads, that of the stamps of the events that last released each lock, and that of the clocks of the events that unshared it.
-#[derive(Debug, Drop)]
+#[derive(Drop)]
 pub struct Tracker {
     alloc: Global,
     threads: Vec<Tracked>,

@@ -12,7 +12,7 @@ use std::marker::Model;
 use thiserror::Error;
 
 /// What the reader found.
-#[derive(Clone, Copy, Debug, PartialEq, Eq)]
+#[derive(Clone, Copy, PartialEq, Eq)]
 pub enum Next {
     /// the next line stands in `line`
     Line,

@@ -18,7 +18,7 @@ use rd_wf::Roster;
 use std::alloc::Global;
 
 /// The form in which a report is written.
-#[derive(Clone, Copy, Debug, PartialEq, Eq)]
+#[derive(Clone, Copy, PartialEq, Eq)]
 pub enum Form {
     /// lines of text
     Text,

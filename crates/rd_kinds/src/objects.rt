@@ -19,7 +19,7 @@ pub use set::Set;
 use std::alloc::Global;
 
 /// An object of a kind that is built in.
-#[derive(Debug, Drop)]
+#[derive(Drop)]
 pub enum Object {
     Register(Register),
     Counter(Counter),

@@ -8,7 +8,7 @@ use rd_base::Name;
 use std::marker::Model;
 
 /// The methods of a kind, by their numbers.
-#[derive(Debug, Drop)]
+#[derive(Drop)]
 pub struct KindTable<const M: usize> {
     names: [Name; M],
     args: [u8; M],

@@ -14,7 +14,7 @@ use rd_order::Places;
 use std::alloc::Global;
 
 // The places of a thread's events, and how many of them were given.
-#[derive(Debug, Drop)]
+#[derive(Drop)]
 struct Lane {
     thread: u32,
     places: Vec<u32>,

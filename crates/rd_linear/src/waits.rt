@@ -12,27 +12,27 @@ use rd_event::Event;
 use std::alloc::Global;
 
 /// Which of all waits are those of one event: those from one number to another.
-#[derive(Clone, Copy, Debug, Drop)]
+#[derive(Clone, Copy, Drop)]
 pub(crate) struct Part {
     pub(crate) from: usize,
     pub(crate) to: usize,
 }
 
 /// The places for which each event waits, those of one event behind those of another, and for each event which of them are its own.
-#[derive(Debug, Drop)]
+#[derive(Drop)]
 pub(crate) struct Waits {
     pub(crate) places: Vec<u32>,
     pub(crate) parts: Vec<Part>,
 }
 
 // The last unshare by each thread of a lock since that was last acquired.
-#[derive(Debug, Drop)]
+#[derive(Drop)]
 struct Unshared {
     places: Vec<u32>,
 }
 
 // What is noted of the events so far: the last place of each thread or of its fork, the last release of each lock, and its unshares.
-#[derive(Debug, Drop)]
+#[derive(Drop)]
 struct Notes {
     threads: IndexMap<u32, u32>,
     releases: IndexMap<u32, u32>,

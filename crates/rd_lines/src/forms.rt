@@ -8,7 +8,7 @@ use rd_grammar::Parsed;
 use thiserror::Error;
 
 /// Where a line stands.
-#[derive(Clone, Copy, Debug, PartialEq, Eq)]
+#[derive(Clone, Copy, PartialEq, Eq)]
 pub enum Stage {
     /// before the first kind
     Outside,
@@ -19,7 +19,7 @@ pub enum Stage {
 }
 
 /// What a line says.
-#[derive(Debug, Drop)]
+#[derive(Drop)]
 pub enum Form {
     /// a kind begins, whose name is the second token
     Kind(Name),

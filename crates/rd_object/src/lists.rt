@@ -6,7 +6,7 @@ use std::alloc::Global;
 use std::marker::Model;
 
 /// Pairs of values. Contracts see it as the list of the pairs.
-#[derive(Debug, Drop)]
+#[derive(Drop)]
 pub struct ValuePairs {
     pairs: Vec<(Value, Value)>,
 }
@@ -55,7 +55,7 @@ impl ValuePairs {
 }
 
 /// Values, each with a count. Contracts see it as the list of the pairs.
-#[derive(Debug, Drop)]
+#[derive(Drop)]
 pub struct ValueCounts {
     counts: Vec<(Value, u64)>,
 }

@@ -6,7 +6,7 @@ use rd_base::{NoMemory, Slots, Value};
 use std::alloc::Global;
 
 /// What an object holds.
-#[derive(Debug, Drop)]
+#[derive(Drop)]
 pub enum Shape {
     /// a value
     One(Value),
@@ -23,7 +23,7 @@ pub enum Shape {
 }
 
 /// What a machine gives in place of what was recorded.
-#[derive(Debug, Drop, PartialEq, Eq)]
+#[derive(Drop, PartialEq, Eq)]
 pub enum Expected {
     /// this result
     Value(Value),
@@ -32,7 +32,7 @@ pub enum Expected {
 }
 
 /// How a replay of recorded calls ends.
-#[derive(Debug, Drop, PartialEq, Eq)]
+#[derive(Drop, PartialEq, Eq)]
 pub enum ReplayEnd {
     /// each call gave what was recorded
     Exact,

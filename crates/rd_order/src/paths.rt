@@ -10,7 +10,7 @@ use std::alloc::Global;
 use std::marker::Model;
 
 /// Places of events, one after another. Contracts see it as the list of the places.
-#[derive(Debug, Drop)]
+#[derive(Drop)]
 pub struct Places {
     held: Vec<u32>,
 }

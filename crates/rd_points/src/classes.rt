@@ -1,7 +1,7 @@
 //! Classes of access points.
 
 /// A class: a method, the truth values of its predicates, and a slot, or none where the class is plain.
-#[derive(Clone, Copy, Debug, PartialEq, Eq)]
+#[derive(Clone, Copy, PartialEq, Eq)]
 pub struct Class {
     pub method: u8,
     pub bits: u8,

@@ -8,7 +8,7 @@ use std::hash::{Hash, Hasher};
 use std::marker::Model;
 
 /// What a call touches: an object, a class of its kind, and the value that the class has a slot for, or none where the class is plain.
-#[derive(Debug, Drop, PartialEq, Eq)]
+#[derive(Drop, PartialEq, Eq)]
 pub struct Point {
     pub object: u32,
     pub class: u32,
@@ -59,7 +59,7 @@ impl Hash for Point {
 }
 
 /// A list of points. Contracts see it as the list.
-#[derive(Debug, Drop)]
+#[derive(Drop)]
 pub struct Points {
     points: Vec<Point>,
 }

@@ -12,7 +12,7 @@ use rd_ecl::{Predicate, Predicates, Valuation};
 use std::marker::Model;
 
 /// What a kind's methods touch, and which classes conflict. Contracts see it as a `PointTable`.
-#[derive(Debug, Drop)]
+#[derive(Drop)]
 pub struct Table {
     // those of each method
     predicates: Vec<Predicates>,

@@ -143,7 +143,7 @@ fn write_points<S: Sink>(alloc: Global, kind: &KindSpec, out: &mut S) -> Result<
 
 /// What `points` writes of a specification's kinds: for each its classes of access points, once those that are alike are one, its predicates,
 /// which classes conflict, and what a call touches.
-#[derive(Clone, Copy, Debug, PartialEq, Eq)]
+#[derive(Clone, Copy, PartialEq, Eq)]
 pub struct PointTables;
 
 impl SpecReport for PointTables {

@@ -5,7 +5,7 @@ use std::alloc::Global;
 use std::env::{Env, FillError};
 
 /// Why there are no words.
-#[derive(Clone, Copy, Debug, PartialEq, Eq)]
+#[derive(Clone, Copy, PartialEq, Eq)]
 pub enum WordsRefused {
     /// the system doesn't give them
     NotGiven,

@@ -6,7 +6,7 @@ use rd_ecl::{KindDraft, Spec};
 use std::alloc::Global;
 
 /// The kind whose lines are read.
-#[derive(Debug, Drop)]
+#[derive(Drop)]
 pub struct Block {
     /// the kind with its methods and pairs so far
     pub draft: KindDraft,
@@ -15,7 +15,7 @@ pub struct Block {
 }
 
 /// What the lines of a specification's text say so far.
-#[derive(Debug, Drop)]
+#[derive(Drop)]
 pub struct Known {
     /// the header came
     pub begun: bool,

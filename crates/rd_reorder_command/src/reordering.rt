@@ -12,7 +12,7 @@ use std::alloc::Global;
 use std::sync::ledger::Ledger;
 
 /// Keeps what a trace in another order is written of: its roots, its objects and its events, by numbers. The roster has their names.
-#[derive(Debug, Drop)]
+#[derive(Drop)]
 pub struct Reordering<'a> {
     alloc: Global,
     /// the number that picks the order

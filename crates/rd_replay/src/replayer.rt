@@ -13,7 +13,7 @@ use rd_object::{ApplyRefused, Expected, ReplayEnd, Shape};
 use std::alloc::Global;
 
 /// How a call compares with its record.
-#[derive(Clone, Copy, Debug, PartialEq, Eq)]
+#[derive(Clone, Copy, PartialEq, Eq)]
 pub enum Match {
     /// the object gave what was recorded, and holds what it then holds
     Same,
@@ -27,7 +27,7 @@ pub enum Match {
 
 /// Replays recorded calls one after another, each by its object. Objects are of the kinds that are built in; where one isn't, nothing is
 /// replayed. After the first call that gives something else than was recorded nothing is replayed either.
-#[derive(Debug, Drop)]
+#[derive(Drop)]
 pub struct Replayer {
     alloc: Global,
     // by their numbers, while each call gave what was recorded

@@ -219,7 +219,7 @@ pub fn write_replay<S: Sink>(
 }
 
 /// What `replay` does with each accepted line beside the replay of the calls: nothing.
-#[derive(Debug, Drop)]
+#[derive(Drop)]
 pub struct ReplayAlone;
 
 impl Analysis for ReplayAlone {

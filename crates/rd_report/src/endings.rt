@@ -4,7 +4,7 @@ use rd_object::ReplayEnd;
 use rd_wf::TraceCause;
 
 /// How the lines of a trace end.
-#[derive(Debug, Drop, PartialEq, Eq)]
+#[derive(Drop, PartialEq, Eq)]
 pub enum Ending {
     /// the trace was read to its end, the replay of its calls ended so, and whether it is shown that every order of its events that
     /// keeps what comes before what ends the same

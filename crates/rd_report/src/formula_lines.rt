@@ -9,7 +9,7 @@ use std::alloc::Global;
 use std::marker::Model;
 
 /// The line of the formula of two methods of a kind, by their numbers.
-#[derive(Debug, Drop)]
+#[derive(Drop)]
 pub struct Kept {
     kind: u32,
     first: u8,
@@ -18,7 +18,7 @@ pub struct Kept {
 }
 
 /// The lines of the formulas of a specification that were asked for. Contracts see it as the kinds of the specification.
-#[derive(Debug, Drop)]
+#[derive(Drop)]
 pub struct Formulas<'a> {
     spec: &'a Spec,
     kept: Vec<Kept>,

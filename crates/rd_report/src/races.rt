@@ -122,7 +122,7 @@ fn told_room(told: &Witness, names: &Roster) -> usize {
 }
 
 /// Where the first two of the three lines of a race end in a text.
-#[derive(Clone, Copy, Debug, PartialEq, Eq)]
+#[derive(Clone, Copy, PartialEq, Eq)]
 pub struct RaceEnds {
     /// behind the line of the later call
     pub later: usize,

@@ -7,7 +7,7 @@ use thiserror::Error;
 
 /// What an accepted line is in numbers: threads, locks and objects from 0, in the order of the lines that
 /// began, first acquired or shared, or declared them, and kinds by their places among the kinds.
-#[derive(Debug, Drop, PartialEq, Eq)]
+#[derive(Drop, PartialEq, Eq)]
 pub enum Accepted {
     /// a skipped line, or the header
     Nothing,
@@ -64,7 +64,7 @@ pub enum WfCause {
 }
 
 /// Why a line is refused.
-#[derive(Clone, Copy, Debug, PartialEq, Eq)]
+#[derive(Clone, Copy, PartialEq, Eq)]
 pub enum TraceCause {
     /// the line says no item
     BadLine,

@@ -15,7 +15,7 @@ use rd_walk::Halt;
 use std::alloc::Global;
 
 /// What is written of the kinds that a specification says.
-#[derive(Clone, Copy, Debug, PartialEq, Eq)]
+#[derive(Clone, Copy, PartialEq, Eq)]
 pub enum Said {
     /// their canonical text
     Spec,

@@ -27,7 +27,7 @@ use std::alloc::Global;
 const MOST_BYTES: u32 = MOST_SPEC_BYTES + 1;
 
 /// Why a specification isn't there.
-#[derive(Debug, Drop)]
+#[derive(Drop)]
 pub enum Unread {
     /// the file could not be opened or read
     Fault,
@@ -38,7 +38,7 @@ pub enum Unread {
 }
 
 /// How a command on a specification ended of which all was written.
-#[derive(Clone, Copy, Debug, PartialEq, Eq)]
+#[derive(Clone, Copy, PartialEq, Eq)]
 pub enum SpecStatus {
     /// a specification was written
     Clean,
@@ -117,7 +117,7 @@ pub trait SpecReport {
 }
 
 /// Their canonical text.
-#[derive(Clone, Copy, Debug, PartialEq, Eq)]
+#[derive(Clone, Copy, PartialEq, Eq)]
 pub struct CanonicalText;
 
 impl SpecReport for CanonicalText {

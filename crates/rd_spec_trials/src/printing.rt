@@ -2,7 +2,7 @@
 
 use crate::rows::gives;
 use rd_base::NoMemory;
-use rd_ecl::{KindSpec, Spec};
+use rd_ecl::{Formula, KindSpec, Spec};
 use rd_print::{formula_text, law_of_printed_texts, print, print_kind};
 use rd_samples::read_bytes;
 use rd_spec::parse;
@@ -102,14 +102,42 @@ fn prints_one_kind(rt: HostRuntime) {
     check_kinds(&rt, rt.alloc(), &KINDS);
 }
 
-// The text of a pair, and its formula as a tree.
+// What a node of a formula is.
+fn node(formula: &Formula) -> &'static str {
+    match formula {
+        Formula::True => "True",
+        Formula::False => "False",
+        Formula::Atom { .. } => "Atom",
+        Formula::Cross { .. } => "Cross",
+        Formula::Mixed { .. } => "Mixed",
+        Formula::Not(_) => "Not",
+        Formula::And(_, _) => "And",
+        Formula::Or(_, _) => "Or",
+    }
+}
+
+// The root of a formula, and the nodes below it.
+fn show_top(text: &mut String, formula: &Formula) -> Result<(), NoMemory> {
+    text.push_str(node(formula))?;
+    match formula {
+        Formula::Not(inner) => write!(text, "({})", node(inner))?,
+        Formula::And(left, right) | Formula::Or(left, right) => {
+            write!(text, "({}, {})", node(left), node(right))?
+        }
+        _ => {}
+    }
+    Ok(())
+}
+
+// The text of a pair, and the top of its formula's tree.
 fn pair_of(alloc: Global, kind: &KindSpec, first: u8, second: u8) -> Result<String, NoMemory> {
     if first > second || usize::from(second) >= kind.methods().len() {
         return Err(NoMemory);
     }
     let found = formula_text(alloc, kind, first, second)?;
     let mut shown = String::from_str(alloc, read_bytes(found.items()))?;
-    write!(shown, ": {:?}", kind.formula(first, second))?;
+    shown.push_str(": ")?;
+    show_top(&mut shown, kind.formula(first, second))?;
     Ok(shown)
 }
 
@@ -127,27 +155,17 @@ const PAIRS: [(&str, u8, u8, &str); 5] = [
         CELL,
         0,
         0,
-        "put put when value@1 = prev@1 and value@2 = prev@2: And(Atom { side: First, rel: Eq, left: Slot(0), right: Slot(1) }, Atom { side: Second, rel: Eq, left: Slot(0), right: Slot(1) })",
+        "put put when value@1 = prev@1 and value@2 = prev@2: And(Atom, Atom)",
     ),
-    (
-        CELL,
-        0,
-        1,
-        "put get when not value@1 != prev@1: Not(Not(Atom { side: First, rel: Eq, left: Slot(0), right: Slot(1) }))",
-    ),
+    (CELL, 0, 1, "put get when not value@1 != prev@1: Not(Not)"),
     (CELL, 1, 1, "get get when true: True"),
     (
         LOG,
         0,
         0,
-        "add add when (text@1 = done@1 or false) and (true or text@2 = \"a \\\"(\\\"\"): And(Or(Atom { side: First, rel: Eq, left: Slot(0), right: Slot(1) }, False), Or(True, Atom { side: Second, rel: Eq, left: Slot(0), right: Const(Text(Text { bytes: [97, 32, 34, 40, 34] })) }))",
+        "add add when (text@1 = done@1 or false) and (true or text@2 = \"a \\\"(\\\"\"): And(Or, Or)",
     ),
-    (
-        MAP,
-        0,
-        0,
-        "put put when key@1 != key@2: Cross { first: 0, second: 0 }",
-    ),
+    (MAP, 0, 0, "put put when key@1 != key@2: Cross"),
 ];
 
 fn check_pairs(rt: &impl Abort, alloc: Global, rows: &[(&str, u8, u8, &str)]) {

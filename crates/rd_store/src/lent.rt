@@ -12,7 +12,7 @@ use std::alloc::Global;
 use std::hash::{Hash, Hasher};
 
 /// A point whose value is lent, so that a store is asked for it without a copy of the value.
-#[derive(Clone, Copy, Debug, PartialEq, Eq)]
+#[derive(Clone, Copy, PartialEq, Eq)]
 pub struct PointRef<'a> {
     pub object: u32,
     pub class: u32,
@@ -62,7 +62,7 @@ impl<'a> Hash for PointRef<'a> {
 }
 
 /// What is kept of a call, with the call and its clock lent.
-#[derive(Clone, Copy, Debug)]
+#[derive(Clone, Copy)]
 pub struct WitnessRef<'a> {
     pub line: u64,
     pub place: u32,

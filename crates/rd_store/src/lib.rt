@@ -13,7 +13,7 @@ use std::rc::Rc;
 pub use store::Store;
 
 /// A call that was seen: the number of its line, from 1, its place among the events, from 0, and where it stands by clocks.
-#[derive(Debug, Drop)]
+#[derive(Drop)]
 pub struct Witness {
     pub line: u64,
     pub place: u32,
@@ -23,7 +23,7 @@ pub struct Witness {
 
 /// Where a thread's cell of a point stands in a store, or will stand: the index at which the point was entered, and the place among
 /// the cells of the point, behind all where the thread has none.
-#[derive(Clone, Copy, Debug, Default)]
+#[derive(Clone, Copy, Default)]
 pub struct Seat {
     pub index: usize,
     pub place: usize,
@@ -32,7 +32,7 @@ pub struct Seat {
 /// Two calls on one object that no order ties and that don't commute (Dimitrov, Raychev, Vechev and Koskinen 2014), and the
 /// pair of methods whose formula fails: the number of their kind, and those of the methods in the order in which the kind has
 /// them.
-#[derive(Debug, Drop)]
+#[derive(Drop)]
 pub struct Race {
     pub later: Rc<Witness>,
     pub earlier: Rc<Witness>,

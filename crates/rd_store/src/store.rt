@@ -183,7 +183,7 @@ fn sweep_cells(cells: &mut Vec<(u32, Rc<Witness>)>, floor: &Clock) -> usize
 
 /// The cells of each point that was entered: the last call of each thread that touched it. Contracts see it as a list of points, each
 /// with its cells and with how many more it can take without memory; a look-up tells what is held of a point.
-#[derive(Debug, Drop)]
+#[derive(Drop)]
 pub struct Store {
     alloc: Global,
     points: IndexMap<Point, Vec<(u32, Rc<Witness>)>>,

@@ -6,7 +6,7 @@ use rd_base::{Name, NoMemory};
 
 /// What is held of a lock: the number of the thread that acquired it last, and how often that thread acquired it and hasn't
 /// released it.
-#[derive(Clone, Copy, Debug)]
+#[derive(Clone, Copy)]
 pub struct Lock {
     pub holder: u32,
     pub depth: u32,

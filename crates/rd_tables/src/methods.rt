@@ -8,7 +8,7 @@ use rd_ecl::KindSpec;
 use std::alloc::Global;
 
 /// The methods of a kind, by name, in their order. There are at most 255.
-#[derive(Debug, Drop)]
+#[derive(Drop)]
 pub struct Methods {
     /// each with how many slots its calls have
     slots: IndexMap<Name, u8>,

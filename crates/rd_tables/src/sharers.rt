@@ -6,14 +6,14 @@ use rd_base::NoMemory;
 use std::alloc::Global;
 
 /// A thread that shares a lock, and how often it has shared it and not unshared it.
-#[derive(Clone, Copy, Debug)]
+#[derive(Clone, Copy)]
 struct Sharer {
     thread: u32,
     depth: u32,
 }
 
 /// The threads that share a lock now.
-#[derive(Debug, Drop)]
+#[derive(Drop)]
 pub(crate) struct Sharers {
     sharers: Vec<Sharer>,
     ghost few: { (thread : ℕ) → depth_among sharers.items thread < 2 ^ 32 },

@@ -8,7 +8,7 @@ use rd_base::NoMemory;
 use std::alloc::Global;
 
 /// The threads that share locks now, by the locks' numbers. As long as no lock is shared, it takes no memory.
-#[derive(Debug, Drop)]
+#[derive(Drop)]
 pub struct Shares {
     alloc: Global,
     locks: Vec<Sharers>,

@@ -21,7 +21,7 @@ pub enum Sort {
 }
 
 /// A token of a line.
-#[derive(Clone, Copy, Debug, PartialEq, Eq)]
+#[derive(Clone, Copy, PartialEq, Eq)]
 pub struct Token {
     /// the number of its first byte in the line, from 1
     pub place: u32,
@@ -45,7 +45,7 @@ impl Token {
 }
 
 /// The tokens of a line, from the left. Contracts see it as the list of the tokens.
-#[derive(Debug, Drop)]
+#[derive(Drop)]
 pub struct Tokens {
     held: Vec<Token>,
 }

@@ -11,7 +11,7 @@ use rd_wf::{Accepted, Roster};
 use std::sync::ledger::Ledger;
 
 /// Why a command stops before its end.
-#[derive(Clone, Copy, Debug, PartialEq, Eq)]
+#[derive(Clone, Copy, PartialEq, Eq)]
 pub enum Halt {
     /// a write failed
     OutputFault,

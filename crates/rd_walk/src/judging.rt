@@ -15,7 +15,7 @@ use rd_wf::{Accepted, Roster, TraceCause, WfRefused};
 use std::alloc::Global;
 
 /// Why a line isn't accepted.
-#[derive(Clone, Copy, Debug, PartialEq, Eq)]
+#[derive(Clone, Copy, PartialEq, Eq)]
 pub enum Refusal {
     /// the line is refused
     Cause(TraceCause),

@@ -6,7 +6,7 @@ use crate::analysis::Halt;
 use crate::writing::status_of;
 
 /// How a run ended. The numbers are those that the program ends with.
-#[derive(Clone, Copy, Debug, PartialEq, Eq)]
+#[derive(Clone, Copy, PartialEq, Eq)]
 pub enum Status {
     /// 0: the trace was read to its end, and no call is reported, or under `replay` none differs; or a specification was written
     Clean,
@@ -43,7 +43,7 @@ impl Status {
 }
 
 /// How a report on a trace ended of which all was written.
-#[derive(Clone, Copy, Debug, PartialEq, Eq)]
+#[derive(Clone, Copy, PartialEq, Eq)]
 pub enum TraceStatus {
     /// the trace was read to its end, and no call is reported, or under `replay` none differs
     Clean,

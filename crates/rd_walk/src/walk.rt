@@ -28,7 +28,7 @@ use std::alloc::Global;
 use std::sync::ledger::Ledger;
 
 /// How the lines of a trace end.
-#[derive(Clone, Copy, Debug, PartialEq, Eq)]
+#[derive(Clone, Copy, PartialEq, Eq)]
 pub enum WalkEnd {
     /// the trace was read to its end
     End,

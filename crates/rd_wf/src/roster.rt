@@ -17,7 +17,7 @@ use std::alloc::Global;
 
 /// The accepted lines of a trace, as names with numbers, flags and counts. It says of the next line
 /// whether it may follow.
-#[derive(Debug, Drop)]
+#[derive(Drop)]
 pub struct Roster {
     alloc: Global,
     kinds: IndexMap<Name, Methods>,

@@ -11,7 +11,7 @@ use std::rc::Rc;
 use std::sync::ledger::Ledger;
 
 /// A clock with several owners, none of which changes it. Contracts see it as the clock.
-#[derive(Debug, Drop)]
+#[derive(Drop)]
 pub(crate) struct SharedClock {
     clock: Rc<Clock>,
 }
@@ -76,7 +76,7 @@ fn reused(old: Option<SharedClock>, clock: &Clock) -> Option<SharedClock>
 
 /// The last event that gave back a lock: its thread and own number, and the clock that the thread shares. The event's clock
 /// is that one with this number at this thread. Contracts see the event's stamp.
-#[derive(Debug, Drop)]
+#[derive(Drop)]
 pub(crate) struct Release {
     shared: SharedClock,
     thread: u32,

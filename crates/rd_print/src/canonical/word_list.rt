@@ -7,14 +7,14 @@ use std::alloc::Global;
 use std::marker::Model;
 
 /// A word of a formula, with the sort of the token that it is.
-#[derive(Debug, Drop)]
+#[derive(Drop)]
 pub struct PrintedWord {
     pub sort: Sort,
     pub bytes: Bytes,
 }
 
 /// The words of a formula, from the left. Contracts see it as the list of the words.
-#[derive(Debug, Drop)]
+#[derive(Drop)]
 pub struct Words {
     held: Vec<PrintedWord>,
 }

@@ -8,7 +8,7 @@ use rd_ecl::Formula;
 use thiserror::Error;
 
 /// A pair of methods, by their numbers, with its formula.
-#[derive(Debug, Drop)]
+#[derive(Drop)]
 pub struct Pair {
     pub first: u8,
     pub second: u8,

@@ -7,7 +7,7 @@ use std::alloc::Global;
 use std::marker::Model;
 
 /// Marks, one after another. Contracts see it as the list of the marks.
-#[derive(Debug, Drop)]
+#[derive(Drop)]
 pub struct Marks {
     held: Vec<Mark>,
 }

@@ -15,7 +15,7 @@ use rd_ecl::Side;
 use std::alloc::Global;
 
 /// What a term says.
-#[derive(Debug, Drop, PartialEq, Eq)]
+#[derive(Drop, PartialEq, Eq)]
 pub enum Said {
     /// the variable of this name, of this side
     Variable { side: Side, name: Name },
