@@ -1,8 +1,8 @@
 //! Texts of specifications that are printed again.
 
 use crate::rows::gives;
-use rd_base::NoMemory;
-use rd_ecl::{Formula, KindSpec, Spec};
+use rd_base::{NoMemory, Value};
+use rd_ecl::{Formula, KindSpec, Rel, Spec, Term};
 use rd_print::{formula_text, law_of_printed_texts, print, print_kind};
 use rd_samples::read_bytes;
 use rd_spec::parse;
@@ -116,20 +116,85 @@ fn node(formula: &Formula) -> &'static str {
     }
 }
 
-// The root of a formula, and the nodes below it.
-fn show_top(text: &mut String, formula: &Formula) -> Result<(), NoMemory> {
-    text.push_str(node(formula))?;
+// The formulas below one, the second only of `and` and `or`.
+fn below(formula: &Formula) -> (Option<&Formula>, Option<&Formula>) {
     match formula {
-        Formula::Not(inner) => write!(text, "({})", node(inner))?,
-        Formula::And(left, right) | Formula::Or(left, right) => {
-            write!(text, "({}, {})", node(left), node(right))?
+        Formula::Not(inner) => (Some(inner), None),
+        Formula::And(left, right) | Formula::Or(left, right) => (Some(left), Some(right)),
+        _ => (None, None),
+    }
+}
+
+fn show_term(text: &mut String, term: &Term) -> Result<(), NoMemory> {
+    match term {
+        Term::Slot(slot) => write!(text, "Slot({slot})")?,
+        Term::Const(Value::Text(value)) => {
+            write!(text, "Const(Text(Text {{ bytes: {:?} }}))", value.items())?
         }
-        _ => {}
+        Term::Const(_) => text.push_str("Const")?,
     }
     Ok(())
 }
 
-// The text of a pair, and the top of its formula's tree.
+// A formula without those below it.
+fn show_leaf(text: &mut String, formula: &Formula) -> Result<(), NoMemory> {
+    match formula {
+        Formula::Atom {
+            side,
+            rel,
+            left,
+            right,
+        } => {
+            let rel = match rel {
+                Rel::Eq => "Eq",
+                Rel::Lt => "Lt",
+                Rel::Le => "Le",
+            };
+            write!(text, "Atom {{ side: {side:?}, rel: {rel}, left: ")?;
+            show_term(text, left)?;
+            text.push_str(", right: ")?;
+            show_term(text, right)?;
+            text.push_str(" }")?;
+        }
+        Formula::Cross { first, second } => {
+            write!(text, "Cross {{ first: {first}, second: {second} }}")?
+        }
+        _ => text.push_str(node(formula))?,
+    }
+    Ok(())
+}
+
+// A formula with those right below it.
+fn show_inner(text: &mut String, formula: &Formula) -> Result<(), NoMemory> {
+    let (Some(first), second) = below(formula) else {
+        return show_leaf(text, formula);
+    };
+    text.push_str(node(formula))?;
+    text.push_str("(")?;
+    show_leaf(text, first)?;
+    if let Some(second) = second {
+        text.push_str(", ")?;
+        show_leaf(text, second)?;
+    }
+    Ok(text.push_str(")")?)
+}
+
+// A formula that has at most two others above each of its relations.
+fn show_tree(text: &mut String, formula: &Formula) -> Result<(), NoMemory> {
+    let (Some(first), second) = below(formula) else {
+        return show_leaf(text, formula);
+    };
+    text.push_str(node(formula))?;
+    text.push_str("(")?;
+    show_inner(text, first)?;
+    if let Some(second) = second {
+        text.push_str(", ")?;
+        show_inner(text, second)?;
+    }
+    Ok(text.push_str(")")?)
+}
+
+// The text of a pair, and its formula as a tree.
 fn pair_of(alloc: Global, kind: &KindSpec, first: u8, second: u8) -> Result<String, NoMemory> {
     if first > second || usize::from(second) >= kind.methods().len() {
         return Err(NoMemory);
@@ -137,7 +202,7 @@ fn pair_of(alloc: Global, kind: &KindSpec, first: u8, second: u8) -> Result<Stri
     let found = formula_text(alloc, kind, first, second)?;
     let mut shown = String::from_str(alloc, read_bytes(found.items()))?;
     shown.push_str(": ")?;
-    show_top(&mut shown, kind.formula(first, second))?;
+    show_tree(&mut shown, kind.formula(first, second))?;
     Ok(shown)
 }
 
@@ -155,17 +220,27 @@ const PAIRS: [(&str, u8, u8, &str); 5] = [
         CELL,
         0,
         0,
-        "put put when value@1 = prev@1 and value@2 = prev@2: And(Atom, Atom)",
+        "put put when value@1 = prev@1 and value@2 = prev@2: And(Atom { side: First, rel: Eq, left: Slot(0), right: Slot(1) }, Atom { side: Second, rel: Eq, left: Slot(0), right: Slot(1) })",
     ),
-    (CELL, 0, 1, "put get when not value@1 != prev@1: Not(Not)"),
+    (
+        CELL,
+        0,
+        1,
+        "put get when not value@1 != prev@1: Not(Not(Atom { side: First, rel: Eq, left: Slot(0), right: Slot(1) }))",
+    ),
     (CELL, 1, 1, "get get when true: True"),
     (
         LOG,
         0,
         0,
-        "add add when (text@1 = done@1 or false) and (true or text@2 = \"a \\\"(\\\"\"): And(Or, Or)",
+        "add add when (text@1 = done@1 or false) and (true or text@2 = \"a \\\"(\\\"\"): And(Or(Atom { side: First, rel: Eq, left: Slot(0), right: Slot(1) }, False), Or(True, Atom { side: Second, rel: Eq, left: Slot(0), right: Const(Text(Text { bytes: [97, 32, 34, 40, 34] })) }))",
     ),
-    (MAP, 0, 0, "put put when key@1 != key@2: Cross"),
+    (
+        MAP,
+        0,
+        0,
+        "put put when key@1 != key@2: Cross { first: 0, second: 0 }",
+    ),
 ];
 
 fn check_pairs(rt: &impl Abort, alloc: Global, rows: &[(&str, u8, u8, &str)]) {
