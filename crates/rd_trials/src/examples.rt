@@ -1,13 +1,9 @@
 //! The examples: how a command over each ends, and whether it writes what stands in the file beside it.
 
-use crate::rows::run_with;
-use rd_base::{Limits, Word};
-use rd_io::{MemoryInputs, MemorySink};
+use crate::rows::Row;
 use std::alloc::Global;
 use std::fs;
-use std::marker::Brand;
 use std::rt::Files;
-use std::sync::ledger::Blank;
 
 /// A command with its files, and the file with what it writes, in a line each.
 const EXAMPLES: &str = "\
@@ -85,95 +81,48 @@ const EXAMPLES: &str = "\
     check four_writes.trace account.spec four_writes.out\n\
     check queue_race.trace bounded_queue.spec queue_race.out\n";
 
-/// The bytes of a file of the examples. None where it can't be read or memory runs out.
-fn file_of<R: Files + Alloc<A = Global>>(rt: &R, name: &str) -> Option<Vec<u8>> {
+/// Reads a file of the examples. None where it can't be read or memory runs out.
+fn read_into<R: Files + Alloc<A = Global>>(rt: &R, name: &str, bytes: &mut Vec<u8>) -> Option<()> {
     let mut path = String::new(rt.alloc());
     path.push_str("examples/").ok()?;
     path.push_str(name).ok()?;
-    fs::read(rt, path.as_str()).ok()
+    *bytes = fs::read(rt, path.as_str()).ok()?;
+    Some(())
 }
 
-/// Runs a command and says how it ended, and whether it wrote what is wanted. None where memory runs out or writing fails.
-fn tell<R: Alloc<A = Global> + Print>(
-    rt: &R,
-    words: &[Word],
-    inputs: &mut MemoryInputs,
-    wanted: &[u8],
-    command: &str,
-) -> Option<()> {
-    let alloc = rt.alloc();
-    let mut out = MemorySink::new(alloc, 4096, &[]).ok()?;
-    let status = run_with::<Brand>(
-        alloc,
-        words,
-        inputs,
-        &mut out,
-        &Limits::standard(),
-        Blank::new(1),
-    );
-    let verdict = if out.written() == wanted {
-        "as wanted"
-    } else {
-        "otherwise"
-    };
-    rt.println(format_args!("{command}: status {}, {verdict}", status.code()))
+/// Runs the row, and says how it ended and whether it wrote what it should. None where memory runs out or writing fails.
+fn tell<R: Print>(rt: &R, row: &Row, command: &str) -> Option<()> {
+    let (status, writes_so) = row.end(4096, &[], &row.writes)?;
+    let verdict = if writes_so { "as wanted" } else { "otherwise" };
+    rt.println(format_args!("{command}: status {status}, {verdict}"))
         .ok()
 }
 
-/// The files of an example in memory, by the names `first` and `second`, where there is a second one. None where one can't be read or memory runs
-/// out.
-fn inputs_of<R: Files + Alloc<A = Global>>(
-    rt: &R,
-    first: &str,
-    second: &str,
-) -> Option<MemoryInputs> {
-    let mut inputs = MemoryInputs::new(rt.alloc(), &[]).ok()?;
-    let bytes = file_of(rt, first)?;
-    let name = Word::from_bytes(rt.alloc(), b"first").ok()?;
-    inputs.add(&name, &bytes, 4096).ok()?;
-    if second.is_empty() {
-        return Some(inputs);
-    }
-    let bytes = file_of(rt, second)?;
-    let name = Word::from_bytes(rt.alloc(), b"second").ok()?;
-    inputs.add(&name, &bytes, 4096).ok()?;
-    Some(inputs)
-}
-
-/// The words of a command over one of these files, or both. None where memory runs out.
-fn words_of(alloc: Global, verb: &str, names: &str) -> Option<Vec<Word>> {
-    let mut words = Vec::new(alloc);
-    words
-        .push(Word::from_bytes(alloc, verb.as_bytes()).ok()?)
-        .ok()?;
-    for name in names.split(' ') {
-        words
-            .push(Word::from_bytes(alloc, name.as_bytes()).ok()?)
-            .ok()?;
-    }
-    Some(words)
-}
-
-/// Runs one example. None where a file can't be read, memory runs out or writing fails.
-fn example<R: Files + Alloc<A = Global> + Print>(rt: &R, line: &str) -> Option<()> {
+/// Makes an example a row, and runs it. None where a file can't be read, memory runs out or writing fails.
+fn example<R: Files + Alloc<A = Global> + Print>(rt: &R, row: &mut Row, line: &str) -> Option<()> {
     let (command, wanted) = line.rsplit_once(' ')?;
     let (verb, files) = command.split_once(' ')?;
-    let (first, second) = files.split_once(' ').unwrap_or((files, ""));
-    let names = if second.is_empty() {
-        "first"
-    } else {
-        "first second"
+    row.begin();
+    row.push_word(verb.as_bytes())?;
+    row.push_word(b"t.trace")?;
+    let first = match files.split_once(' ') {
+        Some((first, second)) => {
+            row.push_word(b"s")?;
+            read_into(rt, second, &mut row.specification)?;
+            first
+        }
+        None => files,
     };
-    let words = words_of(rt.alloc(), verb, names)?;
-    let mut inputs = inputs_of(rt, first, second)?;
-    let text = file_of(rt, wanted)?;
-    tell(rt, &words, &mut inputs, &text, command)
+    read_into(rt, first, &mut row.trace)?;
+    read_into(rt, wanted, &mut row.writes)?;
+    tell(rt, row, command)
 }
 
 /// Runs each example. None where a file can't be read, memory runs out or writing fails.
 pub fn run_examples<R: Files + Alloc<A = Global> + Print>(rt: &R) -> Option<()> {
+    let mut row = Row::new(rt.alloc());
     for line in EXAMPLES.lines() {
-        example(rt, line)?;
+        example(rt, &mut row, line)?;
     }
     Some(())
 }

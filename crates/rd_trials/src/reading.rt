@@ -1,7 +1,6 @@
 //! Reading rows from the lines of a file.
 
 use crate::rows::Row;
-use rd_base::Word;
 use std::alloc::Global;
 use std::fs;
 use std::rt::Files;
@@ -24,6 +23,11 @@ pub struct Reader {
     runs: u32,
     otherwise: u32,
 }
+
+/// The limits that a row may set, but the one on bytes.
+const LIMITS: [&[u8]; 6] = [
+    b"line", b"events", b"threads", b"locks", b"objects", b"depth",
+];
 
 /// The number that the digits say. None where they aren't digits, or too many.
 fn number(digits: &[u8]) -> Option<u64> {
@@ -92,8 +96,7 @@ impl Reader {
     fn begin_with(&mut self, words: &[u8]) -> Option<()> {
         self.begin()?;
         for word in words.split(|byte| *byte == b' ') {
-            let word = Word::from_bytes(self.row.alloc, word).ok()?;
-            self.row.words.push(word).ok()?;
+            self.row.push_word(word)?;
         }
         Some(())
     }
@@ -137,14 +140,14 @@ impl Reader {
         }
         let (name, digits) = text.split_at(text.iter().position(|byte| *byte == b' ')?);
         let limit = u32::try_from(number(digits.get(1..)?)?).ok()?;
-        match name {
-            b"line" => limits.line = limit,
-            b"events" => limits.events = limit,
-            b"threads" => limits.threads = limit,
-            b"locks" => limits.locks = limit,
-            b"objects" => limits.objects = limit,
-            b"depth" => limits.depth = limit,
-            _ => return None,
+        let place = LIMITS.iter().position(|known| *known == name)?;
+        match place {
+            0 => limits.line = limit,
+            1 => limits.events = limit,
+            2 => limits.threads = limit,
+            3 => limits.locks = limit,
+            4 => limits.objects = limit,
+            _ => limits.depth = limit,
         }
         Some(())
     }
@@ -177,27 +180,31 @@ impl Reader {
     fn take_word<R: Print>(&mut self, rt: &R, line: &[u8]) -> Option<()> {
         if line.starts_with(b"case ") {
             self.close(rt)?;
-            self.row = Row::new(self.row.alloc);
+            self.row.clear();
             return Some(());
         }
         if let Some(words) = line.strip_prefix(b"row ".as_slice()) {
             self.close(rt)?;
             return self.begin_with(words);
         }
-        match line {
-            b"row" => {
-                self.close(rt)?;
-                self.begin()
-            }
-            b"trace" => self.part(Part::Trace),
-            b"specification" => self.part(Part::Specification),
-            b"writes" => self.part(Part::Writes),
-            b"each write fails" => {
-                self.row.fails_each_write = true;
-                Some(())
-            }
-            _ => self.set(line),
+        if line == b"row".as_slice() {
+            self.close(rt)?;
+            return self.begin();
         }
+        if line == b"trace".as_slice() {
+            return self.part(Part::Trace);
+        }
+        if line == b"specification".as_slice() {
+            return self.part(Part::Specification);
+        }
+        if line == b"writes".as_slice() {
+            return self.part(Part::Writes);
+        }
+        if line == b"each write fails".as_slice() {
+            self.row.fails_each_write = true;
+            return Some(());
+        }
+        self.set(line)
     }
 
     /// Takes the next line of the file. None where it says nothing that is known, memory runs out or writing fails.

@@ -28,7 +28,7 @@ pub struct Row {
 }
 
 /// A command over inputs in memory, with a counter of steps of its own.
-pub fn run_with<L: Ledger>(
+fn run_with<L: Ledger>(
     alloc: Global,
     words: &[Word],
     inputs: &mut MemoryInputs,
@@ -63,6 +63,13 @@ impl Row {
         }
     }
 
+    /// Makes it a row without words over empty files.
+    pub fn clear(&mut self) {
+        self.trace.clear();
+        self.specification.clear();
+        self.begin();
+    }
+
     /// Makes it a row without words over the same files.
     pub fn begin(&mut self) {
         self.words.clear();
@@ -75,7 +82,14 @@ impl Row {
         self.writes.clear();
     }
 
-    /// The two files, read in pieces of so many bytes.
+    /// Puts a word behind the others. None where memory runs out.
+    pub fn push_word(&mut self, bytes: &[u8]) -> Option<()> {
+        self.words
+            .push(Word::from_bytes(self.alloc, bytes).ok()?)
+            .ok()
+    }
+
+    /// The two files, `t.trace` and `s`, read in pieces of so many bytes.
     fn inputs(&self, piece: u32) -> Result<MemoryInputs, NoMemory>
         requires { 1 ≤ piece }
     {
@@ -87,8 +101,9 @@ impl Row {
         Ok(inputs)
     }
 
-    /// Does the run in such pieces, in which these writes fail, answer and write this? None where memory runs out, or the row can't be run.
-    fn ends_so(&self, piece: u32, failing: &[u32], status: u64, text: &[u8]) -> Option<bool> {
+    /// What the run in such pieces, in which these writes fail, answers, and whether it writes this. None where memory runs out, or the row can't
+    /// be run.
+    pub fn end(&self, piece: u32, failing: &[u32], text: &[u8]) -> Option<(u8, bool)> {
         let limits = self.limits;
         if piece < 1 || limits.line < 1 {
             return None;
@@ -106,7 +121,13 @@ impl Row {
             &limits,
             Blank::new(1),
         );
-        Some(u64::from(answer.code()) == status && out.written() == text)
+        Some((answer.code(), out.written() == text))
+    }
+
+    /// Does the run in such pieces, in which these writes fail, answer and write this? None where memory runs out, or the row can't be run.
+    fn ends_so(&self, piece: u32, failing: &[u32], status: u64, text: &[u8]) -> Option<bool> {
+        let (answer, writes_so) = self.end(piece, failing, text)?;
+        Some(u64::from(answer) == status && writes_so)
     }
 
     /// Does the run in which the write of each line fails, one after the other, answer 7 and write the lines in front of it alone? None where
