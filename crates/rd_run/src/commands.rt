@@ -1,5 +1,5 @@
 //! What the words of the command line ask for.
-ghost use Rattle.std.specs.Prelude.{◌≡◌, ◌<◌, ◌≤◌, ℕ, IfSome};
+ghost use Rattle.std.specs.Prelude.{◌≡◌, ◌<◌, ◌≤◌, ℕ, [], ◌∷◌, IfSome};
 ghost use Rattle.rd_gen.specs.declared.counts.TheConstants.{MOST_CALLS};
 ghost use Rattle.rd_run.specs.Commands.{asked_command, command_of, named_number, numbers_read};
 
@@ -97,6 +97,97 @@ fn trace_numbers(number: &Word, count: &Word) -> Option<(u64, u32)>
     }
 }
 
+/// The command that a word and a file, or a name, ask for, if they do for one.
+fn command_of_two<'a>(word: &Word, name: &'a Word) -> Option<Command<'a>>
+    ensures asked { asked_command result ≡ command_of (word.now ∷ name.now ∷ []) }
+    ensures known { IfSome result
+        (λ command. (number : ℕ) → command ≡ Command.Kind number → number < 4) }
+    ensures few { IfSome result
+        (λ command. (number count : ℕ) → command ≡ Command.GenText number count →
+        count ≤ MOST_CALLS) }
+    ensures few_checked { IfSome result
+        (λ command. (number count : ℕ) → command ≡ Command.Gen number count →
+        count ≤ MOST_CALLS) }
+{
+    let word = word.items();
+    if word == b"check".as_slice() {
+        return Some(Command::Check(ToCheck {
+            form: Form::Text,
+            trace: name,
+        }));
+    }
+    if word == b"check-json".as_slice() {
+        return Some(Command::Check(ToCheck {
+            form: Form::Json,
+            trace: name,
+        }));
+    }
+    if word == b"replay".as_slice() {
+        return Some(Command::Replay(name));
+    }
+    if word == b"spec".as_slice() {
+        return Some(Command::OfSpec(Said::Spec, name));
+    }
+    if word == b"points".as_slice() {
+        return Some(Command::OfSpec(Said::Points, name));
+    }
+    if word == b"kind".as_slice() {
+        return match shipped_number(name) {
+            Some(number) => Some(Command::Kind(number)),
+            None => None,
+        };
+    }
+    None
+}
+
+/// The command that a word, a file or a number, and another of these ask for, if they do for one.
+fn command_of_three<'a>(word: &Word, first: &'a Word, second: &'a Word) -> Option<Command<'a>>
+    ensures asked { asked_command result ≡ command_of (word.now ∷ first.now ∷ second.now ∷ []) }
+    ensures known { IfSome result
+        (λ command. (number : ℕ) → command ≡ Command.Kind number → number < 4) }
+    ensures few { IfSome result
+        (λ command. (number count : ℕ) → command ≡ Command.GenText number count →
+        count ≤ MOST_CALLS) }
+    ensures few_checked { IfSome result
+        (λ command. (number count : ℕ) → command ≡ Command.Gen number count →
+        count ≤ MOST_CALLS) }
+{
+    let word = word.items();
+    if word == b"check".as_slice() {
+        let asked = ToCheck {
+            form: Form::Text,
+            trace: first,
+        };
+        return Some(Command::CheckWith(asked, second));
+    }
+    if word == b"check-json".as_slice() {
+        let asked = ToCheck {
+            form: Form::Json,
+            trace: first,
+        };
+        return Some(Command::CheckWith(asked, second));
+    }
+    if word == b"reorder".as_slice() {
+        return match read_number(second.items(), u64::MAX) {
+            Some(number) => Some(Command::Reorder(first, number)),
+            None => None,
+        };
+    }
+    if word == b"gen".as_slice() {
+        return match trace_numbers(first, second) {
+            Some((number, count)) => Some(Command::Gen(number, count)),
+            None => None,
+        };
+    }
+    if word == b"gen-text".as_slice() {
+        return match trace_numbers(first, second) {
+            Some((number, count)) => Some(Command::GenText(number, count)),
+            None => None,
+        };
+    }
+    None
+}
+
 /// The command that the words of the command line ask for, if they match one.
 pub(crate) fn command_of(words: &[Word]) -> Option<Command<'_>>
     ensures asked { asked_command result ≡ command_of words.now }
@@ -110,60 +201,8 @@ pub(crate) fn command_of(words: &[Word]) -> Option<Command<'_>>
         count ≤ MOST_CALLS) }
 {
     match words {
-        [word, trace] if word.items() == b"check".as_slice() => Some(Command::Check(ToCheck {
-            form: Form::Text,
-            trace,
-        })),
-        [word, trace] if word.items() == b"check-json".as_slice() => {
-            Some(Command::Check(ToCheck {
-                form: Form::Json,
-                trace,
-            }))
-        }
-        [word, trace] if word.items() == b"replay".as_slice() => Some(Command::Replay(trace)),
-        [word, file] if word.items() == b"spec".as_slice() => Some(Command::OfSpec(
-            Said::Spec,
-            file,
-        )),
-        [word, file] if word.items() == b"points".as_slice() => {
-            Some(Command::OfSpec(Said::Points, file))
-        }
-        [word, name] if word.items() == b"kind".as_slice() => match shipped_number(name) {
-            Some(number) => Some(Command::Kind(number)),
-            None => None,
-        },
-        [word, trace, file] if word.items() == b"check".as_slice() => {
-            let asked = ToCheck {
-                form: Form::Text,
-                trace,
-            };
-            Some(Command::CheckWith(asked, file))
-        }
-        [word, trace, file] if word.items() == b"check-json".as_slice() => {
-            let asked = ToCheck {
-                form: Form::Json,
-                trace,
-            };
-            Some(Command::CheckWith(asked, file))
-        }
-        [word, trace, number] if word.items() == b"reorder".as_slice() => {
-            match read_number(number.items(), u64::MAX) {
-                Some(number) => Some(Command::Reorder(trace, number)),
-                None => None,
-            }
-        }
-        [word, number, count] if word.items() == b"gen".as_slice() => {
-            match trace_numbers(number, count) {
-                Some((number, count)) => Some(Command::Gen(number, count)),
-                None => None,
-            }
-        }
-        [word, number, count] if word.items() == b"gen-text".as_slice() => {
-            match trace_numbers(number, count) {
-                Some((number, count)) => Some(Command::GenText(number, count)),
-                None => None,
-            }
-        }
+        [word, name] => command_of_two(word, name),
+        [word, first, second] => command_of_three(word, first, second),
         _ => None,
     }
 }
