@@ -2,7 +2,7 @@
 ghost use Rattle.std.specs.Prelude.{◌≡◌, ◌++◌, [], ◌∷◌, IfOk, IfSome, IfNone, OnOk, false, length};
 ghost use Rattle.rd_ecl.specs.Formulas.{Fits, atom, tree_of, AreValues};
 ghost use Rattle.rd_ecl.specs.declared.formulas.Rel.TheVariants.{Eq};
-ghost use Rattle.rd_print.specs.Canonical.{is_of_two, is_or, canonical_words};
+ghost use Rattle.rd_print.specs.Canonical.{is_of_two, is_or, canonical_words, part_words};
 ghost use Rattle.rd_print.specs.WordWriting.{IsPlainNot, before_part, behind_part, has_part};
 
 use crate::canonical::relations::{
@@ -119,7 +119,29 @@ fn write_leaf(
     }
 }
 
+// Puts the words of a part last, in parentheses where it needs them.
+#[cycle(write)]
+fn write_part(
+    alloc: Global,
+    words: &mut Words,
+    variables: &Variables,
+    formula: &Formula,
+    needs: bool,
+) -> Result<(), NoMemory>
+    requires { Fits (tree_of formula.now) (length variables.now.first.now)
+        (length variables.now.second.now) }
+    ensures words { OnOk result
+        (words.new ≡ words.old ++ part_words needs
+        (canonical_words variables.now.first.now variables.now.second.now (tree_of formula.now))) }
+    ensures values { OnOk result (AreValues (tree_of formula.now)) }
+{
+    open_part(alloc, words, needs)?;
+    write(alloc, words, variables, formula)?;
+    close_part(alloc, words, needs)
+}
+
 // Puts the words of a formula last.
+#[cycle(write)]
 fn write(
     alloc: Global,
     words: &mut Words,
@@ -140,26 +162,18 @@ fn write(
             }
             None => {
                 write_word(alloc, words, Sort::Word, b"not")?;
-                open_part(alloc, words, is_of_two(inner))?;
-                write(alloc, words, variables, inner)?;
-                close_part(alloc, words, is_of_two(inner))
+                write_part(alloc, words, variables, inner, is_of_two(inner))
             }
         },
         Formula::And(left, right) => {
-            open_part(alloc, words, is_or(left))?;
-            write(alloc, words, variables, left)?;
-            close_part(alloc, words, is_or(left))?;
+            write_part(alloc, words, variables, left, is_or(left))?;
             write_word(alloc, words, Sort::Word, b"and")?;
-            open_part(alloc, words, is_of_two(right))?;
-            write(alloc, words, variables, right)?;
-            close_part(alloc, words, is_of_two(right))
+            write_part(alloc, words, variables, right, is_of_two(right))
         }
         Formula::Or(left, right) => {
             write(alloc, words, variables, left)?;
             write_word(alloc, words, Sort::Word, b"or")?;
-            open_part(alloc, words, is_or(right))?;
-            write(alloc, words, variables, right)?;
-            close_part(alloc, words, is_or(right))
+            write_part(alloc, words, variables, right, is_or(right))
         }
         leaf => write_leaf(alloc, words, variables, leaf),
     }
