@@ -4,7 +4,7 @@ ghost use Rattle.indexmap.specs.IndexMap.{get};
 ghost use Rattle.rd_event.specs.declared.events.Event.{Event as EventOf};
 ghost use Rattle.rd_order.specs.EventLists.{WellFormed};
 ghost use Rattle.rd_order.specs.Order.{forked_thread, thread_of};
-ghost use Rattle.rd_linear.specs.Noting.{AreUnsharesAfter, HaveWaits, IsOf, IsPart, IsReplaced, noted_at, noted_if, one_if, other_waits, places_in, release_noted, released_lock, thread_noted, unshares_noted, waits_by};
+ghost use Rattle.rd_linear.specs.Noting.{AreFirstWaits, AreNoted, AreUnsharesAfter, HaveWaits, IsOf, IsPart, IsReplaced, noted_at, noted_if, one_if, other_waits, places_in, release_noted, released_lock, thread_noted, unshares_noted, waits_by};
 
 use indexmap::IndexMap;
 use rd_base::NoMemory;
@@ -251,6 +251,31 @@ fn note(
     note_unshares(alloc, &mut notes.unshares, events, event, place)
 }
 
+// Puts the places for which each event waits. Before the first one nothing is noted.
+fn put_waits(
+    alloc: Global,
+    events: &[Event],
+    notes: &mut Notes,
+    waits: &mut Waits,
+) -> Result<(), NoMemory>
+    requires formed { (roots : ℕ → Bool) × WellFormed roots events.now }
+    requires noted { AreNoted events.now 0 notes.old }
+    requires first { AreFirstWaits events.now 0 waits.old }
+    ensures { OnOk result (HaveWaits events.now waits.new) }
+{
+    for place in 0..events.len() {
+        let event = &events[place];
+        let from = waits.places.len();
+        push_waits(&mut waits.places, notes, event)?;
+        waits.parts.push(Part {
+            from,
+            to: waits.places.len(),
+        })?;
+        note(alloc, notes, events, event, place as u32)?;
+    }
+    Ok(())
+}
+
 /// The places for which each event waits. It looks at each event once, and at an unshare at the others that are noted of its lock, at
 /// most one for each thread.
 pub(crate) fn waits_of(alloc: Global, events: &[Event]) -> Result<Waits, NoMemory>
@@ -262,17 +287,10 @@ pub(crate) fn waits_of(alloc: Global, events: &[Event]) -> Result<Waits, NoMemor
         releases: IndexMap::new(alloc),
         unshares: IndexMap::new(alloc),
     };
-    let mut places = Vec::new(alloc);
-    let mut parts = Vec::new(alloc);
-    for place in 0..events.len() {
-        let event = &events[place];
-        let from = places.len();
-        push_waits(&mut places, &notes, event)?;
-        parts.push(Part {
-            from,
-            to: places.len(),
-        })?;
-        note(alloc, &mut notes, events, event, place as u32)?;
-    }
-    Ok(Waits { places, parts })
+    let mut waits = Waits {
+        places: Vec::new(alloc),
+        parts: Vec::new(alloc),
+    };
+    put_waits(alloc, events, &mut notes, &mut waits)?;
+    Ok(waits)
 }
