@@ -1,6 +1,7 @@
-use Rattle.std.proofs.Common.{◌≡◌, ℕ, ◌+◌, ◌*◌, ◌≤◌, List, ◌++◌, ◌∷◌, [], length, map, take, refl, ap, sym, subst, ◌∙◌}
+use Rattle.std.proofs.Common.{◌≡◌, ℕ, ◌+◌, ◌*◌, ◌≤◌, List, ◌++◌, ◌∷◌, [], length, map, take, refl, ap, sym, subst, ◌∙◌, arith}
 use Rattle.std.specs.Prelude.{option_map, slice_index_or}
 use Rattle.std.proofs.lemmas.List.{take_all}
+use Rattle.std.proofs.lemmas.Grind.{common_steps}
 use Rattle.rd_store.specs.Lent.{lent_point}
 use Rattle.rd_detect.specs.Detect.{IsLatestOf, in_class}
 use Rattle.rd_detect.specs.Seats.{other_classes}
@@ -65,3 +66,6 @@ pub returns-clause-latest : goal.returns-clause-latest
 returns-clause-latest g c = λ points before.
     subst (λ classes. IsLatestOf c.args.store.now (points ++ map (in_class (lent_point c.args.point)) (other_classes c.args.point.class classes)) c.args.clock.now (option_map (λ held. held.value) c.loop-class.found))
     (take_all c.loop-class.class-index c.args.classes.now c.loop-class-test.false) (c.loop-class.invariant.0 points before)
+
+pub returns-clause-cost : goal.returns-clause-cost
+returns-clause-cost g c = grind (arith, common_steps)

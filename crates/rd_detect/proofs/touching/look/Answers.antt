@@ -1,4 +1,4 @@
-use Rattle.std.proofs.Common.{◌≡◌, ◌+◌, ◌≤◌, List, Some, ◌++◌, ◌∷◌, [], None, length, map, take, refl, ap, sym, subst, ◌∙◌}
+use Rattle.std.proofs.Common.{◌≡◌, ◌+◌, ◌≤◌, List, Some, ◌++◌, ◌∷◌, [], None, length, map, take, refl, ap, sym, subst, ◌∙◌, arith}
 use Rattle.std.specs.List.{sum_by}
 use Rattle.std.specs.Prelude.{flat_map, option_map}
 use Rattle.rd_points.specs.Tables.{conflicts_at, touched}
@@ -6,6 +6,7 @@ use Rattle.rd_points.specs.declared.points.Point.{Point}
 use Rattle.rd_store.specs.Lent.{lent_point}
 use Rattle.rd_store.specs.Stores.{IsSameStore, point_at}
 use Rattle.std.proofs.lemmas.List.{map_more}
+use Rattle.std.proofs.lemmas.Grind.{common_steps}
 use Rattle.rd_detect.specs.Detect.{IsLatestOf, asking_bound, conflicting_points, in_class, point_of}
 use Rattle.rd_detect.specs.Seats.{AreSeats, other_classes}
 use Rattle.rd_detect.proofs.AskingLemmas.{asked_less, asking_more, cost_within, points_more}
@@ -83,3 +84,15 @@ returns-in_err-latest-2-clause-cost g c = λ threads below.
     (c.loop-touch.invariant.3 threads below)
     (c.ask_own.ensures.cost threads c.loop-touch.steps (below_same c.args.store.now c.enter.new.self threads (same_cell c.args.store.now c.enter.new.self joined) below)
     (c.ask_others.ensures.cost threads (below_same c.args.store.now c.loop-touch.store threads (same_cell c.args.store.now c.loop-touch.store c.loop-touch.invariant.2) below)))
+
+pub push-requires : goal.push-requires
+push-requires g c = grind (arith, common_steps)
+
+pub returns-clause-latest : goal.returns-clause-latest
+returns-clause-latest g c = grind (arith, common_steps)
+
+pub returns-clause-seats : goal.returns-clause-seats
+returns-clause-seats g c = grind (arith, common_steps)
+
+pub returns-clause-cost : goal.returns-clause-cost
+returns-clause-cost g c = grind (arith, common_steps)

@@ -1,4 +1,5 @@
 use Rattle.std.proofs.Common.{[], sym, subst, arith}
+use Rattle.std.proofs.lemmas.Grind.{common_steps}
 use Rattle.rd_store.specs.Stores.{IsTouched}
 use Rattle.rd_detect.specs.Detect.{AreTouched}
 use Rattle.rd_detect.proofs.LookLemmas.{seat_of}
@@ -19,3 +20,6 @@ returns-in-len1-clause-touched g c = λ points are.
     (touched_more c.law_of_equal_points.ensures c.args.store.now c.args.store.now c.touch_at.new.self seat.0 c.args.thread c.args.witness.now.value
     (subst (IsTouched c.args.store.now c.touch_at.new.self seat.0 c.args.thread) c.in_ok-held.ensures.cases (c.touch_at.ensures.touched seat.0 seat.2))
     [] (untouched c.args.store.now c.args.thread c.args.witness.now.value))
+
+pub returns-clause-touched : goal.returns-clause-touched
+returns-clause-touched g c = grind (arith, common_steps)

@@ -1,4 +1,6 @@
+use Rattle.std.proofs.Common.{arith}
 use Rattle.std.proofs.lemmas.Result.{on_ok_weaker}
+use Rattle.std.proofs.lemmas.Grind.{common_steps}
 use Rattle.rd_event.proofs.SpellLemmas.{slots_appended}
 use Rattle.rd_event.proofs.spelling.append_slots.Goals as goal
 
@@ -9,3 +11,9 @@ returns-clause-ok c =
     c.loop-argument.argument-index c.in-len1-up.len_at_least c.last-item.is c.loop-argument-test.false c.loop-argument.invariant.text
     c.in_ok-append.ensures.ok)
     c.append_value-2.ensures.ok
+
+pub returns-in_default-clause-ok : goal.returns-in_default-clause-ok
+returns-in_default-clause-ok c = grind (arith, common_steps)
+
+pub returns-clause-values : goal.returns-clause-values
+returns-clause-values c = grind (arith, common_steps)

@@ -1,4 +1,4 @@
-use Rattle.std.proofs.Common.{length, arith, sym, subst, ◌≤◌}
+use Rattle.std.proofs.Common.{length, arith, sym, subst, ◌≤◌, rules, tests}
 use Rattle.rd_ecl.specs.Specified.{method_predicates}
 use Rattle.rd_points.proofs.ColumnLemmas.{listed_here, one_way_is, predicates_long, predicates_read}
 use Rattle.rd_points.proofs.columns.one_way.Goals as goal
@@ -33,3 +33,6 @@ returns c =
     let first = predicates_read kind c.args.predicates.now c.requires.predicates c.args.x.method c.from.result c.index-predicates-from.result c.requires.known.0 c.from.ensures c.index-predicates-from.is in
     let second = predicates_read kind c.args.predicates.now c.requires.predicates c.args.y.method c.from-2.result c.index-predicates-from-2.result c.requires.known.1 c.from-2.ensures c.index-predicates-from-2.is in
     one_way_is kind c.args.x.method c.args.y.method _ _ first second c.reduce.result c.args.x.bits c.args.y.bits _ c.if-y-x.false c.formula-formula.ensures.value c.reduce.ensures.value
+
+pub returns-then-y-x : goal.returns-then-y-x
+returns-then-y-x c = search (tests, rules)

@@ -1,5 +1,6 @@
 use Rattle.std.proofs.Common.{◌≡◌, ◌+◌, ◌-◌, ◌<◌, ◌++◌, length, refl, sym, ap, ◌∙◌, subst, arith}
 use Rattle.std.proofs.lemmas.List.{append_assoc, length-map}
+use Rattle.std.proofs.lemmas.Grind.{common_steps}
 use Rattle.rd_io.proofs.SinkLemmas.{appends_none, appends_on}
 use Rattle.rd_io.specs.Sinks.{Appends}
 use Rattle.rd_replay.specs.Replays.{held_shape}
@@ -52,3 +53,12 @@ returns-in_err-write_state-clause-front g c = always_err _ c.from_residual.resul
           ∙ append_assoc (before ++ part) rest behind,
       appends_on _ _ _ before part (c.loop-object.invariant.written kinds calls stands same) writes,
     ))
+
+pub write_state-requires-clause-known : goal.write_state-requires-clause-known
+write_state-requires-clause-known g c = grind (arith, common_steps)
+
+pub write_state-requires-clause-stands : goal.write_state-requires-clause-stands
+write_state-requires-clause-stands g c = grind (arith, common_steps)
+
+pub returns-clause-ok : goal.returns-clause-ok
+returns-clause-ok g c = grind (arith, common_steps)

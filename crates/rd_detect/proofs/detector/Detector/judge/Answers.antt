@@ -1,6 +1,7 @@
 use Rattle.std.proofs.Common.{◌≡◌, ◌∷◌, [], ◌++◌, None, length, refl, ap, sym, subst, ◌∙◌, arith}
 use Rattle.std.specs.Prelude.{option_map}
 use Rattle.std.proofs.lemmas.Result.{IfOk-weaker, on_ok_weaker}
+use Rattle.std.proofs.lemmas.Grind.{elements}
 use Rattle.rd_clock.specs.Stamps.{lent_stamp}
 use Rattle.rd_event.specs.declared.events.Event.TheVariants as event
 use Rattle.rd_store.specs.Lent.{lent_witness}
@@ -80,3 +81,6 @@ returns-clause-cost g c = tried_bound c.args.self.now.tables (length c.args.trac
     (c.look.ensures.cost (length c.args.tracker.now.threads) (below c.requires.next.0 c.args.self.now c.args.tracker.now c.requires.next.1 c.requires.next.2 c.requires.next.3 c.args.seen.now.place c.args.seen.now.call.now (lent_stamp c.args.seen.now.stamp) c.requires.next.4))
     (length c.as_slice.result.now) c.keep_new.new.steps (omega (arith, own_below c.requires.next.0 c.args.self.now c.args.tracker.now c.requires.next.1 c.requires.next.2 c.requires.next.3 c.args.seen.now.place c.args.seen.now.call.now (lent_stamp c.args.seen.now.stamp) c.requires.next.4))
     (ap length c.as_slice.ensures.value ∙ c.in_ok-latest.ensures.seats.long) (omega (arith, c.keep_over.ensures.cost, c.keep_new.ensures.cost, ap length c.as_slice.ensures.value, ap length c.as_slice-2.ensures.value))
+
+pub look-requires-clause-kind : goal.look-requires-clause-kind
+look-requires-clause-kind g c = grind (arith, elements)

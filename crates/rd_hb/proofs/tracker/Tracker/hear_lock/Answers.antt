@@ -1,5 +1,6 @@
 use Rattle.std.proofs.Common.{◌≡◌, ◌≤◌, ◌<◌, length, Some, None, refl, ap, subst, sym, ◌∙◌, arith}
 use Rattle.std.specs.Prelude.{slice_index_or}
+use Rattle.std.proofs.lemmas.Grind.{common_steps}
 use Rattle.rd_clock.specs.Clock.{component}
 use Rattle.rd_hb.specs.Tracker.{clock_of, known_to, last_release}
 use Rattle.rd_hb.proofs.KeptLemmas.{kept_learn, read_at}
@@ -20,3 +21,24 @@ invariant_of-self-2 g c =
     (omega (arith, c.join_into.ensures.room, c.in_ok-reserve.ensures.room, ap (λ x. length x.clock) is, (c.self.invariant.tracked.each thread inside).room))
     (c.join_into.ensures.joined thread ∙ omega (arith, c.reserve.ensures.kept thread, ap (λ x. component x.clock thread) is, less))
     refl c.forget.ensures.others c.forget.ensures.gone
+
+pub invariant_of-self : goal.invariant_of-self
+invariant_of-self g c = grind (arith, common_steps)
+
+pub returns-then-is_covered-clause-learnt : goal.returns-then-is_covered-clause-learnt
+returns-then-is_covered-clause-learnt g c = grind (arith, common_steps)
+
+pub invariant_of-self-in_err-reserve : goal.invariant_of-self-in_err-reserve
+invariant_of-self-in_err-reserve g c = grind (arith, common_steps)
+
+pub returns-in_err-reserve-clause-err : goal.returns-in_err-reserve-clause-err
+returns-in_err-reserve-clause-err g c = grind (arith, common_steps)
+
+pub returns-in_err-reserve-clause-memory : goal.returns-in_err-reserve-clause-memory
+returns-in_err-reserve-clause-memory g c = grind (arith, common_steps)
+
+pub returns-clause-learnt : goal.returns-clause-learnt
+returns-clause-learnt g c = grind (arith, common_steps)
+
+pub returns-clause-cost : goal.returns-clause-cost
+returns-clause-cost g c = grind (arith, common_steps)

@@ -1,4 +1,5 @@
 use Rattle.std.proofs.Common.{◌≡◌, ◌≤◌, ◌<◌, length, refl, ap, subst, sym, ◌∙◌, arith}
+use Rattle.std.proofs.lemmas.Grind.{common_steps, elements}
 use Rattle.rd_clock.specs.Clock.{component}
 use Rattle.rd_hb.specs.Tracker.{clock_of, known_to, last_release, unshared}
 use Rattle.rd_hb.specs.TrackerParts.{heard_from}
@@ -38,3 +39,18 @@ invariant_of-self-2 g c =
       less,
     ))
     refl c.forget.ensures.others c.forget.ensures.gone
+
+pub invariant_of-self : goal.invariant_of-self
+invariant_of-self g c = grind (arith, common_steps)
+
+pub returns-in_err-reserve-clause-err : goal.returns-in_err-reserve-clause-err
+returns-in_err-reserve-clause-err g c = grind (arith, common_steps)
+
+pub returns-in_err-reserve-clause-memory : goal.returns-in_err-reserve-clause-memory
+returns-in_err-reserve-clause-memory g c = grind (arith, common_steps)
+
+pub returns-clause-learnt : goal.returns-clause-learnt
+returns-clause-learnt g c = grind (arith, elements)
+
+pub returns-clause-cost : goal.returns-clause-cost
+returns-clause-cost g c = grind (arith, common_steps)

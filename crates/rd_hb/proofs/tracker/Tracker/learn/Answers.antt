@@ -1,5 +1,6 @@
 use Rattle.std.proofs.Common.{◌≡◌, ◌<◌, List, length, ap, subst, sym, ◌∙◌, arith, slice_set}
 use Rattle.std.proofs.lemmas.List.{length-set, set-set}
+use Rattle.std.proofs.lemmas.Grind.{common_steps, elements}
 use Rattle.rd_clock.specs.Clock.{component}
 use Rattle.rd_hb.specs.Tracker.{known_to, tracked_thread}
 use Rattle.rd_hb.specs.TrackerParts.{AreKept}
@@ -47,3 +48,21 @@ invariant_of-self-2 g c =
       c.requires.own,
     ))
     (ap (λ x. x.events) third ∙ ap (λ x. x.events) second) c.forget.ensures.others c.forget.ensures.gone)
+
+pub invariant_of-self : goal.invariant_of-self
+invariant_of-self g c = grind (arith, common_steps)
+
+pub returns-in_err-reserve-clause-err : goal.returns-in_err-reserve-clause-err
+returns-in_err-reserve-clause-err g c = grind (arith, common_steps)
+
+pub returns-in_err-reserve-clause-memory : goal.returns-in_err-reserve-clause-memory
+returns-in_err-reserve-clause-memory g c = grind (arith, common_steps)
+
+pub join_reserved-requires : goal.join_reserved-requires
+join_reserved-requires g c = grind (arith, common_steps)
+
+pub returns-clause-learnt : goal.returns-clause-learnt
+returns-clause-learnt g c = grind (arith, elements)
+
+pub returns-clause-cost : goal.returns-clause-cost
+returns-clause-cost g c = grind (arith, common_steps)

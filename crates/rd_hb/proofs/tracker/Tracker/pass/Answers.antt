@@ -1,4 +1,5 @@
 use Rattle.std.proofs.Common.{◌≢◌, ◌<◌, ◌≤◌, ◌+◌, ℕ, Bool, List, [], ◌∷◌, ◌++◌, length, OnOk, sym, ap, subst, arith}
+use Rattle.std.proofs.lemmas.Grind.{common_steps}
 use Rattle.rd_event.specs.declared.events.Event.{Event as EventOf}
 use Rattle.rd_event.specs.declared.events.Event.TheVariants as event
 use Rattle.rd_order.specs.Order.{exclusive, thread_of, forked_thread, joined_thread}
@@ -231,3 +232,6 @@ returns-in-Unshare-clause-cost g c =
     let inside = next_inside c.args.self.now c.requires.next.0 c.requires.next.1 c.args.event.now c.requires.next.2 in
     subst (λ e. c.unshare.new.steps ≤ c.args.steps.now + event_bound e (threads_after e (length c.args.self.now.threads))) (sym c.in-Unshare.is)
     (omega (arith, c.unshare.ensures.cost, inside))
+
+pub fork-requires-clause-numbered : goal.fork-requires-clause-numbered
+fork-requires-clause-numbered g c = grind (arith, common_steps)

@@ -1,3 +1,4 @@
+use Rattle.std.proofs.lemmas.Grind.{common_steps}
 use Rattle.std.proofs.Common.{◌≡◌, ◌+◌, ◌≤◌, [], ◌++◌, length, refl, sym, ap, subst, arith, ◌∙◌}
 use Rattle.std.proofs.lemmas.List.{length-take, length-drop}
 use Rattle.rd_io.specs.LineReader.{Reader, with_more}
@@ -38,3 +39,9 @@ search-preserved g c =
       c.in-Ok.ensures.cause.calm ∙ i.3,
       λ has. absurd (no_line c.args.self.now c.search.self i.0 i.1.reader s.1.clean has),
     )
+
+pub returns-then-count-eq0-clause-finds : goal.returns-then-count-eq0-clause-finds
+returns-then-count-eq0-clause-finds g c = grind (arith, common_steps)
+
+pub search-smaller : goal.search-smaller
+search-smaller g c = grind (arith, common_steps)

@@ -1,3 +1,4 @@
+use Rattle.std.proofs.lemmas.Grind.{elements}
 use Rattle.std.proofs.Common.{refl, arith}
 use Rattle.rd_io.proofs.LookLemmas.{gives_line, is_past}
 use Rattle.rd_io.proofs.lines.LineReader.look.Goals as goal
@@ -17,3 +18,6 @@ returns-in-None c =
           (is_past r.buffer.items _ r.start r.held c.min-within.result r.room r.limit r.number r.ended c.min-within.ensures (omega arith)
           (rw c.deref.ensures.value at c.in-None.ensures) (omega arith) (omega arith) (omega arith)),
     )
+
+pub first_feed-requires-clause-before : goal.first_feed-requires-clause-before
+first_feed-requires-clause-before c = grind (arith, elements)

@@ -1,3 +1,4 @@
+use Rattle.std.proofs.lemmas.Grind.{common_steps, elements}
 use Rattle.std.proofs.Common.{◌≡◌, ◌<◌, ◌≤◌, ◌-◌, Some, length, take, drop, refl, sym, ap, ◌∙◌, arith}
 use Rattle.std.specs.Prelude.{slice_get}
 use Rattle.std.proofs.lemmas.List.{take_rest}
@@ -50,3 +51,81 @@ returns-clause-told c =
     let none = c.self.invariant.opened here in
     let at = c.in-Some.is in
     cc)
+
+pub invariant_of-self : goal.invariant_of-self
+invariant_of-self c = grind (arith, common_steps)
+
+pub returns-then-is_next_failing-clause-bound : goal.returns-then-is_next_failing-clause-bound
+returns-then-is_next_failing-clause-bound c = grind (arith, common_steps)
+
+pub returns-then-is_next_failing-clause-told : goal.returns-then-is_next_failing-clause-told
+returns-then-is_next_failing-clause-told c = grind (arith, common_steps)
+
+pub returns-then-is_next_failing-clause-cause : goal.returns-then-is_next_failing-clause-cause
+returns-then-is_next_failing-clause-cause c = grind (arith, common_steps)
+
+pub returns-then-is_next_failing-clause-amount : goal.returns-then-is_next_failing-clause-amount
+returns-then-is_next_failing-clause-amount c = grind (arith, common_steps)
+
+pub returns-then-is_next_failing-clause-ok : goal.returns-then-is_next_failing-clause-ok
+returns-then-is_next_failing-clause-ok c = grind (arith, common_steps)
+
+pub returns-then-is_next_failing-clause-err : goal.returns-then-is_next_failing-clause-err
+returns-then-is_next_failing-clause-err c = grind (arith, common_steps)
+
+pub invariant_of-self-in_default : goal.invariant_of-self-in_default
+invariant_of-self-in_default c = grind (arith, common_steps)
+
+pub returns-in_default-clause-bound : goal.returns-in_default-clause-bound
+returns-in_default-clause-bound c = grind (arith, common_steps)
+
+pub returns-in_default-clause-told : goal.returns-in_default-clause-told
+returns-in_default-clause-told c = grind (arith, common_steps)
+
+pub returns-in_default-clause-cause : goal.returns-in_default-clause-cause
+returns-in_default-clause-cause c = grind (arith, common_steps)
+
+pub returns-in_default-clause-refused : goal.returns-in_default-clause-refused
+returns-in_default-clause-refused c = grind (arith, common_steps)
+
+pub returns-in_default-clause-amount : goal.returns-in_default-clause-amount
+returns-in_default-clause-amount c = grind (arith, common_steps)
+
+pub returns-in_default-clause-ok : goal.returns-in_default-clause-ok
+returns-in_default-clause-ok c = grind (arith, common_steps)
+
+pub returns-in_default-clause-err : goal.returns-in_default-clause-err
+returns-in_default-clause-err c = grind (arith, common_steps)
+
+pub index-file-requires : goal.index-file-requires
+index-file-requires c = grind (arith, common_steps)
+
+pub slice_bounds-take_piece-end : goal.slice_bounds-take_piece-end
+slice_bounds-take_piece-end c = grind (arith, common_steps)
+
+pub overflow_add-self : goal.overflow_add-self
+overflow_add-self c = grind (arith, common_steps)
+
+pub returns-clause-bound : goal.returns-clause-bound
+returns-clause-bound c = grind (arith, common_steps)
+
+pub returns-clause-cause : goal.returns-clause-cause
+returns-clause-cause c = grind (arith, common_steps)
+
+pub returns-clause-refused : goal.returns-clause-refused
+returns-clause-refused c = grind (arith, common_steps)
+
+pub returns-clause-err : goal.returns-clause-err
+returns-clause-err c = grind (arith, common_steps)
+
+pub returns-then-is_next_failing-clause-refused : goal.returns-then-is_next_failing-clause-refused
+returns-then-is_next_failing-clause-refused c = grind (arith, elements)
+
+pub slice_bounds-take_piece-count : goal.slice_bounds-take_piece-count
+slice_bounds-take_piece-count c = grind (arith, elements)
+
+pub slice_bounds-take_piece-start : goal.slice_bounds-take_piece-start
+slice_bounds-take_piece-start c = grind (arith, elements)
+
+pub invariant_of-self-2 : goal.invariant_of-self-2
+invariant_of-self-2 c = grind (arith, elements)

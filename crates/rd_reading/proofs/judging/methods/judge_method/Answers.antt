@@ -1,4 +1,5 @@
-use Rattle.std.proofs.Common.{◌∙◌, ap}
+use Rattle.std.proofs.Common.{◌∙◌, ap, arith}
+use Rattle.std.proofs.lemmas.Grind.{elements}
 use Rattle.rd_reading.specs.Causes.{place_at}
 use Rattle.rd_reading.proofs.MethodLemmas.{judged_method, known_method, variable_twice}
 use Rattle.rd_reading.proofs.judging.methods.judge_method.Goals as goal
@@ -18,3 +19,6 @@ pub returns-clause-judged : goal.returns-clause-judged
 returns-clause-judged c =
     judged_method c.args.kind.now c.args.line.now c.args.tokens.now c.args.name.now c.args.arguments.now c.args.value.now (cc)
     (rw c.in_default.is at c.in_ok-number.ensures.none) c.passed.result c.passed.ensures.some c.passed.ensures.none
+
+pub variable_token-requires-clause-within : goal.variable_token-requires-clause-within
+variable_token-requires-clause-within c = grind (arith, elements)

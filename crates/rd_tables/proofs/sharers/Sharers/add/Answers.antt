@@ -1,3 +1,4 @@
+use Rattle.std.proofs.lemmas.Grind.{common_steps}
 use Rattle.std.proofs.Common.{◌≡◌, ◌+◌, ◌<◌, arith}
 use Rattle.std.specs.Prelude.{slice_set}
 use Rattle.rd_tables.specs.Sharers.{depth_among}
@@ -30,3 +31,15 @@ returns-in-Some-clause-ok c =
     let found = c.in-Some.ensures.some in
     let own = at_place sharers c.in-Some.at sharer (λ s. (s.thread ≡ c.args.thread) × (0 < s.depth)) found.0 c.index_mut.ensures.value found.1 in
     one_more sharers c.in-Some.at sharer c.args.thread found.0 c.index_mut.ensures.value own.0
+
+pub returns-in-Some-clause-err : goal.returns-in-Some-clause-err
+returns-in-Some-clause-err c = grind (arith, common_steps)
+
+pub returns-in-Some-clause-room : goal.returns-in-Some-clause-room
+returns-in-Some-clause-room c = grind (arith, common_steps)
+
+pub invariant_of-self-2 : goal.invariant_of-self-2
+invariant_of-self-2 c = grind (arith, common_steps)
+
+pub returns-clause-ok : goal.returns-clause-ok
+returns-clause-ok c = grind (arith, common_steps)

@@ -1,3 +1,4 @@
+use Rattle.std.proofs.lemmas.Grind.{common_steps}
 use Rattle.std.proofs.Common.{◌≡◌, ◌+◌, ◌<◌, ◌≤◌, ◌==◌, if◌then◌else◌, subst, arith, ◌∙◌, ap, sym}
 use Rattle.rd_tables.specs.declared.sharers.Sharer.{Sharer}
 use Rattle.rd_tables.specs.Sharers.{depth_among}
@@ -23,3 +24,18 @@ returns-else-index-gt1 c =
     let one : sharer.depth ≡ 1 = omega (arith, own.1) in
     λ other. one_gone sharers c.in-Some.at sharer c.args.thread found.0 c.swap_remove.ensures.value own.0 one other
     ∙ ap (λ items. depth_among items other + (if other == c.args.thread then 1 else 0)) (sym c.swap_remove.ensures.items)
+
+pub index_mut-requires : goal.index_mut-requires
+index_mut-requires c = grind (arith, common_steps)
+
+pub overflow_sub-index_mut : goal.overflow_sub-index_mut
+overflow_sub-index_mut c = grind (arith, common_steps)
+
+pub invariant_of-self : goal.invariant_of-self
+invariant_of-self c = grind (arith, common_steps)
+
+pub swap_remove-requires : goal.swap_remove-requires
+swap_remove-requires c = grind (arith, common_steps)
+
+pub invariant_of-self-else-index-gt1 : goal.invariant_of-self-else-index-gt1
+invariant_of-self-else-index-gt1 c = grind (arith, common_steps)

@@ -1,4 +1,5 @@
-use Rattle.std.proofs.Common.{unwrap_or, sym, ap, ◌∙◌}
+use Rattle.std.proofs.Common.{unwrap_or, sym, ap, ◌∙◌, arith}
+use Rattle.std.proofs.lemmas.Grind.{common_steps}
 use Rattle.rd_rules.specs.declared.causes.Accepted.TheVariants as accepted
 use Rattle.rd_rules.specs.MayFollow.{accepted_of}
 use Rattle.rd_wf.proofs.RosterLemmas.{object_judged, kind_place}
@@ -14,3 +15,6 @@ returns-clause-ok c = λ kinds lines stands. (
   object_judged kinds c.args.self.now lines stands _ c.is_none.ensures c.args.limits.now c.args.name.now c.args.kind.now _ _ _ c.contains_key.ensures (sym c.is_none-2.ensures ∙ c.find_kind-found.ensures.found) c.len-object.ensures.len ∙ sym (c.in_default.ensures.first lines tt),
   λ i. accepted.Object ((c.len-object.ensures.len ∙ stands.object_total) i) ((c.unwrap_or-kind.ensures ∙ ap (unwrap_or c.find_kind-found.result) c.len.ensures.len ∙ kind_place kinds c.args.self.now lines stands c.args.kind.now _ c.find_kind-found.ensures.index) i),
 )
+
+pub overflow_cast-result : goal.overflow_cast-result
+overflow_cast-result c = grind (arith, common_steps)

@@ -1,6 +1,7 @@
-use Rattle.std.proofs.Common.{◌≡◌, ◌≢◌, map, sym, refl, ap, subst, ◌∙◌}
+use Rattle.std.proofs.Common.{◌≡◌, ◌≢◌, map, sym, refl, ap, subst, ◌∙◌, arith}
 use Rattle.std.specs.List.{AllPairs}
 use Rattle.std.proofs.lemmas.List.{take_all}
+use Rattle.std.proofs.lemmas.Grind.{common_steps}
 use Rattle.indexmap.specs.IndexMap.{insert_entry}
 use Rattle.rd_ecl.specs.Kinds.{kind_names, kind_of, kinds_of}
 use Rattle.rd_rules.specs.MayFollow.{same_name}
@@ -27,3 +28,6 @@ returns c =
     let all : map kind_entry c.loop-kind.kinds.entries ≡ kinds_of c.args.spec.now =
     c.loop-kind.invariant ∙ ap (map kind_of) (take_all c.loop-kind.kind-index c.kinds-kind-items.result.now c.loop-kind-test.false ∙ c.kinds-kind-items.ensures.value) in
     empty_stands (kinds_of c.args.spec.now) _ all refl refl c.new.ensures.empty c.new-2.ensures.empty c.new-4.ensures.empty c.new-3.ensures
+
+pub invariant_of-result : goal.invariant_of-result
+invariant_of-result c = grind (arith, common_steps)

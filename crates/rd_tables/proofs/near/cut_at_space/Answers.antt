@@ -1,0 +1,21 @@
+use Rattle.std.proofs.lemmas.Grind.{common_steps}
+use Rattle.std.proofs.Common.{arith}
+use Rattle.rd_tables.proofs.near.cut_at_space.Goals as goal
+
+pub position-requires-clause-can : goal.position-requires-clause-can
+position-requires-clause-can c = grind (arith, common_steps)
+
+pub position-requires-clause-finite : goal.position-requires-clause-finite
+position-requires-clause-finite c = grind (arith, common_steps)
+
+pub position-requires-clause-callable : goal.position-requires-clause-callable
+position-requires-clause-callable c = grind (arith, common_steps)
+
+pub position-requires-clause-fits : goal.position-requires-clause-fits
+position-requires-clause-fits c = grind (arith, common_steps)
+
+pub returns-in_err-space : goal.returns-in_err-space
+returns-in_err-space c = grind (arith, common_steps)
+
+pub returns : goal.returns
+returns c = grind (arith, common_steps)
