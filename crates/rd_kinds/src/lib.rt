@@ -20,7 +20,7 @@ macro_rules! dispatch {
     };
     // each kind put last
     (push $spec:ident, $alloc:expr; $($kind:ident),+) => {
-        $(push(&mut $spec, $kind($alloc)?)?;)+
+        $(push($spec, $kind($alloc)?)?;)+
     };
 }
 

@@ -20,12 +20,21 @@ fn push(spec: &mut Spec, kind: KindSpec) -> Result<(), NoMemory>
     }
 }
 
+// Puts the kinds that are built in into a list of none.
+fn push_all(alloc: Global, spec: &mut Spec) -> Result<(), NoMemory>
+    requires { spec.old ≡ [] }
+    ensures { OnOk result (spec.new ≡ shipped_kinds) }
+{
+    dispatch!(push spec, alloc; register, counter, set, dictionary);
+    Ok(())
+}
+
 /// The kinds that are built in, by their numbers: `register` is 0, `counter` 1, `set` 2 and `dictionary` 3.
 pub fn shipped(alloc: Global) -> Result<Spec, NoMemory>
     ensures { IfOk result (λ spec. spec ≡ shipped_kinds) }
 {
     let mut spec = Spec::empty(alloc);
-    dispatch!(push spec, alloc; register, counter, set, dictionary);
+    push_all(alloc, &mut spec)?;
     Ok(spec)
 }
 
