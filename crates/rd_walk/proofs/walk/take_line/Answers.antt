@@ -1,4 +1,5 @@
 use Rattle.std.proofs.Common.{◌≡◌, ◌∙◌, ap, Err, inl, inr, sym, subst}
+use Rattle.std.proofs.lemmas.Option.{same_Some}
 use Rattle.rd_base.specs.Limits.{AreUsable}
 use Rattle.rd_rules.specs.MayFollow.{MayFollow}
 use Rattle.rd_wf.specs.Roster.{RosterStandsFor}
@@ -14,9 +15,9 @@ returns-in-Err-clause-memory g c = λ _ kinds before stands. let (item, says, fo
 pub accept-requires : goal.accept-requires
 accept-requires g c =
     let (same, out, steps) = c.in-Ok-false.ensures.same c.in-Ok-false.field-0-test in
-    let roster : c.take_found.new.walker.roster ≡ c.args.walker.now.roster = cc in
-    let analysis : c.take_found.new.walker.analysis ≡ c.args.walker.now.analysis = cc in
-    let limits : c.take_found.new.walker.limits ≡ c.args.walker.now.limits = cc in
+    let roster : c.take_found.new.walker.roster ≡ c.args.walker.now.roster = λ i. (same i).roster in
+    let analysis : c.take_found.new.walker.analysis ≡ c.args.walker.now.analysis = λ i. (same i).analysis in
+    let limits : c.take_found.new.walker.limits ≡ c.args.walker.now.limits = λ i. (same i).limits in
     let (kinds, start, before, was, led) = c.requires.stands in
     let stands = subst (λ r. RosterStandsFor kinds r (items before)) (sym roster) was in
     let leads = subst (g.A.Analysis.leads kinds start before) (sym analysis) led in
@@ -33,9 +34,9 @@ accept-requires g c =
 pub returns-in_default-clause-taken : goal.returns-in_default-clause-taken
 returns-in_default-clause-taken g c = λ none kinds start before was led.
     let (same, out, steps) = c.in-Ok-false.ensures.same c.in-Ok-false.field-0-test in
-    let roster : c.take_found.new.walker.roster ≡ c.args.walker.now.roster = cc in
-    let analysis : c.take_found.new.walker.analysis ≡ c.args.walker.now.analysis = cc in
-    let limits : c.take_found.new.walker.limits ≡ c.args.walker.now.limits = cc in
+    let roster : c.take_found.new.walker.roster ≡ c.args.walker.now.roster = λ i. (same i).roster in
+    let analysis : c.take_found.new.walker.analysis ≡ c.args.walker.now.analysis = λ i. (same i).analysis in
+    let limits : c.take_found.new.walker.limits ≡ c.args.walker.now.limits = λ i. (same i).limits in
     let stands = subst (λ r. RosterStandsFor kinds r (items before)) (sym roster) was in
     let leads = subst (g.A.Analysis.leads kinds start before) (sym analysis) led in
     let next : IsNextEntry kinds c.judge.new.roster before c.judge.new.line c.in-Ok.accepted = record {
@@ -57,9 +58,9 @@ returns-in_default-clause-taken g c = λ none kinds start before was led.
 pub returns-in-Err-accept-clause-halted : goal.returns-in-Err-accept-clause-halted
 returns-in-Err-accept-clause-halted g c = λ kinds start before was led.
     let (same, out, steps) = c.in-Ok-false.ensures.same c.in-Ok-false.field-0-test in
-    let roster : c.take_found.new.walker.roster ≡ c.args.walker.now.roster = cc in
-    let analysis : c.take_found.new.walker.analysis ≡ c.args.walker.now.analysis = cc in
-    let limits : c.take_found.new.walker.limits ≡ c.args.walker.now.limits = cc in
+    let roster : c.take_found.new.walker.roster ≡ c.args.walker.now.roster = λ i. (same i).roster in
+    let analysis : c.take_found.new.walker.analysis ≡ c.args.walker.now.analysis = λ i. (same i).analysis in
+    let limits : c.take_found.new.walker.limits ≡ c.args.walker.now.limits = λ i. (same i).limits in
     let stands = subst (λ r. RosterStandsFor kinds r (items before)) (sym roster) was in
     let leads = subst (g.A.Analysis.leads kinds start before) (sym analysis) led in
     let next : IsNextEntry kinds c.judge.new.roster before c.judge.new.line c.in-Ok.accepted = record {
@@ -80,17 +81,17 @@ returns-in-Err-accept-clause-halted g c = λ kinds start before was led.
 pub returns-in-Err-accept-clause-memory : goal.returns-in-Err-accept-clause-memory
 returns-in-Err-accept-clause-memory g c = λ _ kinds before was.
     let (same, out, steps) = c.in-Ok-false.ensures.same c.in-Ok-false.field-0-test in
-    let roster : c.take_found.new.walker.roster ≡ c.args.walker.now.roster = cc in
-    let limits : c.take_found.new.walker.limits ≡ c.args.walker.now.limits = cc in
+    let roster : c.take_found.new.walker.roster ≡ c.args.walker.now.roster = λ i. (same i).roster in
+    let limits : c.take_found.new.walker.limits ≡ c.args.walker.now.limits = λ i. (same i).limits in
     let stands = subst (λ r. RosterStandsFor kinds r before) (sym roster) was in
     (c.judge.new.line, c.in-Ok.ensures.says kinds before stands, inr (subst (λ l. MayFollow kinds l before c.judge.new.line) limits (c.in-Ok.ensures.follows kinds before stands)))
 
 pub returns-in-Err-Cause-clause-refused : goal.returns-in-Err-Cause-clause-refused
 returns-in-Err-Cause-clause-refused g c = λ is cause told kinds before was.
-    let one : c.in-Err-Cause.cause ≡ cause = cc in
+    let one = same_Some c.in-Err-Cause.cause cause told in
     let (same, out, steps) = c.in-Ok-false.ensures.same c.in-Ok-false.field-0-test in
-    let roster : c.take_found.new.walker.roster ≡ c.args.walker.now.roster = cc in
-    let limits : c.take_found.new.walker.limits ≡ c.args.walker.now.limits = cc in
+    let roster : c.take_found.new.walker.roster ≡ c.args.walker.now.roster = λ i. (same i).roster in
+    let limits : c.take_found.new.walker.limits ≡ c.args.walker.now.limits = λ i. (same i).limits in
     let stands = subst (λ r. RosterStandsFor kinds r (items before)) (sym roster) was in (
       (rw limits at (c.in-Err-Cause.ensures.refused c.in-Err-Cause.cause c.in-Err-Cause.field-0-is kinds (items before) stands)) ∙ ap Err one,
       c.in-Err-Cause.ensures.same kinds (items before) stands,
@@ -99,8 +100,8 @@ returns-in-Err-Cause-clause-refused g c = λ is cause told kinds before was.
 pub returns-in-Err-NoMemory-clause-memory : goal.returns-in-Err-NoMemory-clause-memory
 returns-in-Err-NoMemory-clause-memory g c = λ _ kinds before was.
     let (same, out, steps) = c.in-Ok-false.ensures.same c.in-Ok-false.field-0-test in
-    let roster : c.take_found.new.walker.roster ≡ c.args.walker.now.roster = cc in
-    let limits : c.take_found.new.walker.limits ≡ c.args.walker.now.limits = cc in
+    let roster : c.take_found.new.walker.roster ≡ c.args.walker.now.roster = λ i. (same i).roster in
+    let limits : c.take_found.new.walker.limits ≡ c.args.walker.now.limits = λ i. (same i).limits in
     let stands = subst (λ r. RosterStandsFor kinds r before) (sym roster) was in
     let (item, is, why) = c.in-Err-NoMemory.ensures.memory c.in-Err-NoMemory.field-0-is kinds before stands in (
       item,

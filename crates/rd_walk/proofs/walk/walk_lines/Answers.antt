@@ -1,10 +1,10 @@
-use Rattle.std.proofs.Common.{◌≡◌, ◌+◌, [], ◌∷◌, ◌++◌, length, Ok, Err, refl, sym, ap, ◌∙◌, subst, inl, inr, arith}
+use Rattle.std.proofs.Common.{◌≡◌, ◌+◌, [], ◌∷◌, ◌++◌, length, Ok, Err, is_ok, true≢false, refl, sym, ap, ◌∙◌, subst, inl, inr, arith}
 use Rattle.std.proofs.lemmas.List.{append_assoc, append-nil, length-append}
 use Rattle.rd_event.specs.Items.{is_skipped}
 use Rattle.rd_event.specs.declared.items.Line.TheVariants.{Skip}
 use Rattle.rd_io.specs.Sinks.{Appends}
 use Rattle.rd_io.specs.Inputs.{Source}
-use Rattle.rd_io.specs.LineReader.{Reader, IsAtEnd}
+use Rattle.rd_io.specs.LineReader.{Reader, IsAnswered, IsAtEnd, Moves}
 use Rattle.rd_io.specs.Lines.LinesEnding.{at_end}
 use Rattle.rd_io.proofs.SinkLemmas.{appends_none, appends_on}
 use Rattle.rd_io.proofs.AdvanceLemmas.{takes_none, takes_on, takes_then}
@@ -88,8 +88,9 @@ returns-in-Err-clause-walked g c =
 pub lines-preserved : goal.lines-preserved
 lines-preserved g c =
     let (entries, taken, lines, going, so_far, stands, leads, text, cost, told, calm, faults, same, cut, counted) = c.lines.invariant in
-    let (bytes, answered, goes) = (rw c.in-Ok-Line.field-0-is at c.in-Ok-Line.ensures.tells) going in
-    let moves = (rw c.in-Ok-Line.field-0-is at c.in-Ok-Line.ensures.moves) going in
+    let (bytes, answered_so, goes) = c.in-Ok-Line.ensures.tells going in
+    let answered = subst (λ next. IsAnswered c.lines.reader bytes c.next.new.self (Ok next)) c.in-Ok-Line.field-0-is answered_so in
+    let moves = subst (λ next. Moves c.lines.reader c.next.new.self (Ok next)) c.in-Ok-Line.field-0-is (c.in-Ok-Line.ensures.moves going) in
     let limits = c.args.walker.now.limits in
     let kinds = kinds_in c.args.walker.now.roster in
     let start = c.args.walker.now.analysis in
@@ -107,7 +108,7 @@ lines-preserved g c =
           (appends_on _ _ _ (g.A.Analysis.text kinds start entries) writes.0 text writes.2),
       omega (arith, cost, cost_now, bound_more (g.A.Analysis.bound kinds start) [] entries entry),
       takes_on _ _ _ taken bytes told (λ old is. let r = goes old is in (r.0, r.1, r.2.0)),
-      c.in-Ok-Line.ensures.calm (λ e. let fault = sym (ap Ok c.in-Ok-Line.field-0-is) ∙ e in cc) ∙ calm,
+      c.in-Ok-Line.ensures.calm (λ e. true≢false (ap is_ok (sym (ap Ok c.in-Ok-Line.field-0-is) ∙ e))) ∙ calm,
       c.in-Ok-Accepted.ensures.fault ∙ faults,
       c.in-Ok-Accepted.ensures.limits ∙ same,
       cut_line limits taken bytes c.lines.reader lines cut c.next.new.self answered.leaves,
@@ -142,8 +143,9 @@ returns-in-Ok-Refused-clause-walked g c =
 pub returns-in-Err-take_line-clause-halted : goal.returns-in-Err-take_line-clause-halted
 returns-in-Err-take_line-clause-halted g c =
     let (entries, taken, lines, going, so_far, stands, leads, text, cost, told, calm, faults, same, cut, counted) = c.lines.invariant in
-    let (bytes, answered, goes) = (rw c.in-Ok-Line.field-0-is at c.in-Ok-Line.ensures.tells) going in
-    let moves = (rw c.in-Ok-Line.field-0-is at c.in-Ok-Line.ensures.moves) going in
+    let (bytes, answered_so, goes) = c.in-Ok-Line.ensures.tells going in
+    let answered = subst (λ next. IsAnswered c.lines.reader bytes c.next.new.self (Ok next)) c.in-Ok-Line.field-0-is answered_so in
+    let moves = subst (λ next. Moves c.lines.reader c.next.new.self (Ok next)) c.in-Ok-Line.field-0-is (c.in-Ok-Line.ensures.moves going) in
     let limits = c.args.walker.now.limits in
     let kinds = kinds_in c.args.walker.now.roster in
     let start = c.args.walker.now.analysis in
@@ -183,8 +185,9 @@ returns-in-Err-take_line-clause-halted g c =
 pub lines-preserved-then-is_skipped : goal.lines-preserved-then-is_skipped
 lines-preserved-then-is_skipped g c =
     let (entries, taken, lines, going, so_far, stands, leads, text, cost, told, calm, faults, same, cut, counted) = c.lines.invariant in
-    let (bytes, answered, goes) = (rw c.in-Ok-Line.field-0-is at c.in-Ok-Line.ensures.tells) going in
-    let moves = (rw c.in-Ok-Line.field-0-is at c.in-Ok-Line.ensures.moves) going in
+    let (bytes, answered_so, goes) = c.in-Ok-Line.ensures.tells going in
+    let answered = subst (λ next. IsAnswered c.lines.reader bytes c.next.new.self (Ok next)) c.in-Ok-Line.field-0-is answered_so in
+    let moves = subst (λ next. Moves c.lines.reader c.next.new.self (Ok next)) c.in-Ok-Line.field-0-is (c.in-Ok-Line.ensures.moves going) in
     let limits = c.args.walker.now.limits in
     let kinds = kinds_in c.args.walker.now.roster in
     let start = c.args.walker.now.analysis in
@@ -206,7 +209,7 @@ lines-preserved-then-is_skipped g c =
           (sym (c.law_of_skipped_lines-then-is_skipped.ensures.silent kinds start entries leads next) ∙ ap (λ e. g.A.Analysis.text kinds start (entries ++ e ∷ [])) numbered) text,
       omega (arith, cost, bound_more (g.A.Analysis.bound kinds start) [] entries entry),
       takes_on _ _ _ taken bytes told (λ old is. let r = goes old is in (r.0, r.1, r.2.0)),
-      c.in-Ok-Line.ensures.calm (λ e. let fault = sym (ap Ok c.in-Ok-Line.field-0-is) ∙ e in cc) ∙ calm,
+      c.in-Ok-Line.ensures.calm (λ e. true≢false (ap is_ok (sym (ap Ok c.in-Ok-Line.field-0-is) ∙ e))) ∙ calm,
       faults,
       same,
       cut_line limits taken bytes c.lines.reader lines cut c.next.new.self answered.leaves,
