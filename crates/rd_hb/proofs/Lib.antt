@@ -4,6 +4,7 @@ pub mod ClockTestLemmas
 pub mod FloorLemmas
 pub mod KeptLemmas
 pub mod KnowsLemmas
+pub mod LearntLemmas
 pub mod NewsLemmas
 pub mod TrackLemmas
 pub mod TrackerLemmas
