@@ -88,6 +88,5 @@ pub fn ask_own<L: Ledger>(
     if !classes.contains(&own) {
         return Ok(found);
     }
-    let found = later(found, store.latest_at(index, clock, steps))?;
-    Ok(found)
+    later(found, store.latest_at(index, clock, steps))
 }

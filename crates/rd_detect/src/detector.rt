@@ -177,8 +177,7 @@ impl Detector {
         if found || is_due(self.store.cells(), self.kept) {
             return Ok(false);
         }
-        let done = self.store.touch_over(*seat, *seen, steps)?;
-        Ok(done)
+        self.store.touch_over(*seat, *seen, steps)
     }
 
     // Keeps a call in the cells of the points that it touches, which stand at these seats. Then a sweep comes where it is due.

@@ -5,7 +5,8 @@ use Rattle.std.proofs.lemmas.Grind.{elements}
 use Rattle.rd_clock.specs.Stamps.{lent_stamp}
 use Rattle.rd_event.specs.declared.events.Event.TheVariants as event
 use Rattle.rd_store.specs.Lent.{lent_witness}
-use Rattle.rd_detect.specs.Detect.{Detecting, IsAnswer, IsLatestOf, IsTaken, asked_points, tables_of}
+use Rattle.rd_detect.specs.Detect.{Detecting, IsAnswer, IsLatestOf, IsTaken, asked_points, tables_of, touched_points}
+use Rattle.rd_detect.specs.Seats.{AreSeats}
 use Rattle.rd_detect.proofs.CallLemmas.{asked_bound, below, own_below, taken_after, tried_bound}
 use Rattle.rd_detect.proofs.CellLemmas.{is_answer}
 use Rattle.rd_detect.proofs.OverLemmas.{none_found}
@@ -15,6 +16,11 @@ use Rattle.rd_detect.proofs.detector.Detector.judge.Goals as goal
 pub returns-in_err-latest-clause-cost : goal.returns-in_err-latest-clause-cost
 returns-in_err-latest-clause-cost g c = asked_bound c.args.self.now.tables (length c.args.tracker.now.threads) c.args.seen.now.call.now c.args.steps.now c.look.new.steps
     (c.look.ensures.cost (length c.args.tracker.now.threads) (below c.requires.next.0 c.args.self.now c.args.tracker.now c.requires.next.1 c.requires.next.2 c.requires.next.3 c.args.seen.now.place c.args.seen.now.call.now (lent_stamp c.args.seen.now.stamp) c.requires.next.4))
+
+pub keep_over-requires : goal.keep_over-requires
+keep_over-requires g c =
+    subst (AreSeats c.look.new.self.store c.args.seen.now.call.now.thread (touched_points c.look.new.self.tables c.args.seen.now.call.now)) (sym c.as_slice.ensures.value)
+    (subst (λ tables. AreSeats c.look.new.self.store c.args.seen.now.call.now.thread (touched_points tables c.args.seen.now.call.now) c.look.new.seats.items) (sym c.look.ensures.same.tables) c.in_ok-latest.ensures.seats)
 
 pub returns-in_err-keep_over-clause-cost : goal.returns-in_err-keep_over-clause-cost
 returns-in_err-keep_over-clause-cost g c = tried_bound c.args.self.now.tables (length c.args.tracker.now.threads) c.args.seen.now.call.now c.args.steps.now c.look.new.steps
@@ -50,6 +56,12 @@ returns-then-branch-clause-cost g c = tried_bound c.args.self.now.tables (length
     (c.look.ensures.cost (length c.args.tracker.now.threads) (below c.requires.next.0 c.args.self.now c.args.tracker.now c.requires.next.1 c.requires.next.2 c.requires.next.3 c.args.seen.now.place c.args.seen.now.call.now (lent_stamp c.args.seen.now.stamp) c.requires.next.4))
     (length c.as_slice.result.now) c.keep_over.new.steps (omega (arith, own_below c.requires.next.0 c.args.self.now c.args.tracker.now c.requires.next.1 c.requires.next.2 c.requires.next.3 c.args.seen.now.place c.args.seen.now.call.now (lent_stamp c.args.seen.now.stamp) c.requires.next.4))
     (ap length c.as_slice.ensures.value ∙ c.in_ok-latest.ensures.seats.long) (omega (arith, c.keep_over.ensures.cost))
+
+pub keep_new-requires : goal.keep_new-requires
+keep_new-requires g c =
+    subst (λ (d : Detecting). AreSeats d.store c.args.seen.now.call.now.thread (touched_points d.tables c.args.seen.now.call.now) c.as_slice-2.result.now) (sym (c.in_ok-keep_over.ensures.kept c.if-branch.false))
+    (subst (AreSeats c.look.new.self.store c.args.seen.now.call.now.thread (touched_points c.look.new.self.tables c.args.seen.now.call.now)) (sym c.as_slice-2.ensures.value)
+    (subst (λ tables. AreSeats c.look.new.self.store c.args.seen.now.call.now.thread (touched_points tables c.args.seen.now.call.now) c.look.new.seats.items) (sym c.look.ensures.same.tables) c.in_ok-latest.ensures.seats))
 
 pub returns-clause-answer : goal.returns-clause-answer
 returns-clause-answer g c = IfOk-weaker c.keep_new.result _ _
