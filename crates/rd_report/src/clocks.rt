@@ -46,51 +46,47 @@ fn append_part(
     Ok(true)
 }
 
-// Puts a clock behind the text. It is asked for the threads for which it has room; it counts nothing of the others.
-pub(crate) fn append_clock<L: Ledger>(
+// Puts a clock behind the text, with a counter of its own for its reads. It is asked for the threads for which it has room; it counts
+// nothing of the others.
+fn append_clock_with<L: Ledger>(
     text: &mut Bytes,
     clock: &Clock,
     names: &Roster,
-    steps: &mut Steps<L>,
+    blank: Blank,
 ) -> Result<(), NoMemory>
+    requires name { blank.name ≡ L.name }
+    requires parts { blank.parts ≡ L.parts }
+    requires some { 0 < blank.parts }
     ensures text { OnOk result
         (text.new ≡ text.old ++ clock_text (names_in names.now) (component clock.now)) }
     ensures plain { ArePlain text.old → OnOk result (ArePlain text.new) }
 {
+    let mut steps = Steps::<L>::new(blank);
     let asked = (names.threads() as usize).min(clock.room()) as u32;
     let mut some = false;
     for thread in 0..asked {
-        some = append_part(text, names, thread, clock.get(thread, steps), some)?;
+        some = append_part(text, names, thread, clock.get(thread, &mut steps), some)?;
     }
     Ok(())
 }
 
-// The text of a clock, with a counter of its own for its reads.
-#[tactic(auto, using(crate::proofs::PlainLemmas::none_plain))]
-fn clock_text_with<L: Ledger>(
-    alloc: Global,
-    clock: &Clock,
-    names: &Roster,
-    blank: Blank,
-) -> Result<Bytes, NoMemory>
-    requires name { blank.name ≡ L.name }
-    requires parts { blank.parts ≡ L.parts }
-    requires some { 0 < blank.parts }
-    ensures text { IfOk result
-        (λ text. text ≡ clock_text (names_in names.now) (component clock.now)) }
-    ensures plain { IfOk result ArePlain }
+// Puts a clock behind the text.
+pub(crate) fn append_clock(text: &mut Bytes, clock: &Clock, names: &Roster) -> Result<(), NoMemory>
+    ensures text { OnOk result
+        (text.new ≡ text.old ++ clock_text (names_in names.now) (component clock.now)) }
+    ensures plain { ArePlain text.old → OnOk result (ArePlain text.new) }
 {
-    let mut steps = Steps::<L>::new(blank);
-    let mut text = Bytes::new(alloc);
-    append_clock(&mut text, clock, names, &mut steps)?;
-    Ok(text)
+    append_clock_with::<Brand>(text, clock, names, Blank::new(1))
 }
 
 /// The text of a clock: `THREAD:N` for each thread of which it counts events, in the order of their numbers. Its bytes are plain.
+#[tactic(auto, using(crate::proofs::PlainLemmas::none_plain))]
 pub fn clock_text(alloc: Global, clock: &Clock, names: &Roster) -> Result<Bytes, NoMemory>
     ensures text { IfOk result
         (λ text. text ≡ clock_text (names_in names.now) (component clock.now)) }
     ensures plain { IfOk result ArePlain }
 {
-    clock_text_with::<Brand>(alloc, clock, names, Blank::new(1))
+    let mut text = Bytes::new(alloc);
+    append_clock(&mut text, clock, names)?;
+    Ok(text)
 }

@@ -8,7 +8,7 @@ ghost use Rattle.rd_report.specs.Texts.{naming_in};
 ghost use Rattle.rd_report.specs.Writing.{ArePlain};
 
 use crate::clocks::append_clock;
-use rd_base::{Bytes, MOST_NAME_BYTES, Name, NoMemory, Steps, append_number};
+use rd_base::{Bytes, MOST_NAME_BYTES, Name, NoMemory, append_number};
 use rd_clock::Clock;
 use rd_ecl::{KindSpec, Spec};
 use rd_event::{Call, append_call};
@@ -16,8 +16,6 @@ use rd_print::formula_text;
 use rd_store::{Race, Witness};
 use rd_wf::Roster;
 use std::alloc::Global;
-use std::marker::Brand;
-use std::sync::ledger::{Blank, Ledger};
 
 /// `formula KIND FIRST SECOND when FORMULA`, with its line feed, for two methods of a kind or for one with itself, by their numbers:
 /// `first` is at most `second`.
@@ -82,13 +80,12 @@ pub fn call_text(alloc: Global, call: &Call, spec: &Spec, names: &Roster) -> Res
 
 // Puts behind the text what is told of a call that has this clock: the number of its line, the call and the clock.
 #[tactic(auto, unfolding(crate::specs::Races::told_text))]
-fn append_told<L: Ledger>(
+fn append_told(
     text: &mut Bytes,
     told: &Witness,
     clock: &Clock,
     spec: &Spec,
     names: &Roster,
-    steps: &mut Steps<L>,
 ) -> Result<(), NoMemory>
     requires { IsNamed spec.now (naming_in names.now) told.now.call }
     ensures { OnOk result (text.new ≡ text.old ++ told_text spec.now (naming_in names.now)
@@ -98,7 +95,7 @@ fn append_told<L: Ledger>(
     text.push(b' ')?;
     append_named_call(text, &told.call, spec, names)?;
     text.append(b" clock ")?;
-    append_clock(text, clock, names, steps)?;
+    append_clock(text, clock, names)?;
     text.push(b'\n')
 }
 
@@ -130,60 +127,10 @@ pub struct RaceEnds {
     pub earlier: usize,
 }
 
-// Puts the text of a race behind the text, with a counter of its own for the reads of the clocks.
-#[tactic(auto, unfolding(crate::specs::Races::race_text))]
-fn append_race_with<L: Ledger>(
-    text: &mut Bytes,
-    race: &Race,
-    formula: &[u8],
-    spec: &Spec,
-    names: &Roster,
-    blank: Blank,
-) -> Result<RaceEnds, NoMemory>
-    requires name { blank.name ≡ L.name }
-    requires parts { blank.parts ≡ L.parts }
-    requires some { 0 < blank.parts }
-    requires known { IsKnownRace spec.now (naming_in names.now) race.now }
-    requires formula { formula.now ≡ formula_line
-        (kind_at spec.now race.now.kind) race.now.first race.now.second }
-    ensures text { OnOk result
-        (text.new ≡ text.old ++ race_text spec.now (naming_in names.now)
-        (told_by race.now.later.value) (told_by race.now.earlier.value)) }
-    ensures ends { IfOk result (λ ends. (ends.later ≤ ends.earlier) × (ends.earlier ≤ length text.new)) }
-    ensures lines { IfOk result (EndLines text.old spec.now (naming_in names.now)
-        (told_by race.now.later.value) (told_by race.now.earlier.value)) }
-{
-    let mut steps = Steps::<L>::new(blank);
-    // room for all three lines at once
-    let room = told_room(&race.later, names).saturating_add(told_room(&race.earlier, names));
-    text.reserve(room.saturating_add(formula.len()))?;
-    text.append(b"race line ")?;
-    append_told(
-        text,
-        &race.later,
-        &race.later.stamp.clock,
-        spec,
-        names,
-        &mut steps,
-    )?;
-    let later = text.items().len();
-    text.append(b"with line ")?;
-    append_told(
-        text,
-        &race.earlier,
-        &race.earlier.stamp.clock,
-        spec,
-        names,
-        &mut steps,
-    )?;
-    let earlier = text.items().len();
-    text.append(formula)?;
-    Ok(RaceEnds { later, earlier })
-}
-
 /// Puts the text of a race behind the text: the later call, the earlier one, and the line of the formula that they fail, which is
 /// handed in. The answer says where the first two lines end in the whole text. The numbers in the race are known to the specification and
 /// the roster. After want of memory the text may have a front of it.
+#[tactic(auto, unfolding(crate::specs::Races::race_text))]
 pub fn append_race(
     text: &mut Bytes,
     race: &Race,
@@ -201,7 +148,17 @@ pub fn append_race(
     ensures lines { IfOk result (EndLines text.old spec.now (naming_in names.now)
         (told_by race.now.later.value) (told_by race.now.earlier.value)) }
 {
-    append_race_with::<Brand>(text, race, formula, spec, names, Blank::new(1))
+    // room for all three lines at once
+    let room = told_room(&race.later, names).saturating_add(told_room(&race.earlier, names));
+    text.reserve(room.saturating_add(formula.len()))?;
+    text.append(b"race line ")?;
+    append_told(text, &race.later, &race.later.stamp.clock, spec, names)?;
+    let later = text.items().len();
+    text.append(b"with line ")?;
+    append_told(text, &race.earlier, &race.earlier.stamp.clock, spec, names)?;
+    let earlier = text.items().len();
+    text.append(formula)?;
+    Ok(RaceEnds { later, earlier })
 }
 
 /// The text of a race, three lines: `race line N CALL clock CLOCK`, `with line N CALL clock CLOCK` and `formula KIND FIRST SECOND when

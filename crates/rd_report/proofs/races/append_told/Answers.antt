@@ -5,4 +5,4 @@ use Rattle.rd_report.proofs.races.append_told.Goals as goal
 
 pub returns : goal.returns
 unfolding told_text
-returns g c = grind (arith, common_steps)
+returns c = grind (arith, common_steps)

@@ -5,7 +5,7 @@ use Rattle.rd_wf.specs.declared.roster.Roster.{Roster}
 use Rattle.rd_wf.specs.Roster.{names_in, thread_count}
 use Rattle.rd_report.specs.Races.{clock_text}
 use Rattle.rd_report.proofs.ClockLemmas.{part_more, parts_told, parts_whole}
-use Rattle.rd_report.proofs.clocks.append_clock.Goals as goal
+use Rattle.rd_report.proofs.clocks.append_clock_with.Goals as goal
 
 -- each thread that a roster numbers has a name
 length_names : (roster : Roster) → length (names_in roster) ≡ thread_count roster
