@@ -1,19 +1,20 @@
 -- What a line adds.
-use Rattle.std.proofs.Common.{◌≡◌, ◌<◌, ◌≤◌, ℕ, Bool, true, false, not, ◌&&◌, List, [], ◌∷◌, ◌++◌, codes, length, map, refl, sym, ◌∙◌, ap, subst, arith, Some, length-append}
+use Rattle.std.proofs.Common.{◌≡◌, ◌<◌, ◌≤◌, ℕ, Bool, true, false, if◌then◌else◌, not, ◌&&◌, List, [], ◌∷◌, ◌++◌, codes, length, map, refl, sym, ◌∙◌, ap, subst, arith, Some, length-append}
 use Rattle.std.specs.List.{AllByRecursion, list_all}
 use Rattle.std.proofs.lemmas.List.{length-map}
 use Rattle.rd_reading.specs.declared.known.Block.{Block}
 use Rattle.rd_reading.specs.declared.known.Known.{Known}
 use Rattle.rd_reading.specs.Adding.{FormAdds, with_open}
 use Rattle.rd_reading.specs.Causes.{SaysPair}
-use Rattle.rd_reading.specs.Known.{kind_in}
+use Rattle.rd_reading.specs.Known.{kind_in, stage_in, stage_of}
 use Rattle.rd_ecl.specs.Formulas.{Tree}
-use Rattle.rd_ecl.specs.Specified.{MayAdd, SpecifiedKind, names_of, with_pair}
+use Rattle.rd_ecl.specs.Specified.{MayAdd, SpecifiedKind, names_of, with_method, with_pair}
 use Rattle.rd_ecl.specs.Variables.{IsVariable, is_among, is_variable}
 use Rattle.rd_ecl.proofs.VariableLemmas.{different_decides, variable_decides}
 use Rattle.rd_grammar.specs.Grammar.{ParsedTree}
 use Rattle.rd_lines.specs.declared.forms.Stage.{Stage}
-use Rattle.rd_lines.specs.Lines.{IsMethodLine, LineWord, commute, plain, word_at, words_of}
+use Rattle.rd_lines.specs.declared.forms.Stage.TheVariants.{Methods, Pairs}
+use Rattle.rd_lines.specs.Lines.{IsMethodLine, LineWord, commute, method, plain, word_at, words_of}
 use Rattle.rd_tokens.specs.declared.sorts.Token.{Token}
 use Rattle.rd_reading.proofs.RepeatLemmas.{Different}
 use Rattle.rd_base.specs.declared.limits.TheConstants.{MOST_ARGUMENTS, MOST_METHODS}
@@ -51,8 +52,13 @@ may_add kind stage words name arguments value held variables same are right room
       each = each_variable arguments value right.each_argument right.gives;
     })
 
+-- no line of a pair came where the next line stands among methods
+not_paired : (paired : Bool) → (if paired then Pairs else Methods) ≡ Methods → paired ≡ false
+not_paired true is = absurd (cc)
+not_paired false is = refl
+
 module _ (known : Known) (block : Block) (is : known.block ≡ Some block) where
-  open_kind : kind_in known.block ≡ block.draft
+  pub open_kind : kind_in known.block ≡ block.draft
   open_kind = ap kind_in is
 
   pub pair_added : (line : List ℕ) (tokens : List Token) (first second : List ℕ) (read : ParsedTree) (m n : ℕ) (f : Tree) (next : Known)
@@ -65,3 +71,13 @@ module _ (known : Known) (block : Block) (is : known.block ≡ Some block) where
     subst (λ (kind : SpecifiedKind). SaysPair kind line tokens first second read m n f) (sym open_kind) says,
     added ∙ ap (λ (kind : SpecifiedKind). with_open known (with_pair kind m n f) true) (sym open_kind),
   )
+
+  pub method_added : (words : List LineWord) (name : List ℕ) (arguments : List (List ℕ)) (value : List ℕ) (held : List (List ℕ)) (line : List ℕ)
+      (tokens : List Token) (next : SpecifiedKind) → IsMethodLine (stage_of known) words name arguments value → held ≡ arguments ++ value ∷ []
+      → next ≡ with_method block.draft (record { name = name; variables = held })
+      → FormAdds known line tokens (method name arguments value) (with_open known next block.paired)
+  method_added words name arguments value held line tokens next right are added =
+      ap (λ (paired : Bool). with_open known next paired) (not_paired block.paired (sym (ap stage_in is) ∙ right.stands))
+      ∙ ap (λ (kind : SpecifiedKind). with_open known kind false)
+      (added ∙ ap (λ (l : List (List ℕ)). with_method block.draft (record { name = name; variables = l })) are
+      ∙ ap (λ (kind : SpecifiedKind). with_method kind (record { name = name; variables = arguments ++ value ∷ [] })) (sym open_kind))
