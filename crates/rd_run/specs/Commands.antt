@@ -23,7 +23,7 @@ use Rattle.rd_run.specs.declared.commands.Said.{Said}
 use Rattle.rd_run.specs.declared.commands.Command.TheVariants.{Check, CheckWith, Replay, Reorder, OfSpec, Kind as BuiltIn, Gen, GenText}
 use Rattle.rd_run.specs.declared.commands.Command.{Command as Asked}
 use Rattle.rd_rules.specs.MayFollow.{same_name}
-use Rattle.std.specs.Prelude.{◌≡◌, ℕ, List, Option, Some, None, codes, option_and_then, option_map, slice_get, if◌then◌else◌, [], ◌∷◌, ⊤, find}
+use Rattle.std.specs.Prelude.{◌≡◌, ◌<◌, ◌≤◌, ℕ, List, Option, Some, None, codes, option_and_then, option_map, slice_get, if◌then◌else◌, [], ◌∷◌, ⊤, find}
 
 -- what the words ask for
 pub data Command : Type 0 where
@@ -108,6 +108,13 @@ CountsNothing (Some (gen number count)) = ⊥
 CountsNothing command = (meaning_of command).files ≡ []
 
 -- ---- as the program has them
+
+-- its numbers are within their bounds: a built-in kind's, and how many calls a generated trace has
+abbrev pub IsWithinBounds : Asked → Type 0
+IsWithinBounds (BuiltIn number) = number < 4
+IsWithinBounds (Gen number count) = count ≤ MOST_CALLS
+IsWithinBounds (GenText number count) = count ≤ MOST_CALLS
+IsWithinBounds _ = ⊤
 
 abbrev pub asked_command : Option Asked → Option Command
 asked_command None = None

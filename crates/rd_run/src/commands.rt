@@ -1,7 +1,7 @@
 //! What the words of the command line ask for.
-ghost use Rattle.std.specs.Prelude.{◌≡◌, ◌<◌, ◌≤◌, ℕ, [], ◌∷◌, IfSome};
+ghost use Rattle.std.specs.Prelude.{◌≡◌, ◌<◌, ◌≤◌, [], ◌∷◌, IfSome};
 ghost use Rattle.rd_gen.specs.declared.counts.TheConstants.{MOST_CALLS};
-ghost use Rattle.rd_run.specs.Commands.{asked_command, command_of, named_number, numbers_read};
+ghost use Rattle.rd_run.specs.Commands.{IsWithinBounds, asked_command, command_of, named_number, numbers_read};
 
 use rd_base::Word;
 use rd_decimals::read_number;
@@ -100,14 +100,7 @@ fn trace_numbers(number: &Word, count: &Word) -> Option<(u64, u32)>
 /// The command that a word and a file, or a name, ask for, if they do for one.
 fn command_of_two<'a>(word: &Word, name: &'a Word) -> Option<Command<'a>>
     ensures asked { asked_command result ≡ command_of (word.now ∷ name.now ∷ []) }
-    ensures known { IfSome result
-        (λ command. (number : ℕ) → command ≡ Command.Kind number → number < 4) }
-    ensures few { IfSome result
-        (λ command. (number count : ℕ) → command ≡ Command.GenText number count →
-        count ≤ MOST_CALLS) }
-    ensures few_checked { IfSome result
-        (λ command. (number count : ℕ) → command ≡ Command.Gen number count →
-        count ≤ MOST_CALLS) }
+    ensures within { IfSome result IsWithinBounds }
 {
     let word = word.items();
     if word == b"check".as_slice() {
@@ -143,14 +136,7 @@ fn command_of_two<'a>(word: &Word, name: &'a Word) -> Option<Command<'a>>
 /// The command that a word, a file or a number, and another of these ask for, if they do for one.
 fn command_of_three<'a>(word: &Word, first: &'a Word, second: &'a Word) -> Option<Command<'a>>
     ensures asked { asked_command result ≡ command_of (word.now ∷ first.now ∷ second.now ∷ []) }
-    ensures known { IfSome result
-        (λ command. (number : ℕ) → command ≡ Command.Kind number → number < 4) }
-    ensures few { IfSome result
-        (λ command. (number count : ℕ) → command ≡ Command.GenText number count →
-        count ≤ MOST_CALLS) }
-    ensures few_checked { IfSome result
-        (λ command. (number count : ℕ) → command ≡ Command.Gen number count →
-        count ≤ MOST_CALLS) }
+    ensures within { IfSome result IsWithinBounds }
 {
     let word = word.items();
     if word == b"check".as_slice() {
@@ -191,14 +177,7 @@ fn command_of_three<'a>(word: &Word, first: &'a Word, second: &'a Word) -> Optio
 /// The command that the words of the command line ask for, if they match one.
 pub(crate) fn command_of(words: &[Word]) -> Option<Command<'_>>
     ensures asked { asked_command result ≡ command_of words.now }
-    ensures known { IfSome result
-        (λ command. (number : ℕ) → command ≡ Command.Kind number → number < 4) }
-    ensures few { IfSome result
-        (λ command. (number count : ℕ) → command ≡ Command.GenText number count →
-        count ≤ MOST_CALLS) }
-    ensures few_checked { IfSome result
-        (λ command. (number count : ℕ) → command ≡ Command.Gen number count →
-        count ≤ MOST_CALLS) }
+    ensures within { IfSome result IsWithinBounds }
 {
     match words {
         [word, name] => command_of_two(word, name),

@@ -5,7 +5,7 @@ use Rattle.rd_walk.proofs.StatusLemmas.{report_calm, report_no_spec, report_no_u
 use Rattle.rd_spec_commands.specs.Meanings.{kind_outcome}
 use Rattle.rd_spec_commands.specs.Specifications.{spec_command_status}
 use Rattle.rd_spec_commands.proofs.StatusLemmas.{spec_calm, spec_failed, spec_no_usage, spec_wrote, written_no_input, written_no_spec}
-use Rattle.rd_run.specs.Commands.{CountsNothing, asked_command, meaning_of}
+use Rattle.rd_run.specs.Commands.{CountsNothing, IsWithinBounds, asked_command, meaning_of}
 use Rattle.rd_walk.specs.Meanings.{Runs, WritesAll}
 use Rattle.rd_run.specs.Commands.Command.{check, gen, gen_text, kind, of_spec, reorder, replay}
 use Rattle.rd_run.specs.declared.commands.Command.{Command as Asked}
@@ -304,7 +304,7 @@ returns-in-Some-OfSpec-clause-output_fault g c =
 pub returns-in-Some-Kind-clause-runs : goal.returns-in-Some-Kind-clause-runs
 returns-in-Some-Kind-clause-runs g c = λ old told few few_opens.
     let number = c.in-Some-Kind.number in
-    let (built_in, at) = shipped_at number (c.in-Some-Kind.ensures.known number c.in-Some-Kind.field-0-is) in
+    let (built_in, at) = shipped_at number (subst IsWithinBounds c.in-Some-Kind.field-0-is c.in-Some-Kind.ensures.within) in
     let (part, writes, output) = c.kind.ensures.output built_in at in
     let faults = g.I.Inputs.faults c.args.inputs.now in
     let words = ap (option_map kind) (sym at) ∙ (ap (λ (command : Asked). asked_command (Some command)) (sym c.in-Some-Kind.field-0-is) ∙ c.in-Some-Kind.ensures.asked) in (
@@ -320,7 +320,7 @@ returns-in-Some-Kind-clause-runs g c = λ old told few few_opens.
 pub returns-in-Some-Kind-clause-whole : goal.returns-in-Some-Kind-clause-whole
 returns-in-Some-Kind-clause-whole g c = λ old told few few_opens few_faults calm silent.
     let number = c.in-Some-Kind.number in
-    let (built_in, at) = shipped_at number (c.in-Some-Kind.ensures.known number c.in-Some-Kind.field-0-is) in
+    let (built_in, at) = shipped_at number (subst IsWithinBounds c.in-Some-Kind.field-0-is c.in-Some-Kind.ensures.within) in
     let (part, writes, output) = c.kind.ensures.output built_in at in
     let faults = g.I.Inputs.faults c.args.inputs.now in
     let status = spec_command_status c.kind.result in
@@ -337,7 +337,7 @@ returns-in-Some-Kind-clause-whole g c = λ old told few few_opens few_faults cal
 pub returns-in-Some-Kind-clause-kind_text : goal.returns-in-Some-Kind-clause-kind_text
 returns-in-Some-Kind-clause-kind_text g c = λ other is.
     let number = c.in-Some-Kind.number in
-    let (built_in, at) = shipped_at number (c.in-Some-Kind.ensures.known number c.in-Some-Kind.field-0-is) in
+    let (built_in, at) = shipped_at number (subst IsWithinBounds c.in-Some-Kind.field-0-is c.in-Some-Kind.ensures.within) in
     let (part, writes, output) = c.kind.ensures.output built_in at in
     let words = ap (option_map kind) (sym at) ∙ (ap (λ (command : Asked). asked_command (Some command)) (sym c.in-Some-Kind.field-0-is) ∙ c.in-Some-Kind.ensures.asked) in (
       part,
