@@ -24,11 +24,6 @@ pub struct Reader {
     otherwise: u32,
 }
 
-/// The limits that a row may set, but the one on bytes.
-const LIMITS: [&[u8]; 6] = [
-    b"line", b"events", b"threads", b"locks", b"objects", b"depth",
-];
-
 /// The number that the digits say. None where they aren't digits, or too many.
 fn number(digits: &[u8]) -> Option<u64> {
     let mut number = 0u64;
@@ -140,14 +135,20 @@ impl Reader {
         }
         let (name, digits) = text.split_at(text.iter().position(|byte| *byte == b' ')?);
         let limit = u32::try_from(number(digits.get(1..)?)?).ok()?;
-        let place = LIMITS.iter().position(|known| *known == name)?;
-        match place {
-            0 => limits.line = limit,
-            1 => limits.events = limit,
-            2 => limits.threads = limit,
-            3 => limits.locks = limit,
-            4 => limits.objects = limit,
-            _ => limits.depth = limit,
+        if name == b"line".as_slice() {
+            limits.line = limit;
+        } else if name == b"events".as_slice() {
+            limits.events = limit;
+        } else if name == b"threads".as_slice() {
+            limits.threads = limit;
+        } else if name == b"locks".as_slice() {
+            limits.locks = limit;
+        } else if name == b"objects".as_slice() {
+            limits.objects = limit;
+        } else if name == b"depth".as_slice() {
+            limits.depth = limit;
+        } else {
+            return None;
         }
         Some(())
     }
