@@ -1,5 +1,5 @@
 -- What a tracker keeps between steps, where one thing of it is changed.
-use Rattle.std.proofs.Common.{◌≡◌, ◌≢◌, ◌≤◌, ◌<◌, inl, inr, ℕ, ◌+◌, ◌==◌, List, [], ◌∷◌, ◌++◌, length, Option, Some, None, Result, Ok, Err, OnOk, OnErr, refl, sym, ◌∙◌, ap, subst, arith, slice_index_or, slice_set, length-set}
+use Rattle.std.proofs.Common.{◌≡◌, ◌≢◌, ◌≤◌, ◌<◌, inl, inr, ℕ, ◌+◌, ◌==◌, List, [], ◌∷◌, ◌++◌, length, Option, Some, None, refl, sym, ◌∙◌, ap, subst, arith, slice_index_or, slice_set, length-set}
 use Rattle.std.specs.Prelude.{if◌then◌else◌}
 use Rattle.std.proofs.lemmas.Bool.{cases_eq, cases_lt, eq-eqb, ne_eqb}
 use Rattle.std.proofs.lemmas.List.{get_or-set_other, get_or_append_left, get_or_default, get_or_past, length-append}
@@ -9,13 +9,8 @@ use Rattle.std.proofs.Math.Seq.{get_or-append_seam}
 use Rattle.rd_clock.specs.Clock.{component, IsTick}
 use Rattle.rd_clock.specs.declared.clock.Stamp.{Stamp}
 use Rattle.rd_hb.specs.declared.tracker.Tracked.{Tracked}
-use Rattle.rd_hb.specs.Tracker.{tracked_thread, no_thread, known_to, unshared}
+use Rattle.rd_hb.specs.Tracker.{tracked_thread, no_thread, known_to}
 use Rattle.rd_hb.specs.TrackerParts.{AreKept, AreTracked, IsShared, IsTracked}
-
--- what follows on either way out
-pub ok_or_err : {X E : Type 0} (r : Result X E) (P Q R : Type 0) → OnOk r P → OnErr r Q → (P → R) → (Q → R) → R
-ok_or_err (Ok x) P Q R ok err from_ok from_err = from_ok ok
-ok_or_err (Err e) P Q R ok err from_ok from_err = from_err err
 
 -- ---- one thread is added, or changed
 
@@ -137,11 +132,6 @@ kept_push threads clocks releases unshares x kept few own room events = record {
   locks = λ lock stamp at. omega (arith, kept.locks lock stamp at, length-append threads (x ∷ []));
   shares = λ lock. omega (arith, kept.shares lock, length-append threads (x ∷ []));
 }
-
--- the clocks of unshares are changed
-pub kept_unshares : (threads : List Tracked) (clocks : List (Option (List ℕ))) (releases : List (Option Stamp)) (unshares new_unshares : List (Option (List ℕ))) → AreKept threads clocks releases unshares
-    → ((lock : ℕ) → length (unshared new_unshares lock) ≤ length threads) → AreKept threads clocks releases new_unshares
-kept_unshares threads clocks releases unshares new_unshares kept room = record { tracked = kept.tracked; shared = kept.shared; locks = kept.locks; shares = room }
 
 -- a thread is changed, and what is shared with it
 pub kept_set : (threads : List Tracked) (clocks new_clocks : List (Option (List ℕ))) (releases : List (Option Stamp)) (unshares : List (Option (List ℕ))) (i : ℕ) (x : Tracked) → AreKept threads clocks releases unshares
