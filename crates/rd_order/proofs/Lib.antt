@@ -1,9 +1,13 @@
 pub mod CountsLemmas
 pub mod EventListLemmas
 pub mod ExampleLemmas
+pub mod FarthestLemmas
 pub mod HoldLemmas
 pub mod ImpliedLemmas
+pub mod LastLemmas
 pub mod LockLemmas
+pub mod NextLemmas
+pub mod NotingLemmas
 pub mod OrderLemmas
 pub mod PathLemmas
 pub mod StepLemmas

@@ -6,7 +6,7 @@ ghost use Rattle.rd_order.specs.OrderTests.{is_against, is_handed, is_linked, is
 
 use rd_event::Event;
 
-fn thread_of(event: &Event) -> u32
+pub(crate) fn thread_of(event: &Event) -> u32
     ensures { result ≡ thread_of event.now }
 {
     match event {
@@ -20,7 +20,7 @@ fn thread_of(event: &Event) -> u32
     }
 }
 
-fn forked_thread(event: &Event) -> Option<u32>
+pub(crate) fn forked_thread(event: &Event) -> Option<u32>
     ensures { result ≡ forked_thread event.now }
 {
     match event {
@@ -29,7 +29,7 @@ fn forked_thread(event: &Event) -> Option<u32>
     }
 }
 
-fn joined_thread(event: &Event) -> Option<u32>
+pub(crate) fn joined_thread(event: &Event) -> Option<u32>
     ensures { result ≡ joined_thread event.now }
 {
     match event {

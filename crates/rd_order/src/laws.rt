@@ -3,8 +3,9 @@ ghost use Rattle.std.specs.Prelude.{◌≡◌, ◌≢◌, ◌↔◌, ℕ, ◌<�
 ghost use Rattle.rd_event.specs.declared.events.Call.{Call as CallOf};
 ghost use Rattle.rd_event.specs.declared.events.Event.{Event};
 ghost use Rattle.rd_event.specs.declared.events.Event.TheVariants.{Fork, Join, Acquire, Release, Share, Unshare, Call};
-ghost use Rattle.rd_order.specs.Order.{Against, Edge, Hold, Reaches, Unordered, Uses};
+ghost use Rattle.rd_order.specs.Order.{Against, Edge, Hold, IsPath, Reaches, Unordered, Uses};
 ghost use Rattle.rd_order.specs.OrderTests.{reaches};
+ghost use Rattle.rd_order.specs.Paths.{IsFarthestPath, farthest_path};
 ghost use Rattle.rd_order.specs.EventLists.{IsBounded, MayHappen, WellFormed, givings, implied_roots, takings};
 
 /// Reaching is the least transitive relation that holds each edge. It leads to later places alone, a
@@ -27,6 +28,16 @@ pub fn law_of_reaching()
     ensures test { (es : List Event) (i j : ℕ) → (IsTrue (reaches es i j) ↔ Reaches es i j) }
     ensures growth { (es fs : List Event) (i j : ℕ) → j < length es →
         (Reaches (es ++ fs) i j ↔ Reaches es i j) }
+{}
+
+/// A farthest path is a path, there is one alone, and where a place reaches another it is `farthest_path`.
+pub fn law_of_farthest_paths()
+    ensures path { (es : List Event) (places : List ℕ) (i j : ℕ) → i < j →
+        IsFarthestPath es i places j → IsPath es i places j }
+    ensures alone { (es : List Event) (places others : List ℕ) (i j : ℕ) →
+        IsFarthestPath es i places j → IsFarthestPath es i others j → places ≡ others }
+    ensures computed { (es : List Event) (i j : ℕ) → Reaches es i j →
+        IsFarthestPath es i (farthest_path es i j) j }
 {}
 
 /// A list is well-formed exactly where each event may follow the events in front of it, and the bounds

@@ -1,9 +1,9 @@
 //! Paths from one place to another.
-ghost use Rattle.std.specs.Prelude.{◌≡◌, ◌↔◌, ◌<◌, ◌+◌, ◌++◌, [], ◌∷◌, ◌-◌, length, IfOk, IfSome, IfNone, OnOk, OnErr, IsTrue};
-ghost use Rattle.rd_order.specs.Order.{Edge, IsPath, Reaches};
-ghost use Rattle.rd_order.specs.Paths.{AreSteps, Comes, IsStep};
+ghost use Rattle.std.specs.Prelude.{◌≡◌, ◌<◌, ◌≤◌, ◌+◌, ◌++◌, [], ◌∷◌, length, IfOk, IfSome, IfNone, OnOk, OnErr};
+ghost use Rattle.rd_order.specs.Order.{IsPath, Reaches};
+ghost use Rattle.rd_order.specs.Paths.{AreFarthestSteps, IsFarthestPath};
 
-use crate::edges::edge;
+use crate::steps::{FarthestSteps, farthest_steps};
 use rd_base::NoMemory;
 use rd_event::Event;
 use std::alloc::Global;
@@ -50,95 +50,48 @@ impl Places {
     }
 }
 
-// Does an edge lead from the place to the one so many places before j, and is that j or does it reach j?
-fn leads(events: &[Event], steps: &[Option<u32>], place: u32, back: usize, j: u32) -> bool
-    requires inside { j < length events.now }
-    requires below { place < j }
-    requires count { length steps.now ≡ j - place }
-    requires known { AreSteps events.now j steps.now }
-    requires at { back < length steps.now }
-    ensures { IsTrue result ↔ (Comes events.now j (j - back) × Edge events.now place (j - back)) }
-{
-    steps[back].is_some() && edge(events, place, j - back as u32)
-}
-
-// The last place to which an edge leads from the place, and that is j or reaches j. Of the places from j down to the one behind it
-// the steps are known.
-fn step(events: &[Event], steps: &[Option<u32>], place: u32, j: u32) -> Option<u32>
-    requires inside { j < length events.now }
-    requires below { place < j }
-    requires count { length steps.now ≡ j - place }
-    requires known { AreSteps events.now j steps.now }
-    ensures { IsStep events.now j place result }
-{
-    for back in 0..steps.len() {
-        if leads(events, steps, place, back, j) {
-            return Some(j - back as u32);
-        }
-    }
-    None
-}
-
-// The step of each place from j down to i.
-fn steps(alloc: Global, events: &[Event], i: u32, j: u32) -> Result<Vec<Option<u32>>, NoMemory>
-    requires inside { j < length events.now }
-    requires below { i < j }
-    ensures count { IfOk result (λ steps. length steps.items ≡ j - i + 1) }
-    ensures each { IfOk result (λ steps. AreSteps events.now j steps.items) }
-{
-    let mut steps = Vec::new(alloc);
-    steps.push(Some(j))?;
-    for back in 0..j - i {
-        let next = step(events, steps.as_slice(), j - back - 1, j);
-        steps.push(next)?;
-    }
-    Ok(steps)
-}
-
-// The path that the steps tell.
-fn walk(
+/// The farthest path from i to j along steps to j. There is none exactly where i doesn't reach j.
+pub fn path_along(
     alloc: Global,
     events: &[Event],
-    steps: &[Option<u32>],
+    steps: &FarthestSteps,
     i: u32,
     j: u32,
 ) -> Result<Option<Places>, NoMemory>
     requires below { i < j }
-    requires count { length steps.now ≡ j - i + 1 }
-    requires known { AreSteps events.now j steps.now }
-    ensures some { IfOk result (λ found. IfSome found (λ places. IsPath events.now i places j)) }
+    requires inside { j ≤ i + length steps.now }
+    requires known { AreFarthestSteps events.now j steps.now }
+    ensures farthest { IfOk result (λ found. IfSome found (λ places. IsFarthestPath events.now i places j)) }
     ensures none { IfOk result (λ found. IfNone found (¬ (Reaches events.now i j))) }
 {
     let mut places = Places::new(alloc);
-    let mut next = i;
-    for place in i..j {
-        if place != next {
-            continue;
-        }
-        let found = steps[(j - place) as usize];
-        let Some(step) = found else {
+    places.push(i)?;
+    let mut last = i;
+    while last < j {
+        let Some(next) = steps.step(last, j) else {
             return Ok(None);
         };
-        places.push(place)?;
-        next = step;
+        places.push(next)?;
+        last = next;
     }
-    places.push(j)?;
     Ok(Some(places))
 }
 
-/// A path from the first place to the second: rising places, at least two, of which there is an edge from each to the next. There is
-/// none exactly where the first place doesn't reach the second. Each step goes as far as a path may. It looks at each pair of
-/// places between the two. It takes memory only where the first place comes before the second.
+/// The farthest path from the first place to the second: rising places, at least two, of which there is an edge from each to the
+/// next, which is the greatest place to which an edge leads and that is the second place or reaches it. There is none exactly where
+/// the first place doesn't reach the second. It looks at each place between the two once. It takes memory only where the first place
+/// comes before the second.
 pub fn path(alloc: Global, events: &[Event], i: u32, j: u32) -> Result<Option<Places>, NoMemory>
     requires from { i < length events.now }
     requires to { j < length events.now }
     ensures some { IfOk result (λ found. IfSome found (λ places. IsPath events.now i places j)) }
+    ensures farthest { IfOk result (λ found. IfSome found (λ places. IsFarthestPath events.now i places j)) }
     ensures none { IfOk result (λ found. IfNone found (¬ (Reaches events.now i j))) }
     ensures memory { OnErr result (i < j) }
 {
     if j <= i {
         return Ok(None);
     }
-    let steps = steps(alloc, events, i, j)?;
-    walk(alloc, events, steps.as_slice(), i, j)
+    let steps = farthest_steps(alloc, events, i, j)?;
+    path_along(alloc, events, &steps, i, j)
 }
