@@ -2,7 +2,7 @@
 
 use crate::rows::{Act, events};
 use rd_event::Event;
-use rd_order::{Places, edge, path};
+use rd_order::{Places, edge, farthest_steps, path};
 use std::alloc::Global;
 use std::process::Abort;
 
@@ -22,6 +22,26 @@ fn has_path(
         None => expected.is_empty(),
         Some(places) => places.items() == expected,
     }
+}
+
+// Are these the farthest next places of all places before j on the way to it? None where a place doesn't reach it.
+fn has_steps(
+    rt: &impl Abort,
+    alloc: Global,
+    events: &[Event],
+    j: u32,
+    expected: &[Option<u32>],
+) -> bool {
+    if events.len() <= j as usize {
+        return false;
+    }
+    let steps = farthest_steps(alloc, events, 0, j).expect(rt, "memory");
+    for place in 0..j {
+        if expected.get(place as usize).copied() != Some(steps.step(place, j)) {
+            return false;
+        }
+    }
+    true
 }
 
 // Is there an edge?
@@ -78,6 +98,7 @@ const FORKS: Order = Order {
         (2, 4, &[2, 4]),
         (2, 3, &[]),
         (0, 2, &[0, 2]),
+        (0, 4, &[0, 4]),
         (2, 6, &[2, 4, 6]),
         (6, 2, &[]),
         (3, 3, &[]),
@@ -149,12 +170,21 @@ const SHARES: Order = Order {
         (2, 5, &[]),
         (4, 5, &[]),
         (5, 8, &[5, 6, 7, 8]),
+        (0, 8, &[0, 7, 8]),
     ],
 };
 
 #[test]
 fn shares_come_behind_releases_and_before_acquires(rt: HostRuntime) {
     are_ordered(&rt, rt.alloc(), &SHARES);
+}
+
+#[test]
+fn a_place_steps_as_far_as_a_path_may(rt: HostRuntime) {
+    let order = &SHARES;
+    let events = events(&rt, rt.alloc(), order.acts);
+    let expected = [Some(1), Some(3), None, Some(5), None];
+    assert!(rt; has_steps(&rt, rt.alloc(), &events, 5, &expected));
 }
 
 #[test]
