@@ -19,12 +19,12 @@ use Rattle.rd_order.specs.Order.{thread_of}
 use Rattle.rd_hb.specs.Tracker.{IsNextEvent, IsStamp, TrackerStandsFor, Tracking, event_bound, last_stamp}
 use Rattle.rd_detect.proofs.CellLemmas.{stands_quiet, stands_unbegun}
 use Rattle.rd_rules.proofs.EventsLemmas.{all_roots, events_more, no_events, roots_more, threads_more, told_formed, told_more}
-use Rattle.rd_detect.proofs.RaceLemmas.{not_reported}
+use Rattle.rd_races.proofs.RaceLemmas.{not_reported}
 use Rattle.rd_check.proofs.ReportLemmas.{answer_text, event_numbers_more, events_all, next_races_is, next_text_is, passing, quiet_events, quiet_numbers, quiet_races, quiet_texts, races_more, races_within, texts_more}
 use Rattle.rd_walk.proofs.WalkLemmas.{items_more}
 use Rattle.rd_check.specs.Checking.{AreNamed, Checks, IsNextEventLine, IsNextLine, CheckLeads, Tracks, next_races, next_text}
 use Rattle.std.specs.Prelude.{max, min}
-use Rattle.rd_detect.specs.Commuting.{Commute, calls_commute}
+use Rattle.rd_races.specs.Commuting.{Commute, calls_commute}
 use Rattle.rd_detect.specs.Detect.{IsAnswer, IsNextCall, DetectorStandsFor, detection_bound, tables_of}
 use Rattle.rd_report.specs.Races.{IsKnownRace, IsNamed}
 use Rattle.rd_report.specs.Texts.{Naming, naming}
@@ -36,7 +36,7 @@ use Rattle.rd_ecl.specs.Kinds.{Kind, kinds_of}
 use Rattle.rd_ecl.specs.Specified.{SpecifiedKind}
 use Rattle.rd_rules.specs.MayFollow.{MayFollow, accepted_of, begun_name, events, is_event, is_root, is_skip, numbered_event, threads_of}
 use Rattle.rd_check.specs.Checked.{check_bound, detector_bound, entry_events, event_numbers, race_at, race_texts, races_of, text_with}
-use Rattle.rd_detect.specs.RaceTests.{latest_of}
+use Rattle.rd_races.specs.RaceTests.{latest_of}
 use Rattle.rd_json.specs.declared.forms.Form.{Form}
 use Rattle.rd_walk.specs.Walk.{Entry, items, tracking_bound}
 use Rattle.rd_check.specs.declared.checking.Check.{Check}

@@ -2,9 +2,9 @@
 use Rattle.std.proofs.Common.{◌≡◌, sym, true≢false, ◌<◌, ◌^◌, inl, inr, ℕ, zero, suc, ◌+◌, cond, MatchOption, List, length, Option, Some, None, is_some, refl, subst, arith}
 use Rattle.rd_base.specs.Limits.{AreUsable}
 use Rattle.rd_base.specs.declared.limits.Limits.{Limits}
-use Rattle.rd_detect.proofs.RaceLemmas.{latest_is}
-use Rattle.rd_detect.specs.Races.{Reported, IsLatest}
-use Rattle.rd_detect.specs.RaceTests.{latest_of}
+use Rattle.rd_races.proofs.RaceLemmas.{latest_is}
+use Rattle.rd_races.specs.Races.{Reported, IsLatest}
+use Rattle.rd_races.specs.RaceTests.{latest_of}
 use Rattle.rd_event.specs.declared.events.Event.{Event}
 use Rattle.rd_order.specs.Counts.{Counts}
 use Rattle.rd_hb.proofs.ClockTestLemmas.{clock_at_is}
@@ -24,7 +24,7 @@ use Rattle.rd_ecl.specs.Kinds.{kinds_of}
 use Rattle.rd_ecl.specs.Specified.{SpecifiedKind}
 use Rattle.rd_walk.proofs.AcceptedLemmas.{trace_accepted}
 use Rattle.rd_walk.proofs.AcceptedLineLemmas.{trace_walk}
-use Rattle.rd_detect.specs.Commuting.{Commute, calls_commute}
+use Rattle.rd_races.specs.Commuting.{Commute, calls_commute}
 use Rattle.rd_check.proofs.ReportLemmas.{passing, texts_report}
 use Rattle.rd_check.specs.Checked.{check_outcome, entry_events, race_texts, races_before, races_of}
 use Rattle.rd_replaying.proofs.DeclaredLemmas.{calls_declared}

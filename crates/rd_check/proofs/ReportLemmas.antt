@@ -14,10 +14,10 @@ use Rattle.rd_event.specs.declared.items.LineEvent.{LineEvent}
 use Rattle.rd_order.proofs.OrderLemmas.{length_more}
 use Rattle.std.specs.Prelude.{slice_get}
 use Rattle.rd_rules.proofs.EventsLemmas.{events_more, told_from}
-use Rattle.rd_detect.proofs.RaceLemmas.{latest_is, latest_longer, latest_none, latest_some}
+use Rattle.rd_races.proofs.RaceLemmas.{latest_is, latest_longer, latest_none, latest_some}
 use Rattle.rd_walk.proofs.WalkLemmas.{items_more}
 use Rattle.rd_check.specs.Checking.{next_races, next_text}
-use Rattle.rd_detect.specs.Commuting.{Commute, calls_commute}
+use Rattle.rd_races.specs.Commuting.{Commute, calls_commute}
 use Rattle.rd_detect.specs.Detect.{IsAnswer}
 use Rattle.rd_rules.specs.Events.{AreAcceptedFrom, AreTold, IsAccepted, event_of, events_from, events_of}
 use Rattle.rd_ecl.specs.Kinds.{Kind, kinds_of}
@@ -32,8 +32,8 @@ use Rattle.rd_check.proofs.NamingLemmas.{race_longer, witness_told}
 use Rattle.rd_walk.specs.Output.{IsFront}
 use Rattle.rd_check.specs.Checked.{calls_text, entries_ending, entries_race, entry_events, event_number, event_numbers, race_at, race_texts, races_before, races_of, text_with, texts_before, told_at}
 use Rattle.rd_replaying.specs.Endings.{check_status, is_limit, replay_status}
-use Rattle.rd_detect.specs.RaceTests.{latest_of}
-use Rattle.rd_detect.specs.Races.{IsLatest, Reported}
+use Rattle.rd_races.specs.RaceTests.{latest_of}
+use Rattle.rd_races.specs.Races.{IsLatest, Reported}
 use Rattle.rd_check.specs.Reports.{IsReport}
 use Rattle.rd_walk.specs.Walk.{Entry, items}
 use Rattle.rd_object.specs.declared.shapes.Expected.{Expected}

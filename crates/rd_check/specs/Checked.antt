@@ -1,9 +1,9 @@
 -- What `check` writes: races, and how many. This project's profile.
 use Rattle.rd_replaying.specs.Endings.{thread_names, ending_of_report, check_status}
 use Rattle.rd_walk.specs.Output.{Outcome}
-use Rattle.rd_detect.specs.Commuting.{calls_commute}
+use Rattle.rd_races.specs.Commuting.{calls_commute}
 use Rattle.rd_detect.specs.Detect.{detection_bound, tables_of}
-use Rattle.rd_detect.specs.RaceTests.{latest_of}
+use Rattle.rd_races.specs.RaceTests.{latest_of}
 use Rattle.rd_ecl.specs.Kinds.{kinds_of}
 use Rattle.rd_ecl.specs.Specified.{SpecifiedKind}
 use Rattle.rd_event.specs.declared.events.Call.{Call}

@@ -7,9 +7,9 @@ use Rattle.rd_event.specs.declared.events.Event.{Event}
 use Rattle.rd_event.specs.declared.events.Event.TheVariants as event
 use Rattle.rd_event.specs.declared.items.Line.{Line}
 use Rattle.rd_hb.specs.Tracker.{TrackerStandsFor, Tracking}
-use Rattle.rd_detect.specs.Commuting.{calls_commute}
+use Rattle.rd_races.specs.Commuting.{calls_commute}
 use Rattle.rd_detect.specs.Detect.{DetectorStandsFor}
-use Rattle.rd_detect.specs.RaceTests.{latest_of}
+use Rattle.rd_races.specs.RaceTests.{latest_of}
 use Rattle.rd_ecl.specs.Kinds.{Kind, kinds_of}
 use Rattle.rd_ecl.specs.Specified.{SpecifiedKind}
 use Rattle.rd_json.specs.declared.forms.Form.{Form}

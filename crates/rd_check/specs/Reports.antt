@@ -1,8 +1,8 @@
 -- What a report says of the bytes of a trace, in the words of accepted lines and of races: this project's profile.
 use Rattle.std.specs.Prelude.{◌≡◌, ◌⊎◌, ℕ, zero, suc, ◌<◌, IsTrue, List, [], ◌++◌, All, length}
 use Rattle.rd_base.specs.declared.limits.Limits.{Limits}
-use Rattle.rd_detect.specs.Commuting.{Commute}
-use Rattle.rd_detect.specs.Races.{Reported, IsLatest}
+use Rattle.rd_races.specs.Commuting.{Commute}
+use Rattle.rd_races.specs.Races.{Reported, IsLatest}
 use Rattle.rd_event.specs.declared.events.Call.{Call}
 use Rattle.rd_event.specs.declared.events.Event.{Event}
 use Rattle.rd_order.specs.Counts.{Counts}

@@ -2,8 +2,8 @@
 ghost use Rattle.std.specs.Prelude.{◌≡◌, ◌↔◌, ℕ, ◌<◌, ◌^◌, List, ◌++◌, length};
 ghost use Rattle.rd_base.specs.Limits.{AreUsable};
 ghost use Rattle.rd_base.specs.declared.limits.Limits.{Limits};
-ghost use Rattle.rd_detect.specs.Races.{Reported};
-ghost use Rattle.rd_detect.specs.Commuting.{Commute};
+ghost use Rattle.rd_races.specs.Races.{Reported};
+ghost use Rattle.rd_races.specs.Commuting.{Commute};
 ghost use Rattle.rd_json.specs.declared.forms.Form.{Form};
 ghost use Rattle.rd_io.specs.Lines.{Stop};
 ghost use Rattle.rd_io.specs.Lines.Stop.{fault};

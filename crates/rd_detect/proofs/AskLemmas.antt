@@ -1,5 +1,5 @@
 -- The kinds of calls.
-use Rattle.std.proofs.Common.{◌≡◌, inl, inr, ℕ, ◌<◌, ◌==◌, ◌&&◌, Bool, true, List, [], ◌∷◌, ◌++◌, length, Option, Some, None, refl, sym, ap, subst, ◌∙◌, arith}
+use Rattle.std.proofs.Common.{◌≡◌, inl, inr, ℕ, ◌<◌, ◌==◌, ◌&&◌, Bool, true, List, [], ◌∷◌, ◌++◌, length, Option, Some, None, refl, ap, subst, ◌∙◌, arith}
 use Rattle.std.specs.Prelude.{All, IfSome, map, option_map, slice_get, unwrap_or}
 use Rattle.std.proofs.lemmas.Bool.{cases_eq}
 use Rattle.std.proofs.lemmas.Bool.Decides.{Decides-and, Decides-eqb}
@@ -7,7 +7,7 @@ use Rattle.std.proofs.lemmas.List.{length-map}
 use Rattle.std.proofs.lemmas.List.Elements.{All-get_or}
 use Rattle.std.proofs.lemmas.Option.{get_or_from_slice_get, slice_get-get_or, slice_get-map, slice_get_within}
 use Rattle.rd_ecl.specs.Kinds.{Kind, KindMethod, kind_of, kinds_of, method_of, methods_at, kind_slots_at}
-use Rattle.rd_ecl.specs.Specified.{SpecifiedKind, commutes, kind_at, no_kind, slots_at}
+use Rattle.rd_ecl.specs.Specified.{SpecifiedKind, kind_at, no_kind, slots_at}
 use Rattle.rd_ecl.specs.declared.kinds.Method.{Method}
 use Rattle.rd_event.specs.declared.events.Call.{Call as CallOf}
 use Rattle.rd_event.specs.declared.events.Event.{Event}
@@ -15,8 +15,6 @@ use Rattle.rd_event.specs.declared.events.Event.TheVariants.{Call}
 use Rattle.rd_order.specs.EventLists.{IsCallOf, WellFormed, calls, is_call_on}
 use Rattle.rd_order.specs.Order.{call_in}
 use Rattle.rd_order.proofs.EventListLemmas.{counted_once, formed_more}
-use Rattle.rd_ecl.proofs.CommuteLemmas.{symmetric}
-use Rattle.rd_detect.specs.Commuting.{Commute, calls_commute}
 
 -- ---- the kind of a call
 
@@ -78,9 +76,3 @@ one_kind roots es call other i formed at same = elim (cases_eq other.kind call.k
   where
     counted : other.object ≡ call.object → ((other.object == call.object) && (other.kind == other.kind)) ≡ true
     counted same = (Decides-and _ _ (Decides-eqb other.object call.object) (Decides-eqb other.kind other.kind)).1 (same, refl)
-
--- calls of one kind commute both ways
-pub commute_back : (kinds : List SpecifiedKind) (a b : CallOf) → a.kind ≡ b.kind → Commute kinds a b → Commute kinds b a
-unfolding calls_commute
-commute_back kinds a b alike holds =
-    symmetric (kind_at kinds b.kind) b.method a.method b.slots a.slots ∙ ap (λ number. commutes (kind_at kinds number) a.method a.slots b.method b.slots) (sym alike) ∙ holds

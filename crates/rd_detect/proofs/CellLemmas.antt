@@ -20,9 +20,9 @@ use Rattle.rd_points.specs.declared.points.Point.{Point}
 use Rattle.rd_store.specs.Stores.{IsCovered, cell_at}
 use Rattle.rd_store.specs.declared.Race.{Race}
 use Rattle.rd_store.specs.declared.Witness.{Witness}
-use Rattle.rd_detect.specs.Commuting.{Commute}
+use Rattle.rd_races.specs.Commuting.{Commute}
 use Rattle.rd_detect.specs.Detect.{Answers, AreTouched, Detecting, DetectorStandsFor, IsAnswer, IsCell, IsHeld, IsLatestOf, IsNextCall, IsUncovered, IsWitness, asked_points, tables_of, touched_points}
-use Rattle.rd_detect.specs.Races.{Racing}
+use Rattle.rd_races.specs.Races.{Racing}
 use Rattle.rd_detect.proofs.AskLemmas.{call_fits, one_kind}
 use Rattle.rd_detect.proofs.DeadLemmas.{dead_longer, dead_reaches}
 use Rattle.rd_detect.proofs.TouchLemmas.{MergedTell, apart, met, same_object}

@@ -6,7 +6,6 @@ pub mod DeadLemmas
 pub mod LookLemmas
 pub mod OverLemmas
 pub mod OwnLemmas
-pub mod RaceLemmas
 pub mod SweepLemmas
 pub mod TouchLemmas
 pub mod TouchingLemmas

@@ -17,7 +17,7 @@ use Rattle.rd_points.specs.Points.{value_at}
 use Rattle.rd_points.specs.Tables.{MeetsIn, PointTable, Tells, conflicts_at, touched}
 use Rattle.rd_points.specs.declared.points.Point.{Point}
 use Rattle.rd_points.specs.declared.touches.Touch.{Touch}
-use Rattle.rd_detect.specs.Commuting.{Commute, calls_commute}
+use Rattle.rd_races.specs.Commuting.{Commute, calls_commute}
 use Rattle.rd_detect.specs.Detect.{asked_points, conflicting_points, in_class, no_table, point_of, table_at, tables_of, touched_points}
 use Rattle.rd_detect.proofs.AskLemmas.{IsOfKind, of_kind}
 

@@ -20,8 +20,8 @@ use Rattle.rd_points.specs.declared.touches.Touch.{Touch}
 use Rattle.rd_store.specs.Stores.{IsCovered, IsSameStore, IsSwept, PointCells, cell_at, cell_count}
 use Rattle.rd_store.specs.declared.Race.{Race}
 use Rattle.rd_store.specs.declared.Witness.{Witness}
-use Rattle.rd_detect.specs.Commuting.{Commute}
-use Rattle.rd_detect.specs.Races.{Reported, IsLatest}
+use Rattle.rd_races.specs.Commuting.{Commute}
+use Rattle.rd_races.specs.Races.{Reported, IsLatest}
 
 -- ---- the state
 

@@ -1,5 +1,2 @@
-pub mod Commuting
 pub mod Detect
-pub mod Races
-pub mod RaceTests
 pub mod Seats

@@ -1,10 +1,10 @@
-//! Races: which calls race, and a detector that names the latest call that races with each.
+//! The detector: it names for each call the latest earlier one that races with it.
 #![tactic(auto)]
 
 mod asking;
 mod detector;
-mod races;
+mod laws;
 mod touching;
 
 pub use detector::Detector;
-pub use races::{law_of_commuting, law_of_detectors, law_of_races};
+pub use laws::law_of_detectors;

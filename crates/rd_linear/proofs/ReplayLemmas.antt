@@ -23,10 +23,10 @@ use Rattle.rd_object.specs.declared.shapes.Shape.{Shape}
 use Rattle.rd_order.specs.Order.{Linked, Reaches}
 use Rattle.rd_order.proofs.OrderLemmas.{reaches_rises}
 use Rattle.rd_replay.specs.Replays.{Recorded, calls_on, is_on, shape_by}
-use Rattle.rd_detect.specs.Commuting.{Commute, calls_commute}
+use Rattle.rd_races.specs.Commuting.{Commute, calls_commute}
 use Rattle.rd_linear.specs.Determinism.{AreOnObjects, Ends, NoneReported, held_behind, recorded_calls, recorded_in}
 use Rattle.rd_linear.specs.Orders.{exchanged}
-use Rattle.rd_detect.specs.Races.{Racing}
+use Rattle.rd_races.specs.Races.{Racing}
 use Rattle.rd_linear.proofs.ExchangeLemmas.{at_seam, exchanged_twice, got_exchanged, past_seam, same_reaches}
 use Rattle.rd_linear.proofs.MachineLemmas.{shapes_either}
 

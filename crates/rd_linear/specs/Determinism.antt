@@ -9,9 +9,9 @@ use Rattle.rd_object.specs.declared.shapes.Shape.{Shape}
 use Rattle.rd_order.specs.Order.{Reaches, call_in}
 use Rattle.rd_order.specs.EventLists.{WellFormed}
 use Rattle.rd_replay.specs.Replays.{Recorded, held_shape}
-use Rattle.rd_detect.specs.Commuting.{Commute}
+use Rattle.rd_races.specs.Commuting.{Commute}
 use Rattle.rd_linear.specs.Orders.{IsLinear, in_order}
-use Rattle.rd_detect.specs.Races.{Reported}
+use Rattle.rd_races.specs.Races.{Reported}
 
 -- the call of an event, as a replay takes it; the number of its line doesn't matter
 abbrev pub recorded_in : Event → Option Recorded

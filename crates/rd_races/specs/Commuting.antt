@@ -3,7 +3,7 @@
 use Rattle.std.specs.Prelude.{Bool, List}
 use Rattle.rd_ecl.specs.Specified.{SpecifiedKind, commutes, kind_at}
 use Rattle.rd_event.specs.declared.events.Call.{Call}
-use Rattle.rd_detect.specs.RaceTests.{Passing}
+use Rattle.rd_races.specs.RaceTests.{Passing}
 
 -- two calls of one of these kinds commute: the formula of their methods holds with the call of the method declared first on side 1,
 -- and for one method with either call there

@@ -1,5 +1,5 @@
 use Rattle.rd_detect.proofs.CellLemmas.{stands_quiet, stands_unbegun}
-use Rattle.rd_detect.proofs.races.law_of_detectors.Goals as goal
+use Rattle.rd_detect.proofs.laws.law_of_detectors.Goals as goal
 
 pub returns-clause-events : goal.returns-clause-events
 returns-clause-events c = stands_quiet

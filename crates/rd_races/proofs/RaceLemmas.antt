@@ -9,8 +9,8 @@ use Rattle.rd_event.specs.declared.events.Call.{Call as CallOf}
 use Rattle.rd_event.specs.declared.events.Event.{Event}
 use Rattle.rd_event.specs.declared.events.Event.TheVariants.{Fork, Join, Acquire, Release, Share, Unshare, Call}
 use Rattle.rd_order.proofs.OrderLemmas.{at_end, at_front, reaches_decides, reaches_longer, reaches_shorter}
-use Rattle.rd_detect.specs.RaceTests.{are_apart, is_racing, last_below, latest_of}
-use Rattle.rd_detect.specs.Races.{Racing, Reported, IsLatest}
+use Rattle.rd_races.specs.RaceTests.{are_apart, is_racing, last_below, latest_of}
+use Rattle.rd_races.specs.Races.{Racing, Reported, IsLatest}
 
 -- ---- the last number with a property
 

@@ -1,15 +1,11 @@
 //! The laws of races: what their definitions say, proved for every list of events.
-ghost use Rattle.std.specs.Prelude.{◌≡◌, ◌≢◌, ◌↔◌, Bool, ℕ, ◌<◌, List, [], ◌∷◌, ◌++◌, length, MatchOption, IsTrue};
-ghost use Rattle.rd_detect.specs.Detect.{Detecting, DetectorStandsFor};
-ghost use Rattle.rd_ecl.specs.Kinds.{kinds_of};
-ghost use Rattle.rd_order.specs.EventLists.{WellFormedWith};
-ghost use Rattle.rd_detect.specs.Commuting.{Commute};
+ghost use Rattle.std.specs.Prelude.{◌≡◌, ◌↔◌, Bool, ℕ, ◌<◌, List, ◌++◌, length, MatchOption, IsTrue};
+ghost use Rattle.rd_races.specs.Commuting.{Commute};
 ghost use Rattle.rd_ecl.specs.Specified.{SpecifiedKind};
-ghost use Rattle.rd_detect.specs.RaceTests.{Passing, is_racing, latest_of};
-ghost use Rattle.rd_detect.specs.Races.{Racing, Reported, IsLatest};
+ghost use Rattle.rd_races.specs.RaceTests.{Passing, is_racing, latest_of};
+ghost use Rattle.rd_races.specs.Races.{Racing, Reported, IsLatest};
 ghost use Rattle.rd_event.specs.declared.events.Call.{Call as CallOf};
 ghost use Rattle.rd_event.specs.declared.events.Event.{Event as EventOf};
-ghost use Rattle.rd_event.specs.declared.events.Event.TheVariants as event;
 
 /// Whichever calls commute: a test tells whether calls race, and another which is the latest that races with a call, of which there
 /// is one at most. Events that are appended leave races as they are.
@@ -30,19 +26,4 @@ pub fn law_of_races()
 pub fn law_of_commuting()
     ensures { (kinds : List SpecifiedKind) (a b : CallOf) → a.kind ≡ b.kind → Commute kinds a b →
         Commute kinds b a }
-{}
-
-/// What a detector stands for: an event that is no call leaves it, and it stands for the list with that event too; before the first event the roots may be
-/// others.
-pub fn law_of_detectors()
-    ensures events { (kinds : List SpecifiedKind) (detecting : Detecting) (roots : ℕ → Bool)
-        (lines : List ℕ) (es : List EventOf) (line : ℕ) (e : EventOf) →
-        ((call : CallOf) → e ≢ event.Call call) →
-        WellFormedWith (kinds_of kinds) roots (es ++ e ∷ []) →
-        DetectorStandsFor kinds detecting roots lines es →
-        DetectorStandsFor kinds detecting roots (lines ++ line ∷ []) (es ++ e ∷ []) }
-    ensures roots { (kinds : List SpecifiedKind) (detecting : Detecting) (roots others : ℕ → Bool) →
-        WellFormedWith (kinds_of kinds) others [] →
-        DetectorStandsFor kinds detecting roots [] [] →
-        DetectorStandsFor kinds detecting others [] [] }
 {}

@@ -1,8 +1,8 @@
 use Rattle.std.proofs.Common.{Bool, Decides}
 use Rattle.rd_event.specs.declared.events.Call.{Call as CallOf}
-use Rattle.rd_detect.specs.RaceTests.{Passing}
-use Rattle.rd_detect.proofs.RaceLemmas.{latest_is, one_latest, racing_decides, racing_longer, racing_shorter}
-use Rattle.rd_detect.proofs.races.law_of_races.Goals as goal
+use Rattle.rd_races.specs.RaceTests.{Passing}
+use Rattle.rd_races.proofs.RaceLemmas.{latest_is, one_latest, racing_decides, racing_longer, racing_shorter}
+use Rattle.rd_races.proofs.laws.law_of_races.Goals as goal
 
 passing : (commuting : CallOf → CallOf → Bool) (a b : CallOf) → Decides (commuting a b) (Passing commuting a b)
 passing commuting a b = (λ h. h, λ h. h)

@@ -1,0 +1,2 @@
+pub mod CommutingLemmas
+pub mod RaceLemmas

@@ -1,0 +1,3 @@
+pub mod Commuting
+pub mod RaceTests
+pub mod Races
