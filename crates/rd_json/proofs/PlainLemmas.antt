@@ -17,8 +17,8 @@ use Rattle.rd_ecl.specs.declared.formulas.Reason.{Reason}
 use Rattle.rd_ecl.specs.declared.formulas.Reason.TheVariants.{CrossRelation, NotOverCross, OrOfCross}
 use Rattle.rd_print.specs.Printed.{pair_text}
 use Rattle.rd_reading.specs.RefusedTexts.{reason_text, spec_cause_text}
-use Rattle.rd_reading.specs.declared.spec_causes.SpecCause.{SpecCause}
-use Rattle.rd_reading.specs.declared.spec_causes.SpecCause.TheVariants.{Header, Syntax, UnknownMethod, UnknownVariable, NoVariable, OutsideFragment, Duplicate, MissingPair, KindTaken, Limit}
+use Rattle.rd_pairs.specs.declared.spec_causes.SpecCause.{SpecCause}
+use Rattle.rd_pairs.specs.declared.spec_causes.SpecCause.TheVariants.{Header, Syntax, UnknownMethod, UnknownVariable, NoVariable, OutsideFragment, Duplicate, MissingPair, KindTaken, Limit}
 use Rattle.rd_report.specs.Races.{formula_line, formula_words}
 use Rattle.rd_report.specs.Writing.{ArePlain}
 use Rattle.rd_report.proofs.PlainLemmas.{decimal_plain, limit_cause_plain, name_plain, plain_both, written_plain}

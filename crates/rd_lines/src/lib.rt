@@ -17,3 +17,4 @@ mod words;
 pub use forms::{Form, FormRefused, Stage};
 pub use laws::law_of_lines;
 pub use spec_lines::read_form;
+pub use words::token_is;

@@ -20,8 +20,8 @@ fn plain_bytes<'a>(line: &'a [u8], token: &Token) -> Option<&'a [u8]>
     }
 }
 
-// Is the token this word?
-pub(crate) fn token_is(line: &[u8], token: &Token, word: &str) -> bool
+/// Is the token this word?
+pub fn token_is(line: &[u8], token: &Token, word: &str) -> bool
     requires { LiesIn line.now token.now }
     ensures { IsTrue result ↔ (word_at line.now token.now ≡ plain word.now) }
 {

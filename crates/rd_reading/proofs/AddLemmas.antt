@@ -5,7 +5,7 @@ use Rattle.std.proofs.lemmas.List.{length-map}
 use Rattle.rd_reading.specs.declared.known.Block.{Block}
 use Rattle.rd_reading.specs.declared.known.Known.{Known}
 use Rattle.rd_reading.specs.Adding.{FormAdds, with_open}
-use Rattle.rd_reading.specs.Causes.{SaysPair}
+use Rattle.rd_pairs.specs.PairCauses.{SaysPair}
 use Rattle.rd_reading.specs.Known.{kind_in, stage_in, stage_of}
 use Rattle.rd_ecl.specs.Formulas.{Tree}
 use Rattle.rd_ecl.specs.Specified.{MayAdd, SpecifiedKind, names_of, with_method, with_pair}

@@ -18,12 +18,13 @@ use Rattle.rd_lines.specs.Lines.{HasFewWords, RightLine, SaidForm, words_of}
 use Rattle.rd_lines.specs.Lines.{kind as kind_said, method as method_said, commute as commute_said}
 use Rattle.rd_reading.specs.Adding.{AcceptsSpecLine, Adds, FormAdds, adds_form, adds_header}
 use Rattle.rd_reading.specs.Blocks.{IsBlock, IsHeaderLine, IsOfBlocks, SaidPair, SaysKind, SaysMethod, SaysPairOf, WithoutSkipped, kept_first, none_left, passed_over}
-use Rattle.rd_reading.specs.Causes.{FormHas, HasNone, form_has, line_has, place_at}
+use Rattle.rd_reading.specs.Causes.{FormHas, form_has, line_has}
+use Rattle.rd_pairs.specs.Causes.{HasNone, place_at}
 use Rattle.rd_reading.specs.Known.{kind_in, kind_without, kinds_so_far, nothing, open_kinds, open_method_names, stage_in, stage_of}
 use Rattle.rd_reading.specs.Texts.{ReadsLines, SpecSays, no_more, skips, takes}
 use Rattle.rd_reading.specs.declared.known.Block.{Block}
 use Rattle.rd_reading.specs.declared.known.Known.{Known}
-use Rattle.rd_reading.specs.declared.spec_causes.SpecCause.TheVariants.{Header, Limit, MissingPair}
+use Rattle.rd_pairs.specs.declared.spec_causes.SpecCause.TheVariants.{Header, Limit, MissingPair}
 use Rattle.rd_reading.proofs.DraftLemmas.{AreDrafts, accepted_drafts, may_set, none_drafted, open_draft}
 use Rattle.rd_reading.proofs.LineLemmas.{short_words}
 use Rattle.rd_reading.proofs.SearchLemmas.{whole_of}

@@ -22,24 +22,26 @@ use Rattle.rd_tokens.specs.declared.sorts.Token.{Token}
 use Rattle.rd_tokens.specs.Tokens.{AreTokens, IsTokenOf, LiesIn}
 use Rattle.rd_tokens.proofs.CutLemmas.{each_is, each_lies, some_tokens}
 use Rattle.rd_reading.specs.Adding.{AcceptsSpecLine, FormAdds, adds_form, adds_header, with_header, with_kind, with_open}
-use Rattle.rd_reading.specs.Causes.{AreNumbers, FormHas, Has, HasManyPredicates, HasManyTokens, HasNone, IsFirstOf, IsFirstRepeated, KindHas, MethodHas, PairHas, SaysPair, header_words, place_at, rank, scope_of, variable_token}
-use Rattle.rd_reading.specs.Known.{kind_in, kinds_so_far, open_method_names, specified_kind_names, stage_of, variables_at}
-use Rattle.rd_reading.specs.PairJudging.{IsFirstPassed, LateHas, Passes}
-use Rattle.rd_reading.specs.declared.judging.refused.SpecLineRefused.TheVariants.{Fault as FaultRefused}
+use Rattle.rd_reading.specs.Causes.{FormHas, Has, HasManyTokens, IsFirstRepeated, KindHas, MethodHas, header_words, variable_token}
+use Rattle.rd_pairs.specs.PairCauses.{AreNumbers, HasManyPredicates, PairHas, SaysPair, scope_of, variables_at}
+use Rattle.rd_pairs.specs.Causes.{HasNone, IsFirstOf, place_at, rank}
+use Rattle.rd_reading.specs.Known.{kind_in, kinds_so_far, open_method_names, specified_kind_names, stage_of}
+use Rattle.rd_pairs.specs.PairJudging.{IsFirstPassed, LateHas, Passes}
+use Rattle.rd_pairs.specs.declared.refused.SpecLineRefused.TheVariants.{Fault as FaultRefused}
 use Rattle.rd_reading.specs.declared.known.Known.{Known}
-use Rattle.rd_reading.specs.declared.spec_causes.SpecCause.{SpecCause}
-use Rattle.rd_reading.specs.declared.spec_causes.SpecCause.TheVariants.{Duplicate, Header, KindTaken, Limit, MissingPair, NoVariable, OutsideFragment, Syntax, UnknownMethod, UnknownVariable}
+use Rattle.rd_pairs.specs.declared.spec_causes.SpecCause.{SpecCause}
+use Rattle.rd_pairs.specs.declared.spec_causes.SpecCause.TheVariants.{Duplicate, Header, KindTaken, Limit, MissingPair, NoVariable, OutsideFragment, Syntax, UnknownMethod, UnknownVariable}
 use Rattle.rd_reading.proofs.DraftLemmas.{AreDrafts, open_draft}
 use Rattle.rd_reading.proofs.FormLemmas.{decided, is_word, judged_words}
-use Rattle.rd_reading.proofs.JudgeLemmas.{late_first, late_none, refused_first, unknown_method}
+use Rattle.rd_pairs.proofs.JudgeLemmas.{late_first, late_none, refused_first, unknown_method}
 use Rattle.rd_reading.proofs.KindLemmas.{known_kind, many_kinds, missing_kind, right_kind, taken_kind}
-use Rattle.rd_reading.proofs.LimitLemmas.{passed_first, passed_none}
+use Rattle.rd_pairs.proofs.LimitLemmas.{passed_first, passed_none}
 use Rattle.rd_reading.proofs.LineLemmas.{form_first, form_none, many_tokens, no_header, right_header, short_words, wrong_line}
-use Rattle.rd_reading.proofs.MarkLemmas.{are_marks, behind_four}
+use Rattle.rd_pairs.proofs.MarkLemmas.{are_marks, behind_four}
 use Rattle.rd_reading.proofs.MethodLemmas.{judged_method as method_judged, known_method, variable_twice}
-use Rattle.rd_reading.proofs.NumberLemmas.{AreDifferent, contained, number_within}
+use Rattle.rd_pairs.proofs.NumberLemmas.{AreDifferent, contained, number_within}
 use Rattle.rd_reading.proofs.OneLemmas.{name_more, none_apart, stands_there, take_front}
-use Rattle.rd_reading.proofs.ScopeLemmas.{variables_are}
+use Rattle.rd_pairs.proofs.ScopeLemmas.{variables_are}
 use Rattle.rd_reading.proofs.SearchLemmas.{lacks_or_whole}
 use Rattle.rd_reading.proofs.TroubleLemmas.{IsTroubledBy, by_bare, by_outside, by_variable, contained_at, troubled_or}
 

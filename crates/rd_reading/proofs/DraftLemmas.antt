@@ -23,16 +23,18 @@ use Rattle.rd_lines.specs.declared.forms.Stage.TheVariants.{Outside as OutsideSt
 use Rattle.rd_lines.specs.Lines.{IsOutOfOrder, RightLine, SaidForm, words_of}
 use Rattle.rd_lines.specs.Lines.{kind as kind_said, method as method_said, commute as commute_said}
 use Rattle.rd_reading.specs.Adding.{AcceptsSpecLine, Adds, FormAdds, adds_form, adds_header}
-use Rattle.rd_reading.specs.Causes.{FormHas, HasNone, MethodHas, PairHas, SaysPair, form_has, scope_of}
+use Rattle.rd_reading.specs.Causes.{FormHas, MethodHas, form_has}
+use Rattle.rd_pairs.specs.Causes.{HasNone}
+use Rattle.rd_pairs.specs.PairCauses.{PairHas, SaysPair, scope_of}
 use Rattle.rd_reading.specs.Known.{kind_in, nothing, open_kinds, open_method_names, stage_in, stage_of}
 use Rattle.rd_reading.specs.Texts.{ReadsLines, SpecSays, no_more, skips, takes}
 use Rattle.rd_reading.specs.declared.known.Block.{Block}
 use Rattle.rd_reading.specs.declared.known.Known.{Known}
-use Rattle.rd_reading.specs.declared.spec_causes.SpecCause.TheVariants.{Duplicate, Limit, MissingPair, OutsideFragment}
-use Rattle.rd_reading.proofs.MeaningLemmas.{given_values}
-use Rattle.rd_reading.proofs.NumberLemmas.{AreDifferent, in_order, number_within}
+use Rattle.rd_pairs.specs.declared.spec_causes.SpecCause.TheVariants.{Duplicate, Limit, MissingPair, OutsideFragment}
+use Rattle.rd_pairs.proofs.MeaningLemmas.{given_values}
+use Rattle.rd_pairs.proofs.NumberLemmas.{AreDifferent, in_order, number_within}
 use Rattle.rd_reading.proofs.OneLemmas.{never_repeated, none_apart}
-use Rattle.rd_reading.proofs.ScopeLemmas.{slots_are}
+use Rattle.rd_pairs.proofs.ScopeLemmas.{slots_are}
 use Rattle.rd_reading.proofs.SearchLemmas.{whole_of}
 use Rattle.rd_tokens.specs.declared.sorts.Token.{Token}
 

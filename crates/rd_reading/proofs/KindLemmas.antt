@@ -2,10 +2,11 @@
 use Rattle.std.proofs.Common.{◌≡◌, ◌<◌, ◌≤◌, ℕ, true, false, List, length, refl, arith}
 use Rattle.std.specs.Prelude.{Contains}
 use Rattle.rd_base.specs.declared.limits.LimitName.TheVariants.{Kinds}
-use Rattle.rd_reading.specs.declared.spec_causes.SpecCause.{SpecCause}
-use Rattle.rd_reading.specs.declared.spec_causes.SpecCause.TheVariants.{Duplicate, KindTaken, Limit, MissingPair}
+use Rattle.rd_pairs.specs.declared.spec_causes.SpecCause.{SpecCause}
+use Rattle.rd_pairs.specs.declared.spec_causes.SpecCause.TheVariants.{Duplicate, KindTaken, Limit, MissingPair}
 use Rattle.rd_reading.specs.declared.known.Known.{Known}
-use Rattle.rd_reading.specs.Causes.{HasNone, IsFirstOf, KindHas, LacksPair, place_at, rank}
+use Rattle.rd_reading.specs.Causes.{KindHas, LacksPair}
+use Rattle.rd_pairs.specs.Causes.{HasNone, IsFirstOf, place_at, rank}
 use Rattle.rd_reading.specs.Known.{kind_in, specified_kind_names, kinds_so_far}
 use Rattle.rd_ecl.specs.Specified.{IsWhole}
 use Rattle.rd_ecl.specs.Variables.{is_among}

@@ -4,10 +4,11 @@ use Rattle.std.specs.Prelude.{IfErr, OnOk}
 use Rattle.std.proofs.Math.Nat.{lt_of_not-le}
 use Rattle.std.proofs.lemmas.List.{take-append-drop}
 use Rattle.rd_base.specs.declared.limits.LimitName.TheVariants.{Arguments, FormulaDepth, Kinds, Methods, Nodes, Predicates, Tokens}
-use Rattle.rd_reading.specs.declared.spec_causes.SpecCause.{SpecCause}
-use Rattle.rd_reading.specs.declared.spec_causes.SpecCause.TheVariants.{Duplicate, Header, KindTaken, Limit, MissingPair, NoVariable, OutsideFragment, Syntax, UnknownMethod, UnknownVariable}
+use Rattle.rd_pairs.specs.declared.spec_causes.SpecCause.{SpecCause}
+use Rattle.rd_pairs.specs.declared.spec_causes.SpecCause.TheVariants.{Duplicate, Header, KindTaken, Limit, MissingPair, NoVariable, OutsideFragment, Syntax, UnknownMethod, UnknownVariable}
 use Rattle.rd_reading.specs.declared.known.Known.{Known}
-use Rattle.rd_reading.specs.Causes.{FormHas, Has, HasManyTokens, HasNone, IsFirstOf, LineHas, form_has, header_words, line_has, place_at, rank}
+use Rattle.rd_reading.specs.Causes.{FormHas, Has, HasManyTokens, LineHas, form_has, header_words, line_has}
+use Rattle.rd_pairs.specs.Causes.{HasNone, IsFirstOf, place_at, rank, IsSpecLineRefused}
 use Rattle.rd_reading.specs.Adding.{AcceptsSpecLine, Adds}
 use Rattle.rd_reading.specs.Known.{kind_in, open_method_names, stage_of}
 use Rattle.rd_ecl.specs.declared.kinds.Method.{Method}
@@ -17,9 +18,9 @@ use Rattle.rd_lines.specs.Lines.{HasFewWords, IsWrongBehind, RightLine, SaidForm
 use Rattle.rd_lines.proofs.LawLemmas.{one_form, right_line, same_bytes}
 use Rattle.rd_tokens.specs.declared.sorts.Token.{Token}
 use Rattle.rd_tokens.specs.Tokens.{AreTokens}
-use Rattle.rd_reading.specs.declared.judging.refused.SpecLineRefused.{SpecLineRefused}
-use Rattle.rd_reading.specs.declared.judging.refused.SpecLineRefused.TheVariants.{Fault, NoMemory}
-use Rattle.rd_reading.specs.Judging.{LineRefuses, IsSpecLineRefused}
+use Rattle.rd_pairs.specs.declared.refused.SpecLineRefused.{SpecLineRefused}
+use Rattle.rd_pairs.specs.declared.refused.SpecLineRefused.TheVariants.{Fault, NoMemory}
+use Rattle.rd_reading.specs.Judging.{LineRefuses}
 use Rattle.rd_base.specs.declared.limits.TheConstants.{MOST_TOKENS}
 
 at_most : (n m : ℕ) → ¬ (m < n) → n ≤ m

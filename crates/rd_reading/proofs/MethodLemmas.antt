@@ -2,10 +2,11 @@
 use Rattle.std.proofs.Common.{◌≡◌, ◌<◌, ◌≤◌, ℕ, true, false, List, [], ◌∷◌, ◌++◌, length, refl, arith, inl, inr, Option, None, Some}
 use Rattle.std.specs.Prelude.{Contains, IfNone, IfSome}
 use Rattle.rd_base.specs.declared.limits.LimitName.TheVariants.{Arguments, Methods}
-use Rattle.rd_reading.specs.declared.spec_causes.Fault.{Fault}
-use Rattle.rd_reading.specs.declared.spec_causes.SpecCause.{SpecCause}
-use Rattle.rd_reading.specs.declared.spec_causes.SpecCause.TheVariants.{Duplicate, Limit}
-use Rattle.rd_reading.specs.Causes.{HasNone, IsFirstOf, IsFirstRepeated, Judged, MethodHas, place_at, rank, variable_token}
+use Rattle.rd_pairs.specs.declared.spec_causes.Fault.{Fault}
+use Rattle.rd_pairs.specs.declared.spec_causes.SpecCause.{SpecCause}
+use Rattle.rd_pairs.specs.declared.spec_causes.SpecCause.TheVariants.{Duplicate, Limit}
+use Rattle.rd_reading.specs.Causes.{IsFirstRepeated, MethodHas, variable_token}
+use Rattle.rd_pairs.specs.Causes.{HasNone, IsFirstOf, Judged, place_at, rank}
 use Rattle.rd_ecl.specs.Specified.{SpecifiedKind, names_of}
 use Rattle.rd_ecl.specs.Variables.{is_among}
 use Rattle.rd_ecl.proofs.VariableLemmas.{among_decides}

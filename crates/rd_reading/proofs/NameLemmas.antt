@@ -4,9 +4,10 @@ use Rattle.std.specs.Prelude.{All, Contains}
 use Rattle.std.proofs.lemmas.List.{get_or-map, length-map, map-append}
 use Rattle.std.proofs.lemmas.List.Elements.{All-push}
 use Rattle.rd_reading.specs.Adding.{AcceptsSpecLine, Adds, FormAdds, adds_form, adds_header, with_kind, with_open}
-use Rattle.rd_reading.specs.Causes.{FormHas, HasNone, KindHas, form_has}
+use Rattle.rd_reading.specs.Causes.{FormHas, KindHas, form_has}
+use Rattle.rd_pairs.specs.Causes.{HasNone}
 use Rattle.rd_reading.specs.Known.{kind_in, specified_kind_names, kind_without, kinds_so_far, open_method_names, nothing, open_kinds, stage_in, stage_of}
-use Rattle.rd_reading.specs.declared.spec_causes.SpecCause.TheVariants.{Duplicate, KindTaken, Limit}
+use Rattle.rd_pairs.specs.declared.spec_causes.SpecCause.TheVariants.{Duplicate, KindTaken, Limit}
 use Rattle.rd_reading.specs.declared.known.Block.{Block}
 use Rattle.rd_reading.specs.declared.known.Known.{Known}
 use Rattle.rd_base.specs.declared.limits.LimitName.TheVariants.{Kinds}
@@ -14,7 +15,7 @@ use Rattle.rd_ecl.specs.Specified.{SpecifiedKind, with_method, with_pair}
 use Rattle.rd_lines.specs.Lines.{RightLine, SaidForm, words_of}
 use Rattle.rd_lines.specs.Lines.{kind as kind_said, method as method_said, commute as commute_said}
 use Rattle.rd_lines.specs.declared.forms.Stage.TheVariants.{Outside, Methods}
-use Rattle.rd_reading.proofs.NumberLemmas.{AreDifferent}
+use Rattle.rd_pairs.proofs.NumberLemmas.{AreDifferent}
 use Rattle.rd_tokens.specs.declared.sorts.Token.{Token}
 use Rattle.rd_reading.specs.Texts.{HasNewNames, ReadsLines, SpecSays, no_more, skips, takes}
 use Rattle.rd_reading.proofs.OneLemmas.{name_more}

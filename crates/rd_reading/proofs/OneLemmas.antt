@@ -6,9 +6,11 @@ use Rattle.std.proofs.lemmas.List.{append_assoc, append-nil}
 use Rattle.std.proofs.lemmas.Map.Keys.{IsDistinct-push}
 use Rattle.std.proofs.lemmas.Map.Made.{AllPairs-from_IsDistinct, IsDistinct-from_AllPairs}
 use Rattle.rd_reading.specs.Adding.{AcceptsSpecLine, Adds, FormAdds, adds_form, adds_header, with_open}
-use Rattle.rd_reading.specs.Causes.{EndHas, FormHas, Has, HasNone, IsFirstRepeated, form_has, scope_of}
-use Rattle.rd_reading.specs.Known.{kind_in, kind_without, kinds_so_far, open_method_names, nothing, stage_of, variables_at}
-use Rattle.rd_reading.specs.declared.spec_causes.SpecCause.TheVariants.{Duplicate}
+use Rattle.rd_reading.specs.Causes.{EndHas, FormHas, Has, IsFirstRepeated, form_has}
+use Rattle.rd_pairs.specs.Causes.{HasNone}
+use Rattle.rd_pairs.specs.PairCauses.{scope_of, variables_at}
+use Rattle.rd_reading.specs.Known.{kind_in, kind_without, kinds_so_far, open_method_names, nothing, stage_of}
+use Rattle.rd_pairs.specs.declared.spec_causes.SpecCause.TheVariants.{Duplicate}
 use Rattle.rd_reading.specs.declared.known.Known.{Known}
 use Rattle.rd_ecl.specs.declared.kinds.Method.{Method}
 use Rattle.rd_ecl.specs.Formulas.{Tree}
@@ -23,8 +25,8 @@ use Rattle.rd_tokens.proofs.CutLemmas.{one_list}
 use Rattle.rd_reading.specs.declared.parsing.SpecRefused.{SpecRefused}
 use Rattle.rd_lines.specs.Lines.{SaidForm, words_of}
 use Rattle.rd_lines.specs.Lines.{kind as kind_said, method as method_said, commute as commute_said}
-use Rattle.rd_reading.proofs.NumberLemmas.{AreDifferent, one_pair}
-use Rattle.rd_reading.proofs.MeaningLemmas.{one_formula}
+use Rattle.rd_pairs.proofs.NumberLemmas.{AreDifferent, one_pair}
+use Rattle.rd_pairs.proofs.MeaningLemmas.{one_formula}
 use Rattle.rd_tokens.specs.declared.sorts.Token.{Token}
 use Rattle.rd_reading.specs.Texts.{AreLines, ReadsLines, IsLine, IsSkipped, SpecSays, IsRefusedAtLine, IsRefusedAtEnd, IsSpecRefused, no_line, last_line, line_first, no_more, skips, takes}
 

@@ -3,15 +3,16 @@ use Rattle.std.proofs.Common.{◌≡◌, ℕ, ◌+◌, ◌<◌, ◌≤◌, List,
 use Rattle.std.proofs.lemmas.List.{append_assoc, append-nil}
 use Rattle.rd_reading.specs.declared.known.Known.{Known}
 use Rattle.rd_base.specs.declared.limits.LimitName.TheVariants.{SpecText}
-use Rattle.rd_reading.specs.Causes.{EndHas, HasNone}
-use Rattle.rd_reading.specs.declared.spec_causes.SpecCause.TheVariants.{Limit}
+use Rattle.rd_reading.specs.Causes.{EndHas}
+use Rattle.rd_pairs.specs.Causes.{HasNone}
+use Rattle.rd_pairs.specs.declared.spec_causes.SpecCause.TheVariants.{Limit}
 use Rattle.rd_reading.specs.Known.{kinds_so_far, nothing}
 use Rattle.rd_ecl.specs.Specified.{SpecifiedKind}
 use Rattle.rd_reading.specs.Judging.{EndRefuses}
 use Rattle.rd_reading.proofs.CuttingLemmas.{some_lines}
 use Rattle.rd_reading.specs.declared.parsing.ParseRefused.TheVariants.{Spec}
-use Rattle.rd_reading.specs.declared.judging.refused.SpecLineRefused.{SpecLineRefused}
-use Rattle.rd_reading.specs.declared.judging.refused.SpecLineRefused.TheVariants.{Fault, NoMemory}
+use Rattle.rd_pairs.specs.declared.refused.SpecLineRefused.{SpecLineRefused}
+use Rattle.rd_pairs.specs.declared.refused.SpecLineRefused.TheVariants.{Fault, NoMemory}
 use Rattle.rd_reading.specs.Reading.{TakesLine, Stops, IsHalfRead, IsRead, at_line}
 use Rattle.rd_reading.specs.Texts.{AreLines, ReadsLines, IsParseRefused, SpecSays, no_line, no_more, skips, takes}
 use Rattle.rd_base.specs.declared.limits.TheConstants.{MOST_SPEC_BYTES}

@@ -24,16 +24,18 @@ use Rattle.rd_tokens.proofs.CutLemmas.{one_list}
 use Rattle.rd_tokens.specs.declared.sorts.Token.{Token}
 use Rattle.rd_tokens.specs.Tokens.{AreTokens}
 use Rattle.rd_reading.specs.Adding.{AcceptsSpecLine}
-use Rattle.rd_reading.specs.Causes.{AreNumbers, EndHas, FormHas, Has, IsFirstMissing, IsFirstOf, IsFirstRepeated, IsUnknownAt, KindHas, LacksPair, LineHas, MethodHas, PairHas, RepeatsAt, form_has, line_has, place_at, rank, scope_of, variable_token}
+use Rattle.rd_reading.specs.Causes.{EndHas, FormHas, Has, IsFirstMissing, IsFirstRepeated, KindHas, LacksPair, LineHas, MethodHas, RepeatsAt, form_has, line_has, variable_token}
+use Rattle.rd_pairs.specs.PairCauses.{AreNumbers, IsUnknownAt, PairHas, scope_of}
+use Rattle.rd_pairs.specs.Causes.{IsFirstOf, place_at, rank}
 use Rattle.rd_reading.specs.Known.{kind_in, nothing, open_method_names, stage_of}
 use Rattle.rd_reading.specs.Texts.{IsRefusedAtEnd, IsRefusedAtLine, IsSkipped, IsSpecRefused, ReadsLines, no_more, skips, takes}
 use Rattle.rd_reading.specs.declared.known.Known.{Known}
 use Rattle.rd_reading.specs.declared.parsing.SpecRefused.{SpecRefused}
-use Rattle.rd_reading.specs.declared.spec_causes.SpecCause.{SpecCause}
-use Rattle.rd_reading.specs.declared.spec_causes.SpecCause.TheVariants.{Duplicate, Header, KindTaken, Limit, MissingPair, NoVariable, OutsideFragment, Syntax, UnknownMethod, UnknownVariable}
+use Rattle.rd_pairs.specs.declared.spec_causes.SpecCause.{SpecCause}
+use Rattle.rd_pairs.specs.declared.spec_causes.SpecCause.TheVariants.{Duplicate, Header, KindTaken, Limit, MissingPair, NoVariable, OutsideFragment, Syntax, UnknownMethod, UnknownVariable}
 use Rattle.rd_reading.proofs.LineLemmas.{least_form}
-use Rattle.rd_reading.proofs.MeaningLemmas.{one_formula}
-use Rattle.rd_reading.proofs.NumberLemmas.{AreDifferent, one_pair}
+use Rattle.rd_pairs.proofs.MeaningLemmas.{one_formula}
+use Rattle.rd_pairs.proofs.NumberLemmas.{AreDifferent, one_pair}
 use Rattle.rd_reading.proofs.OneLemmas.{AreApart, IsApart, accepted_apart, apart_without, line_fine, lines_one, one_accepted, one_read}
 
 -- of causes of one rank there is one, at one place

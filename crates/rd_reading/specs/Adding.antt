@@ -3,7 +3,9 @@ use Rattle.std.specs.Prelude.{◌≡◌, ℕ, Bool, true, false, List, [], ◌�
 use Rattle.rd_ecl.specs.Formulas.{Tree}
 use Rattle.rd_ecl.specs.Specified.{SpecifiedKind, with_method, with_pair}
 use Rattle.rd_reading.specs.declared.known.Known.{Known}
-use Rattle.rd_reading.specs.Causes.{Has, HasNone, SaysPair, header_words}
+use Rattle.rd_reading.specs.Causes.{Has, header_words}
+use Rattle.rd_pairs.specs.Causes.{HasNone}
+use Rattle.rd_pairs.specs.PairCauses.{SaysPair}
 use Rattle.rd_reading.specs.Known.{kind_in, kind_without, kinds_so_far, open_method_names, stage_of}
 use Rattle.rd_lines.specs.Lines.{RightLine, SaidForm, kind as kind_said, method as method_said, commute as commute_said, words_of}
 use Rattle.rd_tokens.specs.declared.sorts.Token.{Token}

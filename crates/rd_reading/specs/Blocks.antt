@@ -8,7 +8,8 @@ use Rattle.rd_ecl.specs.Specified.{SpecifiedKind, formula_at, names_of}
 use Rattle.rd_grammar.specs.Grammar.{ParsedTree}
 use Rattle.rd_lines.specs.declared.forms.Stage.TheVariants.{Methods, Pairs}
 use Rattle.rd_lines.specs.Lines.{HasFewWords, IsCommuteLine, IsKindLine, IsMethodLine, words_of}
-use Rattle.rd_reading.specs.Causes.{SaysPair, header_words}
+use Rattle.rd_reading.specs.Causes.{header_words}
+use Rattle.rd_pairs.specs.PairCauses.{SaysPair}
 use Rattle.rd_reading.specs.Texts.{AreLines, IsSkipped}
 use Rattle.rd_tokens.specs.declared.sorts.Token.{Token}
 use Rattle.rd_tokens.specs.Tokens.{AreTokens}

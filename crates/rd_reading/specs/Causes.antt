@@ -1,31 +1,19 @@
 -- Why a line of a specification's text is refused: this project's profile. Each cause is defined apart from the others, with
 -- the place of the leftmost token that has it; of the causes of a line the first is told.
-use Rattle.std.specs.Prelude.{◌≡◌, ◌≢◌, ◌<◌, ◌≤◌, ◌+◌, ◌⊎◌, ◌==◌, ℕ, true, false, List, [], ◌∷◌, ◌++◌, length, take, drop, codes, slice_get, unwrap_or, option_map, AllPairs, Contains, Option, Some, None, IsSome, if◌then◌else◌}
-use Rattle.rd_base.specs.declared.limits.LimitName.{LimitName}
-use Rattle.rd_base.specs.declared.limits.LimitName.TheVariants.{Tokens, Kinds, Methods as MethodLimit, Arguments, Nodes, FormulaDepth, Predicates}
-use Rattle.rd_ecl.specs.Formulas.{Tree, nodes, levels}
-use Rattle.rd_ecl.specs.Specified.{SpecifiedKind, formula_at, method_predicates, names_of, with_pair}
-use Rattle.rd_reading.specs.declared.spec_causes.SpecCause.{SpecCause}
-use Rattle.rd_reading.specs.declared.spec_causes.SpecCause.TheVariants.{Header, Syntax, UnknownMethod, UnknownVariable, NoVariable, OutsideFragment, Duplicate, MissingPair, KindTaken, Limit}
-use Rattle.rd_reading.specs.declared.spec_causes.Fault.{Fault}
+use Rattle.std.specs.Prelude.{◌≡◌, ◌≢◌, ◌<◌, ◌≤◌, ◌+◌, ◌⊎◌, ◌==◌, ℕ, false, true, List, [], ◌∷◌, ◌++◌, length, take, codes, slice_get, AllPairs, Contains, Some, None, IsSome, if◌then◌else◌}
+use Rattle.rd_base.specs.declared.limits.LimitName.TheVariants.{Tokens, Kinds, Methods as MethodLimit, Arguments}
+use Rattle.rd_ecl.specs.Specified.{SpecifiedKind, formula_at, names_of}
 use Rattle.rd_reading.specs.declared.known.Known.{Known}
-use Rattle.rd_reading.specs.Known.{kind_in, specified_kind_names, kinds_so_far, open_method_names, stage_of, variables_at}
-use Rattle.rd_formulas.specs.declared.reading.FormulaRefused.{FormulaRefused}
-use Rattle.rd_formulas.specs.declared.reading.FormulaRefused.TheVariants as formula
-use Rattle.rd_formulas.specs.declared.scope.Scope.{Scope}
-use Rattle.rd_formulas.specs.Meaning.{Gives}
-use Rattle.rd_formulas.specs.Reading.{IsTroubled}
-use Rattle.rd_formulas.specs.Scope.{MeansAt}
-use Rattle.rd_grammar.specs.Grammar.{ParsedTree}
+use Rattle.rd_reading.specs.Known.{kind_in, specified_kind_names, kinds_so_far, open_method_names, stage_of}
 use Rattle.rd_lines.specs.Lines.{IsWrongBehind, RightLine, SaidForm, LineWord, kind as kind_said, method as method_said, commute as commute_said, plain, words_of}
+use Rattle.rd_pairs.specs.Causes.{place_at}
+use Rattle.rd_pairs.specs.PairCauses.{PairHas}
+use Rattle.rd_pairs.specs.declared.spec_causes.SpecCause.{SpecCause}
+use Rattle.rd_pairs.specs.declared.spec_causes.SpecCause.TheVariants.{Header, Syntax, Duplicate, MissingPair, KindTaken, Limit}
 use Rattle.rd_tokens.specs.declared.sorts.Token.{Token}
-use Rattle.rd_base.specs.declared.limits.TheConstants.{MOST_ARGUMENTS, MOST_KINDS, MOST_LEVELS, MOST_METHODS, MOST_NODES, MOST_PREDICATES, MOST_TOKENS}
+use Rattle.rd_base.specs.declared.limits.TheConstants.{MOST_ARGUMENTS, MOST_KINDS, MOST_METHODS, MOST_TOKENS}
 
 -- ---- the parts of a line
-
--- the place of the token with this number, in bytes from 1; behind the line where there is no such token
-abbrev pub place_at : List ℕ → List Token → ℕ → ℕ
-place_at line tokens number = unwrap_or (option_map (λ token. token.place) (slice_get tokens number)) (length line + 1)
 
 -- the header
 abbrev pub header_words : List LineWord
@@ -109,67 +97,7 @@ MethodHas kind line tokens name arguments result (Limit Arguments number) place 
     (MOST_ARGUMENTS < length arguments) × (number ≡ MOST_ARGUMENTS) × (place ≡ place_at line tokens 8)
 MethodHas kind line tokens name arguments result cause place = ⊥
 
--- ---- what may be wrong with the line of a pair
-
--- the methods with these names have these numbers in the kind
-pub record AreNumbers (kind : SpecifiedKind) (first second : List ℕ) (m n : ℕ) : Type 0 where
-  pub first_name : slice_get (names_of kind.methods) m ≡ Some first
-  pub second_name : slice_get (names_of kind.methods) n ≡ Some second
-
--- the words behind `when`, with the variables of two methods
-abbrev pub scope_of : SpecifiedKind → List ℕ → List Token → ℕ → ℕ → Scope
-scope_of kind line tokens m n = record {
-  line = record { ref_ptr = (0, 0); now = line };
-  tokens = record { ref_ptr = (0, 0); now = drop 4 tokens };
-  first = record { ref_ptr = (0, 0); now = variables_at kind m };
-  second = record { ref_ptr = (0, 0); now = variables_at kind n };
-}
-
--- the methods of the pair are known, and its formula is this
-pub record SaysPair (kind : SpecifiedKind) (line : List ℕ) (tokens : List Token) (first second : List ℕ) (read : ParsedTree) (m n : ℕ) (formula : Tree) : Type 0 where
-  pub numbers : AreNumbers kind first second m n
-  pub gives : Gives (MeansAt (scope_of kind line tokens m n)) read formula
-
--- one of the two methods is unknown
-abbrev pub IsUnknownAt : List (List ℕ) → List ℕ → List ℕ → List ℕ → List Token → ℕ → Type 0
-IsUnknownAt methods first second line tokens place =
-    (¬ (Contains methods first) × (place ≡ place_at line tokens 1))
-    ⊎ (Contains methods first × ¬ (Contains methods second) × (place ≡ place_at line tokens 2))
-
--- the formula, whose methods are known, is troubled by this; variables, relations and the fragment are defined with formulas
-abbrev pub FormulaHas : SpecifiedKind → List ℕ → List Token → List ℕ → List ℕ → ParsedTree → FormulaRefused → Type 0
-FormulaHas kind line tokens first second read refused =
-    (m : ℕ) × (n : ℕ) × AreNumbers kind first second m n × IsTroubled (scope_of kind line tokens m n) read refused
-
--- with the formula, a method of the pair has more than 5 distinct relations on its side alone
-abbrev pub HasManyPredicates : SpecifiedKind → ℕ → ℕ → Tree → Type 0
-HasManyPredicates kind m n f =
-    (MOST_PREDICATES < length (method_predicates (with_pair kind m n f) m))
-    ⊎ (MOST_PREDICATES < length (method_predicates (with_pair kind m n f) n))
-
--- the formula is too large in this way; the place is that of the word `when`
-abbrev pub FormulaPasses : (ℕ → ℕ → Tree → Type 0) → SpecifiedKind → List ℕ → List Token → List ℕ → List ℕ → ParsedTree → ℕ → Type 0
-FormulaPasses Large kind line tokens first second read place =
-    (m : ℕ) × (n : ℕ) × (f : Tree) × SaysPair kind line tokens first second read m n f × Large m n f × (place ≡ place_at line tokens 3)
-
-abbrev pub PairHas : SpecifiedKind → List ℕ → List Token → List ℕ → List ℕ → ParsedTree → SpecCause → ℕ → Type 0
-PairHas kind line tokens first second read UnknownMethod place = IsUnknownAt (names_of kind.methods) first second line tokens place
-PairHas kind line tokens first second read UnknownVariable place = FormulaHas kind line tokens first second read (formula.UnknownVariable place)
-PairHas kind line tokens first second read NoVariable place = FormulaHas kind line tokens first second read (formula.NoVariable place)
-PairHas kind line tokens first second read (OutsideFragment reason) place =
-    FormulaHas kind line tokens first second read (formula.OutsideFragment place reason)
--- the pair is there already
-PairHas kind line tokens first second read Duplicate place =
-    (m : ℕ) × (n : ℕ) × AreNumbers kind first second m n × IsSome (formula_at kind m n) × (place ≡ place_at line tokens 1)
-PairHas kind line tokens first second read (Limit Nodes number) place =
-    FormulaPasses (λ m n f. MOST_NODES < nodes f) kind line tokens first second read place × (number ≡ MOST_NODES)
-PairHas kind line tokens first second read (Limit FormulaDepth number) place =
-    FormulaPasses (λ m n f. MOST_LEVELS < levels f) kind line tokens first second read place × (number ≡ MOST_LEVELS)
-PairHas kind line tokens first second read (Limit Predicates number) place =
-    FormulaPasses (HasManyPredicates kind) kind line tokens first second read place × (number ≡ MOST_PREDICATES)
-PairHas kind line tokens first second read cause place = ⊥
-
--- ---- the causes of a line, and their order
+-- ---- the causes of a line, and of the end
 
 -- what a right line has
 abbrev pub FormHas : List (List ℕ) → Known → List ℕ → List Token → SaidForm → SpecCause → ℕ → Type 0
@@ -190,39 +118,3 @@ abbrev pub EndHas : Known → SpecCause → ℕ → Type 0
 EndHas known Header place = (known.begun ≡ false) × (place ≡ 0)
 EndHas known (MissingPair first second) place = LacksPair (kind_in known.block) first second × (place ≡ 0)
 EndHas known cause place = ⊥
-
--- the order of the limits, and that of the causes
-abbrev pub limit_rank : LimitName → ℕ
-limit_rank Kinds = 0
-limit_rank MethodLimit = 1
-limit_rank Arguments = 2
-limit_rank Nodes = 3
-limit_rank FormulaDepth = 4
-limit_rank _ = 5
-
-abbrev pub rank : SpecCause → ℕ
-rank Header = 0
-rank (Limit Tokens number) = 1
-rank Syntax = 2
-rank UnknownMethod = 3
-rank UnknownVariable = 4
-rank NoVariable = 5
-rank (OutsideFragment reason) = 6
-rank Duplicate = 7
-rank (MissingPair first second) = 8
-rank KindTaken = 9
-rank (Limit name number) = 10 + limit_rank name
-
--- of such causes this is the first, and it stands there
-pub record IsFirstOf (H : SpecCause → ℕ → Type 0) (cause : SpecCause) (place : ℕ) : Type 0 where
-  pub has : H cause place
-  pub first : (other : SpecCause) (elsewhere : ℕ) → H other elsewhere → rank cause ≤ rank other
-
--- there is no such cause
-abbrev pub HasNone : (SpecCause → ℕ → Type 0) → Type 0
-HasNone H = (cause : SpecCause) (place : ℕ) → ¬ (H cause place)
-
--- the first of such causes; none where there is none
-abbrev pub Judged : (SpecCause → ℕ → Type 0) → Option Fault → Type 0
-Judged H None = HasNone H
-Judged H (Some fault) = IsFirstOf H fault.cause fault.place

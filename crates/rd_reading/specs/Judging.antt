@@ -1,10 +1,10 @@
 -- What a refusal of a line, and of the end, says: this project's profile.
 use Rattle.std.specs.Prelude.{ℕ, List}
-use Rattle.rd_reading.specs.Causes.{EndHas, Has, IsFirstOf}
-use Rattle.rd_reading.specs.declared.spec_causes.SpecCause.{SpecCause}
+use Rattle.rd_reading.specs.Causes.{EndHas, Has}
+use Rattle.rd_pairs.specs.Causes.{IsFirstOf}
 use Rattle.rd_reading.specs.declared.known.Known.{Known}
-use Rattle.rd_reading.specs.declared.judging.refused.SpecLineRefused.{SpecLineRefused}
-use Rattle.rd_reading.specs.declared.judging.refused.SpecLineRefused.TheVariants.{Fault, NoMemory}
+use Rattle.rd_pairs.specs.declared.refused.SpecLineRefused.{SpecLineRefused}
+use Rattle.rd_pairs.specs.declared.refused.SpecLineRefused.TheVariants.{Fault, NoMemory}
 use Rattle.rd_tokens.specs.declared.sorts.Token.{Token}
 use Rattle.rd_tokens.specs.Tokens.{AreTokens}
 
@@ -17,8 +17,3 @@ LineRefuses taken known line NoMemory = Unit {0}
 abbrev pub EndRefuses : Known → SpecLineRefused → Type 0
 EndRefuses known (Fault fault) = IsFirstOf (EndHas known) fault.cause fault.place
 EndRefuses known NoMemory = Unit {0}
-
--- the first of these causes
-abbrev pub IsSpecLineRefused : (SpecCause → ℕ → Type 0) → SpecLineRefused → Type 0
-IsSpecLineRefused H (Fault fault) = IsFirstOf H fault.cause fault.place
-IsSpecLineRefused H NoMemory = Unit {0}

@@ -1,5 +1,5 @@
 -- What the lines of a specification's text say so far: this project's profile.
-use Rattle.std.specs.Prelude.{ℕ, false, List, [], ◌∷◌, ◌++◌, map, slice_get, unwrap_or, option_map, Option, Some, None, if◌then◌else◌}
+use Rattle.std.specs.Prelude.{ℕ, false, List, [], ◌∷◌, ◌++◌, map, Option, Some, None, if◌then◌else◌}
 use Rattle.rd_ecl.specs.Specified.{SpecifiedKind, names_of}
 use Rattle.rd_reading.specs.declared.known.Block.{Block}
 use Rattle.rd_reading.specs.declared.known.Known.{Known}
@@ -37,10 +37,6 @@ kinds_so_far known = known.closed ++ open_kinds known.block
 
 abbrev pub specified_kind_names : List SpecifiedKind → List (List ℕ)
 specified_kind_names kinds = map (λ kind. kind.name) kinds
-
--- the variables of the method with this number; none where no method has it
-abbrev pub variables_at : SpecifiedKind → ℕ → List (List ℕ)
-variables_at kind number = unwrap_or (option_map (λ method. method.variables) (slice_get kind.methods number)) []
 
 -- what is known before the first line
 abbrev pub nothing : Known

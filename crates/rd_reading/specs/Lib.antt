@@ -3,8 +3,6 @@ pub mod Blocks
 pub mod Causes
 pub mod Judging
 pub mod Known
-pub mod PairJudging
-pub mod Pairs
 pub mod Parts
 pub mod Reading
 pub mod RefusedTexts

@@ -1,10 +1,11 @@
 -- The parts of a judgement. Nobody has to believe them: the contracts of the public functions speak of causes alone.
 use Rattle.std.specs.Prelude.{◌≡◌, ◌≤◌, ◌<◌, ◌⊎◌, ℕ, List, length}
 use Rattle.rd_base.specs.declared.limits.LimitName.TheVariants.{Methods, Arguments}
-use Rattle.rd_reading.specs.declared.spec_causes.Fault.{Fault}
-use Rattle.rd_reading.specs.declared.spec_causes.SpecCause.{SpecCause}
-use Rattle.rd_reading.specs.declared.spec_causes.SpecCause.TheVariants.{Limit, MissingPair}
-use Rattle.rd_reading.specs.Causes.{LacksPair, place_at}
+use Rattle.rd_pairs.specs.declared.spec_causes.Fault.{Fault}
+use Rattle.rd_pairs.specs.declared.spec_causes.SpecCause.{SpecCause}
+use Rattle.rd_pairs.specs.declared.spec_causes.SpecCause.TheVariants.{Limit, MissingPair}
+use Rattle.rd_reading.specs.Causes.{LacksPair}
+use Rattle.rd_pairs.specs.Causes.{place_at}
 use Rattle.rd_ecl.specs.Specified.{SpecifiedKind}
 use Rattle.rd_tokens.specs.declared.sorts.Token.{Token}
 use Rattle.rd_base.specs.declared.limits.TheConstants.{MOST_ARGUMENTS, MOST_METHODS}

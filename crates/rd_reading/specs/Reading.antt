@@ -4,8 +4,8 @@ use Rattle.rd_reading.specs.Adding.{AcceptsSpecLine}
 use Rattle.rd_reading.specs.Known.{nothing}
 use Rattle.rd_reading.specs.declared.known.Known.{Known}
 use Rattle.rd_reading.specs.Judging.{LineRefuses}
-use Rattle.rd_reading.specs.declared.judging.refused.SpecLineRefused.{SpecLineRefused}
-use Rattle.rd_reading.specs.declared.judging.refused.SpecLineRefused.TheVariants as line
+use Rattle.rd_pairs.specs.declared.refused.SpecLineRefused.{SpecLineRefused}
+use Rattle.rd_pairs.specs.declared.refused.SpecLineRefused.TheVariants as line
 use Rattle.rd_reading.specs.declared.parsing.ParseRefused.{ParseRefused}
 use Rattle.rd_reading.specs.declared.parsing.ParseRefused.TheVariants.{Spec, NoMemory}
 use Rattle.rd_reading.specs.Texts.{AreLines, IsSkipped, ReadsLines}

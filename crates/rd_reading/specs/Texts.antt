@@ -3,9 +3,10 @@ use Rattle.std.specs.Prelude.{◌≡◌, ◌≢◌, ◌<◌, ◌≤◌, ◌+◌,
 use Rattle.std.specs.List.{AllPass}
 use Rattle.rd_base.specs.declared.limits.LimitName.TheVariants.{SpecText}
 use Rattle.rd_reading.specs.Adding.{AcceptsSpecLine}
-use Rattle.rd_reading.specs.Causes.{EndHas, Has, HasNone, IsFirstOf}
+use Rattle.rd_reading.specs.Causes.{EndHas, Has}
+use Rattle.rd_pairs.specs.Causes.{HasNone, IsFirstOf}
 use Rattle.rd_reading.specs.Known.{kinds_so_far, nothing}
-use Rattle.rd_reading.specs.declared.spec_causes.SpecCause.TheVariants.{Limit}
+use Rattle.rd_pairs.specs.declared.spec_causes.SpecCause.TheVariants.{Limit}
 use Rattle.rd_reading.specs.declared.known.Known.{Known}
 use Rattle.rd_ecl.specs.Specified.{SpecifiedKind}
 use Rattle.rd_reading.specs.declared.parsing.ParseRefused.{ParseRefused}

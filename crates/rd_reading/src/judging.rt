@@ -5,9 +5,6 @@ mod judged_lines;
 mod kinds;
 mod methods;
 mod missing;
-mod places;
-mod refused;
 mod repeated;
 
 pub use judged_lines::{finish, read_line};
-pub use refused::SpecLineRefused;

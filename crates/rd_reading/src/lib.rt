@@ -8,14 +8,11 @@
 mod cutting;
 mod judging;
 mod known;
-mod pairs;
 mod parsing;
 mod refused_texts;
-mod spec_causes;
 
-pub use judging::{SpecLineRefused, finish, read_line};
+pub use judging::{finish, read_line};
 pub use known::{Block, Known};
-pub use pairs::{Pair, PairRefused, judge_pair};
 pub use parsing::{ParseRefused, SpecRefused, parse};
+pub use rd_pairs::{Fault, SpecCause, SpecLineRefused};
 pub use refused_texts::spec_refused_line;
-pub use spec_causes::{Fault, SpecCause};

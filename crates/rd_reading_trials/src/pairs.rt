@@ -8,22 +8,23 @@ use crate::rows::gives;
 use rd_base::NoMemory;
 use rd_ecl::KindDraft;
 use rd_lines::{Form, Stage, read_form};
-use rd_reading::{Known, Pair, PairRefused, judge_pair};
+use rd_pairs::{Pair, judge_pair};
+use rd_reading::{Known, SpecLineRefused};
 use rd_samples::{push_cause, push_number, repeated};
 use rd_tokens::tokens;
 use std::alloc::Global;
 use std::process::Abort;
 
 // What judging a line of a pair gives.
-fn judge(alloc: Global, kind: &KindDraft, line: &[u8]) -> Result<Pair, PairRefused>
+fn judge(alloc: Global, kind: &KindDraft, line: &[u8]) -> Result<Pair, SpecLineRefused>
     ensures { IfOk result (λ pair. MayPair kind.now pair.first pair.second (tree_of pair.formula)) }
 {
     if line.len() > 10_000 {
-        return Err(PairRefused::NoMemory);
+        return Err(SpecLineRefused::NoMemory);
     }
     let found = tokens(alloc, line)?;
     if found.items().len() > 516 {
-        return Err(PairRefused::NoMemory);
+        return Err(SpecLineRefused::NoMemory);
     }
     match read_form(alloc, Stage::Methods, kind.methods(), line, found.items()) {
         Ok(
@@ -33,12 +34,12 @@ fn judge(alloc: Global, kind: &KindDraft, line: &[u8]) -> Result<Pair, PairRefus
                 formula,
             },
         ) => judge_pair(alloc, kind, line, found.items(), &first, &second, &formula),
-        _ => Err(PairRefused::NoMemory),
+        _ => Err(SpecLineRefused::NoMemory),
     }
 }
 
 // The methods of the pair, and how many nodes its formula has.
-fn size(alloc: Global, kind: &KindDraft, line: &[u8]) -> Result<(u8, u8, u32), PairRefused> {
+fn size(alloc: Global, kind: &KindDraft, line: &[u8]) -> Result<(u8, u8, u32), SpecLineRefused> {
     let pair = judge(alloc, kind, line)?;
     Ok((pair.first, pair.second, pair.formula.nodes()))
 }
@@ -52,8 +53,8 @@ fn shown(alloc: Global, kind: &KindDraft, line: &str) -> Result<String, NoMemory
             push_number(&mut text, "", u32::from(second), " by ")?;
             push_number(&mut text, "", nodes, " nodes")?;
         }
-        Err(PairRefused::Fault(fault)) => push_cause(&mut text, fault.place, &fault.cause)?,
-        Err(PairRefused::NoMemory) => return Err(NoMemory),
+        Err(SpecLineRefused::Fault(fault)) => push_cause(&mut text, fault.place, &fault.cause)?,
+        Err(SpecLineRefused::NoMemory) => return Err(NoMemory),
     }
     Ok(text)
 }

@@ -5,10 +5,11 @@ use Rattle.std.proofs.lemmas.List.{take-append-drop}
 use Rattle.rd_base.specs.declared.limits.LimitName.{LimitName}
 use Rattle.rd_base.specs.declared.limits.LimitName.TheVariants.{Bytes, Line, Events, Threads, Locks, Objects, Depth, SpecText, Tokens, Kinds, Methods as MethodLimit, Arguments, Nodes, FormulaDepth, Predicates}
 use Rattle.rd_reading.specs.Adding.{AcceptsSpecLine, FormAdds, adds_form, adds_header, with_header}
-use Rattle.rd_reading.specs.Causes.{FormHas, Has, HasManyTokens, HasNone, IsFirstRepeated, KindHas, LacksPair, LineHas, MethodHas, form_has, header_words, line_has}
+use Rattle.rd_reading.specs.Causes.{FormHas, Has, HasManyTokens, IsFirstRepeated, KindHas, LacksPair, LineHas, MethodHas, form_has, header_words, line_has}
+use Rattle.rd_pairs.specs.Causes.{HasNone}
 use Rattle.rd_reading.specs.Known.{kind_in, specified_kind_names, kinds_so_far, open_method_names, nothing, stage_of}
-use Rattle.rd_reading.specs.declared.spec_causes.SpecCause.{SpecCause}
-use Rattle.rd_reading.specs.declared.spec_causes.SpecCause.TheVariants.{Header, Syntax, UnknownMethod, UnknownVariable, NoVariable, OutsideFragment, Duplicate, MissingPair, KindTaken, Limit}
+use Rattle.rd_pairs.specs.declared.spec_causes.SpecCause.{SpecCause}
+use Rattle.rd_pairs.specs.declared.spec_causes.SpecCause.TheVariants.{Header, Syntax, UnknownMethod, UnknownVariable, NoVariable, OutsideFragment, Duplicate, MissingPair, KindTaken, Limit}
 use Rattle.rd_reading.specs.declared.known.Known.{Known}
 use Rattle.rd_ecl.specs.Specified.{IsWhole, SpecifiedKind, formula_at, names_of}
 use Rattle.rd_lines.specs.Lines.{RightLine, SaidForm, LineWord, plain, words_of, kind as kind_said, method as method_said, commute as commute_said}

@@ -8,16 +8,18 @@ use Rattle.rd_base.proofs.FoundLemmas.{each_by_recursion}
 use Rattle.std.proofs.lemmas.List.Elements.{Contains-append_right}
 use Rattle.rd_print.specs.Canonical.{plain_word}
 use Rattle.rd_reading.specs.Adding.{with_header, with_kind}
-use Rattle.rd_reading.specs.Causes.{EndHas, HasNone}
-use Rattle.rd_reading.specs.Known.{kind_in, specified_kind_names, kind_without, kinds_so_far, nothing, variables_at}
-use Rattle.rd_reading.specs.declared.spec_causes.SpecCause.TheVariants.{Header, Syntax, UnknownMethod, UnknownVariable, NoVariable, OutsideFragment, Duplicate, MissingPair, KindTaken, Limit}
+use Rattle.rd_reading.specs.Causes.{EndHas}
+use Rattle.rd_pairs.specs.Causes.{HasNone}
+use Rattle.rd_reading.specs.Known.{kind_in, specified_kind_names, kind_without, kinds_so_far, nothing}
+use Rattle.rd_pairs.specs.PairCauses.{variables_at}
+use Rattle.rd_pairs.specs.declared.spec_causes.SpecCause.TheVariants.{Header, Syntax, UnknownMethod, UnknownVariable, NoVariable, OutsideFragment, Duplicate, MissingPair, KindTaken, Limit}
 use Rattle.rd_reading.specs.declared.known.Known.{Known}
 use Rattle.rd_ecl.specs.declared.kinds.Method.{Method}
 use Rattle.rd_ecl.specs.Formulas.{Tree}
 use Rattle.rd_ecl.specs.Specified.{IsKind, IsWhole, SpecifiedKind, formula_at}
 use Rattle.rd_ecl.specs.Variables.{AreVariables, IsVariable}
 use Rattle.rd_ecl.proofs.PairLemmas.{equal_kinds}
-use Rattle.rd_reading.proofs.NumberLemmas.{AreDifferent}
+use Rattle.rd_pairs.proofs.NumberLemmas.{AreDifferent}
 use Rattle.rd_print.specs.Printed.{block_lines, commute_words, header_words, kind_words, method_words, pairs_of, spec_lines, spec_text}
 use Rattle.rd_print.proofs.SoundLemmas.{commute_sound, kind_sound, lines_sound, method_sound, name_at_is}
 use Rattle.rd_print.specs.Text.{IsRightWord, words_text}

@@ -15,13 +15,14 @@ use Rattle.rd_lines.specs.declared.forms.Stage.TheVariants.{Outside}
 use Rattle.rd_lines.specs.Lines.{words_of, kind as kind_said, method as method_said, commute as commute_said}
 use Rattle.rd_reading.specs.Adding.{AcceptsSpecLine, with_header, with_kind}
 use Rattle.rd_reading.specs.Blocks.{IsBlock, IsOfBlocks, SaidPair, SaysMethod, SaysPairOf, WithoutSkipped, kept_first, none_left, passed_over}
-use Rattle.rd_reading.specs.Causes.{AreNumbers, HasManyPredicates, HasManyTokens}
-use Rattle.rd_reading.specs.Known.{kind_in, kind_without, kinds_so_far, nothing, specified_kind_names, stage_of, variables_at}
+use Rattle.rd_reading.specs.Causes.{HasManyTokens}
+use Rattle.rd_pairs.specs.PairCauses.{AreNumbers, HasManyPredicates, variables_at}
+use Rattle.rd_reading.specs.Known.{kind_in, kind_without, kinds_so_far, nothing, specified_kind_names, stage_of}
 use Rattle.rd_reading.specs.Texts.{HasNewNames, ReadsLines, SpecSays, no_more, skips, takes}
 use Rattle.rd_reading.specs.declared.known.Known.{Known}
 use Rattle.rd_reading.proofs.DraftLemmas.{said_kinds}
 use Rattle.rd_reading.proofs.LineLemmas.{short_few}
-use Rattle.rd_reading.proofs.NumberLemmas.{AreDifferent}
+use Rattle.rd_pairs.proofs.NumberLemmas.{AreDifferent}
 use Rattle.rd_reading.proofs.OneLemmas.{none_apart}
 use Rattle.rd_reading.proofs.RepeatLemmas.{none_repeated}
 use Rattle.rd_reading.proofs.VerdictLemmas.{no_end}

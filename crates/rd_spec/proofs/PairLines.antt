@@ -12,9 +12,11 @@ use Rattle.rd_print.specs.declared.canonical.word_list.PrintedWord.{PrintedWord}
 use Rattle.rd_print.specs.Canonical.{plain_word, canonical_words}
 use Rattle.rd_print.proofs.WordFewLemmas.{few_words}
 use Rattle.rd_reading.specs.Adding.{AcceptsSpecLine}
-use Rattle.rd_reading.specs.Causes.{AreNumbers, HasManyPredicates, HasManyTokens, HasNone, PairHas, SaysPair, scope_of}
-use Rattle.rd_reading.specs.Known.{stage_of, variables_at}
-use Rattle.rd_reading.specs.declared.spec_causes.SpecCause.TheVariants.{Header, Syntax, UnknownMethod, UnknownVariable, NoVariable, OutsideFragment, Duplicate, MissingPair, KindTaken, Limit}
+use Rattle.rd_reading.specs.Causes.{HasManyTokens}
+use Rattle.rd_pairs.specs.PairCauses.{AreNumbers, HasManyPredicates, PairHas, SaysPair, scope_of, variables_at}
+use Rattle.rd_pairs.specs.Causes.{HasNone}
+use Rattle.rd_reading.specs.Known.{stage_of}
+use Rattle.rd_pairs.specs.declared.spec_causes.SpecCause.TheVariants.{Header, Syntax, UnknownMethod, UnknownVariable, NoVariable, OutsideFragment, Duplicate, MissingPair, KindTaken, Limit}
 use Rattle.rd_ecl.specs.declared.kinds.Method.{Method}
 use Rattle.rd_ecl.specs.Formulas.{Tree, Fits, InFragment, first_offence, levels, nodes, post_order, AreValues}
 use Rattle.rd_ecl.specs.Specified.{AreMethods, IsPair, SpecifiedKind, formula_at, names_of, slots_at, with_pair}
@@ -29,9 +31,9 @@ use Rattle.rd_grammar.specs.Grammar.{ParsedTree}
 use Rattle.rd_lines.specs.Lines.{AreMarksFrom, IsOutOfOrder, LineWord, plain, word_at, words_of, commute as commute_said}
 use Rattle.rd_lines.proofs.FormulaLemmas.{words_marked}
 use Rattle.rd_lines.specs.declared.forms.Stage.TheVariants.{Outside}
-use Rattle.rd_reading.proofs.ScopeLemmas.{slots_are}
-use Rattle.rd_reading.proofs.NumberLemmas.{AreDifferent, contained, one_pair, one_place}
-use Rattle.rd_reading.proofs.MeaningLemmas.{known_relations, known_terms, no_first, no_first_sign, one_formula}
+use Rattle.rd_pairs.proofs.ScopeLemmas.{slots_are}
+use Rattle.rd_pairs.proofs.NumberLemmas.{AreDifferent, contained, one_pair, one_place}
+use Rattle.rd_pairs.proofs.MeaningLemmas.{known_relations, known_terms, no_first, no_first_sign, one_formula}
 use Rattle.rd_print.specs.Printed.{commute_words, formula_words, name_at}
 use Rattle.rd_print.specs.Text.{IsRightWord, words_text}
 use Rattle.rd_print.proofs.TextFormulaLemmas.{says_formula}

@@ -8,9 +8,8 @@ use Rattle.rd_ecl.specs.declared.kinds.Method.{Method}
 use Rattle.rd_ecl.specs.Formulas.{Tree}
 use Rattle.rd_ecl.specs.Specified.{IsPair, SpecifiedKind, formula_at, method_predicates, names_of, slots_at, with_pair}
 use Rattle.rd_ecl.proofs.PairLemmas.{at_other, at_set}
-use Rattle.rd_reading.specs.Causes.{HasManyPredicates}
-use Rattle.rd_reading.specs.Known.{variables_at}
-use Rattle.rd_reading.proofs.NumberLemmas.{AreDifferent}
+use Rattle.rd_pairs.specs.PairCauses.{HasManyPredicates, variables_at}
+use Rattle.rd_pairs.proofs.NumberLemmas.{AreDifferent}
 use Rattle.rd_print.specs.Printed.{commute_words, pairs_of}
 use Rattle.rd_print.specs.Text.{words_text}
 use Rattle.rd_reading.specs.Texts.{ReadsLines, no_more}

@@ -1,6 +1,6 @@
 -- The status of a refused specification.
-use Rattle.rd_reading.specs.declared.spec_causes.SpecCause.TheVariants as cause
-use Rattle.rd_reading.specs.declared.spec_causes.SpecCause.{SpecCause}
+use Rattle.rd_pairs.specs.declared.spec_causes.SpecCause.TheVariants as cause
+use Rattle.rd_pairs.specs.declared.spec_causes.SpecCause.{SpecCause}
 use Rattle.rd_walk.specs.Output.{IsWell}
 use Rattle.rd_spec_commands.specs.Specifications.{spec_status}
 use Rattle.rd_walk.specs.declared.status.Status.TheVariants.{SpecRefused, LimitReached}

@@ -1,22 +1,22 @@
 //! Adding what a line says.
 ghost use Rattle.std.specs.Prelude.{◌≡◌, ◌<◌, ◌-◌, ◌^◌, ◌++◌, [], All, IfErr, OnOk, length};
 ghost use Rattle.rd_reading.specs.Adding.{FormAdds, with_kind};
-ghost use Rattle.rd_reading.specs.Causes.{FormHas, HasNone};
+ghost use Rattle.rd_reading.specs.Causes.{FormHas};
+ghost use Rattle.rd_pairs.specs.Causes.{HasNone, IsSpecLineRefused};
 ghost use Rattle.rd_reading.specs.Known.{kind_in, open_method_names, open_kinds, stage_of};
 ghost use Rattle.rd_ecl.specs.Specified.{IsWhole};
 ghost use Rattle.rd_grammar.specs.Grammar.{parsed_tree};
-ghost use Rattle.rd_reading.specs.Judging.{IsSpecLineRefused};
 ghost use Rattle.rd_lines.specs.Lines.{IsCommuteLine, IsMethodLine, HasFewWords, RightLine, commute as commute_said, kind as kind_said, method as method_said, said_of, words_of};
 ghost use Rattle.rd_tokens.specs.Tokens.{IsTokenOf, LiesIn};
 
 use crate::judging::kinds::judge_kind;
 use crate::judging::methods::judge_method;
-use crate::judging::refused::SpecLineRefused;
-use crate::{Block, Known, PairRefused, judge_pair};
+use crate::{Block, Known, SpecLineRefused};
 use rd_base::{Name, NoMemory};
 use rd_ecl::{KindDraft, Names, Spec};
 use rd_grammar::Parsed;
 use rd_lines::Form;
+use rd_pairs::judge_pair;
 use rd_tokens::Token;
 use std::alloc::Global;
 
@@ -143,16 +143,11 @@ fn add_pair(
     let Some(mut block) = known.block.take() else {
         unreachable!();
     };
-    match judge_pair(alloc, &block.draft, line, tokens, first, second, parsed) {
-        Ok(pair) => {
-            block.draft.pair(pair.first, pair.second, pair.formula)?;
-            block.paired = true;
-            known.block = Some(block);
-            Ok(())
-        }
-        Err(PairRefused::Fault(fault)) => Err(SpecLineRefused::Fault(fault)),
-        Err(PairRefused::NoMemory) => Err(SpecLineRefused::NoMemory),
-    }
+    let pair = judge_pair(alloc, &block.draft, line, tokens, first, second, parsed)?;
+    block.draft.pair(pair.first, pair.second, pair.formula)?;
+    block.paired = true;
+    known.block = Some(block);
+    Ok(())
 }
 
 // Takes what a right line says. A refused line may leave anything.

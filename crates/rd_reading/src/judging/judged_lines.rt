@@ -1,33 +1,22 @@
 //! Reading a line.
 ghost use Rattle.std.specs.Prelude.{◌≡◌, ◌≤◌, ◌<◌, ◌-◌, ◌^◌, ◌↔◌, ℕ, List, All, IfErr, IfOk, IsTrue, OnOk, false, length, true};
 ghost use Rattle.rd_reading.specs.Adding.{AcceptsSpecLine, Adds};
-ghost use Rattle.rd_reading.specs.Causes.{EndHas, Has, HasManyTokens, HasNone, header_words};
+ghost use Rattle.rd_reading.specs.Causes.{EndHas, Has, HasManyTokens, header_words};
+ghost use Rattle.rd_pairs.specs.Causes.{HasNone, IsSpecLineRefused};
 ghost use Rattle.rd_reading.specs.Known.{kind_in, kinds_so_far, stage_of};
-ghost use Rattle.rd_reading.specs.Judging.{EndRefuses, LineRefuses, IsSpecLineRefused};
-ghost use Rattle.rd_lines.specs.Lines.{plain, word_at, words_of};
+ghost use Rattle.rd_reading.specs.Judging.{EndRefuses, LineRefuses};
+ghost use Rattle.rd_lines.specs.Lines.{words_of};
 ghost use Rattle.rd_tokens.specs.Tokens.{IsTokenOf, LiesIn};
 
 use crate::judging::adding::{add_form, close};
 use crate::judging::missing::missing_in;
-use crate::judging::places::place_at;
-use crate::judging::refused::SpecLineRefused;
-use crate::{Fault, Known, SpecCause};
+use crate::{Fault, Known, SpecCause, SpecLineRefused};
 use rd_base::{LimitName, MOST_SPEC_BYTES, MOST_TOKENS, Name};
 use rd_ecl::{Method, Spec};
-use rd_lines::{FormRefused, Stage, read_form};
-use rd_tokens::{Sort, Token, tokens};
+use rd_lines::{FormRefused, Stage, read_form, token_is};
+use rd_pairs::place_at;
+use rd_tokens::{Token, tokens};
 use std::alloc::Global;
-
-// Is the token this word?
-fn token_is(line: &[u8], token: &Token, word: &str) -> bool
-    requires { LiesIn line.now token.now }
-    ensures { IsTrue result ↔ (word_at line.now token.now ≡ plain word.now) }
-{
-    match token.sort {
-        Sort::Word => token.bytes(line) == word.as_bytes(),
-        Sort::Open | Sort::Close | Sort::Text | Sort::Wrong => false,
-    }
-}
 
 // Is the line the header?
 fn is_header(line: &[u8], tokens: &[Token]) -> bool

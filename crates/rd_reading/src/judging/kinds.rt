@@ -1,15 +1,16 @@
 //! Judging the line of a kind.
 ghost use Rattle.std.specs.Prelude.{◌≡◌, ◌<◌, ◌-◌, ◌^◌, IfNone, length};
-ghost use Rattle.rd_reading.specs.Causes.{Judged, KindHas};
+ghost use Rattle.rd_reading.specs.Causes.{KindHas};
+ghost use Rattle.rd_pairs.specs.Causes.{Judged};
 ghost use Rattle.rd_reading.specs.Known.{kind_in, specified_kind_names, kinds_so_far, open_kinds};
 ghost use Rattle.rd_ecl.specs.Specified.{IsWhole};
 ghost use Rattle.rd_ecl.specs.Variables.{is_among};
 
 use crate::judging::missing::missing_in;
-use crate::judging::places::place_at;
 use crate::{Fault, Known, SpecCause};
 use rd_base::{LimitName, MOST_KINDS, Name};
 use rd_ecl::KindSpec;
+use rd_pairs::place_at;
 use rd_tokens::Token;
 
 // Is one of the kinds of this name?

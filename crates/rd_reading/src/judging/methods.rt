@@ -1,15 +1,16 @@
 //! Judging the line of a method.
 ghost use Rattle.std.specs.Prelude.{◌≡◌, ◌≢◌, ◌++◌, ◌∷◌, [], ◌<◌, ◌≤◌, ◌-◌, ◌^◌, AllPairs, IfNone, IfOk, IfSome, false, length};
-ghost use Rattle.rd_reading.specs.Causes.{Judged, MethodHas, place_at, variable_token};
+ghost use Rattle.rd_reading.specs.Causes.{MethodHas, variable_token};
+ghost use Rattle.rd_pairs.specs.Causes.{Judged, place_at};
 ghost use Rattle.rd_ecl.specs.Specified.{names_of};
 ghost use Rattle.rd_ecl.specs.Variables.{is_among};
 ghost use Rattle.rd_reading.specs.Parts.{IsPassed};
 
-use crate::judging::places::place_at;
 use crate::judging::repeated::first_repeated;
 use crate::{Fault, SpecCause};
 use rd_base::{LimitName, MOST_ARGUMENTS, MOST_METHODS, Name, NoMemory};
 use rd_ecl::{KindDraft, Method};
+use rd_pairs::place_at;
 use rd_tokens::Token;
 use std::alloc::Global;
 

@@ -2,8 +2,8 @@ use Rattle.std.proofs.Common.{subst, sym}
 use Rattle.std.specs.Prelude.{IfErr, OnOk}
 use Rattle.rd_lines.specs.Lines.{RightLine, said_of, words_of}
 use Rattle.rd_reading.specs.Adding.{FormAdds}
-use Rattle.rd_reading.specs.Causes.{FormHas, HasNone}
-use Rattle.rd_reading.specs.Judging.{IsSpecLineRefused}
+use Rattle.rd_reading.specs.Causes.{FormHas}
+use Rattle.rd_pairs.specs.Causes.{HasNone, IsSpecLineRefused}
 use Rattle.rd_reading.specs.Known.{open_method_names, stage_of}
 use Rattle.rd_reading.proofs.judging.adding.add_form.Goals as goal
 

@@ -1,6 +1,7 @@
 use Rattle.std.proofs.Common.{true, ap, subst, sym}
 use Rattle.rd_reading.specs.Adding.{with_open}
-use Rattle.rd_reading.specs.Causes.{HasNone, PairHas}
+use Rattle.rd_pairs.specs.Causes.{HasNone}
+use Rattle.rd_pairs.specs.PairCauses.{PairHas}
 use Rattle.rd_reading.specs.Known.{stage_of}
 use Rattle.rd_lines.specs.Lines.{IsCommuteLine, words_of}
 use Rattle.rd_ecl.specs.Formulas.{tree_of}
@@ -9,10 +10,10 @@ use Rattle.rd_grammar.specs.Grammar.{parsed_tree}
 use Rattle.rd_reading.proofs.AddLemmas.{open_kind, pair_added}
 use Rattle.rd_reading.proofs.judging.adding.add_pair.Goals as goal
 
-pub returns-in-Ok-clause-adds : goal.returns-in-Ok-clause-adds
-returns-in-Ok-clause-adds c =
+pub returns-clause-adds : goal.returns-clause-adds
+returns-clause-adds c =
     pair_added c.args.known.now c.in-Some.block (cc) c.args.line.now c.args.tokens.now c.args.first.now c.args.second.now (parsed_tree c.args.parsed.now)
-    c.in-Ok.pair.first c.in-Ok.pair.second (tree_of c.in-Ok.pair.formula) _ c.in-Ok.ensures.says
+    c.in_ok-pair.pair.first c.in_ok-pair.pair.second (tree_of c.in_ok-pair.pair.formula) _ c.in_ok-pair.ensures.says
     (ap (λ (kind : SpecifiedKind). with_open c.args.known.now kind true) c.pair.ensures.value)
 
 pub judge_pair-requires-clause-right : goal.judge_pair-requires-clause-right
@@ -22,7 +23,7 @@ judge_pair-requires-clause-right c = (
       (parsed_tree c.args.parsed.now)) (open_kind c.args.known.now c.in-Some.block (cc)) c.requires.right,
 )
 
-pub returns-in-Ok-clause-clean : goal.returns-in-Ok-clause-clean
-returns-in-Ok-clause-clean c =
+pub returns-clause-clean : goal.returns-clause-clean
+returns-clause-clean c =
     subst (λ (kind : SpecifiedKind). HasNone (PairHas kind c.args.line.now c.args.tokens.now c.args.first.now c.args.second.now (parsed_tree c.args.parsed.now)))
-    (sym (open_kind c.args.known.now c.in-Some.block (cc))) c.in-Ok.ensures.clean
+    (sym (open_kind c.args.known.now c.in-Some.block (cc))) c.in_ok-pair.ensures.clean

@@ -1,7 +1,7 @@
 use Rattle.std.proofs.Common.{◌≡◌, true, ℕ, List, ◌∙◌, ap}
 use Rattle.std.proofs.lemmas.Result.{on_ok_weaker}
 use Rattle.rd_reading.specs.Adding.{adds_form}
-use Rattle.rd_reading.specs.Causes.{place_at}
+use Rattle.rd_pairs.specs.Causes.{place_at}
 use Rattle.rd_reading.specs.Known.{open_method_names, stage_of}
 use Rattle.rd_lines.specs.declared.forms.Stage.{Stage}
 use Rattle.rd_lines.specs.Lines.{HasFewWords, IsWrongBehind, RightLine, SaidForm, said_of, words_of}

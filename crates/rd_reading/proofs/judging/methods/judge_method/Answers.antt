@@ -1,6 +1,6 @@
 use Rattle.std.proofs.Common.{◌∙◌, ap, arith}
 use Rattle.std.proofs.lemmas.Grind.{elements}
-use Rattle.rd_reading.specs.Causes.{place_at}
+use Rattle.rd_pairs.specs.Causes.{place_at}
 use Rattle.rd_reading.proofs.MethodLemmas.{judged_method, known_method, variable_twice}
 use Rattle.rd_reading.proofs.judging.methods.judge_method.Goals as goal
 
