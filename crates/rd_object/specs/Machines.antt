@@ -18,7 +18,7 @@ IsShape (Number number) = FitsSigned w64 number
 IsShape (Items items) = IsStrictlySortedBy value_cmp items
 IsShape (Map entries) = IsStrictlySortedBy value_cmp (keys_of entries) × All (λ entry. entry.1 ≢ Nil) entries
 IsShape (Counts counts) = IsStrictlySortedBy value_cmp (keys_of counts) × All (λ count. 0 < count.1) counts
-IsShape (Row items) = ⊤
+IsShape (Row items) = All (λ item. item ≢ Nil) items
 
 -- what a machine does at a call
 pub data Step : Type 0 where

@@ -18,7 +18,7 @@ pub enum Shape {
     Map(ValuePairs),
     /// how often items are there, each at least once; the items rise by value
     Counts(ValueCounts),
-    /// items in a row
+    /// items in a row, none of them `nil`
     Row(Slots),
 }
 
