@@ -1,12 +1,9 @@
 -- The machines of the kinds that are built in: this project's profile. Each has a row for each method, in the order of the methods:
 -- the arguments and what the object holds, then what it holds next and the result.
-use Rattle.std.specs.Prelude.{ℕ, ℤ, zero, suc, pos, ◌+ℤ◌, not, Bool, List, [], ◌∷◌, length, Option, unwrap_or, slice_get}
+use Rattle.std.specs.Prelude.{ℕ, ℤ, zero, suc, pos, ◌+ℤ◌, not, List, [], ◌∷◌, length, Option, unwrap_or, slice_get}
 use Rattle.std.specs.Int.{int_wrap, w64}
-use Rattle.std.specs.List.{list_any}
 use Rattle.std.specs.Map.{lookup, remove_entry}
-use Rattle.std.specs.Set.{remove_key}
 use Rattle.std.specs.BTreeMap.{is_at, insert_entry}
-use Rattle.std.specs.BTreeSet.{insert_key}
 use Rattle.rd_base.specs.Order.{value_cmp}
 use Rattle.rd_base.specs.declared.values.Value.{Value}
 use Rattle.rd_base.specs.declared.values.Value.TheVariants.{Nil, Bool as Boolean, Int}
@@ -14,6 +11,7 @@ use Rattle.rd_object.specs.Machines.{Machine, Step}
 use Rattle.rd_object.specs.Machines.Step.{goes, refuses, unknown}
 use Rattle.rd_object.specs.declared.shapes.Shape.{Shape}
 use Rattle.rd_object.specs.declared.shapes.Shape.TheVariants.{One, Number, Items, Map}
+use Rattle.rd_parts.specs.Items.{has, with_item, without_item}
 use Rattle.rd_kinds.specs.Shipped.{counter_kind, dictionary_kind, register_kind, set_kind}
 
 -- ---- a register holds a value
@@ -53,17 +51,6 @@ abbrev pub counter_machine : Machine
 counter_machine = record { kind = counter_kind; first = Number (pos 0); step = counter_step }
 
 -- ---- a set holds items, which rise by value
-
--- the item is there
-abbrev pub has : Value → List Value → Bool
-has item items = list_any (is_at (value_cmp item)) items
-
--- the items with this one, and without it
-abbrev pub with_item : Value → List Value → List Value
-with_item item items = insert_key value_cmp items item
-
-abbrev pub without_item : Value → List Value → List Value
-without_item item items = remove_key (is_at (value_cmp item)) items
 
 abbrev pub set_row : ℕ → List Value → List Value → Step
 -- add

@@ -24,11 +24,9 @@ macro_rules! dispatch {
     };
 }
 
-mod common_formulas;
 mod counter;
 mod dictionary;
 mod laws;
-mod making;
 mod names;
 mod objects;
 mod register;

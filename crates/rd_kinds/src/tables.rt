@@ -3,8 +3,8 @@ ghost use Rattle.std.specs.Prelude.{◌≡◌};
 ghost use Rattle.rd_kinds.specs.Shipped.{counter_methods, dictionary_methods, register_methods, set_methods};
 ghost use Rattle.rd_kinds.specs.Tables.{table_of};
 
-use crate::making::name;
 use rd_base::Name;
+use rd_parts::name;
 use std::marker::Model;
 
 /// The methods of a kind, by their numbers.

@@ -1,0 +1,3 @@
+pub mod Commuting
+pub mod EntryLists
+pub mod ItemLists
