@@ -1,49 +1,47 @@
 -- Where no call is reported, exchanging unordered neighbours keeps what the objects hold in the end.
-use Rattle.std.proofs.Common.{◌≡◌, ◌+◌, ◌==◌, ℕ, zero, suc, Bool, true, cond, List, ◌∷◌, ◌++◌, length, Option, Some, None, inl, inr, refl, sym, ◌∙◌, ap, subst, arith}
-use Rattle.std.specs.Prelude.{filter, slice_get}
+use Rattle.std.proofs.Common.{◌≡◌, ◌+◌, ◌==◌, ℕ, zero, suc, Bool, true, cond, List, [], ◌∷◌, ◌++◌, length, Option, Some, None, inl, inr, refl, sym, ◌∙◌, ap, subst, arith}
+use Rattle.std.specs.Prelude.{All, filter, slice_get}
 use Rattle.std.specs.List.{cons_option}
 use Rattle.std.specs.Option.{option_and_then}
 use Rattle.std.proofs.lemmas.Bool.{cases_Bool, cases_eq, cases_lt, false≢true}
 use Rattle.std.proofs.lemmas.Bool.Decides.{Decides-eqb}
-use Rattle.std.proofs.lemmas.List.Elements.{filter-append, filter_map-append}
+use Rattle.std.proofs.lemmas.List.Elements.{All-head, All-tail, filter-append, filter_map-append}
 use Rattle.std.proofs.lemmas.Option.{none-some, same_Some}
 use Rattle.rd_event.specs.declared.events.Call.{Call as CallOf}
 use Rattle.rd_event.specs.declared.events.Event.{Event}
 use Rattle.rd_event.specs.declared.events.Event.TheVariants.{Fork, Join, Acquire, Release, Share, Unshare, Call}
 use Rattle.rd_ecl.specs.Specified.{SpecifiedKind, commutes, kind_at}
 use Rattle.rd_ecl.proofs.CommuteLemmas.{symmetric}
-use Rattle.rd_kinds.specs.laws.CounterLaws.{counter_keeps, counter_sound}
-use Rattle.rd_kinds.specs.laws.DictionaryLaws.{dictionary_keeps, dictionary_sound}
-use Rattle.rd_kinds.specs.Machines.{machine_of, register_machine, counter_machine, set_machine, dictionary_machine}
-use Rattle.rd_kinds.specs.laws.RegisterLaws.{register_keeps, register_sound}
-use Rattle.rd_kinds.specs.laws.SetLaws.{set_keeps, set_sound}
-use Rattle.rd_kinds.specs.Shipped.{shipped_kinds}
 use Rattle.rd_object.specs.Machines.{IsSound, KeepsShapes, Machine}
 use Rattle.rd_object.specs.declared.shapes.Shape.{Shape}
 use Rattle.rd_order.specs.Order.{Linked, Reaches}
 use Rattle.rd_order.proofs.OrderLemmas.{reaches_rises}
 use Rattle.rd_replay.specs.Replays.{Recorded, calls_on, is_on, shape_by}
 use Rattle.rd_races.specs.Commuting.{Commute, calls_commute}
-use Rattle.rd_linear.specs.Determinism.{AreOnObjects, Ends, NoneReported, held_behind, recorded_calls, recorded_in}
+use Rattle.rd_linear.specs.Determinism.{AreOnObjects, Ends, NoneReported, held_behind, kinds_from, recorded_calls, recorded_in}
 use Rattle.rd_linear.specs.Orders.{exchanged}
 use Rattle.rd_races.specs.Races.{Racing}
 use Rattle.rd_linear.proofs.ExchangeLemmas.{at_seam, exchanged_twice, got_exchanged, past_seam, same_reaches}
 use Rattle.rd_linear.proofs.MachineLemmas.{shapes_either}
 
--- ---- the machine of a kind
+-- ---- the machines of the first kinds
 
--- the machine of a kind that is built in is sound, and is of the kind that has the number
-pub record IsBuiltIn (kinds : List SpecifiedKind) (number : ℕ) (machine : Machine) : Type 0 where
-  pub sound : IsSound machine
-  pub keeps : KeepsShapes machine
-  pub kind : kind_at kinds number ≡ machine.kind
+-- the machine is sound, and is of the kind that has the number
+record IsLawful (kinds : List SpecifiedKind) (number : ℕ) (machine : Machine) : Type 0 where
+  sound : IsSound machine
+  keeps : KeepsShapes machine
+  kind : kind_at kinds number ≡ machine.kind
 
-pub built_in : (more : List SpecifiedKind) (number : ℕ) (machine : Machine) → machine_of number ≡ Some machine → IsBuiltIn (shipped_kinds ++ more) number machine
-built_in more zero machine is = subst (IsBuiltIn (shipped_kinds ++ more) 0) (same_Some register_machine machine is) (record { sound = register_sound; keeps = register_keeps; kind = refl })
-built_in more (suc zero) machine is = subst (IsBuiltIn (shipped_kinds ++ more) 1) (same_Some counter_machine machine is) (record { sound = counter_sound; keeps = counter_keeps; kind = refl })
-built_in more (suc (suc zero)) machine is = subst (IsBuiltIn (shipped_kinds ++ more) 2) (same_Some set_machine machine is) (record { sound = set_sound; keeps = set_keeps; kind = refl })
-built_in more (suc (suc (suc zero))) machine is = subst (IsBuiltIn (shipped_kinds ++ more) 3) (same_Some dictionary_machine machine is) (record { sound = dictionary_sound; keeps = dictionary_keeps; kind = refl })
-built_in more (suc (suc (suc (suc number)))) machine is = absurd (none-some machine is)
+-- so is each of these machines, by its number
+lawful : (machines : List Machine) (more : List SpecifiedKind) → All IsSound machines → All KeepsShapes machines → (number : ℕ) (machine : Machine)
+    → slice_get machines number ≡ Some machine → IsLawful (kinds_from machines more) number machine
+lawful [] more sound keeps number machine is = absurd (none-some machine is)
+lawful (m ∷ machines) more sound keeps zero machine is =
+    subst (IsLawful (kinds_from (m ∷ machines) more) 0) (same_Some m machine is)
+    (record { sound = All-head IsSound m machines sound; keeps = All-head KeepsShapes m machines keeps; kind = refl })
+lawful (m ∷ machines) more sound keeps (suc number) machine is =
+    let it = lawful machines more (All-tail IsSound m machines sound) (All-tail KeepsShapes m machines keeps) number machine is in
+    record { sound = it.sound; keeps = it.keeps; kind = it.kind }
 
 -- ---- the calls on an object
 
@@ -172,21 +170,21 @@ module _ (kinds : List SpecifiedKind) (objects : List ℕ) where
 
 -- ---- what the objects hold
 
-pub ends_exchanged : (more : List SpecifiedKind) (objects : List ℕ) (shapes : List Shape) (xs : List Event) (a b : Event) (ys : List Event)
-    → ¬ (Reaches (xs ++ a ∷ b ∷ ys) (length xs) (length xs + 1)) → AreOnObjects objects (xs ++ a ∷ b ∷ ys) → NoneReported (shipped_kinds ++ more) (xs ++ a ∷ b ∷ ys)
-    → Ends objects (xs ++ a ∷ b ∷ ys) shapes → Ends objects (xs ++ b ∷ a ∷ ys) shapes
+pub ends_exchanged : (machines : List Machine) (more : List SpecifiedKind) (objects : List ℕ) (shapes : List Shape) (xs : List Event) (a b : Event) (ys : List Event)
+    → All IsSound machines → All KeepsShapes machines → ¬ (Reaches (xs ++ a ∷ b ∷ ys) (length xs) (length xs + 1)) → AreOnObjects objects (xs ++ a ∷ b ∷ ys) → NoneReported (kinds_from machines more) (xs ++ a ∷ b ∷ ys)
+    → Ends machines objects (xs ++ a ∷ b ∷ ys) shapes → Ends machines objects (xs ++ b ∷ a ∷ ys) shapes
 unfolding calls_commute
-ends_exchanged more objects shapes xs a b ys loose on none ends object shape at = by (slice_get objects object) refl
+ends_exchanged machines more objects shapes xs a b ys sound keeps loose on none ends object shape at = by (slice_get objects object) refl
   where
     kinds : List SpecifiedKind
-    kinds = shipped_kinds ++ more
+    kinds = kinds_from machines more
 
-    by_machine : (number : ℕ) → slice_get objects object ≡ Some number → (o : Option Machine) → machine_of number ≡ o
+    by_machine : (number : ℕ) → slice_get objects object ≡ Some number → (o : Option Machine) → slice_get machines number ≡ o
         → option_and_then (λ machine. shape_by machine machine.first (calls_on object (recorded_calls (xs ++ a ∷ b ∷ ys)))) o ≡ Some shape
         → option_and_then (λ machine. shape_by machine machine.first (calls_on object (recorded_calls (xs ++ b ∷ a ∷ ys)))) o ≡ Some shape
     by_machine number of_kind None is held = absurd (none-some shape held)
     by_machine number of_kind (Some machine) is held =
-        let it = built_in more number machine is in
+        let it = lawful machines more sound keeps number machine is in
         ap (shape_by machine machine.first) (calls_between object xs b a ys)
         ∙ shapes_either machine it.sound it.keeps shape (calls_on object (recorded_calls xs)) (call_on object a) (call_on object b) (calls_on object (recorded_calls ys))
         (λ c d is_c is_d.
@@ -196,9 +194,9 @@ ends_exchanged more objects shapes xs a b ys loose on none ends object shape at 
         ∙ neighbours_commute kinds objects xs a b ys none loose object c d is_c is_d)
         (sym (ap (shape_by machine machine.first) (calls_between object xs a b ys)) ∙ held)
 
-    by : (o : Option ℕ) → slice_get objects object ≡ o → held_behind objects (xs ++ b ∷ a ∷ ys) object ≡ Some shape
-    by None is = absurd (none-some shape (sym (ap (λ o. option_and_then (λ machine. shape_by machine machine.first (calls_on object (recorded_calls (xs ++ a ∷ b ∷ ys)))) (option_and_then machine_of o)) is) ∙ ends object shape at))
+    by : (o : Option ℕ) → slice_get objects object ≡ o → held_behind machines objects (xs ++ b ∷ a ∷ ys) object ≡ Some shape
+    by None is = absurd (none-some shape (sym (ap (λ o. option_and_then (λ machine. shape_by machine machine.first (calls_on object (recorded_calls (xs ++ a ∷ b ∷ ys)))) (option_and_then (slice_get machines) o)) is) ∙ ends object shape at))
     by (Some number) is =
-        ap (λ o. option_and_then (λ machine. shape_by machine machine.first (calls_on object (recorded_calls (xs ++ b ∷ a ∷ ys)))) (option_and_then machine_of o)) is
-        ∙ by_machine number is (machine_of number) refl
-        (sym (ap (λ o. option_and_then (λ machine. shape_by machine machine.first (calls_on object (recorded_calls (xs ++ a ∷ b ∷ ys)))) (option_and_then machine_of o)) is) ∙ ends object shape at)
+        ap (λ o. option_and_then (λ machine. shape_by machine machine.first (calls_on object (recorded_calls (xs ++ b ∷ a ∷ ys)))) (option_and_then (slice_get machines) o)) is
+        ∙ by_machine number is (slice_get machines number) refl
+        (sym (ap (λ o. option_and_then (λ machine. shape_by machine machine.first (calls_on object (recorded_calls (xs ++ a ∷ b ∷ ys)))) (option_and_then (slice_get machines) o)) is) ∙ ends object shape at)

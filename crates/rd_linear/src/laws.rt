@@ -1,12 +1,12 @@
 //! The laws of other orders of events.
-ghost use Rattle.std.specs.Prelude.{◌≡◌, ◌↔◌, ℕ, ◌+◌, Bool, List, ◌∷◌, ◌++◌, length, count_by, slice_get, Some};
+ghost use Rattle.std.specs.Prelude.{◌≡◌, ◌↔◌, ℕ, ◌+◌, Bool, List, ◌∷◌, ◌++◌, All, length, count_by, slice_get, Some};
 ghost use Rattle.rd_ecl.specs.Specified.{SpecifiedKind};
 ghost use Rattle.rd_event.specs.declared.events.Event.{Event};
-ghost use Rattle.rd_kinds.specs.Shipped.{shipped_kinds};
+ghost use Rattle.rd_object.specs.Machines.{IsSound, KeepsShapes, Machine};
 ghost use Rattle.rd_object.specs.declared.shapes.Shape.{Shape};
 ghost use Rattle.rd_order.specs.EventLists.{WellFormed};
 ghost use Rattle.rd_order.specs.Order.{Reaches};
-ghost use Rattle.rd_linear.specs.Determinism.{AreOnObjects, Ends, IsDeterministic, NoneReported};
+ghost use Rattle.rd_linear.specs.Determinism.{AreOnObjects, Ends, IsDeterministic, NoneReported, kinds_from};
 ghost use Rattle.rd_linear.specs.Lanes.{HaveThreads, order_by};
 ghost use Rattle.rd_linear.specs.Linear.{Placed, Stands};
 ghost use Rattle.rd_linear.specs.Orders.{IsLinear, IsReached, exchanged, in_order};
@@ -59,8 +59,9 @@ pub fn law_of_waits()
 {}
 
 /// Where no call is reported, the exchange of neighbours of which the first doesn't reach the second keeps that, and what the objects
-/// hold in the end. So a well-formed list in which no call is reported, and whose calls lead the objects of built-in kinds to these
-/// shapes, is deterministic, and in no linear order of it a call is reported.
+/// hold in the end, by any machines that are sound and keep shapes, of the first of the kinds. So a well-formed list in which no call is
+/// reported, and whose calls lead the objects by such machines to these shapes, is deterministic, and in no linear order of it a call is
+/// reported.
 pub fn law_of_determinism()
     // one exchange
     ensures quiet { (roots : ℕ → Bool) (kinds : List SpecifiedKind) (objects : List ℕ) (before after : List Event) (a b : Event) →
@@ -68,17 +69,19 @@ pub fn law_of_determinism()
         ¬ (Reaches (before ++ a ∷ b ∷ after) (length before) (length before + 1)) →
         AreOnObjects objects (before ++ a ∷ b ∷ after) → NoneReported kinds (before ++ a ∷ b ∷ after) →
         NoneReported kinds (before ++ b ∷ a ∷ after) }
-    ensures ends { (more : List SpecifiedKind) (objects : List ℕ) (shapes : List Shape) (before after : List Event) (a b : Event) →
+    ensures ends { (machines : List Machine) (more : List SpecifiedKind) (objects : List ℕ) (shapes : List Shape) (before after : List Event) (a b : Event) →
+        All IsSound machines → All KeepsShapes machines →
         ¬ (Reaches (before ++ a ∷ b ∷ after) (length before) (length before + 1)) →
         AreOnObjects objects (before ++ a ∷ b ∷ after) →
-        NoneReported (shipped_kinds ++ more) (before ++ a ∷ b ∷ after) →
-        Ends objects (before ++ a ∷ b ∷ after) shapes → Ends objects (before ++ b ∷ a ∷ after) shapes }
+        NoneReported (kinds_from machines more) (before ++ a ∷ b ∷ after) →
+        Ends machines objects (before ++ a ∷ b ∷ after) shapes → Ends machines objects (before ++ b ∷ a ∷ after) shapes }
 
     // every linear order
     ensures always_quiet { (roots : ℕ → Bool) (kinds : List SpecifiedKind) (objects : List ℕ) (es : List Event) (places : List ℕ) →
         WellFormed roots es → AreOnObjects objects es → NoneReported kinds es → IsLinear es places →
         NoneReported kinds (in_order es places) }
-    ensures deterministic { (roots : ℕ → Bool) (more : List SpecifiedKind) (objects : List ℕ) (shapes : List Shape) (es : List Event) →
-        WellFormed roots es → AreOnObjects objects es → NoneReported (shipped_kinds ++ more) es →
-        Ends objects es shapes → IsDeterministic roots objects es shapes }
+    ensures deterministic { (machines : List Machine) (roots : ℕ → Bool) (more : List SpecifiedKind) (objects : List ℕ) (shapes : List Shape) (es : List Event) →
+        All IsSound machines → All KeepsShapes machines →
+        WellFormed roots es → AreOnObjects objects es → NoneReported (kinds_from machines more) es →
+        Ends machines objects es shapes → IsDeterministic machines roots objects es shapes }
 {}

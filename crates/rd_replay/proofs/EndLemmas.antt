@@ -1,11 +1,10 @@
 -- What objects hold in the end doesn't hang on the numbers of lines, and each has a shape where all calls give what was recorded.
-use Rattle.std.proofs.Common.{◌≡◌, ℕ, zero, suc, ◌+◌, ◌<◌, ◌==◌, Bool, true, false, cond, List, [], ◌∷◌, length, map, slice_get, Option, Some, None, refl, sym, ap, ◌∙◌, arith}
+use Rattle.std.proofs.Common.{◌≡◌, ℕ, zero, suc, ◌+◌, ◌<◌, Bool, true, false, cond, List, [], ◌∷◌, length, map, slice_get, Option, Some, None, refl, sym, ap, ◌∙◌, arith}
 use Rattle.std.specs.Prelude.{unwrap_or}
 use Rattle.std.specs.List.{range_with_len}
 use Rattle.std.specs.Option.{option_and_then}
 use Rattle.std.proofs.lemmas.List.FromFn.{length-map-range_with_len}
 use Rattle.rd_base.specs.declared.values.Value.TheVariants.{Nil}
-use Rattle.rd_event.specs.declared.events.Call.{Call}
 use Rattle.rd_object.specs.Machines.{Machine}
 use Rattle.rd_object.specs.declared.shapes.Shape.{Shape}
 use Rattle.rd_object.specs.declared.shapes.Shape.TheVariants.{One}

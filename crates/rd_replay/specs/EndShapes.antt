@@ -1,5 +1,5 @@
 -- What objects hold in the end, by the calls on them without their lines: this project's profile.
-use Rattle.std.specs.Prelude.{◌≡◌, ℕ, ◌<◌, ◌==◌, Bool, List, [], ◌∷◌, length, filter, map, slice_get, Option, Some}
+use Rattle.std.specs.Prelude.{◌≡◌, ℕ, ◌<◌, ◌==◌, List, [], ◌∷◌, length, filter, map, slice_get, Option, Some}
 use Rattle.std.specs.Option.{option_and_then}
 use Rattle.rd_event.specs.declared.events.Call.{Call}
 use Rattle.rd_object.specs.Machines.{Machine}

@@ -5,7 +5,7 @@ use Rattle.std.specs.Option.{option_and_then, option_or}
 use Rattle.rd_base.specs.declared.values.Value.{Value as Result}
 use Rattle.rd_ecl.specs.Formulas.{same_value}
 use Rattle.rd_event.specs.declared.events.Call.{Call}
-use Rattle.rd_kinds.specs.Machines.{machine_of, shipped_machines}
+use Rattle.rd_kinds.specs.Machines.{shipped_machines}
 use Rattle.rd_object.specs.Machines.{Machine, Step}
 use Rattle.rd_object.specs.Machines.Step.{goes, refuses, unknown}
 use Rattle.rd_object.specs.declared.shapes.Shape.{Shape}
@@ -59,14 +59,21 @@ shape_by machine shape [] = Some shape
 shape_by machine shape (recorded ∷ calls) =
     option_and_then (λ next. shape_by machine next calls) (shape_after (step_at machine shape recorded.1) (result_of recorded.1.slots))
 
--- the machine of an object, by the kinds of the objects
-abbrev pub object_machine : List ℕ → ℕ → Option Machine
-object_machine kinds object = option_and_then machine_of (slice_get kinds object)
+-- the machine of an object, by machines, which stand in the order of the kinds' numbers, and the kinds of the objects
+abbrev pub machine_by : List Machine → List ℕ → ℕ → Option Machine
+machine_by machines kinds object = option_and_then (slice_get machines) (slice_get kinds object)
 
 -- what an object holds behind its own calls among these
+abbrev pub held_by : List Machine → List ℕ → List Recorded → ℕ → Option Shape
+held_by machines kinds calls object =
+    option_and_then (λ machine. shape_by machine machine.first (calls_on object calls)) (machine_by machines kinds object)
+
+-- both by the machines of the kinds that are built in
+abbrev pub object_machine : List ℕ → ℕ → Option Machine
+object_machine kinds object = machine_by shipped_machines kinds object
+
 abbrev pub held_shape : List ℕ → List Recorded → ℕ → Option Shape
-held_shape kinds calls object =
-    option_and_then (λ machine. shape_by machine machine.first (calls_on object calls)) (object_machine kinds object)
+held_shape kinds calls object = held_by shipped_machines kinds calls object
 
 -- ---- all calls
 

@@ -10,7 +10,7 @@ returns-clause-quiet c roots kinds objects before after a b formed loose on none
     none_exchanged kinds objects before a b after apart (not_linked_back roots before a b after formed apart) on none
 
 pub returns-clause-ends : goal.returns-clause-ends
-returns-clause-ends c more objects shapes before after a b loose on none ends = ends_exchanged more objects shapes before a b after loose on none ends
+returns-clause-ends c machines more objects shapes before after a b sound keeps = ends_exchanged machines more objects shapes before a b after sound keeps
 
 pub returns-clause-always_quiet : goal.returns-clause-always_quiet
 returns-clause-always_quiet c = always_quiet
