@@ -6,12 +6,10 @@ use Rattle.std.proofs.lemmas.Bool.{cases_eq, cases_lt, eq-eqb, ne_eqb}
 use Rattle.std.proofs.lemmas.Option.{none-some, same_Some}
 use Rattle.rd_order.specs.Noting.{IsLastFrom, kept_at, kept_if, later, noted_of}
 
+-- of a property that says the same
 pub last_like : (P Q : ℕ → Type 0) (lo : ℕ) (x : Option ℕ) → ((k : ℕ) → lo ≤ k → P k → Q k) → ((k : ℕ) → lo ≤ k → Q k → P k) → IsLastFrom P lo x → IsLastFrom Q lo x
 last_like P Q lo None to from last = λ k least has. last k least (from k least has)
 last_like P Q lo (Some w) to from last = (last.0, to w last.0 last.1, λ k least has. last.2 k least (from k least has))
-
-pub last_none : (P : ℕ → Type 0) (lo : ℕ) → ((k : ℕ) → lo ≤ k → ¬ (P k)) → IsLastFrom P lo None
-last_none P lo none = none
 
 right_is : (x y : ℕ) → x < y → max x y ≡ y
 right_is x y l = omega arith
@@ -19,6 +17,7 @@ right_is x y l = omega arith
 left_is : (x y : ℕ) → ¬ (x < y) → max x y ≡ x
 left_is x y l = omega arith
 
+-- of two properties it is the later one
 pub later_last : (P Q : ℕ → Type 0) (lo : ℕ) (x y : Option ℕ) → IsLastFrom P lo x → IsLastFrom Q lo y → IsLastFrom (λ k. P k ⊎ Q k) lo (later x y)
 later_last P Q lo None None a b = λ k least has. elim has [ inl p ↦ a k least p | inr q ↦ b k least q ]
 later_last P Q lo None (Some y) a b = (b.0, inr b.1, λ k least has. elim has [ inl p ↦ absurd (a k least p) | inr q ↦ b.2 k least q ])
@@ -32,11 +31,13 @@ later_last P Q lo (Some x) (Some y) a b = elim (cases_lt x y) [
 
 -- ---- one number more in front
 
+-- it has the property: it is the last where none is
 pub last_kept : (P : ℕ → Type 0) (n : ℕ) (w : Option ℕ) → P n → IsLastFrom P (n + 1) w → IsLastFrom P n (option_or w (Some n))
 last_kept P n None here last = (omega arith, here, λ k least has. elim (cases_lt n k) [ inl l ↦ absurd (last k (omega arith) has) | inr l ↦ omega arith ])
 last_kept P n (Some w) here last =
     let l = last.0 in (omega arith, last.1, λ k least has. elim (cases_lt n k) [ inl above ↦ last.2 k (omega arith) has | inr below ↦ omega arith ])
 
+-- it doesn't
 pub last_stays : (P : ℕ → Type 0) (n : ℕ) (w : Option ℕ) → ¬ (P n) → IsLastFrom P (n + 1) w → IsLastFrom P n w
 last_stays P n None lacks last = λ k least has. elim (cases_eq k n) [ inl same ↦ lacks (subst P same has) | inr apart ↦ last k (omega arith) has ]
 last_stays P n (Some w) lacks last =
@@ -48,12 +49,14 @@ pub last_again : (P : ℕ → Type 0) (n : ℕ) (w : Option ℕ) → P n → IsL
 last_again P n None here last = absurd (last n (omega arith) here)
 last_again P n (Some w) here last = last
 
+-- what is noted at the key, and at another
 pub at_same : (P : ℕ → Type 0) (known : ℕ → Option ℕ) (key n q : ℕ) → key ≡ q → IsLastFrom P n (option_or (known q) (Some n)) → IsLastFrom P n (kept_at known key n q)
 at_same P known key n q same last = subst (λ b. IsLastFrom P n (cond b (option_or (known q) (Some n)) (known q))) (sym (eq-eqb key q same)) last
 
 pub at_other : (known : ℕ → Option ℕ) (key n q : ℕ) → key ≢ q → kept_at known key n q ≡ known q
 at_other known key n q apart = ap (λ b. cond b (option_or (known q) (Some n)) (known q)) (ne_eqb key q apart)
 
+-- by a key that may be there, with a number that has the property exactly where the key is this one
 pub if_more : (P : ℕ → Type 0) (known : ℕ → Option ℕ) (o : Option ℕ) (n q : ℕ) → (o ≡ Some q → P n) → (¬ (o ≡ Some q) → ¬ (P n)) → IsLastFrom P (n + 1) (known q)
     → IsLastFrom P n (kept_if known o n q)
 if_more P known None n q here others last = last_stays P n (known q) (others (λ is. none-some q is)) last
@@ -62,6 +65,7 @@ if_more P known (Some key) n q here others last = elim (cases_eq key q) [
   | inr apart ↦ subst (IsLastFrom P n) (sym (at_other known key n q apart)) (last_stays P n (known q) (others (λ is. apart (same_Some key q is))) last)
 ]
 
+-- and with one that is noted already
 pub if_again : (P : ℕ → Type 0) (known : ℕ → Option ℕ) (o : Option ℕ) (n q : ℕ) → P n → IsLastFrom P n (known q) → IsLastFrom P n (kept_if known o n q)
 if_again P known None n q here last = last
 if_again P known (Some key) n q here last = elim (cases_eq key q) [

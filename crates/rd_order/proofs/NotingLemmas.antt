@@ -13,6 +13,7 @@ use Rattle.rd_order.proofs.LastLemmas.{at_other, at_same, if_again, if_more, las
 
 -- ---- what the code writes
 
+-- where nothing was noted at the key, and where something was
 pub kept_new : (old now : ℕ → Option ℕ) (key place : ℕ) → old key ≡ None → now key ≡ Some place → ((q : ℕ) → (key == q) ≡ false → now q ≡ old q)
     → (q : ℕ) → now q ≡ kept_at old key place q
 kept_new old now key place none here others q = elim (cases_eq key q) [
@@ -33,6 +34,7 @@ kept_there old key place w there q = elim (cases_eq key q) [
 event_is : (es : List Event) (n : ℕ) (e d : Event) → slice_get es n ≡ Some e → slice_get es n ≡ Some d → d ≡ e
 event_is es n e d at also = same_Some d e (sym also ∙ at)
 
+-- of its thread and of the one that it joins
 thread_more : (es : List Event) (j n : ℕ) (e : Event) (known : ℕ → Option ℕ) → slice_get es n ≡ Some e → Comes es j n → ((t : ℕ) → IsLastFrom (Meets es j t) (n + 1) (known t))
     → (t : ℕ) → IsLastFrom (Meets es j t) n (kept_if (kept_at known (thread_of e) n) (joined_thread e) n t)
 thread_more es j n e known at comes noted t = elim (cases_eq (thread_of e) t) [

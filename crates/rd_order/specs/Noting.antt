@@ -22,6 +22,7 @@ Meets es j thread k = Comes es j k × ((e : Event) × (slice_get es k ≡ Some e
 abbrev pub TakesOn : List Event → ℕ → Hold → ℕ → Type 0
 TakesOn es j hold k = Comes es j k × ((e : Event) × (slice_get es k ≡ Some e) × (hold_taken e ≡ Some hold))
 
+-- what is noted of a thread, and of a lock
 abbrev pub thread_noted : Notes → ℕ → Option ℕ
 thread_noted notes thread = get nat_eq notes.threads thread
 
@@ -31,7 +32,7 @@ acquire_noted notes lock = get nat_eq notes.acquires lock
 abbrev pub share_noted : Notes → ℕ → Option ℕ
 share_noted notes lock = get nat_eq notes.shares lock
 
--- of the places from lo on the last one of each sort is noted
+-- of the places from lo on, of each thread and each lock the last one is noted
 pub record AreNoted (es : List Event) (j lo : ℕ) (notes : Notes) : Type 0 where
   pub threads_are : (thread : ℕ) → IsLastFrom (Meets es j thread) lo (thread_noted notes thread)
   pub acquires_are : (lock : ℕ) → IsLastFrom (TakesOn es j (exclusive lock)) lo (acquire_noted notes lock)
@@ -41,6 +42,7 @@ pub record AreNoted (es : List Event) (j lo : ℕ) (notes : Notes) : Type 0 wher
 abbrev pub kept_at : (ℕ → Option ℕ) → ℕ → ℕ → ℕ → Option ℕ
 kept_at known key place q = if key == q then option_or (known q) (Some place) else known q
 
+-- the same for a key that may be there
 abbrev pub kept_if : (ℕ → Option ℕ) → Option ℕ → ℕ → ℕ → Option ℕ
 kept_if known None place q = known q
 kept_if known (Some key) place q = kept_at known key place q
@@ -64,15 +66,17 @@ later None y = y
 later (Some x) None = Some x
 later (Some x) (Some y) = Some (max x y)
 
+-- what is noted by a key that may be there
 abbrev pub noted_of : (ℕ → Option ℕ) → Option ℕ → Option ℕ
 noted_of known None = None
 noted_of known (Some key) = known key
 
--- behind an event that gives a hold back
+-- the last place that takes a hold against the one that is given back
 abbrev pub taker : Notes → Option Hold → Option ℕ
 taker notes None = None
 taker notes (Some (exclusive lock)) = later (acquire_noted notes lock) (share_noted notes lock)
 taker notes (Some (shared lock)) = acquire_noted notes lock
 
+-- the latest of what is noted of the event's thread, of the one that it forks, and of the hold that it gives back
 abbrev pub next_by : Notes → Event → Option ℕ
 next_by notes e = later (later (thread_noted notes (thread_of e)) (noted_of (thread_noted notes) (forked_thread e))) (taker notes (hold_given e))

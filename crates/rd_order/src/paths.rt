@@ -61,7 +61,8 @@ pub fn path_along(
     requires below { i < j }
     requires inside { j ≤ i + length steps.now }
     requires known { AreFarthestSteps events.now j steps.now }
-    ensures farthest { IfOk result (λ found. IfSome found (λ places. IsFarthestPath events.now i places j)) }
+    ensures farthest { IfOk result (λ found.
+        IfSome found (λ places. IsFarthestPath events.now i places j)) }
     ensures none { IfOk result (λ found. IfNone found (¬ (Reaches events.now i j))) }
 {
     let mut places = Places::new(alloc);
@@ -85,7 +86,8 @@ pub fn path(alloc: Global, events: &[Event], i: u32, j: u32) -> Result<Option<Pl
     requires from { i < length events.now }
     requires to { j < length events.now }
     ensures some { IfOk result (λ found. IfSome found (λ places. IsPath events.now i places j)) }
-    ensures farthest { IfOk result (λ found. IfSome found (λ places. IsFarthestPath events.now i places j)) }
+    ensures farthest { IfOk result (λ found.
+        IfSome found (λ places. IsFarthestPath events.now i places j)) }
     ensures none { IfOk result (λ found. IfNone found (¬ (Reaches events.now i j))) }
     ensures memory { OnErr result (i < j) }
 {

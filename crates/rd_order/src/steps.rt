@@ -105,7 +105,8 @@ fn next(notes: &Notes, event: &Event) -> Option<u32>
 
 #[tactic(auto, using(crate::proofs::NotingLemmas::kept_there, crate::proofs::NotingLemmas::kept_new))]
 fn keep(map: &mut IndexMap<u32, u32>, key: u32, place: u32) -> Result<(), NoMemory>
-    ensures { OnOk result ((q : ℕ) → get nat_eq map.new q ≡ kept_at (get nat_eq map.old) key place q) }
+    ensures { OnOk result ((q : ℕ) →
+        get nat_eq map.new q ≡ kept_at (get nat_eq map.old) key place q) }
 {
     if place_of(map, key).is_some() {
         return Ok(());
@@ -115,7 +116,8 @@ fn keep(map: &mut IndexMap<u32, u32>, key: u32, place: u32) -> Result<(), NoMemo
 }
 
 fn keep_if(map: &mut IndexMap<u32, u32>, key: Option<u32>, place: u32) -> Result<(), NoMemory>
-    ensures { OnOk result ((q : ℕ) → get nat_eq map.new q ≡ kept_if (get nat_eq map.old) key place q) }
+    ensures { OnOk result ((q : ℕ) →
+        get nat_eq map.new q ≡ kept_if (get nat_eq map.old) key place q) }
 {
     match key {
         Some(key) => keep(map, key, place),
@@ -142,8 +144,10 @@ fn shared_lock(event: &Event) -> Option<u32>
 }
 
 fn note_threads(threads: &mut IndexMap<u32, u32>, event: &Event, place: u32) -> Result<(), NoMemory>
-    ensures { OnOk result ((t : ℕ) → get nat_eq threads.new t
-        ≡ kept_if (kept_at (get nat_eq threads.old) (thread_of event.now) place) (joined_thread event.now) place t) }
+    ensures { OnOk result ((t : ℕ) →
+        get nat_eq threads.new t
+        ≡ kept_if (kept_at (get nat_eq threads.old) (thread_of event.now) place)
+        (joined_thread event.now) place t) }
 {
     keep(threads, thread_of(event), place)?;
     keep_if(threads, joined_thread(event), place)
@@ -151,11 +155,15 @@ fn note_threads(threads: &mut IndexMap<u32, u32>, event: &Event, place: u32) -> 
 
 // Notes the event at a place, which is the target or reaches it, where those behind it are noted.
 fn note(notes: &mut Notes, event: &Event, place: u32) -> Result<(), NoMemory>
-    ensures threads { OnOk result ((t : ℕ) → thread_noted notes.new t
-        ≡ kept_if (kept_at (thread_noted notes.old) (thread_of event.now) place) (joined_thread event.now) place t) }
-    ensures acquires { OnOk result ((lock : ℕ) → acquire_noted notes.new lock
+    ensures threads { OnOk result ((t : ℕ) →
+        thread_noted notes.new t
+        ≡ kept_if (kept_at (thread_noted notes.old) (thread_of event.now) place)
+        (joined_thread event.now) place t) }
+    ensures acquires { OnOk result ((lock : ℕ) →
+        acquire_noted notes.new lock
         ≡ kept_if (acquire_noted notes.old) (exclusive_in (hold_taken event.now)) place lock) }
-    ensures shares { OnOk result ((lock : ℕ) → share_noted notes.new lock
+    ensures shares { OnOk result ((lock : ℕ) →
+        share_noted notes.new lock
         ≡ kept_if (share_noted notes.old) (shared_in (hold_taken event.now)) place lock) }
 {
     note_threads(&mut notes.threads, event, place)?;

@@ -1,10 +1,10 @@
 -- Machines whose calls are listed, each with what it does to what the object holds: they are sound where any two calls that commute may be
 -- exchanged.
 use Rattle.std.specs.Prelude.{◌≡◌, ◌⊎◌, ℕ, true, nat_le, List, [], ◌∷◌, ◌++◌}
-use Rattle.std.proofs.Common.{refl, sym, ap, ◌∙◌, subst, ⊎_elim}
+use Rattle.std.proofs.Common.{sym, ap, ◌∙◌, subst, ⊎_elim}
 use Rattle.rd_base.specs.declared.values.Value.{Value}
 use Rattle.rd_ecl.specs.Specified.{SpecifiedKind, commutes, pair_holds}
-use Rattle.rd_object.specs.Machines.{IsShape, IsSound, KeepsShapes, Machine, Next, Step}
+use Rattle.rd_object.specs.Machines.{IsShape, IsSound, KeepsShapes, Machine, Next}
 use Rattle.rd_object.specs.Machines.Step.{goes}
 use Rattle.rd_object.specs.declared.shapes.Shape.{Shape}
 use Rattle.rd_parts.specs.laws.Commuting.{first_on_1, second_on_1}
@@ -21,7 +21,7 @@ abbrev pub slots : {S C : Type 0} → Calls S C → C → S → List Value
 slots calls call state = calls.arguments call ++ calls.result call state ∷ []
 
 -- the call that a step runs
-pub record Ran {S C : Type 0} (calls : Calls S C) (method : ℕ) (arguments : List Value) (state : S) (new : Shape) (result : Value)
+pub record RunsCall {S C : Type 0} (calls : Calls S C) (method : ℕ) (arguments : List Value) (state : S) (new : Shape) (result : Value)
     : Type 0 where
   pub call : C
   pub is_method : method ≡ calls.number call
@@ -39,7 +39,7 @@ pub record AreCalls {S C : Type 0} (machine : Machine) (calls : Calls S C) : Typ
   pub runs : (call : C) (state : S)
       → machine.step (calls.number call) (calls.arguments call) (calls.shape state) ≡ goes (calls.shape (calls.after call state)) (calls.result call state)
   pub ran : (method : ℕ) (arguments : List Value) (state : S) (new : Shape) (result : Value)
-      → machine.step method arguments (calls.shape state) ≡ goes new result → Ran calls method arguments state new result
+      → machine.step method arguments (calls.shape state) ≡ goes new result → RunsCall calls method arguments state new result
 
 -- two calls may be exchanged: their results and what is held are the same
 pub record Exchange {S C : Type 0} (calls : Calls S C) (first second : C) (state : S) : Type 0 where
@@ -62,22 +62,22 @@ pub turn : {S C : Type 0} (calls : Calls S C) (first second : C) (state : S) →
 turn calls first second state x = record { second_result = x.first_result; first_result = x.second_result; same = sym x.same }
 
 -- two calls that commute, one after the other
-abbrev pub Commute : {S C : Type 0} → SpecifiedKind → Calls S C → C → C → S → Type 0
-Commute kind calls first second state =
+abbrev pub CommuteAt : {S C : Type 0} → SpecifiedKind → Calls S C → C → C → S → Type 0
+CommuteAt kind calls first second state =
     commutes kind (calls.number first) (slots calls first state) (calls.number second) (slots calls second (calls.after first state)) ≡ true
 
 pub on_1 : {S C : Type 0} (kind : SpecifiedKind) (calls : Calls S C) (first second : C) (state : S) → nat_le (calls.number first) (calls.number second) ≡ true
-    → Commute kind calls first second state
+    → CommuteAt kind calls first second state
     → pair_holds kind (calls.number first) (calls.number second) (slots calls first state) (slots calls second (calls.after first state)) ≡ true
 on_1 kind calls first second state = first_on_1 kind (calls.number first) (calls.number second) (slots calls first state) (slots calls second (calls.after first state))
 
 pub on_2 : {S C : Type 0} (kind : SpecifiedKind) (calls : Calls S C) (first second : C) (state : S) → nat_le (calls.number second) (calls.number first) ≡ true
-    → Commute kind calls first second state
+    → CommuteAt kind calls first second state
     → pair_holds kind (calls.number second) (calls.number first) (slots calls second (calls.after first state)) (slots calls first state) ≡ true
 on_2 kind calls first second state = second_on_1 kind (calls.number first) (calls.number second) (slots calls first state) (slots calls second (calls.after first state))
 
 abbrev pub MayExchange : {S C : Type 0} → Machine → Calls S C → Type 0
-MayExchange {S} {C} machine calls = (first second : C) (state : S) → IsShape (calls.shape state) → Commute machine.kind calls first second state → Exchange calls first second state
+MayExchange {S} {C} machine calls = (first second : C) (state : S) → IsShape (calls.shape state) → CommuteAt machine.kind calls first second state → Exchange calls first second state
 
 sound_at : {S C : Type 0} (machine : Machine) (calls : Calls S C) → AreCalls machine calls → MayExchange machine calls
     → (m n : ℕ) (a b : List Value) (state : S) (between new : Shape) → IsShape (calls.shape state) → commutes machine.kind m a n b ≡ true
