@@ -1,5 +1,5 @@
 -- The lines that a walk accepts are accepted, each after those in front of it.
-use Rattle.std.proofs.Common.{◌≡◌, ℕ, ◌+◌, ◌<◌, ◌^◌, List, [], ◌∷◌, ◌++◌, Option, Some, None, Result, Ok, Err, refl, subst}
+use Rattle.std.proofs.Common.{◌≡◌, ℕ, ◌+◌, ◌<◌, ◌^◌, List, [], ◌∷◌, ◌++◌, Option, Some, None, Result, Ok, Err, refl, sym, subst}
 use Rattle.rd_base.specs.Limits.{AreUsable}
 use Rattle.rd_io.specs.Lines.{Stop, Reading, reading}
 use Rattle.rd_io.specs.Lines.Reading.{stops, line}
@@ -10,7 +10,8 @@ use Rattle.rd_rules.proofs.FollowLemmas.{follows_from_none}
 use Rattle.rd_rules.specs.Events.{AreAccepted, AreAcceptedFrom}
 use Rattle.rd_ecl.specs.Kinds.{Kind}
 use Rattle.rd_rules.specs.MayFollow.{MayFollow, first_broken, version_of}
-use Rattle.rd_walk.specs.Walk.{accepted_or, entries_of, goes_or_ends, items, judgement_of, judgement_of_item, trace_of, walk}
+use Rattle.rd_walk.proofs.WalkLemmas.{walk_line}
+use Rattle.rd_walk.specs.Walk.{accepted_or, entries_of, goes_or_ends, items, judgement_of, judgement_of_item, trace_of, walk, walk_by}
 use Rattle.rd_rules.specs.declared.causes.TraceCause.{TraceCause}
 use Rattle.rd_rules.specs.declared.causes.WfCause.{WfCause}
 
@@ -36,10 +37,11 @@ module _ (kinds : List Kind) (limits : Limits) (before : List Line) (item : Line
 
 walk_accepted : (kinds : List Kind) (limits : Limits) → AreUsable limits → limits.threads < 2 ^ 32 → (before : List Line) (number : ℕ) (lines : Reading)
     → AreAcceptedFrom kinds before (items (entries_of (walk kinds limits before number lines)))
-unfolding walk entries_of
+unfolding walk_by entries_of
 walk_accepted kinds limits usable range before number (stops ending) = tt
 walk_accepted kinds limits usable range before number (line bytes more) =
-    by (judgement_of kinds limits before bytes) refl (λ item. walk_accepted kinds limits usable range (before ++ item ∷ []) (number + 1) more)
+    subst (λ walked. AreAcceptedFrom kinds before (items (entries_of walked))) (sym (walk_line kinds limits before number bytes more))
+    (by (judgement_of kinds limits before bytes) refl (λ item. walk_accepted kinds limits usable range (before ++ item ∷ []) (number + 1) more))
   where
     by : (r : Result Line TraceCause) → judgement_of kinds limits before bytes ≡ r
         → ((item : Line) → AreAcceptedFrom kinds (before ++ item ∷ []) (items (entries_of (walk kinds limits (before ++ item ∷ []) (number + 1) more))))

@@ -1,5 +1,5 @@
 -- The walk over lines, in the words of accepted lines.
-use Rattle.std.proofs.Common.{◌≡◌, inl, inr, ℕ, ◌+◌, List, [], ◌∷◌, ◌++◌, Option, Some, None, Result, Ok, Err, refl}
+use Rattle.std.proofs.Common.{◌≡◌, inl, inr, ℕ, ◌+◌, List, [], ◌∷◌, ◌++◌, Option, Some, None, Result, Ok, Err, refl, sym, subst}
 use Rattle.rd_base.specs.declared.limits.Limits.{Limits}
 use Rattle.rd_ecl.specs.Kinds.{Kind}
 use Rattle.rd_event.proofs.ReadingLemmas.{found_said, none_said}
@@ -8,7 +8,8 @@ use Rattle.rd_event.specs.declared.items.Line.{Line}
 use Rattle.rd_io.specs.Lines.Reading.{stops, line}
 use Rattle.rd_io.specs.Lines.{Stop, Reading, reading}
 use Rattle.rd_walk.specs.AcceptedLines.{IsAcceptedLine, IsRefusedLine, IsWalk, SaysItem}
-use Rattle.rd_walk.specs.Walk.{Walked, accepted_or, ending_of, entries_of, goes_or_ends, judgement_of, judgement_of_item, trace_of, walk}
+use Rattle.rd_walk.proofs.WalkLemmas.{walk_line}
+use Rattle.rd_walk.specs.Walk.{Walked, accepted_or, ending_of, entries_of, goes_or_ends, judgement_of, judgement_of_item, trace_of, walk, walk_by}
 use Rattle.rd_rules.proofs.FollowLemmas.{broken_from_some, follows_from_none}
 use Rattle.rd_rules.specs.MayFollow.{first_broken, version_of}
 use Rattle.rd_rules.specs.declared.causes.TraceCause.{TraceCause}
@@ -36,11 +37,12 @@ module _ (kinds : List Kind) (limits : Limits) (before : List Line) (bytes : Lis
 
 walk_is : (kinds : List Kind) (limits : Limits) (before : List Line) (number : ℕ) (lines : Reading)
     → IsWalk kinds limits before number lines (entries_of (walk kinds limits before number lines)) (ending_of (walk kinds limits before number lines))
-unfolding walk entries_of ending_of
+unfolding walk_by entries_of ending_of
 walk_is kinds limits before number (stops end) = (refl, refl)
 walk_is kinds limits before number (line bytes more) =
-    by (λ item. walk kinds limits (before ++ item ∷ []) (number + 1) more) (judgement_of kinds limits before bytes) (judged_is kinds limits before bytes)
-    (λ item. walk_is kinds limits (before ++ item ∷ []) (number + 1) more)
+    subst (λ walked. IsWalk kinds limits before number (line bytes more) (entries_of walked) (ending_of walked)) (sym (walk_line kinds limits before number bytes more))
+    (by (λ item. walk kinds limits (before ++ item ∷ []) (number + 1) more) (judgement_of kinds limits before bytes) (judged_is kinds limits before bytes)
+    (λ item. walk_is kinds limits (before ++ item ∷ []) (number + 1) more))
   where
     by : (next : Line → Walked) (r : Result Line TraceCause) → IsJudged kinds limits before bytes r
         → ((item : Line) → IsWalk kinds limits (before ++ item ∷ []) (number + 1) more (entries_of (next item)) (ending_of (next item)))

@@ -1,10 +1,10 @@
 pub mod AcceptedLemmas
 pub mod AcceptedLineLemmas
-pub mod AlternativeLemmas
 pub mod ContinueLemmas
 pub mod FileLemmas
 pub mod OutputLemmas
 pub mod ProgressLemmas
+pub mod RanLemmas
 pub mod StatusLemmas
 pub mod TraceLemmas
 pub mod WalkLemmas

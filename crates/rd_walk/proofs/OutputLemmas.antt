@@ -1,10 +1,10 @@
 -- What is written, and the status.
-use Rattle.rd_walk.specs.Output.{halted_with, HasOutcome, IsOutput, IsWell, Outcome, report_status}
+use Rattle.rd_walk.specs.Output.{halted_with, HasOutcome, IsOutput, IsWell, Outcome, ended_status}
 use Rattle.rd_walk.specs.declared.analysis.Halt.TheVariants as halt
 use Rattle.rd_walk.specs.declared.analysis.Halt.{Halt}
 use Rattle.rd_walk.specs.declared.status.Status.TheVariants.{Clean, Raced, Usage, SpecRefused, TraceRefused, ReplayDiffers, InputFault, OutputFault, NoMemory, LimitReached}
 use Rattle.rd_walk.specs.declared.status.Status.{Status}
-use Rattle.rd_walk.specs.declared.status.TraceStatus.{TraceStatus}
+use Rattle.rd_walk.specs.declared.status.Ended.{Ended}
 use Rattle.std.specs.Result.{IsErr, IsErrAnd}
 use Rattle.std.proofs.Common.{◌≡◌, ℕ, List, [], ◌++◌, Result, Ok, Err, OnOk, OnErr, refl, sym, ap, subst, ◌∙◌, inl, inr}
 use Rattle.std.proofs.lemmas.List.{append_assoc, append-nil}
@@ -104,10 +104,10 @@ failed_with (Ok x) P is = absurd is.1
 failed_with (Err e) P is = (e, refl, is.1)
 
 -- a report for which memory ran out, or which was cut short in this text
-pub report_without : (report : Result TraceStatus Halt) → IsErr report × IsErrAnd report (λ e. e ≡ halt.NoMemory) → report_status report ≡ NoMemory
-report_without report is = let (e, same, ran_out) = failed_with report (λ e. e ≡ halt.NoMemory) is in ap report_status (same ∙ ap Err ran_out)
+pub report_without : (report : Result Ended Halt) → IsErr report × IsErrAnd report (λ e. e ≡ halt.NoMemory) → ended_status report ≡ NoMemory
+report_without report is = let (e, same, ran_out) = failed_with report (λ e. e ≡ halt.NoMemory) is in ap ended_status (same ∙ ap Err ran_out)
 
-pub report_cut : (report : Result TraceStatus Halt) (P : Halt → Type 0) → IsErr report × IsErrAnd report P → (part rest : List ℕ) (outcome : Outcome) → outcome.text ≡ part ++ rest
-    → IsOutput (report_status report) part outcome
+pub report_cut : (report : Result Ended Halt) (P : Halt → Type 0) → IsErr report × IsErrAnd report P → (part rest : List ℕ) (outcome : Outcome) → outcome.text ≡ part ++ rest
+    → IsOutput (ended_status report) part outcome
 report_cut report P is part rest outcome whole =
-    let (e, same, gives) = failed_with report P is in subst (λ r. IsOutput (report_status r) part outcome) (sym same) (front_only e part rest outcome whole)
+    let (e, same, gives) = failed_with report P is in subst (λ r. IsOutput (ended_status r) part outcome) (sym same) (front_only e part rest outcome whole)

@@ -1,68 +1,67 @@
--- The status of a report on a trace.
-use Rattle.rd_io.specs.Inputs.{Rose}
+-- The status of a command, by how it ended.
 use Rattle.rd_walk.specs.Analysis.{TellsFault, TellsFaults}
-use Rattle.rd_walk.specs.Output.{StatusTellsFault, report_status}
+use Rattle.rd_walk.specs.Output.{EndsAs, IsTextStatus, StatusTellsFault, ended_status}
 use Rattle.rd_walk.specs.declared.analysis.Halt.TheVariants as halt
 use Rattle.rd_walk.specs.declared.analysis.Halt.{Halt}
-use Rattle.rd_walk.specs.declared.status.Status.TheVariants.{Usage, SpecRefused, InputFault, OutputFault, NoMemory}
-use Rattle.rd_walk.specs.declared.status.TraceStatus.TheVariants.{Clean, Raced, ReplayDiffers, Refused, LimitReached, InputFault as TraceFault}
-use Rattle.rd_walk.specs.declared.status.TraceStatus.{TraceStatus}
-use Rattle.std.proofs.Common.{◌≡◌, ◌≢◌, ℕ, List, Option, Result, Ok, Err, refl}
-
--- which it never is
-pub report_no_usage : (report : Result TraceStatus Halt) → report_status report ≢ Usage
-report_no_usage (Ok Clean) = λ e. cc
-report_no_usage (Ok Raced) = λ e. cc
-report_no_usage (Ok ReplayDiffers) = λ e. cc
-report_no_usage (Ok Refused) = λ e. cc
-report_no_usage (Ok LimitReached) = λ e. cc
-report_no_usage (Ok TraceFault) = λ e. cc
-report_no_usage (Err halt.OutputFault) = λ e. cc
-report_no_usage (Err halt.NoMemory) = λ e. cc
-
-pub report_no_spec : (report : Result TraceStatus Halt) → report_status report ≢ SpecRefused
-report_no_spec (Ok Clean) = λ e. cc
-report_no_spec (Ok Raced) = λ e. cc
-report_no_spec (Ok ReplayDiffers) = λ e. cc
-report_no_spec (Ok Refused) = λ e. cc
-report_no_spec (Ok LimitReached) = λ e. cc
-report_no_spec (Ok TraceFault) = λ e. cc
-report_no_spec (Err halt.OutputFault) = λ e. cc
-report_no_spec (Err halt.NoMemory) = λ e. cc
+use Rattle.rd_walk.specs.declared.status.Ended.TheVariants as ended
+use Rattle.rd_walk.specs.declared.status.Ended.{Ended}
+use Rattle.rd_walk.specs.declared.status.Status.TheVariants.{InputFault, OutputFault, NoMemory}
+use Rattle.std.proofs.Common.{◌≡◌, ◌≢◌, ℕ, List, Option, Result, Ok, Err, IfOk, refl, ap, inl, inr}
 
 -- a failed write is told as one
-pub report_wrote : (before now : ℕ) (point written : Option (List ℕ)) (report : Result TraceStatus Halt) → TellsFault before now point written report
-    → StatusTellsFault before now point written (report_status report)
-report_wrote before now point written (Ok Clean) tells = tells
-report_wrote before now point written (Ok Raced) tells = tells
-report_wrote before now point written (Ok ReplayDiffers) tells = tells
-report_wrote before now point written (Ok Refused) tells = tells
-report_wrote before now point written (Ok LimitReached) tells = tells
-report_wrote before now point written (Ok TraceFault) tells = tells
-report_wrote before now point written (Err halt.OutputFault) tells = tells
-report_wrote before now point written (Err halt.NoMemory) tells = tells
+pub status_wrote : (before now : ℕ) (point written : Option (List ℕ)) (result : Result Ended Halt) → TellsFault before now point written result
+    → StatusTellsFault before now point written (ended_status result)
+status_wrote before now point written (Ok ended.Clean) tells = tells
+status_wrote before now point written (Ok ended.Raced) tells = tells
+status_wrote before now point written (Ok ended.Usage) tells = tells
+status_wrote before now point written (Ok ended.SpecRefused) tells = tells
+status_wrote before now point written (Ok ended.TraceRefused) tells = tells
+status_wrote before now point written (Ok ended.ReplayDiffers) tells = tells
+status_wrote before now point written (Ok ended.InputFault) tells = tells
+status_wrote before now point written (Ok ended.LimitReached) tells = tells
+status_wrote before now point written (Err halt.OutputFault) tells = tells
+status_wrote before now point written (Err halt.NoMemory) tells = tells
 
--- where it says that the input failed, the count of the inputs' faults rose
-pub report_rose : {inputs_before inputs_now before now : ℕ} {point written : Option (List ℕ)} (report : Result TraceStatus Halt)
-    → TellsFaults TraceFault inputs_before inputs_now before now point written report → report_status report ≡ InputFault → Rose inputs_before inputs_now
-report_rose (Ok Clean) tells e = cc
-report_rose (Ok Raced) tells e = cc
-report_rose (Ok ReplayDiffers) tells e = cc
-report_rose (Ok Refused) tells e = cc
-report_rose (Ok LimitReached) tells e = cc
-report_rose (Ok TraceFault) tells e = tells.input refl
-report_rose (Err halt.OutputFault) tells e = cc
-report_rose (Err halt.NoMemory) tells e = cc
+-- where it says that the input failed, the command did
+pub status_failed : (result : Result Ended Halt) → ended_status result ≡ InputFault → result ≡ Ok ended.InputFault
+status_failed (Ok ended.Clean) e = cc
+status_failed (Ok ended.Raced) e = cc
+status_failed (Ok ended.Usage) e = cc
+status_failed (Ok ended.SpecRefused) e = cc
+status_failed (Ok ended.TraceRefused) e = cc
+status_failed (Ok ended.ReplayDiffers) e = cc
+status_failed (Ok ended.InputFault) e = refl
+status_failed (Ok ended.LimitReached) e = cc
+status_failed (Err halt.OutputFault) e = cc
+status_failed (Err halt.NoMemory) e = cc
 
--- and it stays where it says another thing
-pub report_calm : {inputs_before inputs_now before now : ℕ} {point written : Option (List ℕ)} (report : Result TraceStatus Halt)
-    → TellsFaults TraceFault inputs_before inputs_now before now point written report → report_status report ≢ InputFault → report_status report ≢ OutputFault
-    → report_status report ≢ NoMemory → inputs_now ≡ inputs_before
-report_calm (Ok Clean) tells input output memory = tells.calm (λ e. cc)
-report_calm (Ok Raced) tells input output memory = tells.calm (λ e. cc)
-report_calm (Ok ReplayDiffers) tells input output memory = tells.calm (λ e. cc)
-report_calm (Ok Refused) tells input output memory = tells.calm (λ e. cc)
-report_calm (Ok LimitReached) tells input output memory = tells.calm (λ e. cc)
-report_calm (Ok TraceFault) tells input output memory = absurd (input refl)
-report_calm (Err halt.OutputFault) tells input output memory = absurd (output refl)
-report_calm (Err halt.NoMemory) tells input output memory = absurd (memory refl)
+-- the count of the inputs' faults stays where it says another thing
+pub status_calm : {inputs_before inputs_now before now : ℕ} {point written : Option (List ℕ)} (result : Result Ended Halt)
+    → TellsFaults ended.InputFault inputs_before inputs_now before now point written result → ended_status result ≢ InputFault → ended_status result ≢ OutputFault
+    → ended_status result ≢ NoMemory → inputs_now ≡ inputs_before
+status_calm (Ok ended.Clean) tells input output memory = tells.calm (λ e. cc)
+status_calm (Ok ended.Raced) tells input output memory = tells.calm (λ e. cc)
+status_calm (Ok ended.Usage) tells input output memory = tells.calm (λ e. cc)
+status_calm (Ok ended.SpecRefused) tells input output memory = tells.calm (λ e. cc)
+status_calm (Ok ended.TraceRefused) tells input output memory = tells.calm (λ e. cc)
+status_calm (Ok ended.ReplayDiffers) tells input output memory = tells.calm (λ e. cc)
+status_calm (Ok ended.InputFault) tells input output memory = absurd (input refl)
+status_calm (Ok ended.LimitReached) tells input output memory = tells.calm (λ e. cc)
+status_calm (Err halt.OutputFault) tells input output memory = absurd (output refl)
+status_calm (Err halt.NoMemory) tells input output memory = absurd (memory refl)
+
+-- it is one of these ends
+pub status_ends : (Is : Ended → Type 0) (result : Result Ended Halt) → IfOk result Is → ended_status result ≢ OutputFault → EndsAs Is (ended_status result)
+status_ends Is (Ok end) is other = inr (end, is, refl)
+status_ends Is (Err halt.OutputFault) is other = absurd (other refl)
+status_ends Is (Err halt.NoMemory) is other = inl refl
+
+-- a text that was written is no fault of the input, and has a text's status
+pub clean_no_fault : (result : Result Ended Halt) → IfOk result (λ end. end ≡ ended.Clean) → result ≢ Ok ended.InputFault
+clean_no_fault (Ok end) clean e = cc
+clean_no_fault (Err halt) clean e = cc
+
+pub clean_ends : (result : Result Ended Halt) → IfOk result (λ end. end ≡ ended.Clean) → ended_status result ≢ OutputFault → IsTextStatus (ended_status result)
+clean_ends (Ok end) clean other = inl (ap (λ e. ended_status (Ok e)) clean)
+clean_ends (Err halt.OutputFault) clean other = absurd (other refl)
+clean_ends (Err halt.NoMemory) clean other = inr refl

@@ -12,10 +12,11 @@ use Rattle.rd_walk.specs.declared.analysis.Halt.TheVariants as halt
 use Rattle.rd_walk.specs.declared.walk.WalkEnd.{WalkEnd}
 use Rattle.rd_walk.specs.declared.walk.WalkEnd.TheVariants.{End, Refused, Fault}
 use Rattle.rd_rules.specs.Events.{AreAccepted}
-use Rattle.rd_walk.specs.Traces.{HasReported, IsReadWhole, IsTraceOutcome, ReportTexts, ReportsTrace, walk_of, walk_on}
-use Rattle.rd_walk.specs.Output.{IsFront, IsOutput, IsWell, report_status, unopened_outcome}
+use Rattle.rd_walk.specs.Meanings.{Runs, report_meaning}
+use Rattle.rd_walk.specs.Traces.{HasReported, IsReadWhole, IsTraceOutcome, ReportTexts, walk_of, walk_on}
+use Rattle.rd_walk.specs.Output.{IsFront, IsOutput, IsWell, ended_status, unopened_outcome}
 use Rattle.rd_walk.specs.declared.analysis.Halt.{Halt}
-use Rattle.rd_walk.specs.declared.status.TraceStatus.{TraceStatus}
+use Rattle.rd_walk.specs.declared.status.Ended.{Ended}
 use Rattle.std.specs.Result.{IsErr, IsErrAnd}
 use Rattle.rd_walk.specs.Progress.{IsBegun, IsTakenOfTrace}
 use Rattle.rd_walk.specs.Walk.{Entry, Walked, after, ending_of, ends, entries_of, items, step_bound, trace_of}
@@ -29,33 +30,31 @@ use Rattle.rd_walk.proofs.FileLemmas.{ending_at, file_is, opens_none, opens_once
 
 module _ (texts : ReportTexts) (kinds : List Kind) (name : List ℕ) (limits : Limits) where
   -- nothing was opened, and nothing written
-  reports_before : (faults : ℕ) (old : Source) (steps : ℕ) → ReportsTrace texts kinds name limits (ltb faults faults) old old [] NoMemory steps steps
+  reports_before : (faults : ℕ) (old : Source) (steps : ℕ) → Runs (report_meaning texts kinds name) limits (ltb faults faults) old old [] NoMemory steps steps
   reports_before faults old steps =
       record {
         output = inl refl;
         opened = record { files = refl; later = omega arith; opens = omega arith; misses = omega arith };
-        taken = λ more. absurd (omega (arith, more));
-        unopened = λ same. ((refl, refl), refl);
+        taken = (λ more. absurd (omega (arith, more)), λ same. ((refl, refl), refl));
         read = λ well. absurd (halted_no_well halt.NoMemory well);
       }
 
   -- memory ran out before that
-  pub reports_without : (ended : Result TraceStatus Halt) → IsErr ended × IsErrAnd ended (λ e. e ≡ halt.NoMemory) → (faults : ℕ) (old : Source) (steps : ℕ)
-      → ReportsTrace texts kinds name limits (ltb faults faults) old old [] (report_status ended) steps steps
+  pub reports_without : (ended : Result Ended Halt) → IsErr ended × IsErrAnd ended (λ e. e ≡ halt.NoMemory) → (faults : ℕ) (old : Source) (steps : ℕ)
+      → Runs (report_meaning texts kinds name) limits (ltb faults faults) old old [] (ended_status ended) steps steps
   reports_without ended is faults old steps =
-      subst (λ status. ReportsTrace texts kinds name limits (ltb faults faults) old old [] status steps steps) (sym (report_without ended is)) (reports_before faults old steps)
+      subst (λ status. Runs (report_meaning texts kinds name) limits (ltb faults faults) old old [] status steps steps) (sym (report_without ended is)) (reports_before faults old steps)
 
   -- the trace could not be opened
   pub reports_unopened : (before now : ℕ) (old new : Source) (part : List ℕ) (status : Status) (steps : ℕ) → before < 2 ^ 63 → Rose before now
-      → IsNotOpened old new name → IsOutput status part (unopened_outcome texts.unopened) → ReportsTrace texts kinds name limits (ltb before now) old new part status steps steps
+      → IsNotOpened old new name → IsOutput status part (unopened_outcome texts.unopened) → Runs (report_meaning texts kinds name) limits (ltb before now) old new part status steps steps
   reports_unopened before now old new part status steps few risen opened output =
       let rose : ltb before now ≡ true = grind (arith, nat_tests) in
       record {
         output = has_outcome (IsTraceOutcome texts kinds name limits (ltb before now) old new) status part (unopened_outcome texts.unopened)
             (inl (record { risen = rose; some_unopened = omega (arith, opened.opens); is = refl })) output;
         opened = opens_none name old new opened;
-        taken = λ more. absurd (omega (arith, opened.opens, more));
-        unopened = λ same. ((opened.taken, opened.held), refl);
+        taken = (λ more. absurd (omega (arith, opened.opens, more)), λ same. ((opened.taken, opened.held), refl));
         read = λ well. absurd (fault_no_well (well_written status part (unopened_outcome texts.unopened) well output));
       }
 
@@ -69,23 +68,25 @@ module _ (texts : ReportTexts) (kinds : List Kind) (name : List ℕ) (limits : L
       -- the walk of the whole file, or of what was taken of it
       reports_over : (walk_is : walk_of kinds name limits rose old new ≡ after entries walked)
           → IsOutput status part (texts.outcome (after entries walked)) → (IsWell status → IsReadWhole kinds name limits old new)
-          → ReportsTrace texts kinds name limits (ltb before now) old new part status from to
+          → Runs (report_meaning texts kinds name) limits (ltb before now) old new part status from to
       reports_over walk_is output read_whole =
-          subst (λ r. ReportsTrace texts kinds name limits r old new part status from to) (sym is_rose)
+          subst (λ r. Runs (report_meaning texts kinds name) limits r old new part status from to) (sym is_rose)
           (record {
             output = has_outcome (IsTraceOutcome texts kinds name limits rose old new) status part (texts.outcome (walk_of kinds name limits rose old new))
                 (inr (opens_once name old mid new taken few_opens opened takes, refl))
                 (subst (λ w. IsOutput status part (texts.outcome w)) (sym walk_is) output);
             opened = opens_only name old mid new taken few_opens opened takes;
-            taken = λ more. record {
-              whole = rest_is name old mid new taken few_opens opened takes;
-              begun = entries;
-              first = (entries_of walked, ap entries_of walk_is ∙ entries_after entries walked);
-              is_begun = begun;
-              read = read_more limits taken new.taken (length entries) (length entries) (taken_is name old mid new taken few_opens opened takes) (omega arith) read;
-              cost = cost;
-            };
-            unopened = λ same. absurd (omega (arith, same, opens_once name old mid new taken few_opens opened takes));
+            taken = (
+              λ more. record {
+                whole = rest_is name old mid new taken few_opens opened takes;
+                begun = entries;
+                first = (entries_of walked, ap entries_of walk_is ∙ entries_after entries walked);
+                is_begun = begun;
+                read = read_more limits taken new.taken (length entries) (length entries) (taken_is name old mid new taken few_opens opened takes) (omega arith) read;
+                cost = cost;
+              },
+              λ same. absurd (omega (arith, same, opens_once name old mid new taken few_opens opened takes)),
+            );
             read = read_whole;
           })
 
@@ -114,7 +115,7 @@ module _ (texts : ReportTexts) (kinds : List Kind) (name : List ℕ) (limits : L
         other (sym (ending_at entries ending) ∙ well (after entries (ends ending)) (well_written status part (texts.outcome (after entries (ends ending))) is output))
 
     pub reports_opened : HasReported texts kinds limits taken new.held entries part status before now
-        → ReportsTrace texts kinds name limits (ltb before now) old new part status from to
+        → Runs (report_meaning texts kinds name) limits (ltb before now) old new part status from to
     reports_opened (inl (End, (none, is), output, risen, calm)) =
         let quiet : ltb before now ≡ false = let same = calm (λ e. cc) in grind (arith, nat_tests) in
         reports_over (ends End) false quiet (whole_walk (ends End) is) output (λ _. read_to_end none is)

@@ -1,5 +1,6 @@
 -- The walk over the lines of a trace, one line after another.
-use Rattle.std.proofs.Common.{◌≡◌, ℕ, ◌+◌, ◌≤◌, List, [], ◌∷◌, ◌++◌, Some, Ok, Err, true, ap, ◌∙◌, refl, arith, inl, length}
+use Rattle.std.proofs.Common.{◌≡◌, ℕ, ◌+◌, ◌≤◌, List, [], ◌∷◌, ◌++◌, Option, Some, None, Ok, Err, true, ap, ◌∙◌, refl, arith, inl, length}
+use Rattle.std.specs.Prelude.{option_map}
 use Rattle.std.proofs.lemmas.List.{append_assoc, append-nil, map-append}
 use Rattle.rd_io.specs.Lines.{Reading, LinesEnding}
 use Rattle.rd_io.specs.Lines.Reading.{stops, line}
@@ -16,11 +17,21 @@ use Rattle.rd_wf.specs.Roster.{AcceptsAs, RosterStandsFor}
 use Rattle.rd_rules.specs.declared.causes.Accepted.{Accepted}
 use Rattle.rd_rules.specs.declared.causes.Accepted.TheVariants.{Nothing}
 use Rattle.rd_wf.specs.declared.roster.Roster.{Roster}
-use Rattle.rd_walk.specs.Walk.{Entry, Walked, accepted_or, after, bound_from, trace_end_of, ending_of, ends, entries_of, goes, goes_or_ends, items, judgement_of, judgement_of_item, walk}
+use Rattle.rd_walk.specs.Walk.{Entry, Walked, accepted_or, after, bound_from, trace_end_of, ending_of, ends, entries_of, goes, goes_or_ends, items, judgement_of, judgement_of_item, line_goes, walk, walk_by}
 use Rattle.rd_rules.specs.declared.causes.WfCause.{WfCause}
 use Rattle.rd_rules.specs.declared.causes.TraceCause.{TraceCause}
-use Rattle.rd_rules.specs.declared.causes.TraceCause.TheVariants.{Wf}
+use Rattle.rd_rules.specs.declared.causes.TraceCause.TheVariants.{BadLine, Wf}
 use Rattle.rd_walk.specs.declared.walk.WalkEnd.TheVariants.{Refused}
+
+pub judged_bad : (kinds : List Kind) (limits : Limits) (before : List Line) (bytes : List ℕ) → item_of (version_of before) bytes ≡ None
+    → judgement_of kinds limits before bytes ≡ Err BadLine
+unfolding judgement_of
+judged_bad kinds limits before bytes says = ap (judgement_of_item kinds limits before) says
+
+pub judged_unbroken : (kinds : List Kind) (limits : Limits) (before : List Line) (bytes : List ℕ) (item : Line)
+    → item_of (version_of before) bytes ≡ Some item → first_broken kinds limits before item ≡ None → judgement_of kinds limits before bytes ≡ Ok item
+unfolding judgement_of
+judged_unbroken kinds limits before bytes item says unbroken = ap (judgement_of_item kinds limits before) says ∙ ap (accepted_or item) unbroken
 
 pub judged_broken : (kinds : List Kind) (limits : Limits) (before : List Line) (bytes : List ℕ) (item : Line) (cause : WfCause)
     → item_of (version_of before) bytes ≡ Some item → first_broken kinds limits before item ≡ Some cause → judgement_of kinds limits before bytes ≡ Err (Wf cause)
@@ -55,22 +66,33 @@ next_skipped kinds roster before limits usable stands few =
 
 pub walk_stops : (kinds : List Kind) (limits : Limits) (before : List Line) (number : ℕ) (ending : LinesEnding)
     → walk kinds limits before number (stops ending) ≡ ends (trace_end_of limits before number ending)
-unfolding walk
+unfolding walk_by
 walk_stops kinds limits before number ending = refl
+
+-- a line of a trace is judged, and then the next
+pub walk_line : (kinds : List Kind) (limits : Limits) (before : List Line) (number : ℕ) (bytes : List ℕ) (more : Reading)
+    → walk kinds limits before number (line bytes more)
+    ≡ goes_or_ends number (judgement_of kinds limits before bytes) (λ item. walk kinds limits (before ++ item ∷ []) (number + 1) more)
+unfolding walk_by judgement_of
+walk_line kinds limits before number bytes more = by (item_of (version_of before) bytes)
+  where
+    by : (said : Option Line)
+        → line_goes kinds limits number before (option_map (λ item. item ∷ []) said) (λ behind. walk kinds limits behind (number + 1) more)
+        ≡ goes_or_ends number (judgement_of_item kinds limits before said) (λ item. walk kinds limits (before ++ item ∷ []) (number + 1) more)
+    by None = refl
+    by (Some item) = refl
 
 pub walk_accepts : (kinds : List Kind) (limits : Limits) (before : List Line) (number : ℕ) (bytes : List ℕ) (more : Reading) (item : Line)
     → judgement_of kinds limits before bytes ≡ Ok item
     → walk kinds limits before number (line bytes more)
     ≡ goes (record { number = number; item = item }) (walk kinds limits (before ++ item ∷ []) (number + 1) more)
-unfolding walk
 walk_accepts kinds limits before number bytes more item h =
-    ap (λ r. goes_or_ends number r (λ item'. walk kinds limits (before ++ item' ∷ []) (number + 1) more)) h
+    walk_line kinds limits before number bytes more ∙ ap (λ r. goes_or_ends number r (λ item'. walk kinds limits (before ++ item' ∷ []) (number + 1) more)) h
 
 pub walk_refuses : (kinds : List Kind) (limits : Limits) (before : List Line) (number : ℕ) (bytes : List ℕ) (more : Reading) (cause : TraceCause)
     → judgement_of kinds limits before bytes ≡ Err cause → walk kinds limits before number (line bytes more) ≡ ends (Refused number cause)
-unfolding walk
 walk_refuses kinds limits before number bytes more cause h =
-    ap (λ r. goes_or_ends number r (λ item. walk kinds limits (before ++ item ∷ []) (number + 1) more)) h
+    walk_line kinds limits before number bytes more ∙ ap (λ r. goes_or_ends number r (λ item'. walk kinds limits (before ++ item' ∷ []) (number + 1) more)) h
 
 pub items_more : (entries : List Entry) (entry : Entry) → items (entries ++ entry ∷ []) ≡ items entries ++ entry.item ∷ []
 items_more entries entry = map-append (λ (e : Entry). e.item) entries (entry ∷ [])

@@ -1,5 +1,5 @@
 -- What a command does with each accepted line, and what stands when it is cut short.
-use Rattle.std.specs.Prelude.{◌≡◌, ◌≢◌, ◌≤◌, ℕ, IfOk, List, [], ◌∷◌, ◌++◌, length, Option, Result, Ok, Err}
+use Rattle.std.specs.Prelude.{◌≡◌, ◌≢◌, ◌+◌, ◌≤◌, ℕ, IfOk, List, [], ◌∷◌, ◌++◌, length, Option, Result, Ok, Err}
 use Rattle.rd_base.specs.Limits.{AreUsable}
 use Rattle.rd_base.specs.declared.limits.Limits.{Limits}
 use Rattle.rd_event.specs.declared.items.Line.{Line}
@@ -44,3 +44,19 @@ pub record TellsFaults {T : Type 0} (input_fault : T) (inputs_before inputs_now 
   pub input : result ≡ Ok input_fault → Rose inputs_before inputs_now
   pub calm : IfOk result (λ answer. answer ≢ input_fault → inputs_now ≡ inputs_before)
   pub output : TellsFault before now point written result
+
+-- ---- an entry behind others
+
+-- It was accepted and handed on: the roster stands for it too, the analysis was led on, what is written for it is written, and the steps are
+-- bounded.
+pub record IsHandedOn {A : Type 0} (Leads : List Entry → A → Type 0) (text : List Entry → List ℕ) (bound : List Line → Line → ℕ) (kinds : List Kind) (roster : Roster) (analysis : A)
+    (old new : Option (List ℕ)) (from to : ℕ) (before : List Entry) (entry : Entry) : Type 0 where
+  pub stands : RosterStandsFor kinds roster (items before ++ entry.item ∷ [])
+  pub leads : Leads (before ++ entry ∷ []) analysis
+  pub written : WritesBetween old new (text before) (text (before ++ entry ∷ []))
+  pub cost : to ≤ from + bound (items before) entry.item
+
+-- or it was cut short in what is done with it
+pub record IsCutIn (text : List Entry → List ℕ) (bound : List Line → Line → ℕ) (old new : Option (List ℕ)) (from to : ℕ) (before : List Entry) (entry : Entry) : Type 0 where
+  pub written : WritesFront old new (text before) (text (before ++ entry ∷ []))
+  pub cost : to ≤ from + bound (items before) entry.item

@@ -5,4 +5,3 @@ pub mod Output
 pub mod Progress
 pub mod Traces
 pub mod Walk
-pub mod laws

@@ -4,9 +4,9 @@ use Rattle.rd_walk.specs.declared.analysis.Halt.TheVariants as halt
 use Rattle.rd_walk.specs.declared.analysis.Halt.{Halt}
 use Rattle.rd_walk.specs.declared.status.Status.TheVariants.{Clean, Raced, Usage, SpecRefused, TraceRefused, ReplayDiffers, InputFault, OutputFault, NoMemory, LimitReached}
 use Rattle.rd_walk.specs.declared.status.Status.{Status}
-use Rattle.rd_walk.specs.declared.status.TraceStatus.TheVariants as trace
-use Rattle.rd_walk.specs.declared.status.TraceStatus.{TraceStatus}
-use Rattle.std.specs.Prelude.{◌≡◌, ◌⊎◌, ℕ, List, ◌++◌, Option, [], Result, Ok, Err}
+use Rattle.rd_walk.specs.declared.status.Ended.TheVariants as ended
+use Rattle.rd_walk.specs.declared.status.Ended.{Ended}
+use Rattle.std.specs.Prelude.{◌≡◌, ◌⊎◌, ℕ, List, ◌++◌, Option, [], Result, Ok, Err, ⊤}
 
 -- the number of a status
 abbrev pub code_of : Status → ℕ
@@ -57,15 +57,38 @@ abbrev pub halted_with : Halt → Status
 halted_with halt.OutputFault = OutputFault
 halted_with halt.NoMemory = NoMemory
 
--- the status of a run that is a report on a trace
-abbrev pub report_status : Result TraceStatus Halt → Status
-report_status (Ok trace.Clean) = Clean
-report_status (Ok trace.Raced) = Raced
-report_status (Ok trace.ReplayDiffers) = ReplayDiffers
-report_status (Ok trace.Refused) = TraceRefused
-report_status (Ok trace.LimitReached) = LimitReached
-report_status (Ok trace.InputFault) = InputFault
-report_status (Err halt) = halted_with halt
+-- the status of a command that ended so, or was cut short
+abbrev pub ended_status : Result Ended Halt → Status
+ended_status (Ok ended.Clean) = Clean
+ended_status (Ok ended.Raced) = Raced
+ended_status (Ok ended.Usage) = Usage
+ended_status (Ok ended.SpecRefused) = SpecRefused
+ended_status (Ok ended.TraceRefused) = TraceRefused
+ended_status (Ok ended.ReplayDiffers) = ReplayDiffers
+ended_status (Ok ended.InputFault) = InputFault
+ended_status (Ok ended.LimitReached) = LimitReached
+ended_status (Err halt) = halted_with halt
+
+-- which ends a command on a trace may have, and one that writes a text of a specification
+abbrev pub IsTraceEnd : Ended → Type 0
+IsTraceEnd ended.Usage = ⊥
+IsTraceEnd ended.SpecRefused = ⊥
+IsTraceEnd _ = ⊤
+
+abbrev pub IsSpecEnd : Ended → Type 0
+IsSpecEnd ended.Clean = ⊤
+IsSpecEnd ended.SpecRefused = ⊤
+IsSpecEnd ended.InputFault = ⊤
+IsSpecEnd ended.LimitReached = ⊤
+IsSpecEnd _ = ⊥
+
+-- a status of such an end, or that memory ran out
+abbrev pub EndsAs : (Ended → Type 0) → Status → Type 0
+EndsAs Is status = (status ≡ NoMemory) ⊎ ((end : Ended) × Is end × (status ≡ ended_status (Ok end)))
+
+-- the text was written, or memory ran out
+abbrev pub IsTextStatus : Status → Type 0
+IsTextStatus status = (status ≡ Clean) ⊎ (status ≡ NoMemory)
 
 -- where a file could not be opened, or not be read, and this is what is written then
 abbrev pub unopened_outcome : List ℕ → Outcome

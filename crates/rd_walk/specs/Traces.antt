@@ -1,5 +1,5 @@
 -- What a report leaves of a trace: what it walks over, opens and takes, and writes. This project's profile.
-use Rattle.rd_walk.specs.Output.{halted_with, HasOutcome, IsWell, Outcome, IsOutput, unopened_outcome}
+use Rattle.rd_walk.specs.Output.{halted_with, IsWell, Outcome, IsOutput, unopened_outcome}
 use Rattle.rd_base.specs.declared.limits.Limits.{Limits}
 use Rattle.rd_ecl.specs.Kinds.{Kind}
 use Rattle.rd_event.specs.declared.items.Line.{Line}
@@ -12,7 +12,7 @@ use Rattle.rd_walk.specs.declared.analysis.Halt.{Halt}
 use Rattle.rd_walk.specs.declared.status.Status.{Status}
 use Rattle.rd_walk.specs.declared.walk.WalkEnd.TheVariants.{End, Fault}
 use Rattle.rd_walk.specs.declared.walk.WalkEnd.{WalkEnd}
-use Rattle.std.specs.Prelude.{◌≡◌, ◌≢◌, ◌⊎◌, ℕ, List, ◌++◌, Option, Some, None, option_map, if◌then◌else◌, ◌+◌, ◌<◌, ◌≤◌, Bool, true, [], ◌∷◌, length, count_by, is_none}
+use Rattle.std.specs.Prelude.{◌≡◌, ◌≢◌, ◌⊎◌, ℕ, List, ◌++◌, Option, Some, None, option_map, if◌then◌else◌, ◌+◌, ◌<◌, ◌≤◌, Bool, true, [], length, count_by, is_none}
 
 -- what a report writes, and the bound on its steps
 pub record ReportTexts : Type 0 where
@@ -24,6 +24,11 @@ pub record ReportTexts : Type 0 where
   pub bound : List Line → Line → ℕ
   -- where the trace can't be opened
   pub unopened : List ℕ
+
+-- those of a report with these ghost members, from its first state on
+abbrev pub texts_of : {A : Type 0} → (List Kind → A → List Entry → List ℕ) → (List Kind → A → Walked → Outcome) → (List Kind → A → List Line → Line → ℕ) → (A → List ℕ) → List Kind → A → ReportTexts
+texts_of text outcome bound unopened kinds start =
+    record { lines = text kinds start; outcome = outcome kinds start; bound = bound kinds start; unopened = unopened start }
 
 -- What a report has done when it ends, which writes these texts: all was written, or it was cut short behind
 -- the lines or in their text. These bytes were taken of the input and `held` is left of it, and the count of the inputs' faults rose where a
@@ -93,11 +98,3 @@ pub record IsWholeOutput (outcome : Outcome) (part : List ℕ) (status : Status)
   pub text : part ≡ outcome.text
   pub told : status ≡ outcome.status
   pub well : IsWell status
-
--- what a report leaves of a trace whose objects are of these kinds, where inputs told `old` before the trace was opened
-pub record ReportsTrace (texts : ReportTexts) (kinds : List Kind) (trace : List ℕ) (limits : Limits) (rose : Bool) (old new : Source) (part : List ℕ) (status : Status) (before after : ℕ) : Type 0 where
-  pub output : HasOutcome (IsTraceOutcome texts kinds trace limits rose old new) status part
-  pub opened : OpensOnly (trace ∷ []) old new
-  pub taken : new.opens ≡ old.opens + 1 → TakesTrace texts kinds trace limits rose old new part before after
-  pub unopened : new.opens ≡ old.opens → IsUntaken old new × (after ≡ before)
-  pub read : IsWell status → IsReadWhole kinds trace limits old new

@@ -1,5 +1,5 @@
 -- The walk over the lines of a trace: which are accepted, and how they end. This project's profile.
-use Rattle.std.specs.Prelude.{ℕ, ◌+◌, ◌*◌, ◌==◌, List, [], ◌∷◌, ◌++◌, map, length, Option, Some, None, Result, Ok, Err, IsTrue, if◌then◌else◌}
+use Rattle.std.specs.Prelude.{ℕ, ◌+◌, ◌*◌, ◌==◌, List, [], ◌∷◌, ◌++◌, map, length, Option, Some, None, option_map, Result, Ok, Err, IsTrue, if◌then◌else◌}
 use Rattle.rd_io.specs.Lines.{Stop, Reading, reading, LinesEnding}
 use Rattle.rd_io.specs.Lines.LinesEnding.{at_end, no_final_newline, line_too_long, bytes_limit, faulted}
 use Rattle.rd_io.specs.Lines.Reading.{stops, line}
@@ -68,11 +68,30 @@ abbrev pub goes_or_ends : ℕ → Result Line TraceCause → (Line → Walked) �
 goes_or_ends number (Ok item) more = goes (record { number = number; item = item }) (more item)
 goes_or_ends number (Err cause) more = ends (Refused number cause)
 
--- the walk over lines that come behind the accepted ones, the first of them with this number
-unfoldable pub walk : List Kind → Limits → List Line → ℕ → Reading → Walked
-walk kinds limits before number (stops ending) = ends (trace_end_of limits before number ending)
-walk kinds limits before number (line bytes more) =
-    goes_or_ends number (judgement_of kinds limits before bytes) (λ item. walk kinds limits (before ++ item ∷ []) (number + 1) more)
+-- the items of one line are accepted behind the accepted ones, one after another, up to the first that may not follow; behind all of them it goes on so
+abbrev pub items_go : List Kind → Limits → ℕ → List Line → List Line → (List Line → Walked) → Walked
+items_go kinds limits number before [] more = more before
+items_go kinds limits number before (item ∷ behind) more =
+    goes_or_ends number (accepted_or item (first_broken kinds limits before item)) (λ found. items_go kinds limits number (before ++ found ∷ []) behind more)
+
+-- a line that says no item is refused
+abbrev pub line_goes : List Kind → Limits → ℕ → List Line → Option (List Line) → (List Line → Walked) → Walked
+line_goes kinds limits number before None more = ends (Refused number BadLine)
+line_goes kinds limits number before (Some said) more = items_go kinds limits number before said more
+
+-- The walk over lines that come behind the accepted ones, the first of them with this number, by what the bytes of a line say behind them: items, each
+-- with the number of the line, or none that the grammar knows.
+unfoldable pub walk_by : (List Line → List ℕ → Option (List Line)) → List Kind → Limits → List Line → ℕ → Reading → Walked
+walk_by says kinds limits before number (stops ending) = ends (trace_end_of limits before number ending)
+walk_by says kinds limits before number (line bytes more) =
+    line_goes kinds limits number before (says before bytes) (λ behind. walk_by says kinds limits behind (number + 1) more)
+
+-- a line of a trace says one item, in the version of the accepted ones
+abbrev pub trace_says : List Line → List ℕ → Option (List Line)
+trace_says before bytes = option_map (λ item. item ∷ []) (item_of (version_of before) bytes)
+
+abbrev pub walk : List Kind → Limits → List Line → ℕ → Reading → Walked
+walk kinds limits before number lines = walk_by trace_says kinds limits before number lines
 
 -- the walk over the lines of the bytes of a trace
 unfoldable pub trace_of : List Kind → Limits → Stop → List ℕ → Walked

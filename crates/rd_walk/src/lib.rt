@@ -1,9 +1,7 @@
 //! The walk over the lines of a trace for any command: judging a line, what a command does with it, writing, reporting, the status of a run.
 #![tactic(auto)]
 
-mod alternatives;
 mod analysis;
-mod judging;
 mod laws;
 mod reporting;
 mod status;
@@ -11,9 +9,8 @@ mod walk;
 mod writing;
 
 pub use analysis::{Analysis, Halt};
-pub use judging::{Refusal, judge};
 pub use laws::law_of_walks;
-pub use reporting::{Report, report_trace};
-pub use status::{Status, TraceStatus, report_status};
-pub use walk::{WalkEnd, Walker, walk_lines};
+pub use reporting::{Report, report_named, report_trace};
+pub use status::{Ended, Status, ended_status};
+pub use walk::{Taken, WalkEnd, Walker, at_end, take, walk_lines};
 pub use writing::{status_of, write_line, write_lines, write_three};

@@ -5,16 +5,17 @@ ghost use Rattle.rd_ecl.specs.Kinds.{Kind};
 ghost use Rattle.rd_io.specs.Inputs.{Source, Goes, Takes};
 ghost use Rattle.rd_io.specs.LineReader.{fresh};
 ghost use Rattle.rd_io.specs.Sinks.{Appends};
-ghost use Rattle.rd_walk.specs.Traces.{HasReported, ReportsTrace};
+ghost use Rattle.rd_walk.specs.Meanings.{Ran, Runs, report_meaning, seen};
+ghost use Rattle.rd_walk.specs.Traces.{HasReported, texts_of};
 ghost use Rattle.rd_walk.specs.Analysis.{TellsFault, TellsFaults};
-ghost use Rattle.rd_walk.specs.Output.{IsFront, IsOutput, IsWell, Outcome, report_status};
+ghost use Rattle.rd_walk.specs.Output.{IsFront, IsOutput, IsTraceEnd, IsWell, Outcome, ended_status};
 ghost use Rattle.rd_walk.specs.Progress.{IsBegun, IsTakenOfTrace};
 ghost use Rattle.rd_walk.specs.Walk.{Entry, Walked, after, ending_of, ends, entries_of, items, step_bound};
 ghost use Rattle.rd_rules.specs.Events.{AreAccepted};
 ghost use Rattle.rd_wf.specs.Roster.{RosterStandsFor, kinds_in};
 
 use crate::analysis::{Analysis, Halt};
-use crate::status::TraceStatus;
+use crate::status::Ended;
 use crate::walk::{WalkEnd, Walker, walk_lines};
 use crate::writing::write_line;
 use rd_base::{Steps, Word};
@@ -42,7 +43,7 @@ pub trait Report: Analysis {
         names: &Roster,
         ending: WalkEnd,
         out: &mut S,
-    ) -> Result<TraceStatus, Halt>
+    ) -> Result<Ended, Halt>
         requires { (kinds : List Kind) × (start : Self) × (entries : List Entry)
             × Self.leads kinds start entries self.now
             × RosterStandsFor kinds names.now (items entries) }
@@ -52,17 +53,18 @@ pub trait Report: Analysis {
             Self.leads kinds start entries self.now →
             RosterStandsFor kinds names.now (items entries) → (part : List ℕ)
             × Appends (S.written out.old) (S.written out.new) part
-            × IsOutput (report_status result) (Self.text kinds start entries ++ part)
+            × IsOutput (ended_status result) (Self.text kinds start entries ++ part)
             (outcome kinds start (after entries (ends ending))) }
 
         // each fault is told as one
+        ensures ends { IfOk result IsTraceEnd }
         ensures input { IfOk result
-            (λ status. (status ≡ TraceStatus.InputFault) ↔ (ending ≡ WalkEnd.Fault)) }
+            (λ end. (end ≡ Ended.InputFault) ↔ (ending ≡ WalkEnd.Fault)) }
         ensures fault { TellsFault (S.faults out.old) (S.faults out.new) (S.at_fault out.new)
             (S.written out.new) result };
 
-    /// The law of a report: the text of the first lines is a front of what is written for all, and a status that says that the trace was
-    /// read to its end comes only where it was.
+    /// The law of a report: the text of the first lines is a front of what is written for all, and the status says that the trace was read
+    /// to its end exactly where it was.
     fn law_of_outcomes(&self)
         ensures fronts { (kinds : List Kind) (entries : List Entry) (walked : Walked) →
             Self.begins kinds self.now →
@@ -70,7 +72,7 @@ pub trait Report: Analysis {
             IsFront (Self.text kinds self.now entries)
             (outcome kinds self.now (after entries walked)).text }
         ensures well { (kinds : List Kind) (walked : Walked) →
-            IsWell (outcome kinds self.now walked).status → ending_of walked ≡ WalkEnd.End };
+            (IsWell (outcome kinds self.now walked).status ↔ ending_of walked ≡ WalkEnd.End) };
 }
 
 /// A report on the current input, from its first byte on.
@@ -80,7 +82,7 @@ fn report_opened<A: Report, I: Inputs, S: Sink, L: Ledger>(
     inputs: &mut I,
     out: &mut S,
     steps: &mut Steps<L>,
-) -> Result<TraceStatus, Halt>
+) -> Result<Ended, Halt>
     requires usable { AreUsable walker.old.limits }
     requires fresh { reader.old ≡ fresh walker.old.limits }
     requires none { RosterStandsFor (kinds_in walker.old.roster) walker.old.roster [] }
@@ -93,14 +95,12 @@ fn report_opened<A: Report, I: Inputs, S: Sink, L: Ledger>(
         × IsTakenOfTrace walker.old.limits taken (length entries)
         × IsBegun (A.text (kinds_in walker.old.roster) walker.old.analysis) part entries
         × Goes (I.told inputs.old) (I.told inputs.new) (λ old new. Takes old new taken
-        × HasReported (record {
-          lines = A.text (kinds_in walker.old.roster) walker.old.analysis;
-          outcome = A.outcome (kinds_in walker.old.roster) walker.old.analysis;
-          bound = A.bound (kinds_in walker.old.roster) walker.old.analysis;
-          unopened = A.unopened walker.old.analysis;
-        }) (kinds_in walker.old.roster) walker.old.limits taken new.held entries part (report_status result)
+        × HasReported (texts_of A.text A.outcome A.bound A.unopened
+        (kinds_in walker.old.roster) walker.old.analysis)
+        (kinds_in walker.old.roster) walker.old.limits taken new.held entries part (ended_status result)
         (I.faults inputs.old) (I.faults inputs.new)) }
-    ensures faults { TellsFaults TraceStatus.InputFault (I.faults inputs.old) (I.faults inputs.new)
+    ensures ends { IfOk result IsTraceEnd }
+    ensures faults { TellsFaults Ended.InputFault (I.faults inputs.old) (I.faults inputs.new)
         (S.faults out.old) (S.faults out.new) (S.at_fault out.new) (S.written out.new) result }
 {
     let ending = walk_lines(walker, reader, inputs, out, steps)?;
@@ -109,14 +109,14 @@ fn report_opened<A: Report, I: Inputs, S: Sink, L: Ledger>(
         .conclude(walker.alloc, &walker.roster, ending, out)
 }
 
-/// A report on a trace, from the first states of a walk on.
-pub fn report_trace<A: Report, I: Inputs, S: Sink, L: Ledger>(
+/// A report on a trace, from the first states of a walk on, as one of the files that a command opens.
+pub fn report_named<A: Report, I: Inputs, S: Sink, L: Ledger>(
     walker: &mut Walker<A>,
     trace: &Word,
     inputs: &mut I,
     out: &mut S,
     steps: &mut Steps<L>,
-) -> Result<TraceStatus, Halt>
+) -> Result<Ended, Halt>
     requires usable { AreUsable walker.old.limits }
     requires none { RosterStandsFor (kinds_in walker.old.roster) walker.old.roster [] }
     requires begins { A.begins (kinds_in walker.old.roster) walker.old.analysis }
@@ -126,24 +126,42 @@ pub fn report_trace<A: Report, I: Inputs, S: Sink, L: Ledger>(
         old.opens ≤ 2 ^ 63 →
         (new : Source) × (part : List ℕ) × (I.told inputs.new ≡ Some new)
         × Appends (S.written out.old) (S.written out.new) part
-        × ReportsTrace (record {
-          lines = A.text (kinds_in walker.old.roster) walker.old.analysis;
-          outcome = A.outcome (kinds_in walker.old.roster) walker.old.analysis;
-          bound = A.bound (kinds_in walker.old.roster) walker.old.analysis;
-          unopened = A.unopened walker.old.analysis;
-        }) (kinds_in walker.old.roster) trace.now walker.old.limits
+        × Runs (report_meaning (texts_of A.text A.outcome A.bound A.unopened
+        (kinds_in walker.old.roster) walker.old.analysis) (kinds_in walker.old.roster) trace.now) walker.old.limits
         (nat_lt (I.faults inputs.old)
-        (I.faults inputs.new)) old new part (report_status result) steps.old steps.new }
-    ensures faults { TellsFaults TraceStatus.InputFault (I.faults inputs.old) (I.faults inputs.new)
+        (I.faults inputs.new)) old new part (ended_status result) steps.old steps.new }
+    ensures ends { IfOk result IsTraceEnd }
+    ensures faults { TellsFaults Ended.InputFault (I.faults inputs.old) (I.faults inputs.new)
         (S.faults out.old) (S.faults out.new) (S.at_fault out.new) (S.written out.new) result }
 {
     let mut reader = LineReader::new(walker.alloc, &walker.limits)?;
     let Ok(()) = inputs.open(trace) else {
         write_line(out, walker.analysis.unopened_text())?;
-        return Ok(TraceStatus::InputFault);
+        return Ok(Ended::InputFault);
     };
     // its type says that it fits 32 bits
     let _threads = walker.limits.threads;
     walker.analysis.law_of_outcomes();
     report_opened(walker, &mut reader, inputs, out, steps)
+}
+
+/// A report on a trace, from the first states of a walk on, as all that a command does.
+pub fn report_trace<A: Report, I: Inputs, S: Sink, L: Ledger>(
+    walker: &mut Walker<A>,
+    trace: &Word,
+    inputs: &mut I,
+    out: &mut S,
+    steps: &mut Steps<L>,
+) -> Result<Ended, Halt>
+    requires usable { AreUsable walker.old.limits }
+    requires none { RosterStandsFor (kinds_in walker.old.roster) walker.old.roster [] }
+    requires begins { A.begins (kinds_in walker.old.roster) walker.old.analysis }
+    ensures { Ran (report_meaning (texts_of A.text A.outcome A.bound A.unopened
+        (kinds_in walker.old.roster) walker.old.analysis) (kinds_in walker.old.roster) trace.now) walker.old.limits
+        (seen I.told I.faults inputs.old S.written S.faults S.at_fault out.old steps.old)
+        (seen I.told I.faults inputs.new S.written S.faults S.at_fault out.new steps.new)
+        (ended_status result) }
+{
+    walker.analysis.law_of_outcomes();
+    report_named(walker, trace, inputs, out, steps)
 }

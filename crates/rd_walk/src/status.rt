@@ -1,6 +1,6 @@
 //! How a run ended.
 ghost use Rattle.std.specs.Prelude.{◌≡◌};
-ghost use Rattle.rd_walk.specs.Output.{report_status};
+ghost use Rattle.rd_walk.specs.Output.{ended_status};
 
 use crate::analysis::Halt;
 use crate::writing::status_of;
@@ -42,34 +42,40 @@ impl Status {
     }
 }
 
-/// How a report on a trace ended of which all was written.
+/// How a command ended of which all was written: a status but for a failed write and want of memory, which are a `Halt`.
 #[derive(Clone, Copy, PartialEq, Eq)]
-pub enum TraceStatus {
-    /// the trace was read to its end, and no call is reported, or under `replay` none differs
+pub enum Ended {
+    /// the trace was read to its end, and no call is reported, or under `replay` none differs; or a text was written
     Clean,
     /// the trace was read to its end, and some call is reported
     Raced,
+    /// the words match no command
+    Usage,
+    /// the specification was refused, for a cause other than a limit
+    SpecRefused,
+    /// the trace was refused at a line, for a cause other than a limit
+    TraceRefused,
     /// the trace was read to its end, no call is reported, and the recorded results are not those of the objects
     ReplayDiffers,
-    /// the trace was refused at a line, for a cause other than a limit
-    Refused,
+    /// opening or reading a file failed
+    InputFault,
     /// a limit was reached
     LimitReached,
-    /// opening or reading the trace failed
-    InputFault,
 }
 
-/// The status of a run that is a report on a trace.
-pub fn report_status(report: Result<TraceStatus, Halt>) -> Status
-    ensures { result ≡ report_status report }
+/// The status of a command that ended so, or was cut short.
+pub fn ended_status(ended: Result<Ended, Halt>) -> Status
+    ensures { result ≡ ended_status ended }
 {
-    match report {
-        Ok(TraceStatus::Clean) => Status::Clean,
-        Ok(TraceStatus::Raced) => Status::Raced,
-        Ok(TraceStatus::ReplayDiffers) => Status::ReplayDiffers,
-        Ok(TraceStatus::Refused) => Status::TraceRefused,
-        Ok(TraceStatus::LimitReached) => Status::LimitReached,
-        Ok(TraceStatus::InputFault) => Status::InputFault,
+    match ended {
+        Ok(Ended::Clean) => Status::Clean,
+        Ok(Ended::Raced) => Status::Raced,
+        Ok(Ended::Usage) => Status::Usage,
+        Ok(Ended::SpecRefused) => Status::SpecRefused,
+        Ok(Ended::TraceRefused) => Status::TraceRefused,
+        Ok(Ended::ReplayDiffers) => Status::ReplayDiffers,
+        Ok(Ended::InputFault) => Status::InputFault,
+        Ok(Ended::LimitReached) => Status::LimitReached,
         Err(halt) => status_of(halt),
     }
 }

@@ -1,5 +1,5 @@
 //! The walk over the lines of a trace.
-ghost use Rattle.std.specs.Prelude.{◌≡◌, ◌≢◌, ◌⊎◌, ℕ, ◌+◌, ◌-◌, ◌<◌, ◌≤◌, ◌^◌, true, false, List, [], ◌∷◌, ◌++◌, Ok, Err, Some, IsSome, length, IfOk, IfErr, OnErr};
+ghost use Rattle.std.specs.Prelude.{◌≡◌, ◌≢◌, ◌⊎◌, ℕ, ◌+◌, ◌-◌, ◌<◌, ◌≤◌, ◌^◌, true, false, List, [], ◌∷◌, ◌++◌, Ok, Err, None, Some, IsSome, length, IfOk, IfErr, OnErr};
 ghost use Rattle.rd_base.specs.Limits.{AreUsable};
 ghost use Rattle.rd_event.specs.Reading.{item_of};
 ghost use Rattle.rd_event.specs.declared.items.Line.{Line as Item};
@@ -7,22 +7,23 @@ ghost use Rattle.rd_io.specs.Inputs.{Goes, Takes, Rose};
 ghost use Rattle.rd_io.specs.LineReader.{fresh};
 ghost use Rattle.rd_io.specs.Lines.LinesEnding.{at_end};
 ghost use Rattle.rd_io.specs.Sinks.{Appends};
-ghost use Rattle.rd_walk.specs.Analysis.{TellsFault, WritesBetween, WritesFront};
+ghost use Rattle.rd_walk.specs.Analysis.{IsCutIn, IsHandedOn, TellsFault};
 ghost use Rattle.rd_walk.specs.Output.{IsFront};
 ghost use Rattle.rd_walk.specs.Progress.{IsBegun, IsTakenOfTrace, WalksOn, WalksTo, ending_for};
-ghost use Rattle.rd_rules.specs.MayFollow.{MayFollow, version_of};
+ghost use Rattle.rd_rules.specs.MayFollow.{MayFollow, first_broken, version_of};
+ghost use Rattle.rd_rules.specs.declared.causes.WfCause.{WfCause};
 ghost use Rattle.rd_walk.specs.Walk.{Entry, IsCallLine, trace_end_of, items, judgement_of, step_bound};
 ghost use Rattle.rd_ecl.specs.Kinds.{Kind};
 ghost use Rattle.rd_wf.specs.Roster.{RosterStandsFor, kinds_in};
 
 use crate::analysis::{Analysis, Halt};
-use crate::judging::{Refusal, judge};
-use rd_base::{LimitName, Limits, Steps};
-use rd_event::{Line, is_skipped};
+use rd_base::{LimitName, Limits, NoMemory, Steps};
+use rd_ecl::Spec;
+use rd_event::{Line, LineRefused, is_skipped, read_into};
 use rd_io::{Inputs, LineReader, Next, ReadEnd, Sink};
 use rd_wf::{
     AcquireLine, CallLine, JoinLine, KnownLine, ReleaseLine, Roster, ShareLine, TraceCause,
-    UnshareLine,
+    UnshareLine, WfRefused,
 };
 use std::alloc::Global;
 use std::sync::ledger::Ledger;
@@ -51,15 +52,49 @@ pub struct Walker<A> {
     pub refused: Option<TraceCause>,
 }
 
+impl<A: Drop> Walker<A> {
+    ghost use Rattle.std.specs.Prelude.{◌≡◌, ◌≢◌, ◌<◌, ◌^◌, [], length, AllPairs, IfOk};
+    ghost use Rattle.rd_ecl.specs.Kinds.{kind_names, kinds_of};
+    ghost use Rattle.rd_wf.specs.Roster.{RosterStandsFor, kinds_in};
+
+    /// At the first line of a trace whose objects are of these kinds, which have different names.
+    pub fn new(
+        alloc: Global,
+        limits: &Limits,
+        spec: &Spec,
+        analysis: A,
+    ) -> Result<Walker<A>, NoMemory>
+        requires few { length spec.now < 2 ^ 32 }
+        requires different { AllPairs (λ x y. x ≢ y) (kind_names (kinds_of spec.now)) }
+        ensures limits { IfOk result (λ walker. walker.limits ≡ limits.now) }
+        ensures analysis { IfOk result (λ walker. walker.analysis ≡ analysis) }
+        ensures kinds { IfOk result (λ walker. kinds_in walker.roster ≡ kinds_of spec.now) }
+        ensures none { IfOk result
+            (λ walker. RosterStandsFor (kinds_in walker.roster) walker.roster []) }
+    {
+        let roster = Roster::new(alloc, spec)?;
+        Ok(Walker {
+            alloc,
+            limits: *limits,
+            roster,
+            analysis,
+            line: Line::Skip,
+            refused: None,
+        })
+    }
+}
+
 /// What became of a line. Where it is refused, the walker has the cause, so that the answer for each line is small.
-#[derive(Clone, Copy)]
-enum Taken {
+#[derive(Clone, Copy, PartialEq, Eq)]
+pub enum Taken {
+    /// it is accepted and was handed on
     Accepted,
+    /// it is refused
     Refused,
 }
 
 /// How a trace ends whose lines ended well. The number is that of its last line.
-fn at_end(roster: &Roster, number: u64) -> WalkEnd
+pub fn at_end(roster: &Roster, number: u64) -> WalkEnd
     requires { number < 2 ^ 64 - 1 }
     ensures ending { (kinds : List Kind) (before : List Item) → RosterStandsFor kinds roster.now before →
         (limits : _) → result ≡ trace_end_of limits before (number + 1) at_end }
@@ -90,6 +125,73 @@ fn at_refusal(refused: ReadEnd, number: u64, limits: &Limits) -> WalkEnd
     }
 }
 
+/// Takes an item that the line with this number says, which the walker keeps: where it may follow the accepted ones it is handed on, and
+/// else the walker has the cause. So each walk goes from an item to the next, whatever its lines are read from.
+pub fn take<A: Analysis, S: Sink, L: Ledger>(
+    walker: &mut Walker<A>,
+    number: u64,
+    out: &mut S,
+    steps: &mut Steps<L>,
+) -> Result<Taken, Halt>
+    requires usable { AreUsable walker.old.limits }
+    requires stands { (kinds : List Kind) × (start : A) × (before : List Entry)
+        × RosterStandsFor kinds walker.old.roster (items before)
+        × A.leads kinds start before walker.old.analysis }
+    ensures limits { walker.new.limits ≡ walker.old.limits }
+
+    // the item may follow, and is handed on
+    ensures taken { result ≡ Ok Taken.Accepted → (kinds : List Kind) (start : A) (before : List Entry) →
+        RosterStandsFor kinds walker.old.roster (items before) →
+        A.leads kinds start before walker.old.analysis →
+        (first_broken kinds walker.old.limits (items before) walker.old.line ≡ None)
+        × IsHandedOn (A.leads kinds start) (A.text kinds start) (A.bound kinds start) kinds
+        walker.new.roster walker.new.analysis (S.written out.old) (S.written out.new)
+        steps.old steps.new before (record { number = number; item = walker.old.line }) }
+
+    // or it is refused, and all else is as before
+    ensures cause { result ≡ Ok Taken.Refused → IsSome walker.new.refused }
+    ensures refused { result ≡ Ok Taken.Refused → (cause : TraceCause) → walker.new.refused ≡ Some cause →
+        (kinds : List Kind) (before : List Entry) →
+        RosterStandsFor kinds walker.old.roster (items before) → (broken : WfCause)
+        × (cause ≡ TraceCause.Wf broken)
+        × (first_broken kinds walker.old.limits (items before) walker.old.line ≡ Some broken)
+        × RosterStandsFor kinds walker.new.roster (items before) }
+    ensures silent { result ≡ Ok Taken.Refused → (out.new ≡ out.old)
+        × (walker.new.analysis ≡ walker.old.analysis) × (steps.new ≡ steps.old) }
+
+    // or memory runs out in judging it, or in what is done with it, or a write fails; memory runs out only where it may follow
+    ensures memory { result ≡ Err Halt.NoMemory → (kinds : List Kind) (before : List Item) →
+        RosterStandsFor kinds walker.old.roster before →
+        MayFollow kinds walker.old.limits before walker.old.line }
+    ensures halted { OnErr result
+        ((kinds : List Kind) (start : A) (before : List Entry) →
+        RosterStandsFor kinds walker.old.roster (items before) →
+        A.leads kinds start before walker.old.analysis →
+        ((S.written out.new ≡ S.written out.old) × (steps.new ≡ steps.old))
+        ⊎ ((first_broken kinds walker.old.limits (items before) walker.old.line ≡ None)
+        × IsCutIn (A.text kinds start) (A.bound kinds start) (S.written out.old) (S.written out.new)
+        steps.old steps.new before (record { number = number; item = walker.old.line }))) }
+    ensures fault { TellsFault (S.faults out.old) (S.faults out.new) (S.at_fault out.new)
+        (S.written out.new) result }
+{
+    match walker.roster.accept(&walker.line, &walker.limits) {
+        Ok(accepted) => {
+            let Err(halt) = walker
+                .analysis
+                .accept(number, &accepted, &walker.roster, out, steps)
+            else {
+                return Ok(Taken::Accepted);
+            };
+            Err(halt)
+        }
+        Err(WfRefused::Cause(cause)) => {
+            walker.refused = Some(TraceCause::Wf(cause));
+            Ok(Taken::Refused)
+        }
+        Err(WfRefused::NoMemory) => Err(Halt::NoMemory),
+    }
+}
+
 /// Takes a line of this sort that the roster accepts by its bytes alone: it is handed on. The answer tells whether it is one. This doesn't
 /// stand in `take_found`: each other line would make room for what it holds.
 #[inline(never)]
@@ -112,13 +214,9 @@ fn take_known<K: KnownLine, A: Analysis, S: Sink, L: Ledger>(
         RosterStandsFor kinds walker.old.roster (items before) →
         A.leads kinds start before walker.old.analysis →
         (item : Item) × (judgement_of kinds walker.old.limits (items before) bytes.now ≡ Ok item)
-        × RosterStandsFor kinds walker.new.roster (items before ++ item ∷ [])
-        × A.leads kinds start
-        (before ++ record { number = number; item = item } ∷ []) walker.new.analysis
-        × WritesBetween (S.written out.old) (S.written out.new)
-        (A.text kinds start before)
-        (A.text kinds start (before ++ record { number = number; item = item } ∷ []))
-        × (steps.new ≤ steps.old + A.bound kinds start (items before) item)) }
+        × IsHandedOn (A.leads kinds start) (A.text kinds start) (A.bound kinds start) kinds
+        walker.new.roster walker.new.analysis (S.written out.old) (S.written out.new)
+        steps.old steps.new before (record { number = number; item = item })) }
     ensures same { IfOk result (λ taken. taken ≡ false →
         (walker.new ≡ walker.old) × (out.new ≡ out.old) × (steps.new ≡ steps.old)) }
 
@@ -132,10 +230,8 @@ fn take_known<K: KnownLine, A: Analysis, S: Sink, L: Ledger>(
         RosterStandsFor kinds walker.old.roster (items before) →
         A.leads kinds start before walker.old.analysis →
         (item : Item) × (judgement_of kinds walker.old.limits (items before) bytes.now ≡ Ok item)
-        × WritesFront (S.written out.old) (S.written out.new)
-        (A.text kinds start before)
-        (A.text kinds start (before ++ record { number = number; item = item } ∷ []))
-        × (steps.new ≤ steps.old + A.bound kinds start (items before) item)) }
+        × IsCutIn (A.text kinds start) (A.bound kinds start) (S.written out.old) (S.written out.new)
+        steps.old steps.new before (record { number = number; item = item })) }
     ensures fault { TellsFault (S.faults out.old) (S.faults out.new) (S.at_fault out.new)
         (S.written out.new) result }
 {
@@ -172,13 +268,9 @@ fn take_found<A: Analysis, S: Sink, L: Ledger>(
         RosterStandsFor kinds walker.old.roster (items before) →
         A.leads kinds start before walker.old.analysis →
         (item : Item) × (judgement_of kinds walker.old.limits (items before) bytes.now ≡ Ok item)
-        × RosterStandsFor kinds walker.new.roster (items before ++ item ∷ [])
-        × A.leads kinds start
-        (before ++ record { number = number; item = item } ∷ []) walker.new.analysis
-        × WritesBetween (S.written out.old) (S.written out.new)
-        (A.text kinds start before)
-        (A.text kinds start (before ++ record { number = number; item = item } ∷ []))
-        × (steps.new ≤ steps.old + A.bound kinds start (items before) item)) }
+        × IsHandedOn (A.leads kinds start) (A.text kinds start) (A.bound kinds start) kinds
+        walker.new.roster walker.new.analysis (S.written out.old) (S.written out.new)
+        steps.old steps.new before (record { number = number; item = item })) }
     ensures same { IfOk result (λ taken. taken ≡ false →
         (walker.new ≡ walker.old) × (out.new ≡ out.old) × (steps.new ≡ steps.old)) }
 
@@ -192,10 +284,8 @@ fn take_found<A: Analysis, S: Sink, L: Ledger>(
         RosterStandsFor kinds walker.old.roster (items before) →
         A.leads kinds start before walker.old.analysis →
         (item : Item) × (judgement_of kinds walker.old.limits (items before) bytes.now ≡ Ok item)
-        × WritesFront (S.written out.old) (S.written out.new)
-        (A.text kinds start before)
-        (A.text kinds start (before ++ record { number = number; item = item } ∷ []))
-        × (steps.new ≤ steps.old + A.bound kinds start (items before) item)) }
+        × IsCutIn (A.text kinds start) (A.bound kinds start) (S.written out.old) (S.written out.new)
+        steps.old steps.new before (record { number = number; item = item })) }
     ensures fault { TellsFault (S.faults out.old) (S.faults out.new) (S.at_fault out.new)
         (S.written out.new) result }
 {
@@ -230,13 +320,9 @@ fn take_line<A: Analysis, S: Sink, L: Ledger>(
         RosterStandsFor kinds walker.old.roster (items before) →
         A.leads kinds start before walker.old.analysis →
         (item : Item) × (judgement_of kinds walker.old.limits (items before) bytes.now ≡ Ok item)
-        × RosterStandsFor kinds walker.new.roster (items before ++ item ∷ [])
-        × A.leads kinds start
-        (before ++ record { number = number; item = item } ∷ []) walker.new.analysis
-        × WritesBetween (S.written out.old) (S.written out.new)
-        (A.text kinds start before)
-        (A.text kinds start (before ++ record { number = number; item = item } ∷ []))
-        × (steps.new ≤ steps.old + A.bound kinds start (items before) item)) }
+        × IsHandedOn (A.leads kinds start) (A.text kinds start) (A.bound kinds start) kinds
+        walker.new.roster walker.new.analysis (S.written out.old) (S.written out.new)
+        steps.old steps.new before (record { number = number; item = item })) }
 
     // or refused, and all else is as before
     ensures cause { IfOk result (λ taken. taken ≡ Taken.Refused → IsSome walker.new.refused) }
@@ -263,10 +349,8 @@ fn take_line<A: Analysis, S: Sink, L: Ledger>(
         A.leads kinds start before walker.old.analysis →
         ((S.written out.new ≡ S.written out.old) × (steps.new ≡ steps.old))
         ⊎ ((item : Item) × (judgement_of kinds walker.old.limits (items before) bytes.now ≡ Ok item)
-        × WritesFront (S.written out.old) (S.written out.new)
-        (A.text kinds start before)
-        (A.text kinds start (before ++ record { number = number; item = item } ∷ []))
-        × (steps.new ≤ steps.old + A.bound kinds start (items before) item))) }
+        × IsCutIn (A.text kinds start) (A.bound kinds start) (S.written out.old) (S.written out.new)
+        steps.old steps.new before (record { number = number; item = item }))) }
     ensures fault { TellsFault (S.faults out.old) (S.faults out.new) (S.at_fault out.new)
         (S.written out.new) result }
 {
@@ -275,27 +359,18 @@ fn take_line<A: Analysis, S: Sink, L: Ledger>(
         Ok(false) => {}
         Err(halt) => return Err(halt),
     }
-    match judge(
+    match read_into(
         walker.alloc,
         bytes,
+        walker.roster.version(),
         &mut walker.line,
-        &mut walker.roster,
-        &walker.limits,
     ) {
-        Ok(accepted) => {
-            let Err(halt) = walker
-                .analysis
-                .accept(number, &accepted, &walker.roster, out, steps)
-            else {
-                return Ok(Taken::Accepted);
-            };
-            Err(halt)
-        }
-        Err(Refusal::Cause(cause)) => {
-            walker.refused = Some(cause);
+        Ok(()) => take(walker, number, out, steps),
+        Err(LineRefused::BadLine) => {
+            walker.refused = Some(TraceCause::BadLine);
             Ok(Taken::Refused)
         }
-        Err(Refusal::NoMemory) => Err(Halt::NoMemory),
+        Err(LineRefused::NoMemory) => Err(Halt::NoMemory),
     }
 }
 

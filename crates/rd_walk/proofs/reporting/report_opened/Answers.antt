@@ -6,7 +6,7 @@ use Rattle.rd_walk.specs.declared.analysis.Halt.{Halt}
 use Rattle.rd_wf.specs.Roster.{kinds_in}
 use Rattle.rd_walk.proofs.OutputLemmas.{failed_with}
 use Rattle.rd_walk.proofs.ProgressLemmas.{all_begun}
-use Rattle.rd_walk.specs.Output.{report_status}
+use Rattle.rd_walk.specs.Output.{ended_status}
 use Rattle.rd_walk.proofs.reporting.report_opened.Goals as goal
 
 same_ending : (a b : WalkEnd) → ◌≡◌ {A = Result WalkEnd Halt} (Ok a) (Ok b) → a ≡ b
@@ -62,6 +62,6 @@ returns-in_err-ending-clause-reported g c =
       λ old told. let (new, now, takes) = goes old told in (
         new,
         now,
-        (takes, inr (halt, rest, on, is, ap report_status failed, c.in_err-ending.ensures.calm (λ e. cc))),
+        (takes, inr (halt, rest, on, is, ap ended_status failed, c.in_err-ending.ensures.calm (λ e. cc))),
       ),
     )

@@ -1,68 +1,15 @@
-use Rattle.std.proofs.Common.{◌∙◌, [], refl, subst, sym, arith}
-use Rattle.rd_io.proofs.SinkLemmas.{appends_none}
+use Rattle.std.proofs.Common.{arith}
 use Rattle.rd_wf.specs.Roster.{kinds_in}
-use Rattle.rd_walk.specs.Output.{report_status, unopened_outcome}
-use Rattle.rd_walk.specs.Traces.{HasReported, ReportTexts}
-use Rattle.rd_walk.proofs.OutputLemmas.{report_cut}
-use Rattle.rd_walk.proofs.TraceLemmas.{reports_opened, reports_unopened, reports_without}
+use Rattle.rd_walk.proofs.RanLemmas.{ran_report}
+use Rattle.rd_walk.specs.Meanings.{seen}
+use Rattle.rd_walk.specs.Traces.{texts_of}
 use Rattle.rd_walk.proofs.reporting.report_trace.Goals as goal
 
-pub returns-in_err-reader-clause-reports : goal.returns-in_err-reader-clause-reports
-returns-in_err-reader-clause-reports g c = λ old told few few_opens.
-    let wrote = g.S.Sink.written c.args.out.now in
-    let faults = g.I.Inputs.faults c.args.inputs.now in
-    let kinds = kinds_in c.args.walker.now.roster in
-    let texts : ReportTexts = record { lines = g.A.Analysis.text kinds c.args.walker.now.analysis; outcome = g.A.Report.outcome kinds c.args.walker.now.analysis; bound = g.A.Analysis.bound kinds c.args.walker.now.analysis; unopened = g.A.Report.unopened c.args.walker.now.analysis } in (
-      old,
-      [],
-      told,
-      appends_none wrote wrote refl,
-      reports_without texts kinds c.args.trace.now c.args.walker.now.limits c.from_residual.result c.from_residual.ensures faults old c.args.steps.now,
-    )
-
-pub returns-in_default-clause-reports : goal.returns-in_default-clause-reports
-returns-in_default-clause-reports g c = λ old told few few_opens.
-    let (new, now, opened) = c.in_default.ensures.told old told in
-    let kinds = kinds_in c.args.walker.now.roster in (
-      new,
-      _,
-      now,
-      c.in_ok-write_line.ensures.ok,
-      reports_unopened (record { lines = g.A.Analysis.text kinds c.args.walker.now.analysis; outcome = g.A.Report.outcome kinds c.args.walker.now.analysis; bound = g.A.Analysis.bound kinds c.args.walker.now.analysis; unopened = g.A.Report.unopened c.args.walker.now.analysis }) kinds c.args.trace.now c.args.walker.now.limits (g.I.Inputs.faults c.args.inputs.now)
-          (g.I.Inputs.faults c.open.new.self) old new _ _ c.args.steps.now few c.in_default.ensures.cause.failed opened (c.unopened_text.ensures, refl),
-    )
-
-pub returns-in_err-write_line-clause-reports : goal.returns-in_err-write_line-clause-reports
-returns-in_err-write_line-clause-reports g c = λ old told few few_opens.
-    let (new, now, opened) = c.in_default.ensures.told old told in
-    let (part, rest, is, writes) = c.in_err-write_line.ensures.front in
-    let kinds = kinds_in c.args.walker.now.roster in (
-      new,
-      part,
-      now,
-      writes,
-      reports_unopened (record { lines = g.A.Analysis.text kinds c.args.walker.now.analysis; outcome = g.A.Report.outcome kinds c.args.walker.now.analysis; bound = g.A.Analysis.bound kinds c.args.walker.now.analysis; unopened = g.A.Report.unopened c.args.walker.now.analysis }) kinds c.args.trace.now c.args.walker.now.limits (g.I.Inputs.faults c.args.inputs.now)
-          (g.I.Inputs.faults c.open.new.self) old new part _ c.args.steps.now few c.in_default.ensures.cause.failed opened
-          (report_cut c.from_residual-in_err-write_line.result _ c.from_residual-in_err-write_line.ensures part rest (unopened_outcome (g.A.Report.unopened c.args.walker.now.analysis)) (sym c.unopened_text.ensures ∙ is)),
-    )
-
-pub returns-clause-reports : goal.returns-clause-reports
-returns-clause-reports g c = λ old told few few_opens.
-    let (mid, opened_now, opened) = c.in-Ok.ensures.told old told in
-    let (entries, taken, part, writes, cost, read, begun, goes) = c.report_opened.ensures.reported in
-    let (new, now, (takes, reported)) = goes mid opened_now in
-    let before = g.I.Inputs.faults c.args.inputs.now in
-    let after = g.I.Inputs.faults c.report_opened.new.inputs in
+pub returns : goal.returns
+returns g c =
     let kinds = kinds_in c.args.walker.now.roster in
     let start = c.args.walker.now.analysis in
-    let status = report_status c.report_opened.result in
-    let texts : ReportTexts = record { lines = g.A.Analysis.text kinds start; outcome = g.A.Report.outcome kinds start; bound = g.A.Analysis.bound kinds start; unopened = g.A.Report.unopened start } in (
-      new,
-      part,
-      now,
-      writes,
-      reports_opened texts kinds c.args.trace.now c.args.walker.now.limits (λ entries walked. c.law_of_outcomes.ensures.fronts kinds entries walked c.requires.begins)
-          (c.law_of_outcomes.ensures.well kinds) c.requires.usable (omega arith) before after old mid new entries taken part status c.args.steps.now
-          c.report_opened.new.steps few few_opens opened takes cost read begun
-          (subst (λ faults. HasReported texts kinds c.args.walker.now.limits taken new.held entries part status faults after) c.in-Ok.ensures.cause.calm reported),
-    )
+    ran_report (texts_of g.A.Analysis.text g.A.Report.outcome g.A.Analysis.bound g.A.Report.unopened kinds start) kinds c.args.trace.now c.args.walker.now.limits
+    (seen g.I.Inputs.told g.I.Inputs.faults c.args.inputs.now g.S.Sink.written g.S.Sink.faults g.S.Sink.at_fault c.args.out.now c.args.steps.now)
+    (seen g.I.Inputs.told g.I.Inputs.faults c.report_named.new.inputs g.S.Sink.written g.S.Sink.faults g.S.Sink.at_fault c.report_named.new.out c.report_named.new.steps)
+    c.report_named.result (λ walked. (c.law_of_outcomes.ensures.well kinds walked).1) (λ old told few few_opens. c.report_named.ensures.reports old told few (omega (arith, few_opens))) c.report_named.ensures.faults c.report_named.ensures.ends

@@ -15,10 +15,12 @@ returns-in-Ok-clause-taken g c = λ taken kinds start before stands leads.
     let next = next_as kinds limits before c.args.bytes.now item c.in-Some.accepted c.accept_bytes.new.roster c.requires.usable is in (
       item,
       judged_as kinds limits (items before) c.args.bytes.now item c.in-Some.accepted c.accept_bytes.new.roster is,
-      is.stands,
-      c.in-Ok.ensures.leads kinds start before item leads next,
-      c.in-Ok.ensures.written kinds start before item leads next,
-      c.in-Ok.ensures.cost kinds start before item leads next,
+      record {
+        stands = is.stands;
+        leads = c.in-Ok.ensures.leads kinds start before item leads next;
+        written = c.in-Ok.ensures.written kinds start before item leads next;
+        cost = c.in-Ok.ensures.cost kinds start before item leads next;
+      },
     )
 
 pub returns-clause-halted : goal.returns-clause-halted
@@ -28,8 +30,10 @@ returns-clause-halted g c = λ kinds start before stands leads.
     let next = next_as kinds limits before c.args.bytes.now item c.in-Some.accepted c.accept_bytes.new.roster c.requires.usable is in (
       item,
       judged_as kinds limits (items before) c.args.bytes.now item c.in-Some.accepted c.accept_bytes.new.roster is,
-      c.in-Err.ensures.halted kinds start before item leads next,
-      c.in-Err.ensures.cost kinds start before item leads next,
+      record {
+        written = c.in-Err.ensures.halted kinds start before item leads next;
+        cost = c.in-Err.ensures.cost kinds start before item leads next;
+      },
     )
 
 pub returns-clause-memory : goal.returns-clause-memory

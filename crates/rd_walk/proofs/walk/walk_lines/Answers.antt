@@ -95,18 +95,19 @@ lines-preserved g c =
     let kinds = kinds_in c.args.walker.now.roster in
     let start = c.args.walker.now.analysis in
     let taking = c.in-Ok-Accepted.ensures.taken c.in-Ok-Accepted.field-0-is kinds start entries stands leads in
-    let (item, says, stands_now, leads_now, writes, cost_now) = rw (c.number-number.ensures.value, c.line-in-lines.ensures, same) at taking in
+    let (item, says, handed) = rw (c.number-number.ensures.value, c.line-in-lines.ensures, same) at taking in
+    let writes = handed.written in
     let entry : Entry = record { number = c.next.new.self.number; item = item } in (
       entries ++ entry ∷ [],
       taken ++ bytes,
       lines ++ c.next.new.self.line ∷ [],
       moves.ended,
       continues_line kinds limits taken bytes c.lines.reader c.next.new.self entries so_far answered.tells moves.number item says,
-      subst (RosterStandsFor kinds c.take_line.new.walker.roster) (sym (items_more entries entry)) stands_now,
-      leads_now,
+      subst (RosterStandsFor kinds c.take_line.new.walker.roster) (sym (items_more entries entry)) handed.stands,
+      handed.leads,
       subst (Appends (g.S.Sink.written c.args.out.now) (g.S.Sink.written c.take_line.new.out)) (sym writes.1)
           (appends_on _ _ _ (g.A.Analysis.text kinds start entries) writes.0 text writes.2),
-      omega (arith, cost, cost_now, bound_more (g.A.Analysis.bound kinds start) [] entries entry),
+      omega (arith, cost, handed.cost, bound_more (g.A.Analysis.bound kinds start) [] entries entry),
       takes_on _ _ _ taken bytes told (λ old is. let r = goes old is in (r.0, r.1, r.2.0)),
       c.in-Ok-Line.ensures.calm (λ e. true≢false (ap is_ok (sym (ap Ok c.in-Ok-Line.field-0-is) ∙ e))) ∙ calm,
       c.in-Ok-Accepted.ensures.fault ∙ faults,
@@ -164,17 +165,17 @@ returns-in-Err-take_line-clause-halted g c =
         walks_further kinds limits taken bytes c.lines.reader entries so_far,
         goes_now,
       )
-      | inr (item, judged_so, front, cost_now) ↦
+      | inr (item, judged_so, cut_in) ↦
           let entry : Entry = record { number = c.next.new.self.number; item = item } in
           let says = rw (c.line-in-lines.ensures, same) at judged_so in
-          let (part, rest, is, writes) = rw c.number-number.ensures.value at front in (
+          let (part, rest, is, writes) = (rw c.number-number.ensures.value at cut_in).written in (
             entries ++ entry ∷ [],
             taken ++ bytes,
             g.A.Analysis.text kinds start entries ++ part,
             appends_on _ _ _ (g.A.Analysis.text kinds start entries) part text writes,
             (rest, is ∙ sym (append_assoc (g.A.Analysis.text kinds start entries) part rest)),
             record { told = entries; last = entry ∷ []; is = refl; one = omega arith; written = (part, refl) },
-            omega (arith, cost, cost_now, bound_more (g.A.Analysis.bound kinds start) [] entries entry),
+            omega (arith, cost, cut_in.cost, bound_more (g.A.Analysis.bound kinds start) [] entries entry),
             read_so_far limits taken bytes c.lines.reader lines cut (length (entries ++ entry ∷ [])) (omega (arith, counted, length-append entries (entry ∷ []))) answered.past answered.fits,
             walks_on kinds limits (taken ++ bytes) c.next.new.self (entries ++ entry ∷ [])
                 (continues_line kinds limits taken bytes c.lines.reader c.next.new.self entries so_far answered.tells moves.number item says),
