@@ -1,3 +1,4 @@
+pub mod Endings
 pub mod Texts
 pub mod Formulas
 pub mod Races

@@ -10,6 +10,7 @@ mod numbers;
 mod races;
 mod replays;
 mod states;
+mod statuses;
 mod verdicts;
 
 pub use cause_texts::{ending_text, refused_text, refused_words};
@@ -21,4 +22,5 @@ pub use races::{RaceEnds, append_race, call_text, formula_line, race_text};
 pub use rd_wf::TraceCause;
 pub use replays::{append_replay, replay_text, replay_words};
 pub use states::append_state;
+pub use statuses::{check_status, ending_of_report};
 pub use verdicts::verdict_words;
