@@ -1,10 +1,3 @@
-pub mod KeepingLemmas
-pub mod KindLemmas
-pub mod LineLemmas
-pub mod NamingLemmas
 pub mod OrderLemmas
 pub mod OutcomeLemmas
-pub mod PermutationLemmas
-pub mod ReorderedLemmas
 pub mod ReportLemmas
-pub mod TextLemmas

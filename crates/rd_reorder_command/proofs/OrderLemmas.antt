@@ -14,9 +14,9 @@ use Rattle.rd_linear.proofs.ActingLemmas.{HaveActing, acting_linear, have_acting
 use Rattle.rd_linear.specs.Lanes.{HaveThreads, order_by}
 use Rattle.rd_linear.specs.Orders.{IsLinear}
 use Rattle.rd_order.specs.Order.{thread_of}
-use Rattle.rd_reorder_command.proofs.NamingLemmas.{IsNamed, all_named}
-use Rattle.rd_reorder_command.specs.Keeping.{FollowFrom}
 use Rattle.rd_reorder_command.specs.Outcomes.{places_by}
+use Rattle.rd_rewriting.proofs.NamingLemmas.{IsNamed, all_named}
+use Rattle.rd_rewriting.specs.Keeping.{FollowFrom}
 use Rattle.rd_rules.specs.Events.{events_of}
 use Rattle.rd_rules.specs.MayFollow.{threads_of}
 

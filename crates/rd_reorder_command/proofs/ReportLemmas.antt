@@ -6,13 +6,13 @@ use Rattle.std.proofs.lemmas.List.{length-map}
 use Rattle.rd_base.specs.Limits.{AreUsable}
 use Rattle.rd_base.specs.declared.limits.Limits.{Limits}
 use Rattle.rd_io.specs.Lines.{Stop, reading}
-use Rattle.rd_reorder_command.proofs.NamingLemmas.{as_line, lines_spelled}
 use Rattle.rd_reorder_command.proofs.OrderLemmas.{linear_inside, picked_linear}
-use Rattle.rd_reorder_command.proofs.PermutationLemmas.{accepted_follow, events_permuted, headed, lines_permuted}
-use Rattle.rd_reorder_command.specs.Keeping.{FollowFrom}
 use Rattle.rd_reorder_command.specs.Outcomes.{places_by, reorder_outcome}
 use Rattle.rd_reorder_command.specs.Reports.{IsReordered}
-use Rattle.rd_replaying.specs.States.{built_in_kinds}
+use Rattle.rd_replay_command.specs.States.{built_in_kinds}
+use Rattle.rd_rewriting.proofs.NamingLemmas.{as_line, lines_spelled}
+use Rattle.rd_rewriting.proofs.PermutationLemmas.{accepted_follow, events_permuted, headed, lines_permuted}
+use Rattle.rd_rewriting.specs.Keeping.{FollowFrom}
 use Rattle.rd_walk.proofs.AcceptedLemmas.{trace_accepted}
 use Rattle.rd_walk.proofs.AcceptedLineLemmas.{trace_walk}
 use Rattle.rd_walk.specs.Walk.{ending_of, entries_of, items, trace_of}

@@ -1,7 +1,5 @@
-pub mod Keeping
 pub mod Meanings
-pub mod Naming
 pub mod Outcomes
-pub mod Reordered
+pub mod Reordering
 pub mod Reports
 pub mod laws

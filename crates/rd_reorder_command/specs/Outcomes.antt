@@ -5,10 +5,10 @@ use Rattle.rd_ecl.specs.Kinds.{Kind}
 use Rattle.rd_event.specs.declared.items.Line.{Line}
 use Rattle.rd_io.specs.Inputs.{fault_line}
 use Rattle.rd_linear.specs.Lanes.{order_by}
-use Rattle.rd_reorder_command.specs.Reordered.{lines_text, reordered}
-use Rattle.rd_replaying.specs.Endings.{check_status, thread_names}
+use Rattle.rd_report.specs.Endings.{check_status, thread_names}
 use Rattle.rd_report.specs.Texts.{refused_line}
 use Rattle.rd_report.specs.declared.endings.Ending.TheVariants as report
+use Rattle.rd_rewriting.specs.Reordered.{lines_text, reordered}
 use Rattle.rd_walk.specs.Output.{Outcome, fault_outcome}
 use Rattle.rd_walk.specs.Traces.{ReportTexts}
 use Rattle.rd_walk.specs.Walk.{Walked, ending_of, entries_of, items}

@@ -1,24 +1,18 @@
 -- What `reorder` says of the bytes of a trace, in the words of accepted lines and of linear orders. This project's profile.
-use Rattle.std.specs.Prelude.{◌≡◌, ℕ, Bool, not, List, [], filter, IsPermutation}
+use Rattle.std.specs.Prelude.{◌≡◌, ℕ, List, [], filter, IsPermutation}
 use Rattle.rd_base.specs.declared.limits.Limits.{Limits}
-use Rattle.rd_event.specs.declared.items.Line.{Line}
 use Rattle.rd_io.specs.Lines.{Stop, reading}
 use Rattle.rd_linear.specs.Orders.{IsLinear}
 use Rattle.rd_reorder_command.specs.Outcomes.{ended_outcome}
-use Rattle.rd_reorder_command.specs.Reordered.{lines_text, reordered}
-use Rattle.rd_replaying.specs.Endings.{thread_names}
-use Rattle.rd_replaying.specs.States.{built_in_kinds}
+use Rattle.rd_report.specs.Endings.{thread_names}
+use Rattle.rd_replay_command.specs.States.{built_in_kinds}
+use Rattle.rd_rewriting.specs.Reordered.{is_counted, lines_text, reordered}
 use Rattle.rd_walk.specs.AcceptedLines.{IsWalk}
 use Rattle.rd_walk.specs.Output.{Outcome}
 use Rattle.rd_walk.specs.Walk.{Entry, items}
 use Rattle.rd_walk.specs.declared.walk.WalkEnd.TheVariants.{End}
 use Rattle.rd_walk.specs.declared.walk.WalkEnd.{WalkEnd}
 use Rattle.rd_rules.specs.Events.{events_of}
-use Rattle.rd_rules.specs.MayFollow.{is_skip}
-
--- the line isn't skipped
-abbrev pub is_counted : Line → Bool
-is_counted line = not (is_skip line)
 
 -- What `reorder` writes and answers for the bytes of a trace whose reading ends so.
 pub record IsReordered (limits : Limits) (stop : Stop) (bytes : List ℕ) (outcome : Outcome) : Type 0 where

@@ -5,7 +5,7 @@ ghost use Rattle.rd_base.specs.declared.limits.Limits.{Limits};
 ghost use Rattle.rd_io.specs.Lines.{Stop};
 ghost use Rattle.rd_reorder_command.specs.Outcomes.{reorder_outcome};
 ghost use Rattle.rd_reorder_command.specs.Reports.{IsReordered};
-ghost use Rattle.rd_replaying.specs.States.{built_in_kinds};
+ghost use Rattle.rd_replay_command.specs.States.{built_in_kinds};
 ghost use Rattle.rd_walk.specs.Walk.{trace_of};
 
 /// What `reorder` writes and answers, for all bytes of a trace, whatever the number and the limits within their ranges, and wherever the

@@ -1,72 +1,44 @@
-//! What `reorder` keeps of the accepted lines.
-ghost use Rattle.std.specs.Prelude.{◌≡◌, ◌<◌, ◌+◌, ◌≤◌, ℕ, List, [], ◌∷◌, ◌++◌, OnOk};
-ghost use Rattle.rd_reorder_command.specs.Keeping.{KeepsMore};
+//! What `reorder` does with each accepted line.
+ghost use Rattle.std.specs.Prelude.{◌≡◌};
 
-use rd_base::{NoMemory, Steps};
+use rd_base::Steps;
 use rd_ecl::Spec;
-use rd_event::Event;
 use rd_io::Sink;
+use rd_rewriting::Kept;
 use rd_walk::{Analysis, Halt};
 use rd_wf::{Accepted, Roster};
 use std::alloc::Global;
 use std::sync::ledger::Ledger;
 
-/// Keeps what a trace in another order is written of: its roots, its objects and its events, by numbers. The roster has their names.
+/// Keeps the lines of a trace, which are written in another order.
 #[derive(Drop)]
-pub struct Reordering<'a> {
-    alloc: Global,
+pub(crate) struct Reordering<'a> {
     /// the number that picks the order
     pub(crate) number: u64,
-    /// the kinds of the objects
-    pub(crate) spec: &'a Spec,
-    /// how many threads no event begins; they have the first numbers
-    pub(crate) roots: u32,
-    /// the number of each object's kind
-    pub(crate) objects: Vec<u32>,
-    pub(crate) events: Vec<Event>,
+    pub(crate) kept: Kept<'a>,
 }
 
 impl<'a> Reordering<'a> {
-    ghost use Rattle.rd_reorder_command.specs.Keeping.{ReorderingBegins};
+    ghost use Rattle.rd_reorder_command.specs.Reordering.{ReorderingBegins};
     ghost use Rattle.rd_ecl.specs.Kinds.{kinds_of};
 
     /// Nothing is kept. The order is the one that the number picks, and the objects are of these kinds. It takes no memory.
-    pub fn new(alloc: Global, number: u64, spec: &'a Spec) -> Reordering<'a>
+    pub(crate) fn new(alloc: Global, number: u64, spec: &'a Spec) -> Reordering<'a>
         ensures begins { ReorderingBegins (kinds_of spec.now) result }
         ensures number { result.number ≡ number }
-        ensures spec { result.spec.now ≡ spec.now }
+        ensures spec { result.kept.spec.now ≡ spec.now }
     {
         Reordering {
-            alloc,
             number,
-            spec,
-            roots: 0,
-            objects: Vec::new(alloc),
-            events: Vec::new(alloc),
+            kept: Kept::new(alloc, spec),
         }
-    }
-
-    /// Keeps what the next accepted line is.
-    // kept out of line, so that a walk for another command doesn't pay for its locals
-    #[inline(never)]
-    fn keep(&mut self, accepted: &Accepted) -> Result<(), NoMemory>
-        requires { (thread : ℕ) → accepted.now ≡ Accepted.Root thread → thread < 4294967295 }
-        ensures { OnOk result (KeepsMore self.old self.new accepted.now) }
-    {
-        match accepted {
-            Accepted::Nothing => {}
-            Accepted::Root(thread) => self.roots = *thread + 1,
-            Accepted::Object { kind, .. } => self.objects.push(*kind)?,
-            Accepted::Event(event) => self.events.push(event.copy(self.alloc)?)?,
-        }
-        Ok(())
     }
 }
 
 impl<'a> Analysis for Reordering<'a> {
     ghost use Rattle.std.specs.Prelude.{[]};
     ghost use Rattle.std.proofs.Common.{refl};
-    ghost use Rattle.rd_reorder_command.specs.Keeping.{ReorderingBegins, ReorderingLeads};
+    ghost use Rattle.rd_reorder_command.specs.Reordering.{ReorderingBegins, ReorderingLeads};
     ghost use Rattle.rd_reorder_command.specs.laws.NoLines.{leads_none};
 
     ghost begins = { ReorderingBegins };
@@ -90,7 +62,7 @@ impl<'a> Analysis for Reordering<'a> {
         _out: &mut S,
         _steps: &mut Steps<L>,
     ) -> Result<(), Halt> {
-        match self.keep(accepted) {
+        match self.kept.keep(accepted) {
             Ok(()) => Ok(()),
             Err(_) => Err(Halt::NoMemory),
         }

@@ -3,19 +3,17 @@ ghost use Rattle.std.specs.Prelude.{◌≡◌, ◌↔◌, ℕ, List, [], ◌++�
 ghost use Rattle.rd_ecl.specs.Kinds.{Kind};
 ghost use Rattle.rd_event.specs.declared.items.Line.{Line as LineOf};
 ghost use Rattle.rd_io.specs.Sinks.{Appends};
-ghost use Rattle.rd_reorder_command.specs.Keeping.{KeepsNamed};
 ghost use Rattle.rd_reorder_command.specs.Outcomes.{ended_outcome, picked_text};
+ghost use Rattle.rd_rewriting.specs.Keeping.{KeepsNamed};
 ghost use Rattle.rd_walk.specs.Analysis.{TellsFault, WritesFront};
-ghost use Rattle.rd_walk.specs.Output.{IsOutput, report_status};
+ghost use Rattle.rd_walk.specs.Output.{IsOutput, IsTraceEnd, ended_status};
 ghost use Rattle.rd_wf.specs.Roster.{names_in};
 
 use crate::reordering::Reordering;
 use rd_io::Sink;
 use rd_linear::reorder;
-use rd_replay::Replayer;
-use rd_replaying::{ReplayedReport, check_status};
-use rd_report::{Ending, TraceCause, refused_text};
-use rd_walk::{Halt, TraceStatus, WalkEnd, write_line};
+use rd_report::{Ending, TraceCause, check_status, refused_text};
+use rd_walk::{Ended, Halt, Report, WalkEnd, write_line};
 use rd_wf::Roster;
 use std::alloc::Global;
 
@@ -26,11 +24,12 @@ fn write_refused<S: Sink>(
     line: u64,
     cause: TraceCause,
     out: &mut S,
-) -> Result<TraceStatus, Halt>
+) -> Result<Ended, Halt>
     ensures output { (text : List ℕ) → (part : List ℕ) × Appends (S.written out.old) (S.written out.new) part
-        × IsOutput (report_status result) part
+        × IsOutput (ended_status result) part
         (ended_outcome (names_in names.now) text (WalkEnd.Refused line cause)) }
-    ensures input { IfOk result (λ status. ¬ (status ≡ TraceStatus.InputFault)) }
+    ensures ends { IfOk result IsTraceEnd }
+    ensures input { IfOk result (λ end. ¬ (end ≡ Ended.InputFault)) }
     ensures fault { TellsFault (S.faults out.old) (S.faults out.new) (S.at_fault out.new)
         (S.written out.new) result }
 {
@@ -42,23 +41,24 @@ fn write_refused<S: Sink>(
 impl<'a> Reordering<'a> {
     /// Writes the trace in the order that the number picks.
     fn write_picked<S: Sink>(&self, alloc: Global, names: &Roster, out: &mut S) -> Result<(), Halt>
-        requires { (kinds : List Kind) × (lines : List LineOf) × KeepsNamed kinds self.now names.now lines }
+        requires { (kinds : List Kind) × (lines : List LineOf)
+            × KeepsNamed kinds self.now.kept names.now lines }
         ensures ok { OnOk result ((kinds : List Kind) (lines : List LineOf) →
-            KeepsNamed kinds self.now names.now lines →
+            KeepsNamed kinds self.now.kept names.now lines →
             Appends (S.written out.old) (S.written out.new) (picked_text kinds lines self.now.number)) }
         ensures front { OnErr result ((kinds : List Kind) (lines : List LineOf) →
-            KeepsNamed kinds self.now names.now lines →
+            KeepsNamed kinds self.now.kept names.now lines →
             WritesFront (S.written out.old) (S.written out.new) []
             (picked_text kinds lines self.now.number)) }
         ensures fault { TellsFault (S.faults out.old) (S.faults out.new) (S.at_fault out.new)
             (S.written out.new) result }
     {
-        let places = reorder(alloc, self.events.as_slice(), self.number)?;
-        self.write_lines(alloc, names, places.items(), out)
+        let places = reorder(alloc, self.kept.events.as_slice(), self.number)?;
+        self.kept.write_lines(alloc, names, places.items(), out)
     }
 }
 
-impl<'a> ReplayedReport for Reordering<'a> {
+impl<'a> Report for Reordering<'a> {
     ghost use Rattle.rd_io.specs.Inputs.{fault_line};
     ghost use Rattle.rd_reorder_command.specs.Outcomes.{reorder_outcome};
 
@@ -74,19 +74,18 @@ impl<'a> ReplayedReport for Reordering<'a> {
         &self,
         alloc: Global,
         names: &Roster,
-        _replayer: &Replayer,
         ending: WalkEnd,
         out: &mut S,
-    ) -> Result<TraceStatus, Halt> {
+    ) -> Result<Ended, Halt> {
         match ending {
             WalkEnd::End => {
                 self.write_picked(alloc, names, out)?;
-                Ok(TraceStatus::Clean)
+                Ok(Ended::Clean)
             }
             WalkEnd::Refused { line, cause } => write_refused(alloc, names, line, cause, out),
             WalkEnd::Fault => {
                 write_line(out, self.unopened_text())?;
-                Ok(TraceStatus::InputFault)
+                Ok(Ended::InputFault)
             }
         }
     }

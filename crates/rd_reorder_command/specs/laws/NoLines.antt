@@ -2,7 +2,7 @@
 use Rattle.std.specs.Prelude.{List, []}
 use Rattle.std.proofs.Common.{refl}
 use Rattle.rd_ecl.specs.Kinds.{Kind}
-use Rattle.rd_reorder_command.specs.Keeping.{ReorderingBegins, ReorderingLeads}
+use Rattle.rd_reorder_command.specs.Reordering.{ReorderingBegins, ReorderingLeads}
 use Rattle.rd_reorder_command.specs.declared.reordering.Reordering.{Reordering}
 
 -- nothing is kept of no lines

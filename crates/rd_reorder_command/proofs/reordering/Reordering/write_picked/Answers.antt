@@ -5,10 +5,10 @@ use Rattle.rd_ecl.specs.Kinds.{Kind}
 use Rattle.rd_event.specs.declared.items.Line.{Line}
 use Rattle.rd_io.specs.Sinks.{Appends}
 use Rattle.rd_order.specs.EventLists.{WellFormed}
-use Rattle.rd_reorder_command.proofs.KeepingLemmas.{follow_told}
 use Rattle.rd_reorder_command.proofs.OrderLemmas.{linear_counted, linear_inside, picked_places}
-use Rattle.rd_reorder_command.specs.Keeping.{ArePlaces, KeepsNamed}
-use Rattle.rd_reorder_command.specs.Reordered.{lines_text, reordered}
+use Rattle.rd_rewriting.proofs.KeepingLemmas.{follow_told}
+use Rattle.rd_rewriting.specs.Keeping.{ArePlaces, KeepsNamed}
+use Rattle.rd_rewriting.specs.Reordered.{lines_text, reordered}
 use Rattle.rd_walk.specs.Analysis.{WritesFront}
 use Rattle.rd_rules.specs.Events.{roots_of}
 use Rattle.rd_reorder_command.proofs.reordering.Reordering.write_picked.Goals as goal
@@ -21,7 +21,7 @@ reorder-requires g c =
 pub write_lines-requires-clause-places : goal.write_lines-requires-clause-places
 write_lines-requires-clause-places g c =
     let places = c.in_ok-places.places in
-    subst (ArePlaces c.args.self.now) (sym c.items.ensures)
+    subst (ArePlaces c.args.self.now.kept) (sym c.items.ensures)
     (subst (λ es. All (λ p. p < length es) places) c.as_slice.ensures.value (linear_inside c.as_slice.result.now places c.in_ok-places.ensures.linear))
 
 pub write_lines-requires-clause-all : goal.write_lines-requires-clause-all
@@ -33,7 +33,7 @@ returns-clause-ok g c =
     let was = g.S.Sink.written c.args.out.now in
     let now = g.S.Sink.written c.write_lines.new.out in
     on_ok_weaker c.write_lines.result
-    (λ (all : (kinds : List Kind) (lines : List Line) → KeepsNamed kinds c.args.self.now c.args.names.now lines
+    (λ (all : (kinds : List Kind) (lines : List Line) → KeepsNamed kinds c.args.self.now.kept c.args.names.now lines
     → Appends was now (lines_text (reordered lines c.items.result.now))) kinds lines kept.
     subst (λ places. Appends was now (lines_text (reordered lines places)))
     (picked_places kinds lines kept.keeps.follow c.as_slice.result.now c.in_ok-places.places c.items.result.now c.args.self.now.number (c.as_slice.ensures.value ∙ kept.keeps.events)
@@ -46,7 +46,7 @@ returns-clause-front g c =
     let was = g.S.Sink.written c.args.out.now in
     let now = g.S.Sink.written c.write_lines.new.out in
     on_err_weaker c.write_lines.result
-    (λ (all : (kinds : List Kind) (lines : List Line) → KeepsNamed kinds c.args.self.now c.args.names.now lines
+    (λ (all : (kinds : List Kind) (lines : List Line) → KeepsNamed kinds c.args.self.now.kept c.args.names.now lines
     → WritesFront was now [] (lines_text (reordered lines c.items.result.now))) kinds lines kept.
     subst (λ places. WritesFront was now [] (lines_text (reordered lines places)))
     (picked_places kinds lines kept.keeps.follow c.as_slice.result.now c.in_ok-places.places c.items.result.now c.args.self.now.number (c.as_slice.ensures.value ∙ kept.keeps.events)

@@ -1,5 +1,5 @@
 use Rattle.std.proofs.Common.{sym, ◌∙◌}
-use Rattle.rd_reorder_command.proofs.KeepingLemmas.{leads_more, next_follower, root_below}
+use Rattle.rd_rewriting.proofs.KeepingLemmas.{keeps_entry, next_follower, root_below}
 use Rattle.rd_walk.specs.Walk.{items}
 use Rattle.rd_reorder_command.proofs.reordering.ReorderingAnalysis.accept.Goals as goal
 
@@ -10,5 +10,8 @@ keep-requires g c = λ thread is.
 
 pub returns-in-Ok-clause-leads : goal.returns-in-Ok-clause-leads
 returns-in-Ok-clause-leads g c = λ kinds start before item leads next.
-    leads_more kinds start before (record { number = c.args._number; item = item }) c.args.self.now c.keep.new.self c.args._roster.now c.args.accepted.now leads next
-    c.in-Ok.ensures
+    record {
+      number = leads.number;
+      keeps = keeps_entry kinds before (record { number = c.args._number; item = item }) c.args.self.now.kept c.keep.new.self c.args._roster.now c.args.accepted.now leads.keeps next
+          c.in-Ok.ensures;
+    }

@@ -1,0 +1,8 @@
+//! A trace by numbers: its accepted lines are kept, and written in any order of its events.
+#![tactic(auto)]
+
+mod kept;
+mod names;
+mod writing;
+
+pub use kept::Kept;
