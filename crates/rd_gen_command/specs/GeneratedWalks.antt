@@ -1,5 +1,5 @@
 -- The walk over generated lines, and what `gen` writes and means: this project's profile.
-use Rattle.std.specs.Prelude.{◌≡◌, ◌⊎◌, ℕ, ◌+◌, ◌≤◌, List, [], ◌∷◌, ◌++◌, codes, count_by, decimal, length, None}
+use Rattle.std.specs.Prelude.{◌≡◌, ◌⊎◌, ℕ, ◌+◌, ◌≤◌, List, [], ◌∷◌, ◌++◌, codes, count_by, decimal, length, true}
 use Rattle.rd_base.specs.declared.limits.Limits.{Limits}
 use Rattle.rd_ecl.specs.Kinds.{Kind}
 use Rattle.rd_event.specs.declared.items.Line.{Line}
@@ -7,18 +7,17 @@ use Rattle.rd_gen.specs.Counts.{is_call}
 use Rattle.rd_gen.specs.Generated.{generated}
 use Rattle.rd_io.specs.Lines.LinesEnding.{at_end}
 use Rattle.rd_walk.specs.Meanings.{Meaning}
-use Rattle.rd_walk.specs.Output.{Outcome}
-use Rattle.rd_walk.specs.Walk.{Walked, accepted_or, ending_of, ends, entries_of, goes_or_ends, step_bound, trace_end_of}
+use Rattle.rd_walk.specs.Output.{EndsAs, IsTraceEnd, Outcome}
+use Rattle.rd_walk.specs.Walk.{Walked, ending_of, ends, entries_of, items_go, step_bound, trace_end_of}
 use Rattle.rd_walk.specs.declared.status.Status.TheVariants.{NoMemory}
 use Rattle.rd_walk.specs.declared.walk.WalkEnd.TheVariants.{End}
-use Rattle.rd_rules.specs.MayFollow.{first_broken}
 
 -- The walk over lines that come behind the accepted ones, the first of them with this number: each is accepted or refused as a line of a
 -- trace is, and behind the last they end as the lines of a trace do. No bytes say them, so no limit on bytes is asked.
 unfoldable pub walk_items : List Kind → Limits → List Line → ℕ → List Line → Walked
 walk_items kinds limits before number [] = ends (trace_end_of limits before number at_end)
 walk_items kinds limits before number (item ∷ lines) =
-    goes_or_ends number (accepted_or item (first_broken kinds limits before item)) (λ found. walk_items kinds limits (before ++ found ∷ []) (number + 1) lines)
+    items_go kinds limits number before (item ∷ []) (λ behind. walk_items kinds limits behind (number + 1) lines)
 
 -- the walk over the trace of a number with so many calls
 abbrev pub generated_walk : List Kind → Limits → ℕ → ℕ → Walked
@@ -41,7 +40,8 @@ gen_outcome report kinds limits number count = record {
 abbrev pub gen_meaning : (Walked → Outcome) → (List Line → Line → ℕ) → List Kind → ℕ → ℕ → Meaning
 gen_meaning report bound kinds number count = record {
   files = [];
-  specification = None;
+  counts = true;
+  statuses = EndsAs IsTraceEnd;
   outcome = λ limits rose old new outcome. outcome ≡ gen_outcome report kinds limits number count;
   takes = λ limits rose old new part before after. (new ≡ old) × (after ≤ before + step_bound bound (entries_of (generated_walk kinds limits number count)));
   reads = λ limits old new. ending_of (generated_walk kinds limits number count) ≡ End;

@@ -1,2 +1,3 @@
 pub mod GeneratedTexts
 pub mod GeneratedWalks
+pub mod Meanings

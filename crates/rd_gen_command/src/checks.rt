@@ -1,11 +1,11 @@
-//! The command `gen`.
+//! A report on a generated trace.
 ghost use Rattle.std.specs.Prelude.{◌≡◌, ◌≢◌, ◌+◌, ◌≤◌, ℕ, List, [], Ok, IfOk, OnOk, OnErr};
 ghost use Rattle.rd_base.specs.Limits.{AreUsable};
 ghost use Rattle.rd_gen.specs.declared.counts.TheConstants.{MOST_CALLS};
 ghost use Rattle.rd_gen_command.specs.GeneratedWalks.{counts_text, gen_outcome, generated_walk};
 ghost use Rattle.rd_io.specs.Sinks.{Appends};
 ghost use Rattle.rd_walk.specs.Analysis.{TellsFault, WritesFront};
-ghost use Rattle.rd_walk.specs.Output.{IsOutput, IsWell, report_status};
+ghost use Rattle.rd_walk.specs.Output.{IsOutput, IsTraceEnd, IsWell, ended_status};
 ghost use Rattle.rd_walk.specs.Walk.{ending_of, entries_of, step_bound};
 ghost use Rattle.rd_wf.specs.Roster.{RosterStandsFor, kinds_in};
 
@@ -13,7 +13,7 @@ use crate::walk::walk_generated;
 use rd_base::{Bytes, NoMemory, Steps, append_number};
 use rd_gen::{Generator, calls_in, lines_in};
 use rd_io::Sink;
-use rd_walk::{Halt, Report, TraceStatus, WalkEnd, Walker, write_lines};
+use rd_walk::{Ended, Halt, Report, WalkEnd, Walker, write_lines};
 use std::alloc::Global;
 use std::sync::ledger::Ledger;
 
@@ -52,17 +52,18 @@ fn report_generated<A: Report, S: Sink, L: Ledger>(
     count: u32,
     out: &mut S,
     steps: &mut Steps<L>,
-) -> Result<TraceStatus, Halt>
+) -> Result<Ended, Halt>
     requires few { count ≤ MOST_CALLS }
     requires usable { AreUsable walker.old.limits }
     requires none { RosterStandsFor (kinds_in walker.old.roster) walker.old.roster [] }
     requires begins { A.begins (kinds_in walker.old.roster) walker.old.analysis }
     ensures output { (part : List ℕ) × Appends (S.written out.old) (S.written out.new) part
-        × IsOutput (report_status result) part (A.outcome (kinds_in walker.old.roster) walker.old.analysis
+        × IsOutput (ended_status result) part (A.outcome (kinds_in walker.old.roster) walker.old.analysis
         (generated_walk (kinds_in walker.old.roster) walker.old.limits number count)) }
     ensures cost { steps.new ≤ steps.old + step_bound (A.bound (kinds_in walker.old.roster) walker.old.analysis)
         (entries_of (generated_walk (kinds_in walker.old.roster) walker.old.limits number count)) }
-    ensures input { result ≢ Ok TraceStatus.InputFault }
+    ensures ends { IfOk result IsTraceEnd }
+    ensures input { result ≢ Ok Ended.InputFault }
     ensures fault { TellsFault (S.faults out.old) (S.faults out.new) (S.at_fault out.new)
         (S.written out.new) result }
 {
@@ -78,16 +79,16 @@ fn report_generated<A: Report, S: Sink, L: Ledger>(
         .conclude(walker.alloc, &walker.roster, ending, out)
 }
 
-/// `gen NUMBER COUNT`: writes how many lines and calls the trace of this number with so many calls has, and then what a report writes for
+/// Writes how many lines and calls the trace of this number with so many calls has, and then what a report writes for
 /// it, from the first states of a walk on. The lines are judged as those of a trace are, without the limits on bytes. No list of
 /// them is kept.
-pub fn gen_check<A: Report, S: Sink, L: Ledger>(
+pub(crate) fn gen_check<A: Report, S: Sink, L: Ledger>(
     walker: &mut Walker<A>,
     number: u64,
     count: u32,
     out: &mut S,
     steps: &mut Steps<L>,
-) -> Result<TraceStatus, Halt>
+) -> Result<Ended, Halt>
     requires few { count ≤ MOST_CALLS }
     requires usable { AreUsable walker.old.limits }
     requires none { RosterStandsFor (kinds_in walker.old.roster) walker.old.roster [] }
@@ -96,15 +97,16 @@ pub fn gen_check<A: Report, S: Sink, L: Ledger>(
     // what is written and the status are the defined ones, the steps are those of the accepted lines, and the trace was walked over to its
     // end where the status says so
     ensures output { (part : List ℕ) × Appends (S.written out.old) (S.written out.new) part
-        × IsOutput (report_status result) part (gen_outcome
+        × IsOutput (ended_status result) part (gen_outcome
         (A.outcome (kinds_in walker.old.roster) walker.old.analysis) (kinds_in walker.old.roster) walker.old.limits number count) }
     ensures cost { steps.new ≤ steps.old + step_bound (A.bound (kinds_in walker.old.roster) walker.old.analysis)
         (entries_of (generated_walk (kinds_in walker.old.roster) walker.old.limits number count)) }
-    ensures read { IsWell (report_status result) →
+    ensures read { IsWell (ended_status result) →
         ending_of (generated_walk (kinds_in walker.old.roster) walker.old.limits number count) ≡ WalkEnd.End }
 
     // no input failed, and a failed write is told as one
-    ensures input { result ≢ Ok TraceStatus.InputFault }
+    ensures ends { IfOk result IsTraceEnd }
+    ensures input { result ≢ Ok Ended.InputFault }
     ensures fault { TellsFault (S.faults out.old) (S.faults out.new) (S.at_fault out.new)
         (S.written out.new) result }
 {

@@ -2,9 +2,8 @@
 #![tactic(auto)]
 
 mod checks;
+mod commands;
 mod texts;
 mod walk;
 
-pub use checks::gen_check;
-pub use texts::{gen_text, text_status};
-pub use walk::walk_generated;
+pub use commands::{generate, generate_text};

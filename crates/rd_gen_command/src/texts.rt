@@ -1,28 +1,18 @@
-//! The command `gen-text`.
+//! The text of a generated trace.
 ghost use Rattle.std.specs.Prelude.{◌≡◌, ◌≤◌, ℕ, List, [], IfOk, OnOk, OnErr};
 ghost use Rattle.rd_event.specs.Items.{IsSpellable};
-ghost use Rattle.rd_gen_command.specs.GeneratedTexts.{gen_text_outcome, line_text, lines_text, text_status};
+ghost use Rattle.rd_gen_command.specs.GeneratedTexts.{gen_text_outcome, line_text, lines_text};
 ghost use Rattle.rd_gen.specs.declared.counts.TheConstants.{MOST_CALLS};
 ghost use Rattle.rd_io.specs.Sinks.{Appends};
 ghost use Rattle.rd_walk.specs.Analysis.{TellsFault, WritesFront};
-ghost use Rattle.rd_walk.specs.Output.{IsOutput};
+ghost use Rattle.rd_walk.specs.Output.{IsOutput, ended_status};
 
 use rd_base::{Bytes, NoMemory};
 use rd_event::{Line, spell};
 use rd_gen::Generator;
 use rd_io::Sink;
-use rd_walk::{Halt, Status, status_of, write_line};
+use rd_walk::{Ended, Halt, write_line};
 use std::alloc::Global;
-
-/// The status of a run that writes a text.
-pub fn text_status(written: Result<(), Halt>) -> Status
-    ensures { result ≡ text_status written }
-{
-    match written {
-        Ok(()) => Status::Clean,
-        Err(halt) => status_of(halt),
-    }
-}
 
 // The spelling of a line with its line feed.
 fn spelled(alloc: Global, line: Line) -> Result<Bytes, NoMemory>
@@ -62,16 +52,23 @@ fn write_rest<S: Sink>(alloc: Global, generator: &mut Generator, out: &mut S) ->
     Ok(())
 }
 
-/// `gen-text NUMBER COUNT`: writes the lines of the trace of this number with so many calls, each handed to the output by itself.
-pub fn gen_text<S: Sink>(alloc: Global, number: u64, count: u32, out: &mut S) -> Result<(), Halt>
+/// Writes the lines of the trace of this number with so many calls, each handed to the output by itself.
+pub(crate) fn write_text<S: Sink>(
+    alloc: Global,
+    number: u64,
+    count: u32,
+    out: &mut S,
+) -> Result<Ended, Halt>
     requires { count ≤ MOST_CALLS }
 
     // the whole is written, or a front of it where writing failed or memory ran out; and a failed write is told as one
     ensures output { (part : List ℕ) × Appends (S.written out.old) (S.written out.new) part
-        × IsOutput (text_status result) part (gen_text_outcome number count) }
+        × IsOutput (ended_status result) part (gen_text_outcome number count) }
+    ensures clean { IfOk result (λ end. end ≡ Ended.Clean) }
     ensures fault { TellsFault (S.faults out.old) (S.faults out.new) (S.at_fault out.new)
         (S.written out.new) result }
 {
     let mut generator = Generator::new(alloc, number, count);
-    write_rest(alloc, &mut generator, out)
+    write_rest(alloc, &mut generator, out)?;
+    Ok(Ended::Clean)
 }

@@ -6,13 +6,13 @@ ghost use Rattle.rd_ecl.specs.Kinds.{kinds_of};
 ghost use Rattle.rd_gen_command.specs.GeneratedWalks.{generated_walk};
 ghost use Rattle.rd_gen_laws.specs.WellEnded.{IsWellEnded};
 ghost use Rattle.rd_kinds.specs.Shipped.{shipped_kinds};
-ghost use Rattle.rd_check.specs.Checked.{races_of};
-ghost use Rattle.rd_check.specs.Verdicts.{AreDeterministic};
-ghost use Rattle.rd_replaying.specs.Replaying.{replay_of};
-ghost use Rattle.rd_replaying.specs.States.{built_in_kinds};
+ghost use Rattle.rd_check_command.specs.Checked.{races_of};
+ghost use Rattle.rd_check_command.specs.Verdicts.{AreDeterministic};
+ghost use Rattle.rd_replay_command.specs.Replaying.{replay_of};
+ghost use Rattle.rd_replay_command.specs.States.{built_in_kinds};
 ghost use Rattle.rd_walk.specs.Walk.{entries_of};
 
-use rd_check::law_of_verdicts;
+use rd_check_command::law_of_verdicts;
 use rd_object::ReplayEnd;
 
 /// The verdict on a generated trace, whose lines are judged like any others: where no call is reported and the replay is exact, its events

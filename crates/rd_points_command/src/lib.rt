@@ -2,7 +2,7 @@
 #![tactic(auto)]
 
 mod numbered;
-mod points;
+mod point_tables;
 mod texts;
 
-pub use points::PointTables;
+pub use point_tables::points;

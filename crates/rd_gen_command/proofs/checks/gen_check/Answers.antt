@@ -3,7 +3,7 @@ use Rattle.std.proofs.lemmas.List.{append_assoc}
 use Rattle.rd_gen_command.specs.GeneratedWalks.{counts_text, gen_outcome, generated_walk}
 use Rattle.rd_io.proofs.SinkLemmas.{appends_on}
 use Rattle.rd_walk.proofs.OutputLemmas.{behind, report_cut}
-use Rattle.rd_walk.specs.Output.{Outcome, report_status}
+use Rattle.rd_walk.specs.Output.{Outcome, ended_status}
 use Rattle.rd_wf.specs.Roster.{kinds_in}
 use Rattle.rd_gen_command.proofs.checks.gen_check.Goals as goal
 
@@ -28,5 +28,5 @@ returns-clause-output g c =
     let front = counts_text c.args.number c.args.count in (
       front ++ part,
       appends_on _ _ _ front part c.in_ok-write_counts.ensures.ok writes,
-      behind (report_status c.report_generated.result) front part whole.text whole.status output,
+      behind (ended_status c.report_generated.result) front part whole.text whole.status output,
     )

@@ -4,7 +4,7 @@ use Rattle.rd_gen_command.proofs.ReportLemmas.{cost_of, front_of_front, items_ac
 use Rattle.rd_gen_command.specs.GeneratedWalks.{generated_walk}
 use Rattle.rd_io.proofs.SinkLemmas.{appends_on}
 use Rattle.rd_walk.proofs.OutputLemmas.{report_cut}
-use Rattle.rd_walk.specs.Output.{IsOutput, report_status}
+use Rattle.rd_walk.specs.Output.{IsOutput, ended_status}
 use Rattle.rd_walk.specs.Walk.{entries_of, items}
 use Rattle.rd_rules.specs.Events.{AreAccepted}
 use Rattle.rd_wf.specs.Roster.{kinds_in}
@@ -46,7 +46,7 @@ returns-clause-output g c =
     let front = g.A.Analysis.text kinds start entries in (
       front ++ part,
       appends_on _ _ _ front part text writes,
-      subst (λ w. IsOutput (report_status c.conclude.result) (front ++ part) (g.A.Report.outcome kinds start w)) (sym so) output,
+      subst (λ w. IsOutput (ended_status c.conclude.result) (front ++ part) (g.A.Report.outcome kinds start w)) (sym so) output,
     )
 
 pub returns-clause-cost : goal.returns-clause-cost

@@ -1,4 +1,4 @@
-use Rattle.std.proofs.Common.{◌+◌, [], ◌∷◌, ◌++◌, IsSome, length, refl, sym, ap, ◌∙◌, subst, inl, inr, arith}
+use Rattle.std.proofs.Common.{◌+◌, [], ◌∷◌, ◌++◌, Ok, length, refl, sym, ap, ◌∙◌, subst, inl, inr, arith}
 use Rattle.std.proofs.lemmas.List.{append_assoc, append-nil}
 use Rattle.rd_gen_command.proofs.TextLemmas.{split, split_none}
 use Rattle.rd_gen_command.proofs.WalkLemmas.{begun, walks_end, walks_on, walks_refused}
@@ -7,6 +7,7 @@ use Rattle.rd_io.specs.Sinks.{Appends}
 use Rattle.rd_walk.proofs.OutputLemmas.{always_err}
 use Rattle.rd_walk.proofs.WalkLemmas.{bound_more, items_more}
 use Rattle.rd_walk.specs.Walk.{Entry, after, bound_from, ends, items}
+use Rattle.rd_walk.specs.declared.walk.WalkEnd.TheVariants.{Refused}
 use Rattle.rd_wf.specs.Roster.{RosterStandsFor, kinds_in}
 use Rattle.rd_gen_command.proofs.walk.walk_generated.Goals as goal
 
@@ -32,16 +33,18 @@ returns-in_err-line-clause-halted g c =
     let wrote = g.A.Analysis.text (kinds_in c.args.walker.now.roster) c.args.walker.now.analysis entries in
     always_err _ c.from_residual.result (entries, wrote, [], text, sym (append-nil wrote), cost, _, so_far)
 
-pub returns-in_err-cause-clause-halted : goal.returns-in_err-cause-clause-halted
-returns-in_err-cause-clause-halted g c =
+pub returns-in-Err-clause-halted : goal.returns-in-Err-clause-halted
+returns-in-Err-clause-halted g c =
     let (entries, so_far, stands, leads, text, cost, calm, same, left) = c.lines.invariant in
     let kinds = kinds_in c.args.walker.now.roster in
     let limits = c.args.walker.now.limits in
     let start = c.args.walker.now.analysis in
     let wrote = g.A.Analysis.text kinds start entries in
-    let lines = split c.lines.generator.lines c.next_line.new.self.lines c.in-Some.line c.in_ok-line.field-0 c.in_ok-line.ensures.line c.in-Some.is c.in_ok-line.ensures.rest in
-    always_err _ c.from_residual-in_err-cause.result
-    (elim (c.in_err-cause.ensures.halted kinds start entries stands leads) [
+    let line = c.keep.new.last in
+    let rest = c.next_line.new.self.lines in
+    let lines = split c.lines.generator.lines rest c.in-Some.line c.in_ok-line.field-0 c.in_ok-line.ensures.line c.in-Some.is c.in_ok-line.ensures.rest
+    ∙ ap (λ l. l ∷ rest) (sym c.keep.ensures) in
+    elim (c.in-Err.ensures.halted kinds start entries stands leads) [
       | inl (quiet, steps) ↦ (
         entries,
         wrote,
@@ -52,33 +55,38 @@ returns-in_err-cause-clause-halted g c =
         _,
         so_far,
       )
-      | inr (accepted, (part, rest, is, writes), cost_now) ↦
-          let entry : Entry = record { number = c.lines.number + 1; item = c.in-Some.line } in (
+      | inr (accepted, cut) ↦
+          let (part, behind, is, writes) = cut.written in
+          let entry : Entry = record { number = c.lines.number + 1; item = line } in (
             entries ++ entry ∷ [],
             wrote ++ part,
-            rest,
+            behind,
             appends_on _ _ _ wrote part text writes,
-            is ∙ sym (append_assoc wrote part rest),
-            omega (arith, cost, cost_now, bound_more (g.A.Analysis.bound kinds start) [] entries entry),
+            is ∙ sym (append_assoc wrote part behind),
+            omega (arith, cost, cut.cost, bound_more (g.A.Analysis.bound kinds start) [] entries entry),
             _,
-            walks_on kinds limits _ entries (c.lines.number + 1) c.lines.generator.lines so_far c.in-Some.line c.next_line.new.self.lines lines (rw same at accepted),
+            walks_on kinds limits _ entries (c.lines.number + 1) c.lines.generator.lines so_far line rest lines (rw same at accepted),
           )
-    ])
+    ]
 
-pub returns-in-Some-2-clause-walked : goal.returns-in-Some-2-clause-walked
-returns-in-Some-2-clause-walked g c =
+pub returns-in-Ok-Refused-clause-walked : goal.returns-in-Ok-Refused-clause-walked
+returns-in-Ok-Refused-clause-walked g c =
     let (entries, so_far, stands, leads, text, cost, calm, same, left) = c.lines.invariant in
     let kinds = kinds_in c.args.walker.now.roster in
     let limits = c.args.walker.now.limits in
-    let lines = split c.lines.generator.lines c.next_line.new.self.lines c.in-Some.line c.in_ok-line.field-0 c.in_ok-line.ensures.line c.in-Some.is c.in_ok-line.ensures.rest in
-    let refusal = c.in_ok-cause.ensures.refused c.in-Some-2.cause c.in-Some-2.is kinds entries stands in
-    let silent = c.in_ok-cause.ensures.silent (subst IsSome (sym c.in-Some-2.is) refl) in (
+    let line = c.keep.new.last in
+    let rest = c.next_line.new.self.lines in
+    let lines = split c.lines.generator.lines rest c.in-Some.line c.in_ok-line.field-0 c.in_ok-line.ensures.line c.in-Some.is c.in_ok-line.ensures.rest
+    ∙ ap (λ l. l ∷ rest) (sym c.keep.ensures) in
+    let (broken, one, breaks, stays) = c.in-Ok-Refused.ensures.refused (ap Ok c.in-Ok-Refused.field-0-is) c.unwrap.result c.unwrap.ensures kinds entries stands in
+    let silent = c.in-Ok-Refused.ensures.silent (ap Ok c.in-Ok-Refused.field-0-is) in (
       entries,
       rw silent.1 leads,
-      refusal.1,
+      stays,
       rw silent.0 text,
       omega (arith, cost, silent.2),
-      walks_refused kinds limits _ entries (c.lines.number + 1) c.lines.generator.lines so_far c.in-Some.line c.next_line.new.self.lines c.in-Some-2.cause lines (rw same at refusal.0),
+      walks_refused kinds limits _ entries (c.lines.number + 1) c.lines.generator.lines so_far line rest broken lines (rw same at breaks)
+          ∙ ap (λ cause. after entries (ends (Refused (c.lines.number + 1) cause))) (sym one),
     )
 
 pub lines-preserved : goal.lines-preserved
@@ -87,18 +95,22 @@ lines-preserved g c =
     let kinds = kinds_in c.args.walker.now.roster in
     let limits = c.args.walker.now.limits in
     let start = c.args.walker.now.analysis in
-    let lines = split c.lines.generator.lines c.next_line.new.self.lines c.in-Some.line c.in_ok-line.field-0 c.in_ok-line.ensures.line c.in-Some.is c.in_ok-line.ensures.rest in
-    let (accepted, stands_now, leads_now, writes, cost_now) = c.in_ok-cause.ensures.taken c.in_default-2.is kinds start entries stands leads in
-    let entry : Entry = record { number = c.lines.number + 1; item = c.in-Some.line } in (
+    let line = c.keep.new.last in
+    let rest = c.next_line.new.self.lines in
+    let lines = split c.lines.generator.lines rest c.in-Some.line c.in_ok-line.field-0 c.in_ok-line.ensures.line c.in-Some.is c.in_ok-line.ensures.rest
+    ∙ ap (λ l. l ∷ rest) (sym c.keep.ensures) in
+    let (accepted, handed) = c.in-Ok-Accepted.ensures.taken (ap Ok c.in-Ok-Accepted.field-0-is) kinds start entries stands leads in
+    let writes = handed.written in
+    let entry : Entry = record { number = c.lines.number + 1; item = line } in (
       entries ++ entry ∷ [],
-      walks_on kinds limits _ entries (c.lines.number + 1) c.lines.generator.lines so_far c.in-Some.line c.next_line.new.self.lines lines (rw same at accepted),
-      subst (RosterStandsFor kinds c.take_item.new.walker.roster) (sym (items_more entries entry)) stands_now,
-      leads_now,
-      subst (Appends (g.S.Sink.written c.args.out.now) (g.S.Sink.written c.take_item.new.out)) (sym writes.1)
+      walks_on kinds limits _ entries (c.lines.number + 1) c.lines.generator.lines so_far line rest lines (rw same at accepted),
+      subst (RosterStandsFor kinds c.take.new.walker.roster) (sym (items_more entries entry)) handed.stands,
+      handed.leads,
+      subst (Appends (g.S.Sink.written c.args.out.now) (g.S.Sink.written c.take.new.out)) (sym writes.1)
           (appends_on _ _ _ (g.A.Analysis.text kinds start entries) writes.0 text writes.2),
-      omega (arith, cost, cost_now, bound_more (g.A.Analysis.bound kinds start) [] entries entry),
-      c.in_ok-cause.ensures.fault ∙ calm,
-      c.in_ok-cause.ensures.limits ∙ same,
+      omega (arith, cost, handed.cost, bound_more (g.A.Analysis.bound kinds start) [] entries entry),
+      c.in-Ok-Accepted.ensures.fault ∙ calm,
+      c.in-Ok-Accepted.ensures.limits ∙ same,
       omega (arith, left, ap length lines),
     )
 
@@ -108,7 +120,7 @@ returns-clause-walked g c =
     let kinds = kinds_in c.args.walker.now.roster in
     let limits = c.args.walker.now.limits in
     let none = split_none c.lines.generator.lines (sym c.in_default.is ∙ c.in_ok-line.ensures.line) in
-    let ending = c.last_end.ensures.ending kinds (items entries) stands limits in (
+    let ending = c.at_end.ensures.ending kinds (items entries) stands limits in (
       entries,
       leads,
       stands,

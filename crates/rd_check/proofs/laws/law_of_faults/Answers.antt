@@ -1,5 +1,0 @@
-use Rattle.rd_check.proofs.FaultLemmas.{fault_front}
-use Rattle.rd_check.proofs.laws.law_of_faults.Goals as goal
-
-pub returns : goal.returns
-returns c = fault_front

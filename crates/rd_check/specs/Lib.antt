@@ -1,6 +1,0 @@
-pub mod Checked
-pub mod Checking
-pub mod Meanings
-pub mod Reports
-pub mod Verdicts
-pub mod laws

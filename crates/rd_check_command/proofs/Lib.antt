@@ -1,0 +1,12 @@
+pub mod CheckLemmas
+pub mod CombinedLemmas
+pub mod FaultLemmas
+pub mod HeadlineLemmas
+pub mod KindLemmas
+pub mod NamingLemmas
+pub mod OutcomeLemmas
+pub mod QuietLemmas
+pub mod ReportLemmas
+pub mod RunLemmas
+pub mod VerdictLemmas
+pub mod WholeLemmas

@@ -1,0 +1,60 @@
+-- What a check of no lines keeps and writes: the laws that it has as an analysis.
+use Rattle.std.specs.Prelude.{◌≡◌, ℕ, List, [], length}
+use Rattle.std.proofs.Common.{refl, sym, ap, subst, arith, true≢false}
+use Rattle.std.proofs.lemmas.Option.{none-some}
+use Rattle.rd_order.specs.EventLists.{WellFormedWith, forks, joins}
+use Rattle.rd_hb.specs.Knows.{GivesBack, KnownCount}
+use Rattle.rd_hb.specs.Tracker.{TrackerStandsFor, Tracking, handed_by}
+use Rattle.rd_order.specs.Order.{Hold, exclusive, shared}
+use Rattle.rd_rules.specs.Events.{events_of, roots_of}
+use Rattle.rd_ecl.specs.Kinds.{Kind, kinds_of}
+use Rattle.rd_rules.specs.laws.NoLines.{told_none}
+use Rattle.rd_check_command.specs.Checking.{CheckBegins, CheckLeads}
+use Rattle.rd_check_command.specs.Checked.{race_texts, races_before, races_of, texts_before}
+use Rattle.rd_check_command.specs.declared.checking.Check.{Check}
+
+-- a tracker of no event
+abbrev none_tracked : Tracking
+none_tracked = record { threads = []; locks = record { releases = []; unshares = [] } }
+
+-- no lock hands anything on
+none_handed : (kinds : List Kind) (hold : Hold) (u : ℕ)
+    → KnownCount (events_of kinds []) (GivesBack (events_of kinds []) hold) u (handed_by none_tracked.locks hold u)
+none_handed kinds (exclusive lock) u = refl
+none_handed kinds (shared lock) u = refl
+
+stands_none : (kinds : List Kind) → TrackerStandsFor none_tracked (roots_of []) (events_of kinds [])
+unfolding forks joins
+stands_none kinds = record {
+  known = λ t. (λ below. absurd (omega arith), λ known. ((told_none kinds).told.known t).0 known);
+  clocks = λ t u. refl;
+  joined = λ t. (λ h. absurd (true≢false (sym h)), λ some. absurd (omega arith));
+  locks = none_handed kinds;
+  releases = λ lock m gives. none-some gives.0 gives.1;
+}
+
+formed_none : (kinds : List Kind) → WellFormedWith kinds (roots_of []) []
+formed_none kinds = record { formed = (told_none kinds).told.formed; fit = λ k d inside. absurd (omega (arith, inside)) }
+
+pub leads_none : (kinds : List Kind) (start : Check) → CheckBegins kinds start → CheckLeads kinds start [] start
+unfolding races_of races_before
+leads_none kinds start begins = record {
+  kinds_are = begins.kinds_are;
+  checks = record {
+    starts = begins.new;
+    form = refl;
+    spec = refl;
+    formulas = begins.new.formulas;
+    tracks = record {
+      told = told_none (kinds_of start.spec.now);
+      stands = subst (λ tracker. TrackerStandsFor tracker (roots_of []) (events_of (kinds_of start.spec.now) [])) (sym begins.new.no_event) (stands_none (kinds_of start.spec.now));
+      count = ap (λ tracker. length tracker.threads) begins.new.no_event;
+    };
+    detects = begins.new.no_call (roots_of []) (formed_none (kinds_of start.spec.now));
+    races = begins.new.no_race;
+  };
+}
+
+pub no_text : (start : Check) → race_texts start.form start.spec.now [] ≡ []
+unfolding race_texts texts_before
+no_text start = refl

@@ -1,0 +1,278 @@
+//! Reporting races: what `check` does with each accepted line beside the replay.
+ghost use Rattle.std.specs.Prelude.{◌≡◌, ◌+◌, ◌≤◌, List, ◌∷◌, [], ◌++◌};
+
+use rd_base::{Bytes, NoMemory, Steps};
+use rd_detect::Detector;
+use rd_ecl::Spec;
+use rd_event::{Call, Event};
+use rd_hb::Tracker;
+use rd_io::Sink;
+use rd_json::{Form, append_race};
+use rd_report::{Formulas, RaceEnds, formula_line};
+use rd_store::Race;
+use rd_walk::{Analysis, Halt, write_three};
+use rd_wf::{Accepted, Roster};
+use std::alloc::Global;
+use std::sync::ledger::Ledger;
+
+/// Keeps the clocks of the threads and the cells of the calls, counts the calls that are reported, and writes each race.
+#[derive(Drop)]
+pub struct Check<'a> {
+    alloc: Global,
+    /// the form of the report
+    pub(crate) form: Form,
+    /// the kinds of the objects
+    spec: &'a Spec,
+    /// the lines of the formulas that races failed
+    formulas: Formulas<'a>,
+    /// the text of the last race, kept for its memory
+    text: Bytes,
+    tracker: Tracker,
+    detector: Detector,
+    pub(crate) races: u64,
+}
+
+impl<'a> Check<'a> {
+    ghost use Rattle.std.specs.Prelude.{◌≡◌, ◌+◌, ◌<◌, ◌≤◌, ◌^◌, ℕ, Bool, List, ◌∷◌, [], ◌++◌, Option, is_some, if◌then◌else◌, length, IfOk, IfErr, OnOk, OnErr};
+    ghost use Rattle.rd_io.specs.Sinks.{Appends};
+    ghost use Rattle.rd_event.specs.declared.events.Event.{Event as EventOf};
+    ghost use Rattle.rd_event.specs.declared.events.Event.TheVariants as event;
+    ghost use Rattle.rd_event.specs.declared.items.Line.{Line as LineOf};
+    ghost use Rattle.rd_detect.specs.Detect.{IsAnswer, IsNextCall, DetectorStandsFor, detection_bound};
+    ghost use Rattle.rd_hb.specs.Tracker.{last_stamp};
+    ghost use Rattle.rd_report.specs.Races.{IsKnownRace, told_by};
+    ghost use Rattle.rd_json.specs.Forms.{EndLinesIn, race_in};
+    ghost use Rattle.rd_report.specs.Texts.{naming_in};
+    ghost use Rattle.rd_walk.specs.Analysis.{TellsFault, WritesBetween, WritesFront};
+    ghost use Rattle.rd_check_command.specs.Checking.{Checks, IsNew, IsNextEventLine, IsNextLine};
+    ghost use Rattle.rd_check_command.specs.Checked.{check_bound, entry_events, race_texts};
+    ghost use Rattle.rd_walk.specs.Walk.{Entry, items};
+    ghost use Rattle.rd_ecl.specs.Kinds.{kinds_of};
+    ghost use Rattle.rd_ecl.specs.Specified.{SpecifiedKind};
+
+    /// A check of no lines, whose report has this form.
+    pub fn new(alloc: Global, form: Form, spec: &'a Spec) -> Result<Check<'a>, NoMemory>
+        ensures new { IfOk result IsNew }
+        ensures form { IfOk result (λ check. check.form ≡ form) }
+        ensures spec { IfOk result (λ check. check.spec.now ≡ spec.now) }
+    {
+        let detector = Detector::new(alloc, spec)?;
+        Ok(Check {
+            alloc,
+            form,
+            spec,
+            formulas: Formulas::new(alloc, spec),
+            text: Bytes::new(alloc),
+            tracker: Tracker::new(alloc),
+            detector,
+            races: 0,
+        })
+    }
+
+    /// Hands the call at this place, which is the next event and which the tracker passed, to the detector, and counts the race that it tells
+    /// of.
+    // kept out of line, so that a walk over other lines doesn't pay for its locals
+    #[inline(never)]
+    fn detect<L: Ledger>(
+        &mut self,
+        line: u64,
+        place: u32,
+        call: &Call,
+        steps: &mut Steps<L>,
+    ) -> Result<Option<Race>, Halt>
+        requires next { (kinds : List SpecifiedKind) × (roots : ℕ → Bool) × (numbers : List ℕ) × (es : List EventOf)
+            × IsNextCall kinds self.old.detector self.old.tracker roots numbers es place call.now (last_stamp self.old.tracker.threads call.now.thread) }
+        requires few { self.old.races + 1 < 2 ^ 64 }
+
+        // the call is judged and kept, and other parts stay
+        ensures same { (self.new.form ≡ self.old.form) × (self.new.spec.now ≡ self.old.spec.now)
+            × (self.new.tracker ≡ self.old.tracker)
+            × (self.new.formulas ≡ self.old.formulas) }
+        ensures answer { IfOk result (λ answer. (kinds : List SpecifiedKind) (roots : ℕ → Bool) (numbers : List ℕ) (es : List EventOf)
+            → IsNextCall kinds self.old.detector self.old.tracker roots numbers es place call.now (last_stamp self.old.tracker.threads call.now.thread)
+            → IsAnswer kinds (numbers ++ line ∷ []) (es ++ event.Call call.now ∷ []) place answer) }
+        ensures stands { OnOk result ((kinds : List SpecifiedKind) (roots : ℕ → Bool) (numbers : List ℕ) (es : List EventOf)
+            → IsNextCall kinds self.old.detector self.old.tracker roots numbers es place call.now (last_stamp self.old.tracker.threads call.now.thread)
+            → DetectorStandsFor kinds self.new.detector roots (numbers ++ line ∷ [])
+            (es ++ event.Call call.now ∷ [])) }
+
+        // races are counted, only memory can stop it, and the steps are bounded
+        ensures races { IfOk result
+            (λ answer. self.new.races ≡ self.old.races + (if is_some answer then 1 else 0)) }
+        ensures memory { IfErr result (λ halt. halt ≡ Halt.NoMemory) }
+        ensures cost { steps.new ≤ steps.old
+            + detection_bound self.old.detector.tables (length self.old.tracker.threads) call.now }
+    {
+        let Ok(answer) = self.detector.take(line, place, call, &self.tracker, steps) else {
+            return Err(Halt::NoMemory);
+        };
+        self.races += u64::from(answer.is_some());
+        Ok(answer)
+    }
+
+    /// Makes the text that of a race, in the form of the report. The numbers in it are known to the specification and the roster.
+    fn set_text(&mut self, race: &Race, names: &Roster) -> Result<RaceEnds, NoMemory>
+        requires known { IsKnownRace self.old.spec.now (naming_in names.now) race.now }
+        requires formulas { self.old.formulas ≡ self.old.spec.now }
+        ensures same { (self.new.form ≡ self.old.form) × (self.new.spec.now ≡ self.old.spec.now)
+            × (self.new.tracker ≡ self.old.tracker) × (self.new.detector ≡ self.old.detector)
+            × (self.new.races ≡ self.old.races) × (self.new.formulas ≡ self.old.formulas) }
+        ensures text { OnOk result
+            (self.new.text ≡ race_in self.old.form self.old.spec.now (naming_in names.now)
+            (told_by race.now.later.value) (told_by race.now.earlier.value)) }
+        ensures ends { IfOk result
+            (λ ends. (ends.later ≤ ends.earlier) × (ends.earlier ≤ length self.new.text)) }
+        ensures lines { IfOk result (EndLinesIn self.old.form [] self.old.spec.now (naming_in names.now)
+            (told_by race.now.later.value) (told_by race.now.earlier.value)) }
+    {
+        self.text.clear();
+        if let Some(line) = self.formulas.find(race.kind, race.first, race.second) {
+            return append_race(
+                &mut self.text,
+                self.form,
+                self.alloc,
+                race,
+                line,
+                self.spec,
+                names,
+            );
+        }
+        let kind = &self.spec.kinds()[race.kind as usize];
+        let line = formula_line(self.alloc, kind, race.first, race.second)?;
+        let ends = append_race(
+            &mut self.text,
+            self.form,
+            self.alloc,
+            race,
+            line.items(),
+            self.spec,
+            names,
+        )?;
+        self.formulas
+            .keep(race.kind, race.first, race.second, line)?;
+        Ok(ends)
+    }
+
+    /// Writes the text of a race, where the form has one. The numbers in it are known to the specification and the roster.
+    fn report<S: Sink>(&mut self, race: &Race, names: &Roster, out: &mut S) -> Result<(), Halt>
+        requires known { IsKnownRace self.old.spec.now (naming_in names.now) race.now }
+        requires formulas { self.old.formulas ≡ self.old.spec.now }
+        ensures same { (self.new.form ≡ self.old.form) × (self.new.spec.now ≡ self.old.spec.now)
+            × (self.new.tracker ≡ self.old.tracker) × (self.new.detector ≡ self.old.detector)
+            × (self.new.races ≡ self.old.races) × (self.new.formulas ≡ self.old.formulas) }
+        ensures ok { OnOk result (Appends (S.written out.old) (S.written out.new)
+            (race_in self.old.form self.old.spec.now (naming_in names.now) (told_by race.now.later.value)
+            (told_by race.now.earlier.value))) }
+        ensures front { OnErr result (WritesFront (S.written out.old) (S.written out.new) []
+            (race_in self.old.form self.old.spec.now (naming_in names.now) (told_by race.now.later.value)
+            (told_by race.now.earlier.value))) }
+        ensures fault { TellsFault (S.faults out.old) (S.faults out.new) (S.at_fault out.new)
+            (S.written out.new) result }
+    {
+        if self.form == Form::EndingOnly {
+            return Ok(());
+        }
+        let ends = self.set_text(race, names)?;
+        write_three(out, self.text.items(), ends.later, ends.earlier)
+    }
+
+    /// Hands the next root to the tracker.
+    fn root(&mut self, thread: u32) -> Result<(), Halt>
+        requires { (start : Check) × (before : List Entry) × (item : LineOf)
+            × Checks start before self.old
+            × IsNextLine (kinds_of start.spec.now) self.old.tracker (items before) item
+            (Accepted.Root thread) }
+        ensures checks { OnOk result
+            ((start : Check) (before : List Entry) (entry : Entry) → Checks start before self.old →
+            IsNextLine (kinds_of start.spec.now) self.old.tracker (items before) entry.item
+            (Accepted.Root thread) → Checks start (before ++ entry ∷ []) self.new) }
+        ensures memory { IfErr result (λ halt. halt ≡ Halt.NoMemory) }
+    {
+        match self.tracker.root(thread) {
+            Ok(()) => Ok(()),
+            Err(_) => Err(Halt::NoMemory),
+        }
+    }
+
+    /// Hands the event at this place, which is the next one, to the tracker, and a call to the detector, and writes the race that it tells
+    /// of.
+    #[inline(always)]
+    fn event<S: Sink, L: Ledger>(
+        &mut self,
+        number: u64,
+        place: u32,
+        event: &Event,
+        names: &Roster,
+        out: &mut S,
+        steps: &mut Steps<L>,
+    ) -> Result<(), Halt>
+        requires { (start : Check) × (before : List Entry) × (item : LineOf)
+            × IsNextEventLine start self.old before item event.now (naming_in names.now) place }
+        ensures checks { OnOk result ((start : Check) (before : List Entry) (item : LineOf) →
+            IsNextEventLine start self.old before item event.now (naming_in names.now) place →
+            Checks start (before ++ record { number = number; item = item } ∷ []) self.new) }
+        ensures written { OnOk result ((start : Check) (before : List Entry) (item : LineOf) →
+            IsNextEventLine start self.old before item event.now (naming_in names.now) place →
+            WritesBetween (S.written out.old) (S.written out.new) (race_texts start.form start.spec.now before)
+            (race_texts start.form start.spec.now (before ++ record { number = number; item = item } ∷ []))) }
+        ensures halted { OnErr result ((start : Check) (before : List Entry) (item : LineOf) →
+            IsNextEventLine start self.old before item event.now (naming_in names.now) place →
+            WritesFront (S.written out.old) (S.written out.new) (race_texts start.form start.spec.now before)
+            (race_texts start.form start.spec.now (before ++ record { number = number; item = item } ∷ []))) }
+        ensures cost { (start : Check) (before : List Entry) (item : LineOf) →
+            IsNextEventLine start self.old before item event.now (naming_in names.now) place →
+            steps.new ≤ steps.old + check_bound start.spec.now (items before) item }
+        ensures fault { TellsFault (S.faults out.old) (S.faults out.new) (S.at_fault out.new)
+            (S.written out.new) result }
+    {
+        let Ok(()) = self.tracker.pass(event, steps) else {
+            return Err(Halt::NoMemory);
+        };
+        let Event::Call(call) = event else {
+            return Ok(());
+        };
+        match self.detect(number, place, call, steps) {
+            Ok(None) => Ok(()),
+            Ok(Some(race)) => self.report(&race, names, out),
+            Err(halt) => Err(halt),
+        }
+    }
+}
+
+impl<'a> Analysis for Check<'a> {
+    ghost use Rattle.rd_check_command.specs.laws.CheckLaws.{leads_none, no_text};
+    ghost use Rattle.rd_check_command.specs.Checking.{CheckBegins, CheckLeads};
+    ghost use Rattle.rd_check_command.specs.Checked.{check_bound, race_texts};
+
+    ghost begins = { CheckBegins };
+
+    ghost leads = { CheckLeads };
+
+    ghost text = { λ _ start. race_texts start.form start.spec.now };
+
+    ghost bound = { λ _ start. check_bound start.spec.now };
+
+    ghost starts = { leads_none };
+
+    ghost silent = { λ _ start. no_text start };
+
+    #[inline(always)]
+    fn accept<S: Sink, L: Ledger>(
+        &mut self,
+        number: u64,
+        accepted: &Accepted,
+        roster: &Roster,
+        out: &mut S,
+        steps: &mut Steps<L>,
+    ) -> Result<(), Halt> {
+        match accepted {
+            Accepted::Nothing | Accepted::Object { .. } => Ok(()),
+            Accepted::Root(thread) => self.root(*thread),
+            Accepted::Event(event) => {
+                self.event(number, roster.events() - 1, event, roster, out, steps)
+            }
+        }
+    }
+
+    fn law_of_skipped_lines(&self, _number: u64, _roster: &Roster) {}
+}

@@ -1,0 +1,4 @@
+pub mod Meanings
+pub mod Replaying
+pub mod Reports
+pub mod States

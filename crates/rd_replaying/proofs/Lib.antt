@@ -1,6 +1,0 @@
-pub mod DeclaredLemmas
-pub mod EndingLemmas
-pub mod ReplayLemmas
-pub mod ReplayingLemmas
-pub mod ReportLemmas
-pub mod StateLemmas

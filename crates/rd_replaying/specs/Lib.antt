@@ -1,5 +1,0 @@
-pub mod Endings
-pub mod Meanings
-pub mod Replaying
-pub mod Reports
-pub mod States
