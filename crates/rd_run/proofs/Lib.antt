@@ -1,3 +1,1 @@
-pub mod KindLemmas
 pub mod RunLemmas
-pub mod WholeLemmas

@@ -1,60 +1,28 @@
 //! What the words of the command line ask for.
-ghost use Rattle.std.specs.Prelude.{◌≡◌, ◌<◌, ◌≤◌, [], ◌∷◌, IfSome};
+ghost use Rattle.std.specs.Prelude.{◌≡◌, ◌<◌, ◌≤◌, [], ◌∷◌, length, option_map, slice_get, IfSome};
 ghost use Rattle.rd_gen.specs.declared.counts.TheConstants.{MOST_CALLS};
-ghost use Rattle.rd_run.specs.Commands.{IsWithinBounds, asked_command, command_of, named_number, numbers_read};
+ghost use Rattle.rd_kinds.specs.Shipped.{shipped_kinds};
+ghost use Rattle.rd_run.specs.Commands.{IsWithinBounds, command_of, named_number, numbers_read, nth_word};
 
 use rd_base::Word;
 use rd_decimals::read_number;
-use rd_ecl::Spec;
 use rd_gen::MOST_CALLS;
-use rd_io::Sink;
 use rd_json::Form;
-use rd_points_command::PointTables;
-use rd_spec_commands::{CanonicalText, SpecReport};
-use rd_walk::Halt;
-use std::alloc::Global;
 
-/// What is written of the kinds that a specification says.
+/// What the words of the command line ask for. A file that a command names is one of its words: the trace or the specification is the
+/// second, and what stands behind a trace is the third.
 #[derive(Clone, Copy, PartialEq, Eq)]
-pub enum Said {
-    /// their canonical text
-    Spec,
-    /// their access points
-    Points,
-}
-
-impl SpecReport for Said {
-    ghost use Rattle.rd_run.specs.Commands.{said_text};
-
-    ghost text = { said_text };
-
-    fn write<S: Sink>(&self, alloc: Global, said: &Spec, out: &mut S) -> Result<(), Halt> {
-        match self {
-            Said::Spec => CanonicalText.write(alloc, said, out),
-            Said::Points => PointTables.write(alloc, said, out),
-        }
-    }
-}
-
-/// A trace to check, and the form of the report.
-#[derive(Clone, Copy)]
-pub struct ToCheck<'a> {
-    pub form: Form,
-    pub trace: &'a Word,
-}
-
-/// What the words of the command line ask for.
-pub enum Command<'a> {
-    /// `check TRACE` or `check-json TRACE`
-    Check(ToCheck<'a>),
-    /// `check TRACE SPEC` or `check-json TRACE SPEC`
-    CheckWith(ToCheck<'a>, &'a Word),
+pub enum Command {
+    /// `check TRACE`, `check TRACE SPEC`, and the same with `check-json`, by the form of the report
+    Check(Form),
     /// `replay TRACE`
-    Replay(&'a Word),
+    Replay,
     /// `reorder TRACE NUMBER`
-    Reorder(&'a Word, u64),
-    /// `spec SPEC` or `points SPEC`
-    OfSpec(Said, &'a Word),
+    Reorder(u64),
+    /// `spec SPEC`
+    Spec,
+    /// `points SPEC`
+    Points,
     /// `kind NAME`, where a kind that is built in has the name, by its number
     Kind(u32),
     /// `gen NUMBER COUNT`
@@ -66,7 +34,7 @@ pub enum Command<'a> {
 /// The number of the kind that is built in with this name.
 fn shipped_number(name: &Word) -> Option<u32>
     ensures named { result ≡ named_number name.now }
-    ensures known { IfSome result (λ number. number < 4) }
+    ensures known { IfSome result (λ number. number < length shipped_kinds) }
 {
     if name.items() == b"register".as_slice() {
         return Some(0);
@@ -98,31 +66,25 @@ fn trace_numbers(number: &Word, count: &Word) -> Option<(u64, u32)>
 }
 
 /// The command that a word and a file, or a name, ask for, if they do for one.
-fn command_of_two<'a>(word: &Word, name: &'a Word) -> Option<Command<'a>>
-    ensures asked { asked_command result ≡ command_of (word.now ∷ name.now ∷ []) }
+fn command_of_two(word: &Word, name: &Word) -> Option<Command>
+    ensures asked { result ≡ command_of (word.now ∷ name.now ∷ []) }
     ensures within { IfSome result IsWithinBounds }
 {
     let word = word.items();
     if word == b"check".as_slice() {
-        return Some(Command::Check(ToCheck {
-            form: Form::Text,
-            trace: name,
-        }));
+        return Some(Command::Check(Form::Text));
     }
     if word == b"check-json".as_slice() {
-        return Some(Command::Check(ToCheck {
-            form: Form::Json,
-            trace: name,
-        }));
+        return Some(Command::Check(Form::Json));
     }
     if word == b"replay".as_slice() {
-        return Some(Command::Replay(name));
+        return Some(Command::Replay);
     }
     if word == b"spec".as_slice() {
-        return Some(Command::OfSpec(Said::Spec, name));
+        return Some(Command::Spec);
     }
     if word == b"points".as_slice() {
-        return Some(Command::OfSpec(Said::Points, name));
+        return Some(Command::Points);
     }
     if word == b"kind".as_slice() {
         return match shipped_number(name) {
@@ -134,28 +96,20 @@ fn command_of_two<'a>(word: &Word, name: &'a Word) -> Option<Command<'a>>
 }
 
 /// The command that a word, a file or a number, and another of these ask for, if they do for one.
-fn command_of_three<'a>(word: &Word, first: &'a Word, second: &'a Word) -> Option<Command<'a>>
-    ensures asked { asked_command result ≡ command_of (word.now ∷ first.now ∷ second.now ∷ []) }
+fn command_of_three(word: &Word, first: &Word, second: &Word) -> Option<Command>
+    ensures asked { result ≡ command_of (word.now ∷ first.now ∷ second.now ∷ []) }
     ensures within { IfSome result IsWithinBounds }
 {
     let word = word.items();
     if word == b"check".as_slice() {
-        let asked = ToCheck {
-            form: Form::Text,
-            trace: first,
-        };
-        return Some(Command::CheckWith(asked, second));
+        return Some(Command::Check(Form::Text));
     }
     if word == b"check-json".as_slice() {
-        let asked = ToCheck {
-            form: Form::Json,
-            trace: first,
-        };
-        return Some(Command::CheckWith(asked, second));
+        return Some(Command::Check(Form::Json));
     }
     if word == b"reorder".as_slice() {
         return match read_number(second.items(), u64::MAX) {
-            Some(number) => Some(Command::Reorder(first, number)),
+            Some(number) => Some(Command::Reorder(number)),
             None => None,
         };
     }
@@ -174,14 +128,33 @@ fn command_of_three<'a>(word: &Word, first: &'a Word, second: &'a Word) -> Optio
     None
 }
 
-/// The command that the words of the command line ask for, if they match one.
-pub(crate) fn command_of(words: &[Word]) -> Option<Command<'_>>
-    ensures asked { asked_command result ≡ command_of words.now }
+/// The command that the words of the command line ask for, if they match one. They are two or three then.
+pub(crate) fn command_of(words: &[Word]) -> Option<Command>
+    ensures asked { result ≡ command_of words.now }
     ensures within { IfSome result IsWithinBounds }
+    ensures named { IfSome result (λ command. 1 < length words.now) }
 {
     match words {
         [word, name] => command_of_two(word, name),
         [word, first, second] => command_of_three(word, first, second),
+        _ => None,
+    }
+}
+
+/// The word with this number.
+pub(crate) fn nth_word(words: &[Word], at: usize) -> &Word
+    requires { at < length words.now }
+    ensures { result.now ≡ nth_word words.now at }
+{
+    &words[at]
+}
+
+/// The word behind the file, if there is one.
+pub(crate) fn third_word(words: &[Word]) -> Option<&Word>
+    ensures { option_map (λ word. word.now) result ≡ slice_get words.now 2 }
+{
+    match words {
+        [_, _, word, ..] => Some(word),
         _ => None,
     }
 }
