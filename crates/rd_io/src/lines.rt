@@ -328,6 +328,7 @@ impl LineReader {
     /// - `NoFinalNewline`: the input ended inside a line, and neither of these two holds.
     ///
     /// After an answer other than `Line` and `ReadFault` each further call answers the same, and reads nothing.
+    #[inline(always)]
     pub fn next<I: Inputs>(&mut self, inputs: &mut I) -> Result<Next, ReadEnd>
         // Once the lines have ended, each further call answers the same.
         ensures again { (answer : Result Next ReadEnd) → self.old.ended ≡ Some answer →
