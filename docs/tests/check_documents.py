@@ -374,23 +374,14 @@ def check_crates(document):
         cells = [cell.strip() for cell in line.split('|')]
         within = line.startswith('| crate | does |') or within and line.startswith('|')
         if within and re.match(r'rd(2|_)', cells[1]):
-            for name in cells[1].split(', '):
-                rows[name] = number, cells[3]
-
-    def beneath(name):
-        return {other for each in below.get(name, ()) for other in (each, *beneath(each))}
-    for name, (number, stands_on) in rows.items():
+            rows.update(dict.fromkeys(cells[1].split(', '), number))
+    for name, number in rows.items():
         checked['crates'] += 1
         if name not in below:
             fault(document, number, f'{name} is not in crates.txt')
-            continue
-        named = set(re.findall(r'rd_\w+|(?<=`)\w+(?=`)', stands_on))
-        if re.search('below them|above it', stands_on):
-            wrong = named - beneath(name)
-        else:
-            wrong = named ^ set(below[name])
-        if wrong:
-            fault(document, number, f'crates.txt says something else of what {name} stands on: {", ".join(sorted(wrong))}')
+        for other in below.get(name, ()):
+            if rows.get(other, 0) > number:
+                fault(document, number, f'{name} stands on {other}, whose row is below its own')
     for name in sorted(set(below) - set(rows)):
         fault(document, 1, f'{name} is in crates.txt and in no row of the table')
     for name in sorted(below):
@@ -411,6 +402,35 @@ def check_names(document, words, own):
             checked['names'] += 1
             if part not in where:
                 fault(document, number, f'no such name: {code}')
+
+
+def squeezed(lines):
+    """Code without its layout: the lines' words, and commas before a closing bracket left out."""
+    return re.sub(r',(?=[)}\]])', '', ''.join(''.join(lines).split()))
+
+
+def check_excerpts(document, sources):
+    """A block of Rust in a crate's README stands in a source; a line of two dots leaves some of it out."""
+    for block in document.blocks:
+        if block.language != 'rust':
+            continue
+        checked['excerpts'] += 1
+        parts = [squeezed(part.split('\n')).rstrip(',') for part in re.split(r'(?m)^ *\.\.$', '\n'.join(block))]
+        pattern = re.compile('.*?'.join(re.escape(part) for part in parts))
+        if not any(pattern.search(source) for source in sources):
+            fault(document, block.first, 'this block of Rust stands in no source')
+
+
+def check_definitions(document):
+    """No two crates define one name in `specs/`, so that a word means one thing."""
+    owners = collections.defaultdict(set)
+    for path in TOP.glob('crates/*/specs/**/*.antt'):
+        for name in re.findall(r'(?m)^(?:\w+ )*pub (?!mod |use )(?:\w+ )*?([^\s:{(]+)\s*[:({]', path.read_text()):
+            owners[name].add(path.relative_to(TOP).parts[1])
+    for name, crates_of in sorted(owners.items()):
+        checked['definitions'] += 1
+        if len(crates_of) > 1:
+            fault(document, 1, f'{name} is defined in {" and ".join(sorted(crates_of))}')
 
 
 def check_counts(trials, proved):
@@ -457,6 +477,7 @@ def main():
         if path.suffix in ('.rt', '.antt', '.edit', '.txt', '.row', '') and path.parts[len(TOP.parts)] == 'crates':
             crate = path.parts[len(TOP.parts) + 1]
             own[crate] |= set(re.findall(r'\w+', path.read_text(errors='replace'))) | {path.stem}
+    sources = [squeezed(path.read_text().split('\n')) for path in files if path.suffix == '.rt']
     words = set().union(*own.values()) | {word for name, below in crates().items() for word in (name, *name.split('_'), *below)}
     known = usages(documents[TOP / 'docs' / 'formats.md'])
     for path, document in documents.items():
@@ -468,11 +489,14 @@ def main():
         check_whole_texts(document, program)
         if path in NAMING or path.parent.parent == TOP / 'crates':
             check_names(document, words, own)
+        if path.parent.parent == TOP / 'crates':
+            check_excerpts(document, sources)
     check_usages(documents[TOP / 'README.md'], documents[TOP / 'docs' / 'formats.md'], known, program)
     check_refusals(documents[TOP / 'docs' / 'specifications.md'], program)
     check_bad_lines(documents[TOP / 'docs' / 'formats.md'], program)
     check_causes(documents[TOP / 'docs' / 'formats.md'])
     check_crates(documents[TOP / 'docs' / 'architecture.md'])
+    check_definitions(documents[TOP / 'docs' / 'definitions.md'])
     check_counts(documents[TOP / 'crates' / 'rd_trials' / 'README.md'], documents[TOP / 'docs' / 'proved.md'])
     check_kit(documents[TOP / 'README.md'])
     shutil.rmtree(program.folder)
