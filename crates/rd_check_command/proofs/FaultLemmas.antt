@@ -1,5 +1,6 @@
 -- What is written before a read fails is a front of what is written for all bytes.
 use Rattle.std.proofs.Common.{◌≡◌, ◌<◌, ◌^◌, ◌⊎◌, inl, inr, ℕ, ◌+◌, List, [], ◌∷◌, ◌++◌, Result, Ok, Err, refl, sym, ap, subst, ◌∙◌}
+use Rattle.rd_base.specs.Bytes.{IsFront}
 use Rattle.rd_base.specs.Limits.{AreUsable}
 use Rattle.rd_base.specs.declared.limits.Limits.{Limits}
 use Rattle.rd_json.specs.Forms.{ending_in}
@@ -17,7 +18,6 @@ use Rattle.rd_walk.proofs.AcceptedLemmas.{trace_accepted}
 use Rattle.rd_walk.proofs.FileLemmas.{entries_at}
 use Rattle.rd_walk.proofs.WalkLemmas.{walk_line}
 use Rattle.rd_check_command.proofs.OutcomeLemmas.{front_outcome}
-use Rattle.rd_walk.specs.Output.{IsFront}
 use Rattle.rd_check_command.specs.Checked.{check_outcome, entries_ending, race_texts, races_of}
 use Rattle.rd_report.specs.Endings.{thread_names}
 use Rattle.rd_walk.specs.Walk.{Entry, Walked, after, ending_of, ends, entries_of, goes, goes_or_ends, items, judgement_of, trace_of, walk, walk_by}

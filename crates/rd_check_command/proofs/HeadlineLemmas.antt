@@ -16,7 +16,7 @@ use Rattle.rd_replay_command.proofs.ReportLemmas.{ends_so}
 use Rattle.rd_report.specs.Endings.{is_shown}
 use Rattle.rd_replay_command.specs.Replaying.{recorded_of, replay_of}
 use Rattle.rd_check_command.proofs.VerdictLemmas.{verdicts}
-use Rattle.rd_check_command.specs.Verdicts.{kinds_in}
+use Rattle.rd_check_command.specs.Verdicts.{kinds_of_objects}
 use Rattle.std.proofs.lemmas.Bool.Decides.{Decides-eqb}
 use Rattle.std.specs.Prelude.{IsTrue}
 use Rattle.rd_rules.proofs.EventsLemmas.{accepted_told, told_formed}
@@ -73,7 +73,7 @@ module _ (kinds : List SpecifiedKind) where
         counted = counted_before es (length es);
         declared = declared;
         replay = replay_of (kinds_of kinds) entries;
-        replays = ends_so (kinds_in kinds entries) (recorded_of (kinds_of kinds) entries) declared (replay_of (kinds_of kinds) entries) refl;
+        replays = ends_so (kinds_of_objects kinds entries) (recorded_of (kinds_of kinds) entries) declared (replay_of (kinds_of kinds) entries) refl;
         verdict = λ more are shown. let is = shown_where (races_of kinds entries) (replay_of (kinds_of kinds) entries) shown in
             verdicts more kinds are entries accepted is.0 is.1;
         text = refl;

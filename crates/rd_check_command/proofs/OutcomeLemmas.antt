@@ -1,4 +1,5 @@
 -- The outcome of `check`.
+use Rattle.rd_base.specs.Bytes.{IsFront}
 use Rattle.rd_ecl.specs.Kinds.{Kind, kinds_of}
 use Rattle.rd_ecl.specs.Specified.{SpecifiedKind}
 use Rattle.rd_json.specs.Forms.{ending_in}
@@ -10,7 +11,7 @@ use Rattle.rd_check_command.proofs.ReportLemmas.{texts_front}
 use Rattle.rd_walk.proofs.FileLemmas.{ending_at, entries_at}
 use Rattle.rd_walk.proofs.WalkLemmas.{entries_after}
 use Rattle.rd_check_command.specs.Checking.{CheckBegins}
-use Rattle.rd_walk.specs.Output.{IsFront, IsOutput, IsWell, Outcome}
+use Rattle.rd_walk.specs.Output.{IsOutput, IsWell, Outcome}
 use Rattle.rd_check_command.specs.Checked.{check_outcome, entries_ending, race_texts, races_of}
 use Rattle.rd_report.specs.Endings.{check_status, ending_of_report, thread_names}
 use Rattle.rd_replay_command.specs.Replaying.{replay_of}

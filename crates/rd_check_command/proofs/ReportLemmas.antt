@@ -5,6 +5,7 @@ use Rattle.std.proofs.lemmas.Bool.{cases_eq, eq-eqb, ne_eqb}
 use Rattle.std.proofs.lemmas.List.{append_assoc, append-nil}
 use Rattle.std.proofs.lemmas.List.Elements.{filter_map-append}
 use Rattle.std.proofs.lemmas.Option.{slice_get_within}
+use Rattle.rd_base.specs.Bytes.{IsFront}
 use Rattle.rd_event.specs.declared.events.Call.{Call as CallOf}
 use Rattle.rd_event.specs.declared.events.Event.{Event as Numbered}
 use Rattle.rd_event.specs.declared.events.Event.TheVariants.{Call}
@@ -29,7 +30,6 @@ use Rattle.rd_report.specs.Races.{told_by}
 use Rattle.rd_report.specs.Texts.{Naming, naming}
 use Rattle.rd_store.specs.declared.Race.{Race}
 use Rattle.rd_check_command.proofs.NamingLemmas.{race_longer, witness_told}
-use Rattle.rd_walk.specs.Output.{IsFront}
 use Rattle.rd_check_command.specs.Checked.{calls_text, entries_ending, entries_race, entry_events, event_number, event_numbers, race_at, race_texts, races_before, races_of, text_with, texts_before, told_at}
 use Rattle.rd_report.specs.Endings.{check_status, is_limit, replay_status}
 use Rattle.rd_races.specs.RaceTests.{latest_of}

@@ -11,7 +11,7 @@ use Rattle.rd_ecl.specs.Kinds.{Kind, kinds_of}
 use Rattle.rd_ecl.specs.Specified.{SpecifiedKind}
 use Rattle.rd_check_command.proofs.ReportLemmas.{none_reported}
 use Rattle.rd_check_command.specs.Checked.{entry_events, races_of}
-use Rattle.rd_check_command.specs.Verdicts.{AreDeterministic, kinds_in}
+use Rattle.rd_check_command.specs.Verdicts.{AreDeterministic, kinds_of_objects}
 use Rattle.rd_kinds.specs.Machines.{shipped_machines}
 use Rattle.rd_kinds.specs.Shipped.{shipped_kinds}
 use Rattle.rd_kinds.proofs.MachineLemmas.{all_keep, all_sound}
@@ -127,7 +127,7 @@ pub verdicts : (more kinds : List SpecifiedKind) → kinds ≡ shipped_kinds ++ 
     → races_of kinds entries ≡ 0 → replay_of (kinds_of kinds) entries ≡ Exact → AreDeterministic kinds entries
 verdicts more kinds are entries accepted none exact =
     let told = accepted_told (kinds_of kinds) (items entries) accepted in
-    let objects = kinds_in kinds entries in
+    let objects = kinds_of_objects kinds entries in
     let calls = recorded_of (kinds_of kinds) entries in
     let all = (exact_where objects calls (calls_declared (kinds_of kinds) entries accepted)).0 exact in
     record {

@@ -24,7 +24,7 @@ use Rattle.rd_walk.specs.Output.{Outcome}
 use Rattle.rd_report.specs.Endings.{check_status, ending_of_report, is_shown, thread_names}
 use Rattle.rd_replay_command.specs.Reports.{ReplayEndsSo}
 use Rattle.rd_check_command.specs.Checked.{entries_race, entry_events}
-use Rattle.rd_check_command.specs.Verdicts.{AreDeterministic, kinds_in}
+use Rattle.rd_check_command.specs.Verdicts.{AreDeterministic, kinds_of_objects}
 use Rattle.rd_walk.specs.AcceptedLines.{IsWalk}
 use Rattle.rd_walk.specs.Walk.{Entry, items}
 use Rattle.rd_walk.specs.declared.walk.WalkEnd.{WalkEnd}
@@ -64,9 +64,9 @@ pub record IsChecked (form : Form) (kinds : List SpecifiedKind) (limits : Limits
   pub count : ℕ
   pub counted : Counts (Reported (Commute kinds) (entry_events kinds entries)) (length (entry_events kinds entries)) count
   -- how the replay of the calls ends, which are on declared objects
-  pub declared : All (λ (recorded : Recorded). recorded.1.object < length (kinds_in kinds entries)) (recorded_of (kinds_of kinds) entries)
+  pub declared : All (λ (recorded : Recorded). recorded.1.object < length (kinds_of_objects kinds entries)) (recorded_of (kinds_of kinds) entries)
   pub replay : ReplayEnd
-  pub replays : ReplayEndsSo (kinds_in kinds entries) (recorded_of (kinds_of kinds) entries) replay
+  pub replays : ReplayEndsSo (kinds_of_objects kinds entries) (recorded_of (kinds_of kinds) entries) replay
   -- where it is shown, behind the built-in kinds and any others, the events are deterministic
   pub verdict : (more : List SpecifiedKind) → kinds ≡ shipped_kinds ++ more → IsTrue (is_shown count replay) → AreDeterministic kinds entries
   -- what is written, and the status

@@ -13,13 +13,13 @@ use Rattle.rd_rules.specs.Events.{roots_of}
 use Rattle.rd_rules.specs.MayFollow.{object_kinds}
 
 -- the kinds of the objects of accepted lines, by their numbers
-abbrev pub kinds_in : List SpecifiedKind → List Entry → List ℕ
-kinds_in kinds entries = object_kinds (kinds_of kinds) (items entries)
+abbrev pub kinds_of_objects : List SpecifiedKind → List Entry → List ℕ
+kinds_of_objects kinds entries = object_kinds (kinds_of kinds) (items entries)
 
 -- The events of these lines are deterministic: each object has a shape to which the lines' own calls lead it, and to which the calls lead
 -- it in every order of the events that keeps what comes before what; and each such order is well-formed, with the same events before one another.
 pub record AreDeterministic (kinds : List SpecifiedKind) (entries : List Entry) : Type 0 where
   pub shapes : List Shape
-  pub held : (object : ℕ) → object < length (kinds_in kinds entries)
-      → (shape : Shape) × (slice_get shapes object ≡ Some shape) × (held_shape (kinds_in kinds entries) (recorded_of (kinds_of kinds) entries) object ≡ Some shape)
-  pub orders : IsDeterministic shipped_machines (roots_of (items entries)) (kinds_in kinds entries) (entry_events kinds entries) shapes
+  pub held : (object : ℕ) → object < length (kinds_of_objects kinds entries)
+      → (shape : Shape) × (slice_get shapes object ≡ Some shape) × (held_shape (kinds_of_objects kinds entries) (recorded_of (kinds_of kinds) entries) object ≡ Some shape)
+  pub orders : IsDeterministic shipped_machines (roots_of (items entries)) (kinds_of_objects kinds entries) (entry_events kinds entries) shapes

@@ -45,7 +45,7 @@ impl<'a> Check<'a> {
     ghost use Rattle.rd_report.specs.Texts.{naming_in};
     ghost use Rattle.rd_walk.specs.Analysis.{TellsFault, WritesBetween, WritesFront};
     ghost use Rattle.rd_check_command.specs.Checking.{Checks, IsNew, IsNextEventLine, IsNextLine};
-    ghost use Rattle.rd_check_command.specs.Checked.{check_bound, entry_events, race_texts};
+    ghost use Rattle.rd_check_command.specs.Checked.{check_bound, race_texts};
     ghost use Rattle.rd_walk.specs.Walk.{Entry, items};
     ghost use Rattle.rd_ecl.specs.Kinds.{kinds_of};
     ghost use Rattle.rd_ecl.specs.Specified.{SpecifiedKind};
@@ -240,7 +240,7 @@ impl<'a> Check<'a> {
 }
 
 impl<'a> Analysis for Check<'a> {
-    ghost use Rattle.rd_check_command.specs.laws.CheckLaws.{leads_none, no_text};
+    ghost use Rattle.rd_check_command.specs.laws.CheckLaws.{checks_none, no_text};
     ghost use Rattle.rd_check_command.specs.Checking.{CheckBegins, CheckLeads};
     ghost use Rattle.rd_check_command.specs.Checked.{check_bound, race_texts};
 
@@ -252,7 +252,7 @@ impl<'a> Analysis for Check<'a> {
 
     ghost bound = { λ _ start. check_bound start.spec.now };
 
-    ghost starts = { leads_none };
+    ghost starts = { checks_none };
 
     ghost silent = { λ _ start. no_text start };
 

@@ -1,5 +1,6 @@
 //! The laws of reports: what their definitions say, proved for all bytes and for every list of events.
 ghost use Rattle.std.specs.Prelude.{◌≡◌, ◌↔◌, ℕ, ◌<◌, ◌^◌, List, ◌++◌, length};
+ghost use Rattle.rd_base.specs.Bytes.{IsFront};
 ghost use Rattle.rd_base.specs.Limits.{AreUsable};
 ghost use Rattle.rd_base.specs.declared.limits.Limits.{Limits};
 ghost use Rattle.rd_races.specs.Races.{Reported};
@@ -7,7 +8,6 @@ ghost use Rattle.rd_races.specs.Commuting.{Commute};
 ghost use Rattle.rd_json.specs.declared.forms.Form.{Form};
 ghost use Rattle.rd_io.specs.Lines.{Stop};
 ghost use Rattle.rd_io.specs.Lines.Stop.{fault};
-ghost use Rattle.rd_walk.specs.Output.{IsFront};
 ghost use Rattle.rd_check_command.specs.Checked.{check_outcome, entries_race, entry_events, race_texts, races_of};
 ghost use Rattle.rd_object.specs.declared.shapes.Expected.{Expected as ExpectedOf};
 ghost use Rattle.rd_replay_command.specs.Replaying.{replay_of};

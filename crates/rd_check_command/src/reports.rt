@@ -1,5 +1,5 @@
 //! What `check` does with each accepted line and behind the last: it reports races, and replays the calls.
-ghost use Rattle.std.specs.Prelude.{◌≡◌, ◌↔◌, ◌+◌, ◌≤◌, ℕ, List, [], ◌∷◌, ◌++◌, IfOk};
+ghost use Rattle.std.specs.Prelude.{◌≡◌, ◌↔◌, ℕ, List, IfOk};
 ghost use Rattle.rd_io.specs.Sinks.{Appends};
 ghost use Rattle.rd_json.specs.Forms.{ending_in};
 ghost use Rattle.rd_report.specs.Endings.{check_status};
@@ -28,7 +28,7 @@ pub struct CheckReport<'a> {
 }
 
 impl<'a> CheckReport<'a> {
-    ghost use Rattle.std.specs.Prelude.{◌≡◌, [], IfOk};
+    ghost use Rattle.std.specs.Prelude.{◌≡◌, IfOk};
     ghost use Rattle.rd_check_command.specs.Replayed.{IsNewReport};
 
     /// A check of no lines, whose report has this form, of a trace whose objects are of these kinds.
@@ -46,7 +46,7 @@ impl<'a> CheckReport<'a> {
 impl<'a> Analysis for CheckReport<'a> {
     ghost use Rattle.rd_check_command.specs.Checked.{check_bound, race_texts};
     ghost use Rattle.rd_check_command.specs.Replayed.{ReportBegins, ReportLeads};
-    ghost use Rattle.rd_check_command.specs.laws.CheckLaws.{leads_none, no_text};
+    ghost use Rattle.rd_check_command.specs.laws.CheckLaws.{checks_none, no_text};
 
     ghost begins = { ReportBegins };
 
@@ -57,7 +57,7 @@ impl<'a> Analysis for CheckReport<'a> {
     ghost bound = { λ _ start. check_bound start.check.spec.now };
 
     ghost starts = { λ kinds start begins. record {
-      checks = leads_none kinds start.check begins.checks;
+      checks = checks_none kinds start.check begins.checks;
       replayed = begins.replayed;
     } };
 

@@ -13,24 +13,24 @@ use Rattle.std.proofs.lemmas.List.Folds.{list_all-append}
 use Rattle.std.proofs.lemmas.List.FromFn.{get_or-range_with_len, length-range_with_len}
 use Rattle.std.proofs.lemmas.List.Sums.{AllPass-from_list_all}
 use Rattle.std.proofs.lemmas.List.Quantifiers.{position-Some}
-use Rattle.rd_points.specs.Tables.{PointTable, class_count, conflicts_at, is_plain}
+use Rattle.rd_points.specs.Tables.{PointTable, class_count, conflicts_at, is_plain_class}
 use Rattle.rd_classes.specs.Merged.{are_alike, is_free, is_least, leaders, merged_class}
 use Rattle.rd_classes.proofs.PositionLemmas.{filter_below, filter_has, filter_no, filter_yes, none_passes, position_is, position_kept, below_push, range_split}
 
 -- the same of two classes, as an equation
 abbrev pub Same : PointTable → ℕ → ℕ → Type 0
-Same table c d = (is_plain table c ≡ is_plain table d) × (conflicts_at table c ≡ conflicts_at table d)
+Same table c d = (is_plain_class table c ≡ is_plain_class table d) × (conflicts_at table c ≡ conflicts_at table d)
 
 module _ (table : PointTable) where
   pub alike_same : (c d : ℕ) → are_alike table c d ≡ true → Same table c d
   alike_same c d alike =
-      let (one, two) = and_parts (beq (is_plain table c) (is_plain table d)) (pointwise nat_eq (conflicts_at table c) (conflicts_at table d)) alike in
-      ((booleans_Decides (is_plain table c) (is_plain table d)).0 one, same_text (conflicts_at table c) (conflicts_at table d) (sym two))
+      let (one, two) = and_parts (beq (is_plain_class table c) (is_plain_class table d)) (pointwise nat_eq (conflicts_at table c) (conflicts_at table d)) alike in
+      ((booleans_Decides (is_plain_class table c) (is_plain_class table d)).0 one, same_text (conflicts_at table c) (conflicts_at table d) (sym two))
 
   pub same_alike : (c d : ℕ) → Same table c d → are_alike table c d ≡ true
   same_alike c d (one, two) =
-      and_from (beq (is_plain table c) (is_plain table d)) (pointwise nat_eq (conflicts_at table c) (conflicts_at table d))
-      ((booleans_Decides (is_plain table c) (is_plain table d)).1 one)
+      and_from (beq (is_plain_class table c) (is_plain_class table d)) (pointwise nat_eq (conflicts_at table c) (conflicts_at table d))
+      ((booleans_Decides (is_plain_class table c) (is_plain_class table d)).1 one)
       (ap (pointwise nat_eq (conflicts_at table c)) (sym two) ∙ nat_list_eq_equiv.refl (conflicts_at table c))
 
   pub alike_itself : (c : ℕ) → are_alike table c c ≡ true
@@ -44,26 +44,26 @@ module _ (table : PointTable) where
 
   -- the classes below n aren't like one that has this
   abbrev unlike_below : Bool → List ℕ → ℕ → Bool
-  unlike_below plain row n = list_all (λ d. not (beq (is_plain table d) plain && pointwise nat_eq (conflicts_at table d) row)) (range_with_len 0 n)
+  unlike_below plain row n = list_all (λ d. not (beq (is_plain_class table d) plain && pointwise nat_eq (conflicts_at table d) row)) (range_with_len 0 n)
 
   -- where no leader is like a class, no class below it is: the least of those that are would be a leader
   none_alike : (c : ℕ) → is_free table c ≡ false → (n : ℕ) → ((l : ℕ) → l < n → is_least table l ≡ true → are_alike table l c ≡ false)
-      → unlike_below (is_plain table c) (conflicts_at table c) n ≡ true
+      → unlike_below (is_plain_class table c) (conflicts_at table c) n ≡ true
   none_alike c taken zero none = refl
   none_alike c taken (suc n) none =
-      let below : unlike_below (is_plain table c) (conflicts_at table c) n ≡ true = none_alike c taken n (λ l less least. none l
+      let below : unlike_below (is_plain_class table c) (conflicts_at table c) n ≡ true = none_alike c taken n (λ l less least. none l
       (omega arith) least) in
       let here : are_alike table n c ≡ false = false_from_ne_true (are_alike table n c) (λ alike.
       (let same = alike_same n c alike in
       let row : is_free table n ≡ false = ap (λ cs. pointwise nat_eq cs []) same.1 ∙ taken in
-      let unlike : unlike_below (is_plain table n) (conflicts_at table n) n ≡ true =
-      ap (λ b. unlike_below b (conflicts_at table n) n) same.0 ∙ ap (λ cs. unlike_below (is_plain table c) cs n) same.1 ∙ below in
-      let least : is_least table n ≡ true = and_from (not (is_free table n)) (unlike_below (is_plain table n) (conflicts_at table n) n)
+      let unlike : unlike_below (is_plain_class table n) (conflicts_at table n) n ≡ true =
+      ap (λ b. unlike_below b (conflicts_at table n) n) same.0 ∙ ap (λ cs. unlike_below (is_plain_class table c) cs n) same.1 ∙ below in
+      let least : is_least table n ≡ true = and_from (not (is_free table n)) (unlike_below (is_plain_class table n) (conflicts_at table n) n)
       (not_from_false (is_free table n) row) unlike in
       both_ways (are_alike table n c) (none n (omega arith) least) alike)) in
       ap (list_all (λ d. not (are_alike table d c))) (below_push n)
       ∙ list_all-append (λ d. not (are_alike table d c)) (range_with_len 0 n) (n ∷ [])
-      ∙ and_from (unlike_below (is_plain table c) (conflicts_at table c) n) (not (are_alike table n c) && true) below
+      ∙ and_from (unlike_below (is_plain_class table c) (conflicts_at table c) n) (not (are_alike table n c) && true) below
       (and_from (not (are_alike table n c)) true (not_from_false (are_alike table n c) here) refl)
 
   -- the leaders below n
@@ -82,7 +82,7 @@ module _ (table : PointTable) where
   -- a class that no leader is like is one
   pub fresh_least : (c : ℕ) → is_free table c ≡ false → leader_place c c ≡ None → is_least table c ≡ true
   fresh_least c taken none =
-      and_from (not (is_free table c)) (unlike_below (is_plain table c) (conflicts_at table c) c) (not_from_false (is_free table c) taken)
+      and_from (not (is_free table c)) (unlike_below (is_plain_class table c) (conflicts_at table c) c) (not_from_false (is_free table c) taken)
       (none_alike c taken c (λ l below least. no_leader c c l none below least))
 
   pub below_yes : (n : ℕ) → is_least table n ≡ true → leaders_below (suc n) ≡ leaders_below n ++ n ∷ []

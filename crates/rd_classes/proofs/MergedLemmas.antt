@@ -11,7 +11,7 @@ use Rattle.rd_base.specs.declared.values.Value.{Value}
 use Rattle.rd_ecl.specs.Specified.{SpecifiedKind}
 use Rattle.rd_points.specs.declared.touches.Touch.{Touch}
 use Rattle.rd_points.specs.Classes.{bits_of}
-use Rattle.rd_points.specs.Points.{value_at}
+use Rattle.rd_points.specs.Points.{value_of_slot}
 use Rattle.rd_points.specs.Tables.{IsSymmetric, MeetsIn, PointTable, Tells, class_count, conflicts_at, predicates_of_method, renamed_touch, touched, touches_at}
 use Rattle.rd_points.proofs.NumberLemmas.{has_number, number_has}
 use Rattle.rd_classes.specs.Merged.{are_alike, is_free, leaders, merged, merged_class, merged_conflicts}
@@ -183,8 +183,8 @@ module _ (table : PointTable) where
           has_t,
           has_u,
           conflict_from symmetric t.class u.class x.class y.class named_t named_u meets,
-          ap (value_at a) (sym slot_t)
-              ∙ same ∙ ap (value_at b) slot_u,
+          ap (value_of_slot a) (sym slot_t)
+              ∙ same ∙ ap (value_of_slot b) slot_u,
         )
 
     meets_to : MeetsIn table m a n b → MeetsIn (merged table) m a n b

@@ -9,11 +9,11 @@ use Rattle.std.proofs.lemmas.List.{get_or-map, get_or_past, length-map, length-t
 use Rattle.std.proofs.lemmas.List.FromFn.{get_or-map-range_with_len, length-map-range_with_len}
 use Rattle.std.proofs.lemmas.Simd.{map-map}
 use Rattle.std.proofs.lemmas.List.Elements.{All-head, All-push, All-tail}
-use Rattle.rd_points.specs.Tables.{PointTable, class_count, conflicts_at, is_plain, renamed_touches}
+use Rattle.rd_points.specs.Tables.{PointTable, class_count, conflicts_at, is_plain_class, renamed_touches}
 use Rattle.rd_points.specs.Compiled.{numbers_from}
 use Rattle.rd_points.proofs.NumberLemmas.{numbers-append}
 use Rattle.rd_classes.specs.declared.merging.Leader.{Leader}
-use Rattle.rd_classes.specs.Leaders.{AreLeaders, AreMarks, AreParts, is_like, signature_of}
+use Rattle.rd_classes.specs.Leaders.{AreLeaders, AreClassMarks, AreParts, is_like, signature_of}
 use Rattle.rd_classes.specs.Merged.{are_alike, is_free, is_least, merged, merged_class, merged_conflicts}
 use Rattle.rd_classes.proofs.LeaderLemmas.{alike_same, below_no, below_yes, free_not_least, fresh_least, known_not_least, leader_place, leaders_below, name_free, name_fresh, name_known, none_free}
 use Rattle.rd_classes.proofs.PositionLemmas.{filter_below, filter_few}
@@ -116,7 +116,7 @@ module _ (table : PointTable) where
         subst (λ k. k < c) (get_or-map (λ l. l.class) ls i d c within) (all i c (omega (arith, length-map ls (λ l. l.class))))
 
 -- one leader more is asked whether it stands in a row
-pub row_more : (row : List ℕ) (count : ℕ) (marks : List Bool) (ls : List Leader) (numbers : List ℕ) (i : ℕ) (d : Leader) → AreMarks row count marks
+pub row_more : (row : List ℕ) (count : ℕ) (marks : List Bool) (ls : List Leader) (numbers : List ℕ) (i : ℕ) (d : Leader) → AreClassMarks row count marks
     → i < length ls → (get_or ls i d).class < count → numbers ≡ numbers_from 0 (λ k. list_any (λ c. c == k) row) (take i (map (λ l. l.class) ls))
     → numbers ++ cond (get_or marks (get_or ls i d).class false) (i ∷ []) [] ≡ numbers_from 0 (λ k. list_any (λ c. c == k) row) (take (i + 1)
     (map (λ l. l.class) ls))
@@ -143,10 +143,10 @@ module _ (table : PointTable) (ls : List Leader) (are : AreLeaders table ls (cla
 
   pub parts_of : (names : List (Option ℕ)) (plain : List Bool) (conflicts : List (List ℕ))
       → names ≡ map (merged_class table) (range_with_len 0 (class_count table))
-      → plain ≡ map (λ l. is_plain table l.class) ls → conflicts ≡ map (λ l. merged_conflicts table l.class) ls → AreParts table names plain conflicts
+      → plain ≡ map (λ l. is_plain_class table l.class) ls → conflicts ≡ map (λ l. merged_conflicts table l.class) ls → AreParts table names plain conflicts
   parts_of names plain conflicts named plain_is conflicts_are = record {
     named = named;
-    plain_is = plain_is ∙ sym (map-map (is_plain table) (λ l. l.class) ls) ∙ ap (map (is_plain table)) are.classes;
+    plain_is = plain_is ∙ sym (map-map (is_plain_class table) (λ l. l.class) ls) ∙ ap (map (is_plain_class table)) are.classes;
     conflicts_are = conflicts_are ∙ sym (map-map (merged_conflicts table) (λ l. l.class) ls) ∙ ap (map (merged_conflicts table)) are.classes;
   }
 

@@ -1,7 +1,7 @@
 -- The leaders among the classes: the least of those that are alike. What the code keeps of them.
 use Rattle.std.specs.Prelude.{◌≡◌, ◌+◌, ◌*◌, ◌%◌, ◌^◌, ◌&&◌, ◌==◌, ◌<◌, ℕ, Bool, false, List, [], ◌∷◌, length, All, Option, filter, map, slice_index_or}
 use Rattle.std.specs.List.{list_any, range_with_len}
-use Rattle.rd_points.specs.Tables.{PointTable, class_count, conflicts_at, is_plain}
+use Rattle.rd_points.specs.Tables.{PointTable, class_count, conflicts_at, is_plain_class}
 use Rattle.rd_classes.specs.declared.merging.Leader.{Leader}
 use Rattle.rd_classes.specs.declared.merging.TheConstants.{FACTOR}
 use Rattle.rd_classes.specs.Merged.{are_alike, is_least, leaders, merged_class, merged_conflicts}
@@ -24,12 +24,12 @@ pub record AreLeaders (table : PointTable) (leaders : List Leader) (class : ℕ)
   pub signatures : All (λ l. l.signature ≡ signature_of (conflicts_at table l.class)) leaders
 
 -- the marks of this many classes: those in the row have one
-pub record AreMarks (row : List ℕ) (count : ℕ) (marks : List Bool) : Type 0 where
+pub record AreClassMarks (row : List ℕ) (count : ℕ) (marks : List Bool) : Type 0 where
   pub long : length marks ≡ count
   pub each : (class : ℕ) → class < count → slice_index_or marks class false ≡ list_any (λ c. c == class) row
 
 -- the merged class of each class, and the merged classes
 pub record AreParts (table : PointTable) (names : List (Option ℕ)) (plain : List Bool) (conflicts : List (List ℕ)) : Type 0 where
   pub named : names ≡ map (merged_class table) (range_with_len 0 (class_count table))
-  pub plain_is : plain ≡ map (is_plain table) (leaders table)
+  pub plain_is : plain ≡ map (is_plain_class table) (leaders table)
   pub conflicts_are : conflicts ≡ map (merged_conflicts table) (leaders table)

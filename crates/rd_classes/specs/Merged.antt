@@ -4,7 +4,7 @@ use Rattle.std.specs.Bool.{beq}
 use Rattle.std.specs.Cmp.Lexicographic.{pointwise}
 use Rattle.std.specs.List.{list_all, list_any, range_with_len}
 use Rattle.rd_points.specs.Compiled.{numbers_from}
-use Rattle.rd_points.specs.Tables.{PointTable, class_count, conflicts_at, is_plain, renamed_touches}
+use Rattle.rd_points.specs.Tables.{PointTable, class_count, conflicts_at, is_plain_class, renamed_touches}
 
 -- no class conflicts with it
 abbrev pub is_free : PointTable → ℕ → Bool
@@ -12,7 +12,7 @@ is_free table c = pointwise nat_eq (conflicts_at table c) []
 
 -- two classes are alike: both plain or both valued, and in conflict with the same classes
 abbrev pub are_alike : PointTable → ℕ → ℕ → Bool
-are_alike table c d = beq (is_plain table c) (is_plain table d) && pointwise nat_eq (conflicts_at table c) (conflicts_at table d)
+are_alike table c d = beq (is_plain_class table c) (is_plain_class table d) && pointwise nat_eq (conflicts_at table c) (conflicts_at table d)
 
 -- the least of those that are alike, which aren't free
 abbrev pub is_least : PointTable → ℕ → Bool
@@ -35,6 +35,6 @@ abbrev pub merged : PointTable → PointTable
 merged table = record {
   predicates = table.predicates;
   touches = renamed_touches (merged_class table) table.touches;
-  plain = map (is_plain table) (leaders table);
+  plain = map (is_plain_class table) (leaders table);
   conflicts = map (merged_conflicts table) (leaders table);
 }

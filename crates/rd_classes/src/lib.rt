@@ -5,4 +5,4 @@ mod laws;
 mod merging;
 
 pub use laws::law_of_merging;
-pub use merging::merge;
+pub use merging::{merge, merged_table};

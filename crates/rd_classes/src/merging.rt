@@ -1,14 +1,15 @@
 //! Merging the classes of a table that are alike.
-ghost use Rattle.std.specs.Prelude.{◌≡◌, ◌+◌, ◌≤◌, ◌<◌, ◌^◌, ◌++◌, [], ◌∷◌, ℕ, length, map, position, slice_set, vec_len, true, IfOk, IfErr, OnOk, OnErr, if◌then◌else◌};
+ghost use Rattle.std.specs.Prelude.{◌≡◌, ◌+◌, ◌<◌, ◌^◌, ◌++◌, [], ◌∷◌, length, map, position, slice_set, vec_len, true, IfOk, IfErr, OnOk, if◌then◌else◌};
 ghost use Rattle.std.specs.List.{range_with_len};
 ghost use Rattle.rd_ecl.specs.Specified.{IsKind, SpecifiedKind};
 ghost use Rattle.rd_points.specs.Compiled.{compiled};
-ghost use Rattle.rd_points.specs.Tables.{Tells, class_count, is_plain};
-ghost use Rattle.rd_classes.specs.Leaders.{AreLeaders, AreMarks, AreParts, is_like, signature_of};
+ghost use Rattle.rd_points.specs.Tables.{Tells, class_count, is_plain_class};
+ghost use Rattle.rd_classes.specs.Leaders.{AreLeaders, AreClassMarks, AreParts, is_like, signature_of};
 ghost use Rattle.rd_classes.specs.Merged.{merged, merged_class, merged_conflicts};
 
 use crate::laws::law_of_merging;
 use rd_base::NoMemory;
+use rd_ecl::KindSpec;
 use rd_points::Table;
 use std::alloc::Global;
 
@@ -109,7 +110,7 @@ fn mark(marks: &mut Vec<bool>, class: u32)
 
 // The classes in a row, marked among all of them.
 fn marks(alloc: Global, row: &[u32], count: u32) -> Result<Vec<bool>, NoMemory>
-    ensures { IfOk result (λ marks. AreMarks row.now count marks.items) }
+    ensures { IfOk result (λ marks. AreClassMarks row.now count marks.items) }
 {
     let mut marks = vec![in alloc; false; count as usize]?;
     for class in row {
@@ -163,7 +164,7 @@ fn merged_rows(alloc: Global, table: &Table, least: &[Leader]) -> Result<Vec<Vec
 
 // Whether the merged classes are plain.
 fn plain(alloc: Global, table: &Table, least: &[Leader]) -> Result<Vec<bool>, NoMemory>
-    ensures { IfOk result (λ plain. plain.items ≡ map (λ l. is_plain table.now l.class) least.now) }
+    ensures { IfOk result (λ plain. plain.items ≡ map (λ l. is_plain_class table.now l.class) least.now) }
 {
     let mut plain = Vec::new(alloc);
     for leader in least {
@@ -208,5 +209,15 @@ pub fn merge(alloc: Global, table: Table) -> Result<Table, (Table, NoMemory)>
             Ok(table.rename(names.as_slice(), plain, conflicts))
         }
         Err(error) => Err((table, error)),
+    }
+}
+
+/// The merged table of a kind.
+pub fn merged_table(alloc: Global, kind: &KindSpec) -> Result<Table, NoMemory>
+    ensures { IfOk result (λ table. table ≡ merged (compiled kind.now)) }
+{
+    match merge(alloc, Table::compile(alloc, kind)?) {
+        Ok(table) => Ok(table),
+        Err((_, error)) => Err(error),
     }
 }

@@ -22,7 +22,7 @@ use Rattle.rd_points.specs.Tables.{PointTable}
 use Rattle.rd_store.specs.Stores.{cell_count}
 use Rattle.rd_store.specs.declared.Witness.{Witness}
 use Rattle.rd_detect.proofs.LookLemmas.{same_cell}
-use Rattle.rd_detect.specs.Detect.{AreBelow, Detecting, IsCell, IsNextCall, IsSweptWhere, IsTaken, IsUntaken, asking_bound, detection_bound, is_due, no_table, table_at, touched_points}
+use Rattle.rd_detect.specs.Detect.{AreBelow, Detecting, IsCell, IsNextCall, IsSweptWhere, IsCallKept, IsCallLeft, asking_bound, detection_bound, is_due, no_table, table_at, touched_points}
 
 -- ---- tables
 
@@ -64,7 +64,7 @@ floor_is None threads P none = tt
 floor_is (Some floor) threads P is = is
 
 -- where room was made first, what a call leaves is as if it hadn't been
-pub taken_after : (threads : List Tracked) (old middle new : Detecting) (call : CallOf) (witness : Witness) → IsUntaken old middle → IsTaken threads middle new call witness → IsTaken threads old new call witness
+pub taken_after : (threads : List Tracked) (old middle new : Detecting) (call : CallOf) (witness : Witness) → IsCallLeft old middle → IsCallKept threads middle new call witness → IsCallKept threads old new call witness
 taken_after threads old middle new call witness same taken = record {
   tables = taken.tables ∙ same.tables;
   store = taken.store;

@@ -21,7 +21,7 @@ use Rattle.rd_store.specs.Stores.{IsCovered, cell_at}
 use Rattle.rd_store.specs.declared.Race.{Race}
 use Rattle.rd_store.specs.declared.Witness.{Witness}
 use Rattle.rd_races.specs.Commuting.{Commute}
-use Rattle.rd_detect.specs.Detect.{Answers, AreTouched, Detecting, DetectorStandsFor, IsAnswer, IsCell, IsHeld, IsLatestOf, IsNextCall, IsUncovered, IsWitness, asked_points, tables_of, touched_points}
+use Rattle.rd_detect.specs.Detect.{Answers, AreTouched, Detecting, DetectorStandsFor, IsAnswer, IsCell, IsInCell, IsLatestOf, IsNextCall, IsUncovered, IsWitness, asked_points, tables_of, touched_points}
 use Rattle.rd_races.specs.Races.{Racing}
 use Rattle.rd_detect.proofs.AskLemmas.{call_fits, one_kind}
 use Rattle.rd_detect.proofs.DeadLemmas.{dead_longer, dead_reaches}
@@ -234,7 +234,7 @@ module _ (tell : MergedTell) (kinds : List SpecifiedKind) (detecting : Detecting
         touches = subst (λ t. Contains (touched_points t call) point) (sym tables) touches;
       })
 
-      held_then : (i : ℕ) (other : CallOf) (point : Point) → i < length es → IsHeld detecting.store point other i → IsHeld new.store point other i
+      held_then : (i : ℕ) (other : CallOf) (point : Point) → i < length es → IsInCell detecting.store point other i → IsInCell new.store point other i
       held_then i other point inside held = elim (cases_eq other.thread call.thread) [
         | inl same ↦ elim (touched.rest point) [
           | inl touches ↦ (kept line, ap (cell_at new.store point) same ∙ touched.own point touches, omega (arith, inside, next.at_end))

@@ -8,7 +8,7 @@ use Rattle.rd_hb.specs.declared.tracker.Tracked.{Tracked}
 use Rattle.rd_points.specs.declared.points.Point.{Point}
 use Rattle.rd_store.specs.Stores.{IsTouched, PointCells, cell_count}
 use Rattle.rd_store.specs.declared.Witness.{Witness}
-use Rattle.rd_detect.specs.Detect.{AreTouched, Detecting, IsSweptWhere, IsTaken, is_due, touched_points}
+use Rattle.rd_detect.specs.Detect.{AreTouched, Detecting, IsSweptWhere, IsCallKept, is_due, touched_points}
 use Rattle.rd_detect.proofs.TouchLemmas.{none_in}
 use Rattle.rd_detect.proofs.TouchingLemmas.{PointsTold, touched_more}
 
@@ -29,7 +29,7 @@ untouched store thread witness = record {
 -- where no sweep is due, and the one point that the call touches has the cell
 pub taken_over : PointsTold → (threads : List Tracked) (old : Detecting) (store : List PointCells) (call : CallOf) (witness : Witness) (point : Point) → touched_points old.tables call ≡ point ∷ []
     → IsTouched old.store store point call.thread witness → cell_count store ≡ cell_count old.store → is_due (cell_count old.store) old.kept ≡ false
-    → IsTaken threads old (record { tables = old.tables; store = store; kept = old.kept }) call witness
+    → IsCallKept threads old (record { tables = old.tables; store = store; kept = old.kept }) call witness
 taken_over told threads old store call witness point only touched count due = record {
   tables = refl;
   store = store;

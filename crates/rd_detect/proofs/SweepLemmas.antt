@@ -3,6 +3,7 @@ use Rattle.std.proofs.Common.{◌≡◌, ◌⊎◌, inl, inr, ℕ, ◌≤◌, Bo
 use Rattle.std.specs.Prelude.{Contains, slice_get}
 use Rattle.std.proofs.lemmas.Bool.{cases_Bool, cases_eq, leb-true}
 use Rattle.std.proofs.lemmas.Option.{none-some, slice_get_within}
+use Rattle.rd_order.specs.Order.{IsOf}
 use Rattle.rd_event.specs.declared.events.Call.{Call as CallOf}
 use Rattle.rd_event.specs.declared.events.Event.{Event}
 use Rattle.rd_event.specs.declared.events.Event.TheVariants.{Call}
@@ -16,12 +17,11 @@ use Rattle.rd_hb.proofs.ClockLemmas.{own_reaches}
 use Rattle.rd_hb.proofs.KnowsLemmas.{known_before, knows_front}
 use Rattle.rd_order.specs.EventLists.{joins}
 use Rattle.rd_order.proofs.CountsLemmas.{covers}
-use Rattle.rd_hb.specs.EventClocks.{IsOf}
 use Rattle.rd_points.specs.Tables.{PointTable}
 use Rattle.rd_points.specs.declared.points.Point.{Point}
 use Rattle.rd_store.specs.Stores.{IsCovered, IsSwept, PointCells, cell_at, cell_count, is_covered, uncovered}
 use Rattle.rd_store.specs.declared.Witness.{Witness}
-use Rattle.rd_detect.specs.Detect.{Detecting, DetectorStandsFor, IsCell, IsDead, IsHeld, IsNextCall, IsSweptWhere, IsTaken, is_due, touched_points}
+use Rattle.rd_detect.specs.Detect.{Detecting, DetectorStandsFor, IsCell, IsDead, IsInCell, IsNextCall, IsSweptWhere, IsCallKept, is_due, touched_points}
 use Rattle.rd_detect.proofs.CellLemmas.{stands_longer}
 use Rattle.rd_detect.proofs.TouchLemmas.{MergedTell}
 
@@ -83,7 +83,7 @@ module _ (tracking : Tracking) (roots : ℕ → Bool) (lines : List ℕ) (es : L
       was_cell : (point : Point) (thread : ℕ) (seen : Witness) → cell_at new.store point thread ≡ Some seen → cell_at old.store point thread ≡ Some seen
       was_cell point thread seen cell = by_old (cell_at old.store point thread) thread seen (sym (swept point thread) ∙ cell)
 
-      held_or_dead : (i : ℕ) (call : CallOf) (point : Point) → slice_get es i ≡ Some (Call call) → IsHeld old.store point call i → IsHeld new.store point call i ⊎ IsDead roots es i
+      held_or_dead : (i : ℕ) (call : CallOf) (point : Point) → slice_get es i ≡ Some (Call call) → IsInCell old.store point call i → IsInCell new.store point call i ⊎ IsDead roots es i
       held_or_dead i call point at held = elim (cases_Bool (is_covered floor call.thread held.0)) [
         | inl gone ↦
             let cell : IsCell old.tables lines es point call.thread held.0 = was.cells point call.thread held.0 held.1 in
@@ -104,7 +104,7 @@ detecting_is d tables store count a b c = rw (← a, ← b, ← c) refl
 
 pub stands_taken : (kinds : List SpecifiedKind) (old new : Detecting) (tracking : Tracking) (roots : ℕ → Bool) (lines : List ℕ) (es : List Event) (place : ℕ) (call : CallOf) (stamp : Stamp) (line : ℕ)
     → (tell : MergedTell) (next : IsNextCall kinds old tracking roots lines es place call stamp)
-    → IsTaken tracking.threads old new call (record { line = line; place = place; call = call; stamp = stamp })
+    → IsCallKept tracking.threads old new call (record { line = line; place = place; call = call; stamp = stamp })
     → DetectorStandsFor kinds new roots (lines ++ line ∷ []) (es ++ Call call ∷ [])
 stands_taken kinds old new tracking roots lines es place call stamp line tell next taken = by (is_due (cell_count taken.store) old.kept) taken.swept
   where

@@ -13,7 +13,7 @@ use Rattle.rd_ecl.specs.Specified.{IsKind, SpecifiedKind, commutes, kind_at, no_
 use Rattle.rd_event.specs.declared.events.Call.{Call as CallOf}
 use Rattle.rd_order.specs.EventLists.{IsCallOf}
 use Rattle.rd_points.specs.Compiled.{compiled}
-use Rattle.rd_points.specs.Points.{value_at}
+use Rattle.rd_points.specs.Points.{value_of_slot}
 use Rattle.rd_points.specs.Tables.{MeetsIn, PointTable, Tells, conflicts_at, touched}
 use Rattle.rd_points.specs.declared.points.Point.{Point}
 use Rattle.rd_points.specs.declared.touches.Touch.{Touch}
@@ -132,7 +132,7 @@ module _ (tell : MergedTell) (kinds : List SpecifiedKind) (known : All IsKind ki
       let same : point_of a theirs.0 ≡ in_class by.0 class.0 = theirs.2 ∙ sym class.2 in
       let object : a.object ≡ b.object = ap (λ (q : Point). q.object) same ∙ sym (ap (λ (q : Point). q.object) mine.2) in
       let class_is : theirs.0.class ≡ class.0 = ap (λ (q : Point). q.class) same in
-      let value : value_at a.slots theirs.0.slot ≡ value_at b.slots mine.0.slot = ap (λ (q : Point). q.value) same ∙ sym (ap (λ (q : Point). q.value) mine.2) in
+      let value : value_of_slot a.slots theirs.0.slot ≡ value_of_slot b.slots mine.0.slot = ap (λ (q : Point). q.value) same ∙ sym (ap (λ (q : Point). q.value) mine.2) in
       let conflict : Contains (conflicts_at table mine.0.class) theirs.0.class
       = subst (λ c. Contains (conflicts_at table c) theirs.0.class) (sym (ap (λ (q : Point). q.class) mine.2)) (subst (Contains (conflicts_at table by.0.class)) (sym class_is) class.1) in
       let fails = told.0 (mine.0, theirs.0, mine.1, subst (λ touches. Contains touches theirs.0) touches_a theirs.1, conflict, sym value) in
@@ -147,7 +147,7 @@ module _ (tell : MergedTell) (kinds : List SpecifiedKind) (known : All IsKind ki
       ]) in
       let x : Touch = found.0 in
       let y : Touch = found.1 in
-      let same : in_class (point_of b x) y.class ≡ point_of a y = same_points b.object a.object y.class y.class (value_at b.slots x.slot) (value_at a.slots y.slot) (sym object) refl found.5 in (
+      let same : in_class (point_of b x) y.class ≡ point_of a y = same_points b.object a.object y.class y.class (value_of_slot b.slots x.slot) (value_of_slot a.slots y.slot) (sym object) refl found.5 in (
         point_of a y,
         flattened (conflicting_points table) (touched_points (tables_of kinds) b) (point_of b x) (point_of a y)
             (mapped (point_of b) (touches_of (tables_of kinds) b) x found.2)

@@ -13,7 +13,7 @@ use Rattle.rd_hb.specs.Tracker.{IsFloor, IsStamp, TrackerStandsFor, Tracking}
 use Rattle.rd_hb.specs.declared.tracker.Tracked.{Tracked}
 use Rattle.rd_order.specs.EventLists.{IsKnownThread, WellFormedWith, joins}
 use Rattle.rd_points.specs.Compiled.{compiled}
-use Rattle.rd_points.specs.Points.{value_at}
+use Rattle.rd_points.specs.Points.{value_of_slot}
 use Rattle.rd_points.specs.Tables.{PointTable, conflicts_at, touched}
 use Rattle.rd_points.specs.declared.points.Point.{Point}
 use Rattle.rd_points.specs.declared.touches.Touch.{Touch}
@@ -47,7 +47,7 @@ tables_of kinds = map (λ kind. merged (compiled kind)) kinds
 
 -- the point that a call touches by a touch
 abbrev pub point_of : CallOf → Touch → Point
-point_of call touch = record { object = call.object; class = touch.class; value = value_at call.slots touch.slot }
+point_of call touch = record { object = call.object; class = touch.class; value = value_of_slot call.slots touch.slot }
 
 -- the points that a call touches, by the table of its kind
 abbrev pub points_in : PointTable → CallOf → List Point
@@ -88,8 +88,8 @@ abbrev pub IsDead : (ℕ → Bool) → List Event → ℕ → Type 0
 IsDead roots es i = (t : ℕ) → IsKnownThread roots es t → joins es t ≡ 0 → Knows es (Carries es t) i
 
 -- the thread of a call has a cell at a point, of that call or of a later one
-abbrev pub IsHeld : List PointCells → Point → CallOf → ℕ → Type 0
-IsHeld store point call i = (seen : Witness) × (cell_at store point call.thread ≡ Some seen) × (i ≤ seen.place)
+abbrev pub IsInCell : List PointCells → Point → CallOf → ℕ → Type 0
+IsInCell store point call i = (seen : Witness) × (cell_at store point call.thread ≡ Some seen) × (i ≤ seen.place)
 
 -- The tables are the merged ones of these kinds, and the list is well-formed with them. A cell has the last call of its thread that touches
 -- the point; where a thread touched a point and has no cell there, that call is dead: each thread that may still act knows it.
@@ -100,7 +100,7 @@ pub record DetectorStandsFor (kinds : List SpecifiedKind) (detecting : Detecting
   pub lengths : length lines ≡ length es
   pub cells : (point : Point) (thread : ℕ) (seen : Witness) → cell_at detecting.store point thread ≡ Some seen → IsCell detecting.tables lines es point thread seen
   pub last : (i : ℕ) (call : CallOf) (point : Point) → slice_get es i ≡ Some (Call call) → Contains (touched_points detecting.tables call) point
-      → IsHeld detecting.store point call i ⊎ IsDead roots es i
+      → IsInCell detecting.store point call i ⊎ IsDead roots es i
 
 -- the call is the next event, at this place and with this stamp, of a list that is well-formed with these kinds, and the tracker stands for
 -- the list with it
@@ -182,14 +182,14 @@ IsSweptWhere true threads kept store new left = (floor : List ℕ) × IsFloor th
 IsSweptWhere false threads kept store new left = (new ≡ store) × (left ≡ kept)
 
 -- the call is kept in the cells of all points that it touches, and then a sweep comes where it is due
-pub record IsTaken (threads : List Tracked) (old new : Detecting) (call : CallOf) (witness : Witness) : Type 0 where
+pub record IsCallKept (threads : List Tracked) (old new : Detecting) (call : CallOf) (witness : Witness) : Type 0 where
   pub tables : new.tables ≡ old.tables
   pub store : List PointCells
   pub touched : AreTouched old.store store (touched_points old.tables call) call.thread witness
   pub swept : IsSweptWhere (is_due (cell_count store) old.kept) threads old.kept store new.store new.kept
 
 -- all is as before, but that there may be more room
-pub record IsUntaken (old new : Detecting) : Type 0 where
+pub record IsCallLeft (old new : Detecting) : Type 0 where
   pub tables : new.tables ≡ old.tables
   pub store : IsSameStore old.store new.store
   pub kept : new.kept ≡ old.kept

@@ -1,8 +1,8 @@
 //! The detector.
-ghost use Rattle.std.specs.Prelude.{◌≡◌, ℕ, ◌+◌, ◌*◌, ◌<◌, ◌≤◌, Bool, List, [], ◌∷◌, ◌++◌, All, Contains, flat_map, length, map, IfOk, OnOk, OnErr, IfNone, IfSome, MatchOption, IsTrue, false, option_map};
+ghost use Rattle.std.specs.Prelude.{◌≡◌, ℕ, ◌+◌, ◌*◌, ◌<◌, ◌≤◌, Bool, List, [], ◌∷◌, ◌++◌, flat_map, length, IfOk, OnOk, OnErr, IfNone, IfSome, MatchOption, IsTrue, false, option_map};
 ghost use Rattle.std.specs.List.{sum_by};
 ghost use Rattle.rd_classes.specs.Merged.{merged};
-ghost use Rattle.rd_detect.specs.Detect.{Answers, AreBelow, IsAnswer, IsLatestOf, IsNextCall, IsRaceOf, IsSweptWhere, IsTaken, IsUntaken, DetectorStandsFor, asked_points, asking_bound, conflicting_points, detection_bound, in_class, is_due, later_of, point_of, table_at, tables_of, touched_points};
+ghost use Rattle.rd_detect.specs.Detect.{Answers, AreBelow, IsAnswer, IsLatestOf, IsNextCall, IsRaceOf, IsSweptWhere, IsCallKept, IsCallLeft, DetectorStandsFor, asking_bound, conflicting_points, detection_bound, is_due, table_at, tables_of, touched_points};
 ghost use Rattle.rd_detect.specs.Seats.{AreSeats};
 ghost use Rattle.rd_clock.specs.Stamps.{lent_stamp};
 ghost use Rattle.rd_ecl.specs.Kinds.{kinds_of};
@@ -12,11 +12,8 @@ ghost use Rattle.rd_event.specs.declared.events.Event.TheVariants as event;
 ghost use Rattle.rd_hb.specs.Tracker.{IsFloor, last_stamp};
 ghost use Rattle.rd_hb.specs.declared.tracker.Tracked.{Tracked as TrackedOf};
 ghost use Rattle.rd_order.specs.EventLists.{WellFormedWith};
-ghost use Rattle.rd_points.specs.Compiled.{compiled};
-ghost use Rattle.rd_points.specs.declared.points.Point.{Point as PointOf};
 ghost use Rattle.rd_store.specs.Lent.{lent_witness};
 ghost use Rattle.rd_store.specs.Stores.{cell_count};
-ghost use Rattle.rd_store.specs.declared.Witness.{Witness as WitnessOf};
 
 #[cfg(test)]
 mod tests;
@@ -24,7 +21,7 @@ mod tests;
 use crate::touching::{look, touch_all};
 use arrayvec::ArrayVec;
 use rd_base::{NoMemory, Steps};
-use rd_classes::{law_of_merging, merge};
+use rd_classes::{law_of_merging, merged_table};
 use rd_clock::{Clock, Stamp, StampRef};
 use rd_ecl::{KindSpec, Spec};
 use rd_event::Call;
@@ -35,16 +32,6 @@ use std::alloc::Global;
 use std::marker::Model;
 use std::rc::Rc;
 use std::sync::ledger::Ledger;
-
-// The merged table of a kind.
-fn merged_table(alloc: Global, kind: &KindSpec) -> Result<Table, NoMemory>
-    ensures { IfOk result (λ table. table ≡ merged (compiled kind.now)) }
-{
-    match merge(alloc, Table::compile(alloc, kind)?) {
-        Ok(table) => Ok(table),
-        Err((_, error)) => Err(error),
-    }
-}
 
 // Those of all kinds.
 fn tables(alloc: Global, kinds: &[KindSpec]) -> Result<Vec<Table>, NoMemory>
@@ -113,7 +100,7 @@ impl Detector {
             (option_map (λ held. held.value) latest)) }
         ensures seats { OnOk result (AreSeats self.new.store call.now.thread
             (touched_points self.old.tables call.now) seats.new.items) }
-        ensures same { IsUntaken self.old self.new }
+        ensures same { IsCallLeft self.old self.new }
         ensures cost { (threads : ℕ) → AreBelow threads self.old.store → steps.new ≤ steps.old
             + sum_by (asking_bound (table_at self.old.tables call.now.kind) threads)
             (touched_points self.old.tables call.now) }
@@ -165,7 +152,7 @@ impl Detector {
             (touched_points self.old.tables seen.now.call.now) seats.now }
         ensures none { IfOk result (λ done. IsTrue done → found ≡ false) }
         ensures taken { IfOk result (λ done. IsTrue done → (threads : List TrackedOf)
-            → IsTaken threads self.old self.new seen.now.call.now (lent_witness seen.now)) }
+            → IsCallKept threads self.old self.new seen.now.call.now (lent_witness seen.now)) }
         ensures kept { IfOk result (λ done. done ≡ false → self.new ≡ self.old) }
         ensures err { OnErr result (self.new ≡ self.old) }
         ensures cost { steps.new ≤ steps.old + length seats.now }
@@ -190,9 +177,9 @@ impl Detector {
     ) -> Result<(), NoMemory>
         requires { AreSeats self.old.store witness.now.value.call.thread
             (touched_points self.old.tables witness.now.value.call) seats.now }
-        ensures taken { OnOk result (IsTaken tracker.now.threads self.old self.new
+        ensures taken { OnOk result (IsCallKept tracker.now.threads self.old self.new
             witness.now.value.call witness.now.value) }
-        ensures err { OnErr result (IsUntaken self.old self.new) }
+        ensures err { OnErr result (IsCallLeft self.old self.new) }
         ensures cost { steps.new ≤ steps.old + length seats.now }
     {
         let floor = self.floor(seats.len(), tracker)?;
@@ -216,9 +203,9 @@ impl Detector {
             (touched_points self.old.tables seen.now.call.now) seats.now }
         ensures answer { IfOk result
             (Answers (lent_witness seen.now) (option_map (λ held. held.value) latest)) }
-        ensures taken { OnOk result (IsTaken tracker.now.threads self.old self.new
+        ensures taken { OnOk result (IsCallKept tracker.now.threads self.old self.new
             seen.now.call.now (lent_witness seen.now)) }
-        ensures err { OnErr result (IsUntaken self.old self.new) }
+        ensures err { OnErr result (IsCallLeft self.old self.new) }
         ensures cost { steps.new ≤ steps.old + length seats.now }
     {
         let witness = Rc::new(self.alloc, seen.copy(self.alloc)?)?;
@@ -248,8 +235,8 @@ impl Detector {
             → DetectorStandsFor kinds self.new roots (lines ++ seen.now.line ∷ []) (es ++ event.Call seen.now.call.now ∷ [])) }
 
         // what it leaves, and a bound of the steps
-        ensures taken { OnOk result (IsTaken tracker.now.threads self.old self.new seen.now.call.now (lent_witness seen.now)) }
-        ensures err { OnErr result (IsUntaken self.old self.new) }
+        ensures taken { OnOk result (IsCallKept tracker.now.threads self.old self.new seen.now.call.now (lent_witness seen.now)) }
+        ensures err { OnErr result (IsCallLeft self.old self.new) }
         ensures cost { steps.new ≤ steps.old + detection_bound self.old.tables (length tracker.now.threads) seen.now.call.now }
     {
         law_of_merging();
@@ -287,9 +274,9 @@ impl Detector {
             → DetectorStandsFor kinds self.new roots (lines ++ line ∷ []) (es ++ event.Call call.now ∷ [])) }
 
         // what it leaves, and a bound of the steps
-        ensures taken { OnOk result (IsTaken tracker.now.threads self.old self.new call.now
+        ensures taken { OnOk result (IsCallKept tracker.now.threads self.old self.new call.now
             (record { line = line; place = place; call = call.now; stamp = stamp.now })) }
-        ensures err { OnErr result (IsUntaken self.old self.new) }
+        ensures err { OnErr result (IsCallLeft self.old self.new) }
         ensures cost { steps.new ≤ steps.old + detection_bound self.old.tables (length tracker.now.threads) call.now }
     {
         let seen = WitnessRef {
@@ -322,9 +309,9 @@ impl Detector {
             → DetectorStandsFor kinds self.new roots (lines ++ line ∷ []) (es ++ event.Call call.now ∷ [])) }
 
         // what it leaves, and a bound of the steps
-        ensures taken { OnOk result (IsTaken tracker.now.threads self.old self.new call.now
+        ensures taken { OnOk result (IsCallKept tracker.now.threads self.old self.new call.now
             (record { line = line; place = place; call = call.now; stamp = last_stamp tracker.now.threads call.now.thread })) }
-        ensures err { OnErr result (IsUntaken self.old self.new) }
+        ensures err { OnErr result (IsCallLeft self.old self.new) }
         ensures cost { steps.new ≤ steps.old + detection_bound self.old.tables (length tracker.now.threads) call.now }
     {
         let seen = WitnessRef {

@@ -14,10 +14,10 @@ use Rattle.rd_event.specs.declared.items.Line.{Line}
 use Rattle.rd_event.specs.declared.items.Line.TheVariants.{Skip, Header, Thread, Object, Event}
 use Rattle.rd_event.specs.declared.items.LineEvent.{LineEvent}
 use Rattle.rd_event.specs.declared.items.LineEvent.TheVariants.{Fork, Join, Acquire, Release, Share, Unshare, Call}
-use Rattle.rd_hb.specs.Knows.{GivesBack, KnownCount}
+use Rattle.rd_hb.specs.Knows.{KnownCount}
 use Rattle.rd_hb.specs.Tracker.{TrackerStandsFor, Tracking, handed_by}
 use Rattle.rd_order.specs.EventLists.{WellFormedWith, forks, joins, threads_after}
-use Rattle.rd_order.specs.Order.{Hold, exclusive, forked_thread, shared}
+use Rattle.rd_order.specs.Order.{GivesBack, Hold, exclusive, forked_thread, shared}
 use Rattle.rd_rules.specs.Events.{AreTold, event_of, events_of, root_count, roots_of}
 use Rattle.rd_rules.specs.MayFollow.{MayFollow, accepted_of, begun_name, events, is_root, is_skip, numbered_event, threads_of}
 use Rattle.rd_rules.specs.declared.causes.Accepted.{Accepted}
@@ -25,7 +25,7 @@ use Rattle.rd_rules.specs.declared.causes.Accepted.TheVariants as accepted
 use Rattle.rd_rules.specs.laws.NoLines.{told_none}
 use Rattle.rd_rules.proofs.EventsLemmas.{all_roots, events_more, no_events, roots_more, threads_more, told_formed, told_more}
 use Rattle.rd_rules.proofs.FollowLemmas.{met}
-use Rattle.rd_detect_trials.specs.Courses.{IsNext, MayHappenNext, Stands}
+use Rattle.rd_detect_trials.specs.Courses.{IsNext, MayHappenNext, StandsForLines}
 
 -- ---- lines
 
@@ -142,7 +142,7 @@ module _ (spec : List SpecifiedKind) (tracker : Tracking) (detector : Detecting)
     -- the tracker has one root more, and no event
     pub root_stands : (new : Tracking) → ((roots : ℕ → Bool) → TrackerStandsFor tracker roots [] → TrackerStandsFor new (λ t. roots t || (t == n)) []) → length new.threads ≡ length tracker.threads + 1
         → ((roots others : ℕ → Bool) → WellFormedWith kinds others [] → DetectorStandsFor spec detector roots [] [] → DetectorStandsFor spec detector others [] [])
-        → Stands spec new detector now
+        → StandsForLines spec new detector now
     root_stands new stands count others =
         let was : TrackerStandsFor tracker (λ t. ltb t n) [] = subst (λ es. TrackerStandsFor tracker (λ t. ltb t n) es) no_event
         (subst (λ m. TrackerStandsFor tracker (λ t. ltb t m) (events_of kinds before)) total next.stands.tracked) in
@@ -193,7 +193,7 @@ module _ (spec : List SpecifiedKind) (tracker : Tracking) (detector : Detecting)
 
     pub event_stands : (new : Tracking) (after : Detecting) (number : ℕ) → TrackerStandsFor new (roots_of before) (events_of kinds before ++ e ∷ [])
         → DetectorStandsFor spec after (roots_of before) (next.stands.numbers ++ number ∷ []) (events_of kinds before ++ e ∷ [])
-        → length new.threads ≡ threads_after e (length tracker.threads) → Stands spec new after now
+        → length new.threads ≡ threads_after e (length tracker.threads) → StandsForLines spec new after now
     event_stands new after number tracked detects count = record {
       told = told_next;
       tracked = subst (TrackerStandsFor new (roots_of now)) (sym event_last)
@@ -207,11 +207,11 @@ module _ (spec : List SpecifiedKind) (tracker : Tracking) (detector : Detecting)
   -- ---- other lines
 
   -- a line that is none of both
-  pub quiet_stands : (numbers ≡ accepted.Nothing) ⊎ ((object : ℕ) × (kind : ℕ) × (numbers ≡ accepted.Object object kind)) → Stands spec tracker detector now
+  pub quiet_stands : (numbers ≡ accepted.Nothing) ⊎ ((object : ℕ) × (kind : ℕ) × (numbers ≡ accepted.Object object kind)) → StandsForLines spec tracker detector now
   unfolding accepted_of
   quiet_stands quiet = by line refl
     where
-      kept : is_root line ≡ false → begun_name line ≡ None → event_of kinds before line ≡ None → Stands spec tracker detector now
+      kept : is_root line ≡ false → begun_name line ≡ None → event_of kinds before line ≡ None → StandsForLines spec tracker detector now
       kept root begins event =
           let same : events_of kinds now ≡ events_of kinds before = events_more kinds before line ∙ ap (λ o. events_of kinds before ++ cons_option o []) event ∙ append-nil (events_of kinds before) in
           let roots : root_count now ≡ root_count before = roots_more before line ∙ ap (λ b. root_count before + cond b 1 0) root ∙ omega arith in record {
@@ -223,7 +223,7 @@ module _ (spec : List SpecifiedKind) (tracker : Tracking) (detector : Detecting)
                 (subst (λ m. DetectorStandsFor spec detector (λ t. ltb t m) next.stands.numbers (events_of kinds before)) (sym roots) next.stands.detects);
           }
 
-      by : (l : Line) → line ≡ l → Stands spec tracker detector now
+      by : (l : Line) → line ≡ l → StandsForLines spec tracker detector now
       by Skip is = kept (ap is_root is) (ap begun_name is) (ap (event_of kinds before) is)
       by (Header version) is = kept (ap is_root is) (ap begun_name is) (ap (event_of kinds before) is)
       by (Object name kind) is = kept (ap is_root is) (ap begun_name is) (ap (event_of kinds before) is)
@@ -258,7 +258,7 @@ tracked_none kinds = record {
 
 pub stands_none : (spec : List SpecifiedKind) (tracker : Tracking) (detector : Detecting) → tracker ≡ none_tracked
     → ((roots : ℕ → Bool) → WellFormedWith (kinds_of spec) roots [] → DetectorStandsFor spec detector roots [] [])
-    → Stands spec tracker detector []
+    → StandsForLines spec tracker detector []
 stands_none spec tracker detector none stands =
     let told : AreTold (kinds_of spec) [] = told_none (kinds_of spec) in record {
       told = told;
@@ -272,7 +272,7 @@ stands_none spec tracker detector none stands =
 
 -- what is told where a roster accepts a line
 pub accepted_next : (spec : List SpecifiedKind) (tracker : Tracking) (detector : Detecting) (before : List Line) (line : Line) (numbers : Accepted) (place : ℕ) (limits : Limits)
-    → Stands spec tracker detector before → AreUsable limits → MayFollow (kinds_of spec) limits before line → length (threads_of (before ++ line ∷ [])) ≤ 4294967295
+    → StandsForLines spec tracker detector before → AreUsable limits → MayFollow (kinds_of spec) limits before line → length (threads_of (before ++ line ∷ [])) ≤ 4294967295
     → numbers ≡ accepted_of (kinds_of spec) before line → place ≡ events before → IsNext spec tracker detector before line numbers place
 accepted_next spec tracker detector before line numbers place limits stands usable follows few told count = record {
   stands = stands;

@@ -17,7 +17,7 @@ use Rattle.rd_rules.specs.declared.causes.Accepted.{Accepted}
 use Rattle.rd_wf.specs.declared.roster.Roster.{Roster}
 
 -- the tracker and the detector stand for the events of these lines
-pub record Stands (kinds : List SpecifiedKind) (tracker : Tracking) (detector : Detecting) (before : List Line) : Type 0 where
+pub record StandsForLines (kinds : List SpecifiedKind) (tracker : Tracking) (detector : Detecting) (before : List Line) : Type 0 where
   pub told : AreTold (kinds_of kinds) before
   pub tracked : TrackerStandsFor tracker (roots_of before) (events_of (kinds_of kinds) before)
   pub count : length tracker.threads ≡ length (threads_of before)
@@ -30,11 +30,11 @@ pub record IsCourse (roster : Roster) (tracker : Tracking) (detector : Detecting
   pub kinds : List SpecifiedKind
   pub lines : List Line
   pub roster_stands : RosterStandsFor (kinds_of kinds) roster lines
-  pub stands : Stands kinds tracker detector lines
+  pub stands : StandsForLines kinds tracker detector lines
 
 -- the line may follow, it is this in numbers, and so many events stand in front of it
 pub record IsNext (kinds : List SpecifiedKind) (tracker : Tracking) (detector : Detecting) (before : List Line) (line : Line) (numbers : Accepted) (place : ℕ) : Type 0 where
-  pub stands : Stands kinds tracker detector before
+  pub stands : StandsForLines kinds tracker detector before
   pub limits : Limits
   pub usable : AreUsable limits
   pub follows : MayFollow (kinds_of kinds) limits before line

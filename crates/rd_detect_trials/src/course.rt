@@ -1,7 +1,7 @@
 //! Lines that are given to a detector, as a command gives them.
 ghost use Rattle.std.specs.Prelude.{◌≡◌, ◌≢◌, ◌<◌, ◌^◌, ℕ, Bool, List, [], ◌∷◌, ◌++◌, length, AllPairs};
 ghost use Rattle.rd_detect.specs.Detect.{DetectorStandsFor};
-ghost use Rattle.rd_detect_trials.specs.Courses.{IsNext, MayHappenNext, Stands};
+ghost use Rattle.rd_detect_trials.specs.Courses.{IsNext, MayHappenNext, StandsForLines};
 ghost use Rattle.rd_ecl.specs.Kinds.{kind_names, kinds_of};
 ghost use Rattle.rd_ecl.specs.Specified.{SpecifiedKind};
 ghost use Rattle.rd_event.specs.declared.events.Event.{Event as EventOf};
@@ -76,7 +76,7 @@ fn follow<L: Ledger>(
         × IsNext kinds tracker.old detector.old before item accepted.now place }
     ensures { (kinds : List SpecifiedKind) (before : List LineOf) (item : LineOf)
         → IsNext kinds tracker.old detector.old before item accepted.now place
-        → Stands kinds tracker.new detector.new (before ++ item ∷ []) }
+        → StandsForLines kinds tracker.new detector.new (before ++ item ∷ []) }
 {
     law_of_detectors();
     match accepted {

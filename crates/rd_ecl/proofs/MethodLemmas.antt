@@ -10,7 +10,7 @@ use Rattle.std.proofs.lemmas.Map.Keys.{IsDistinct-push}
 use Rattle.std.proofs.lemmas.Map.Made.{AllPairs-from_IsDistinct, IsDistinct-from_AllPairs}
 use Rattle.rd_base.specs.Names.{IsName}
 use Rattle.rd_ecl.specs.declared.kinds.Method.{Method}
-use Rattle.rd_ecl.specs.Variables.{IsVariable, is_variable, is_among}
+use Rattle.rd_ecl.specs.Variables.{IsVariable, is_variable, is_one_of}
 use Rattle.rd_ecl.specs.Specified.{SpecifiedKind, AreMethods, MayAdd, IsMethod, names_of}
 use Rattle.rd_ecl.proofs.VariableLemmas.{different_decides, negated, variable_decides}
 
@@ -23,7 +23,7 @@ no_methods = record { few = omega arith; named = All-nil (λ method. IsName meth
 all_variables : (variables : List (List ℕ)) → IsTrue (list_all is_variable variables) → All IsVariable variables
 all_variables variables h k d inside = (variable_decides _).0 (AllPass-from_list_all is_variable variables h k d inside)
 
-one_more : (names : List (List ℕ)) (name : List ℕ) → AllPairs (λ x y. x ≢ y) names → is_among name names ≡ false → AllPairs (λ x y. x ≢ y) (names ++ name ∷ [])
+one_more : (names : List (List ℕ)) (name : List ℕ) → AllPairs (λ x y. x ≢ y) names → is_one_of name names ≡ false → AllPairs (λ x y. x ≢ y) (names ++ name ∷ [])
 one_more names name different fresh =
     AllPairs-from_IsDistinct bytes_decides (names ++ name ∷ [])
     (IsDistinct-push nat_list_eq_equiv names name (IsDistinct-from_AllPairs bytes_decides names different) fresh)

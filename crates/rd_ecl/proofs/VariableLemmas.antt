@@ -7,10 +7,10 @@ use Rattle.std.proofs.lemmas.Bool.Decides.{Decides-and, Decides-like, Decides-lt
 use Rattle.std.proofs.lemmas.List.Sums.{AllPass-from_list_all, list_all-from_AllPass}
 use Rattle.std.proofs.lemmas.Map.Made.{AllPairs-from_IsDistinct, IsDistinct-from_AllPairs}
 use Rattle.std.proofs.lemmas.Map.Views.{Contains-from_any, list_any-from_Contains}
-use Rattle.rd_ecl.specs.Variables.{IsVariable, is_variable, is_variable_byte, kept_words, is_among, are_different}
+use Rattle.rd_ecl.specs.Variables.{IsVariable, is_variable, is_variable_byte, kept_words, is_one_of, are_different}
 use Rattle.rd_base.specs.declared.limits.TheConstants.{MOST_NAME_BYTES}
 
-pub among_decides : (name : List ℕ) (names : List (List ℕ)) → Decides (is_among name names) (Contains names name)
+pub among_decides : (name : List ℕ) (names : List (List ℕ)) → Decides (is_one_of name names) (Contains names name)
 among_decides name names =
     (Contains-from_any (λ x y h. same_text x y (sym h)) name names, list_any-from_Contains nat_list_eq_equiv name names)
 
@@ -38,11 +38,11 @@ both_fail : (a b : Bool) → a ≡ false → b ≡ false → (a || b) ≡ false
 both_fail true b h k = cc
 both_fail false b h k = k
 
-apart : (name : List ℕ) (names : List (List ℕ)) → is_among name names ≡ false → AllByRecursion (λ other. pointwise nat_eq name other ≡ false) names
+apart : (name : List ℕ) (names : List (List ℕ)) → is_one_of name names ≡ false → AllByRecursion (λ other. pointwise nat_eq name other ≡ false) names
 apart name [] h = tt
 apart name (other ∷ names) h = ((neither _ _ h).0, apart name names (neither _ _ h).1)
 
-not_among : (name : List ℕ) (names : List (List ℕ)) → AllByRecursion (λ other. pointwise nat_eq name other ≡ false) names → is_among name names ≡ false
+not_among : (name : List ℕ) (names : List (List ℕ)) → AllByRecursion (λ other. pointwise nat_eq name other ≡ false) names → is_one_of name names ≡ false
 not_among name [] h = refl
 not_among name (other ∷ names) h = both_fail _ _ h.0 (not_among name names h.1)
 

@@ -6,7 +6,7 @@ use Rattle.rd_base.specs.declared.values.Value.{Value}
 use Rattle.rd_ecl.specs.declared.formulas.Predicate.{Predicate}
 use Rattle.rd_ecl.specs.declared.kinds.Method.{Method}
 use Rattle.rd_ecl.specs.Formulas.{Tree, AreValues, Fits, are_values, formula_fits, has_slots, post_order, first_offence, InFragment, nodes, levels, predicates_of, distinct, holds}
-use Rattle.rd_ecl.specs.Variables.{AreVariables, are_different, is_among, is_variable}
+use Rattle.rd_ecl.specs.Variables.{AreVariables, are_different, is_one_of, is_variable}
 use Rattle.rd_base.specs.declared.limits.TheConstants.{MOST_ARGUMENTS, MOST_LEVELS, MOST_METHODS, MOST_NODES, MOST_PREDICATES}
 
 -- a kind, by its name, its methods, and the formula of each pair of them, where it is set: that of methods m and n, with m
@@ -91,7 +91,7 @@ pub record IsKind (kind : SpecifiedKind) : Type 0 where
 -- a method of this name, with these variables, may stand behind those of the kind
 pub record MayAdd (kind : SpecifiedKind) (name : List ℕ) (variables : List (List ℕ)) : Type 0 where
   pub room : length kind.methods < MOST_METHODS
-  pub fresh : IsTrue (not (is_among name (names_of kind.methods)))
+  pub fresh : IsTrue (not (is_one_of name (names_of kind.methods)))
   pub some : 1 ≤ length variables
   pub few : length variables ≤ MOST_ARGUMENTS + 1
   pub different : IsTrue (are_different variables)

@@ -35,16 +35,16 @@ pub record AreVariables (variables : List (List ℕ)) : Type 0 where
   pub each : All IsVariable variables
 
 -- is a name among these?
-abbrev pub is_among : List ℕ → List (List ℕ) → Bool
-is_among name names = list_any (pointwise nat_eq name) names
+abbrev pub is_one_of : List ℕ → List (List ℕ) → Bool
+is_one_of name names = list_any (pointwise nat_eq name) names
 
 -- does no name stand twice?
 abbrev pub are_different : List (List ℕ) → Bool
 are_different [] = true
-are_different (name ∷ names) = not (is_among name names) && are_different names
+are_different (name ∷ names) = not (is_one_of name names) && are_different names
 
 -- the test of a variable
 abbrev pub is_variable : List ℕ → Bool
 is_variable bytes =
     nat_lt 0 (length bytes) && (nat_le (length bytes) MOST_NAME_BYTES && (is_letter (slice_index bytes 0)
-    && (list_all is_variable_byte bytes && not (is_among bytes kept_words))))
+    && (list_all is_variable_byte bytes && not (is_one_of bytes kept_words))))

@@ -1,7 +1,7 @@
 //! A kind of objects and its methods.
 ghost use Rattle.std.specs.Prelude.{◌≡◌, ◌≢◌, ◌↔◌, ℕ, List, [], ◌∷◌, ◌++◌, IfOk, IfSome, OnOk, OnErr, IsTrue, AllPairs, Contains, IsOk, Some, None, replicate, length, ◌+◌, ◌*◌, ◌<◌, ◌≤◌, ◌&&◌, option_map};
 ghost use Rattle.rd_base.specs.declared.values.Value.{Value};
-ghost use Rattle.rd_ecl.specs.Variables.{IsVariable, is_variable, is_among, are_different};
+ghost use Rattle.rd_ecl.specs.Variables.{IsVariable, is_variable, is_one_of, are_different};
 ghost use Rattle.rd_ecl.specs.Formulas.{Tree, nodes, tree_of};
 ghost use Rattle.rd_ecl.specs.Reduction.{AreListed};
 ghost use Rattle.rd_ecl.specs.Relations.{Gathers, RelationsAreCounted, kept_relations, part_of, with_room};
@@ -335,7 +335,7 @@ impl KindDraft {
 pub fn law_of_variables()
     ensures variable { (bytes : List ℕ) → (IsTrue (is_variable bytes) ↔ IsVariable bytes) }
     ensures among { (name : List ℕ) (names : List (List ℕ)) →
-        (IsTrue (is_among name names) ↔ Contains names name) }
+        (IsTrue (is_one_of name names) ↔ Contains names name) }
     ensures different { (names : List (List ℕ)) →
         (IsTrue (are_different names) ↔ AllPairs (λ x y. x ≢ y) names) }
 {}

@@ -1,13 +1,14 @@
 -- `call_read` finds a call exactly in its spelling.
 use Rattle.std.proofs.Common.{◌≡◌, ℕ, ◌<◌, List, ◌∷◌, ◌++◌, length, refl, sym, ◌∙◌, ap, arith, codes, Some, IfSome, length-append}
 use Rattle.std.specs.List.{before_first, after_first}
+use Rattle.rd_base.specs.Bytes.{is_space}
 use Rattle.rd_base.specs.declared.values.Value.{Value}
 use Rattle.rd_base.specs.Names.{IsName}
 use Rattle.rd_base.proofs.FoundLemmas.{map_found, then_found}
 use Rattle.rd_event.specs.declared.items.LineEvent.{LineEvent}
 use Rattle.rd_event.specs.declared.items.LineEvent.TheVariants.{Call}
 use Rattle.rd_event.specs.Items.{IsEvent, HasEvent, AreSlots, words_apart, event_spelling, slots_spelling}
-use Rattle.rd_event.specs.Reading.{is_space, name_read, call_read}
+use Rattle.rd_event.specs.Reading.{name_read, call_read}
 use Rattle.rd_event.specs.ReadingSlots.{slots_read}
 use Rattle.rd_event.proofs.SlotLemmas.{slots_found, slots_said}
 use Rattle.rd_event.proofs.WordLemmas.{name_is, cut_joined, before_space, after_space, name_found}

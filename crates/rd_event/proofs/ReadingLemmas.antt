@@ -9,6 +9,7 @@ use Rattle.std.proofs.lemmas.Option.{same_Some, none-some, IfSome_then, MatchOpt
 use Rattle.std.proofs.lemmas.Result.{on_ok_weaker}
 use Rattle.std.proofs.lemmas.Bool.{eqb-true}
 use Rattle.std.proofs.lemmas.Fmt.{decimal_digit}
+use Rattle.rd_base.specs.Bytes.{is_space}
 use Rattle.rd_base.specs.Names.{IsName}
 use Rattle.rd_base.proofs.FoundLemmas.{if_some, map_some}
 use Rattle.rd_event.specs.declared.items.Line.{Line}
@@ -20,7 +21,7 @@ use Rattle.rd_event.specs.declared.reading.Pair.TheVariants.{Object as ObjectPai
 use Rattle.rd_event.specs.declared.reading.LineRefused.{LineRefused}
 use Rattle.rd_event.specs.declared.reading.LineRefused.TheVariants.{BadLine}
 use Rattle.rd_event.specs.Items.{IsEvent, LineInRange, HasEvent, HasItem, words_apart, event_spelling, line_spelling, Says}
-use Rattle.rd_event.specs.Reading.{is_space, names_read, pair_item, is_call_keyword, call_read, header_read, share_with, event_with, item_with, item_of}
+use Rattle.rd_event.specs.Reading.{names_read, pair_item, is_call_keyword, call_read, header_read, share_with, event_with, item_with, item_of}
 use Rattle.rd_event.proofs.CallLemmas.{CallSaid, call_said, call_found}
 use Rattle.rd_event.proofs.WordLemmas.{NameSaid, NamesSaid, cut_joined, name_said, names_said, name_found, names_found}
 

@@ -8,11 +8,12 @@ use Rattle.std.proofs.lemmas.Bool.{eqb-true, and_parts, cases_lt, false_from_ne_
 use Rattle.std.proofs.lemmas.List.{take_all, nil_from_length, get_or-take}
 use Rattle.std.proofs.lemmas.Bool.Decides.{eqb_tells}
 use Rattle.std.proofs.lemmas.List.Sums.{split_at_first, passes_at_first, list_all-from_AllPass, position_or_len_is, prefix_len_passes, prefix_len_stops}
+use Rattle.rd_base.specs.Bytes.{is_space}
 use Rattle.rd_base.specs.Names.{IsName, is_name, is_name_byte}
 use Rattle.rd_base.proofs.FoundLemmas.{if_some, map_found, then_found}
 use Rattle.rd_base.proofs.NameLemmas.{is_name_decides}
 use Rattle.rd_event.specs.Items.{words_apart}
-use Rattle.rd_event.specs.Reading.{is_space, name_read, names_read}
+use Rattle.rd_event.specs.Reading.{name_read, names_read}
 
 -- bytes are what stands before their first space, the space, and what stands after it
 pub cut_joined : (bytes : List ℕ) → 0 < length (after_first is_space bytes)

@@ -1,5 +1,5 @@
 -- What a line of a trace says, and its spelling: this project's profile.
-use Rattle.std.specs.Prelude.{◌≡◌, ◌⊎◌, ℕ, ◌≤◌, Bool, true, ◌==◌, List, [], ◌∷◌, ◌++◌, length, codes, decimal}
+use Rattle.std.specs.Prelude.{◌≡◌, ◌⊎◌, ℕ, ◌≤◌, Bool, true, ◌==◌, List, [], ◌∷◌, ◌++◌, length, codes, decimal, flat_map}
 use Rattle.std.specs.List.{All}
 use Rattle.rd_base.specs.declared.values.Value.{Value}
 use Rattle.rd_base.specs.Names.{IsName}
@@ -108,3 +108,10 @@ Says version bytes (Header number) = bytes ≡ line_spelling (Header number)
 Says version bytes (Thread thread) = bytes ≡ line_spelling (Thread thread)
 Says version bytes (Object name kind) = bytes ≡ line_spelling (Object name kind)
 Says version bytes (Event event) = HasEvent version event × (bytes ≡ line_spelling (Event event))
+
+-- a line with its line feed, and lines
+abbrev pub line_text : Line → List ℕ
+line_text line = line_spelling line ++ codes "\n"
+
+abbrev pub lines_text : List Line → List ℕ
+lines_text lines = flat_map line_text lines

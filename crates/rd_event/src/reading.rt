@@ -2,12 +2,13 @@
 ghost use Rattle.std.specs.Prelude.{◌≡◌, ◌↔◌, ℕ, List, Option, Some, None, false, OnOk, OnErr, IfOk, IfErr, IfSome, IsTrue, ◌++◌, codes};
 ghost use Rattle.std.specs.Option.{option_map};
 ghost use Rattle.std.specs.List.{AllPass, before_first, after_first, position};
+ghost use Rattle.rd_base.specs.Bytes.{is_space};
 ghost use Rattle.rd_base.specs.Names.{IsName, is_name_byte};
 ghost use Rattle.rd_base.specs.declared.values.Value.{Value};
 ghost use Rattle.rd_event.specs.declared.items.Line.{Line};
 ghost use Rattle.std.specs.Str.{bytes_eq};
 ghost use Rattle.rd_event.specs.Items.{HasItem, is_skipped, LineInRange, Says, line_spelling, words_apart};
-ghost use Rattle.rd_event.specs.Reading.{is_space, name_read, names_read, header_read, is_call_keyword, call_read, pair_item, shared_event, shared_item, share_with, event_with, item_with, item_of};
+ghost use Rattle.rd_event.specs.Reading.{name_read, names_read, header_read, is_call_keyword, call_read, pair_item, shared_event, shared_item, share_with, event_with, item_with, item_of};
 ghost use Rattle.rd_event.specs.ReadingSlots.{slots_read};
 
 use crate::items::{Line, LineEvent};

@@ -5,7 +5,7 @@ use Rattle.rd_formulas.specs.declared.reading.FormulaRefused.{FormulaRefused}
 use Rattle.rd_formulas.specs.declared.reading.FormulaRefused.TheVariants.{Syntax, UnknownVariable, NoVariable, OutsideFragment, NoMemory}
 use Rattle.rd_formulas.specs.declared.scope.Scope.{Scope}
 use Rattle.rd_formulas.specs.Meaning.{Gives, IsFirst, IsFirstSign, NoneOf, node_tokens, relations_in, terms_in}
-use Rattle.rd_formulas.specs.Scope.{IsBare, IsUnknown, MeansAt, place_at}
+use Rattle.rd_formulas.specs.Scope.{IsBare, IsUnknown, MeansAt, place_in_scope}
 use Rattle.rd_grammar.specs.declared.marks.Mark.{Mark}
 use Rattle.rd_grammar.specs.FirstWrong.{WrongAt}
 use Rattle.rd_grammar.specs.Grammar.{ParsedTree, MarksSay, disj}
@@ -32,20 +32,20 @@ pub record IsFormula (scope : Scope) (formula : Tree) : Type 0 where
 abbrev pub IsTroubled : Scope → ParsedTree → FormulaRefused → Type 0
 IsTroubled scope read (Syntax place) = ⊥
 IsTroubled scope read (UnknownVariable place) =
-    (number : ℕ) × IsFirst (IsUnknown scope) (terms_in read) (Some number) × (place ≡ place_at scope number)
+    (number : ℕ) × IsFirst (IsUnknown scope) (terms_in read) (Some number) × (place ≡ place_in_scope scope number)
 IsTroubled scope read (NoVariable place) =
     (number : ℕ) × NoneOf (IsUnknown scope) (terms_in read) × IsFirstSign (IsBare scope) (relations_in read) (Some number)
-    × (place ≡ place_at scope number)
+    × (place ≡ place_in_scope scope number)
 IsTroubled scope read (OutsideFragment place reason) =
     (formula : Tree) × (node : ℕ) × (number : ℕ) × Gives (MeansAt scope) read formula
     × (first_offence 0 (post_order formula) ≡ Some (record { node = node; reason = reason }))
-    × (slice_get (node_tokens read formula) node ≡ Some number) × (place ≡ place_at scope number)
+    × (slice_get (node_tokens read formula) node ≡ Some number) × (place ≡ place_in_scope scope number)
 IsTroubled scope read NoMemory = Unit {0}
 
 -- what a refusal says: the first wrong token, or behind the line where it ends too early; else what is wrong with what was read
 abbrev pub IsFormulaRefused : Scope → FormulaRefused → Type 0
 IsFormulaRefused scope (Syntax place) =
     (marks : List Mark) × (number : ℕ) × AreMarks scope.line.now scope.tokens.now marks × (number ≤ length marks)
-    × WrongAt (MarksSay disj) (take number marks) (drop number marks) × (place ≡ place_at scope number)
+    × WrongAt (MarksSay disj) (take number marks) (drop number marks) × (place ≡ place_in_scope scope number)
 IsFormulaRefused scope NoMemory = Unit {0}
 IsFormulaRefused scope refused = (read : ParsedTree) × SaysByGrammar scope read × IsTroubled scope read refused

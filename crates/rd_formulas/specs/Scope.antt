@@ -24,8 +24,8 @@ abbrev pub token_bytes_at : Scope → ℕ → List ℕ
 token_bytes_at scope number = unwrap_or (option_map (bytes_of scope.line.now) (slice_get scope.tokens.now number)) []
 
 -- where the token with this number begins, in bytes from 1; behind the line where there is no such token
-abbrev pub place_at : Scope → ℕ → ℕ
-place_at scope number = unwrap_or (option_map (λ token. token.place) (slice_get scope.tokens.now number)) (length scope.line.now + 1)
+abbrev pub place_in_scope : Scope → ℕ → ℕ
+place_in_scope scope number = unwrap_or (option_map (λ token. token.place) (slice_get scope.tokens.now number)) (length scope.line.now + 1)
 
 -- the variables of a side
 abbrev pub variables_of : Scope → Side → List (List ℕ)

@@ -1,7 +1,7 @@
 //! Where the words of a formula stand, and what its variables are.
 ghost use Rattle.std.specs.Prelude.{◌≡◌, ◌<◌, ◌≤◌, ◌↔◌, ◌+◌, ◌-◌, ◌^◌, ℕ, List, length, IsTrue, IfSome, IfNone, Contains, slice_get, Some};
 ghost use Rattle.rd_ecl.specs.declared.formulas.Side.{Side};
-ghost use Rattle.rd_formulas.specs.Scope.{IsBare, IsScope, IsTermAt, IsUnknown, IsVariableAt, place_at, variables_of, token_bytes_at};
+ghost use Rattle.rd_formulas.specs.Scope.{IsBare, IsScope, IsTermAt, IsUnknown, IsVariableAt, place_in_scope, variables_of, token_bytes_at};
 
 use rd_base::{MOST_ARGUMENTS, Name};
 use rd_ecl::Side;
@@ -45,7 +45,7 @@ impl<'a> Scope<'a> {
     /// Where a token begins; behind the line where there is no such token. It takes no memory.
     pub fn place(&self, number: u32) -> u32
         requires { length self.now.line.now < 2 ^ 32 - 1 }
-        ensures { result ≡ place_at self.now number }
+        ensures { result ≡ place_in_scope self.now number }
     {
         match self.tokens.get(number as usize) {
             Some(token) => token.place,

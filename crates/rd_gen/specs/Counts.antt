@@ -5,6 +5,6 @@ use Rattle.rd_event.specs.declared.items.Line.TheVariants.{Event}
 use Rattle.rd_event.specs.declared.items.LineEvent.TheVariants.{Call}
 
 -- the line is a call
-abbrev pub is_call : Line → Bool
-is_call (Event (Call thread object method slots)) = true
-is_call _ = false
+abbrev pub is_call_line : Line → Bool
+is_call_line (Event (Call thread object method slots)) = true
+is_call_line _ = false

@@ -2,7 +2,7 @@
 use Rattle.std.specs.Prelude.{ℕ, ◌<◌, ◌≤◌, Bool, List, [], ◌∷◌, ◌++◌, drop, Option, Some, None, ⊤}
 use Rattle.rd_event.specs.declared.items.Line.{Line}
 use Rattle.rd_kinds.specs.Machines.{Entries}
-use Rattle.rd_gen.specs.Generated.{call_of, choice_of, closing, entries_after, opening, release_of, turns}
+use Rattle.rd_gen.specs.Generated.{call_of, choice_of, closing_lines, entries_after, opening_lines, release_of, lines_of_turns}
 use Rattle.rd_gen.specs.declared.generator.Stage.{Stage}
 use Rattle.rd_gen.specs.declared.generator.Stage.TheVariants.{Opening, Turning, Calling, Releasing, Closing}
 
@@ -13,12 +13,12 @@ pub record Generating : Type 0 where
 
 -- the lines from a stage on
 abbrev pub lines_from : Stage → Bool → ℕ → ℕ → Entries → List Line
-lines_from (Opening given) locked left number entries = drop given opening ++ turns locked left number entries
-lines_from Turning locked left number entries = turns locked left number entries
+lines_from (Opening given) locked left number entries = drop given opening_lines ++ lines_of_turns locked left number entries
+lines_from Turning locked left number entries = lines_of_turns locked left number entries
 lines_from Calling locked left number entries =
-    call_of (choice_of number) entries ∷ release_of (choice_of number) ∷ turns locked left number (entries_after (choice_of number) entries)
-lines_from Releasing locked left number entries = release_of (choice_of number) ∷ turns locked left number entries
-lines_from (Closing given) locked left number entries = drop given (closing entries)
+    call_of (choice_of number) entries ∷ release_of (choice_of number) ∷ lines_of_turns locked left number (entries_after (choice_of number) entries)
+lines_from Releasing locked left number entries = release_of (choice_of number) ∷ lines_of_turns locked left number entries
+lines_from (Closing given) locked left number entries = drop given (closing_lines entries)
 
 -- the first of some lines, and those behind it
 abbrev pub first_of : List Line → Option Line

@@ -3,7 +3,7 @@ ghost use Rattle.std.specs.Prelude.{◌≡◌, ◌+◌, ◌<◌, [], ◌∷◌, 
 ghost use Rattle.rd_event.specs.Items.{IsSpellable};
 ghost use Rattle.rd_object.specs.Machines.{IsTaken};
 ghost use Rattle.rd_kinds.specs.Machines.{dictionary_machine};
-ghost use Rattle.rd_gen.specs.Generated.{acquire_of, arguments_for, arguments_of, call_line, call_of, entries_after, entries_behind, fork_of, join_of, method_name, method_of, next_number, nil_or_number, opening, release_of, worker_name, worker_of};
+ghost use Rattle.rd_gen.specs.Generated.{acquire_of, arguments_for, arguments_chosen, call_line, call_of, entries_after, entries_behind, fork_of, join_of, dictionary_method, method_chosen, next_number, nil_or_number, opening_lines, release_of, worker_name, worker_of};
 
 use rd_base::{Name, NoMemory, Slots, Value};
 use rd_event::{Line, LineEvent};
@@ -41,7 +41,7 @@ fn worker_of(choice: u32) -> Name
 
 // The method that a number says, from 0.
 fn method_of(choice: u32) -> u8
-    ensures value { result ≡ method_of choice }
+    ensures value { result ≡ method_chosen choice }
     ensures bound { result < 3 }
 {
     (choice / 4 % 4).saturating_sub(1) as u8
@@ -49,7 +49,7 @@ fn method_of(choice: u32) -> u8
 
 // The name of a method of a dictionary.
 fn method_name(method: u8) -> Name
-    ensures { result ≡ method_name method }
+    ensures { result ≡ dictionary_method method }
 {
     match method {
         0 => Name::from_bytes(b"put").unwrap(),
@@ -87,7 +87,7 @@ fn arguments_for(alloc: Global, method: u8, key: u32, value: u32) -> Result<Vec<
 
 // The arguments that a number says.
 fn arguments_of(alloc: Global, choice: u32) -> Result<Vec<Value>, NoMemory>
-    ensures { IfOk result (λ arguments. arguments.items ≡ arguments_of choice) }
+    ensures { IfOk result (λ arguments. arguments.items ≡ arguments_chosen choice) }
 {
     arguments_for(alloc, method_of(choice), choice / 16 % 32, choice / 512)
 }
@@ -187,7 +187,7 @@ pub(crate) fn release_of(choice: u32) -> Line
 // The line behind so many of the first ones.
 pub(crate) fn opening_line(given: u8) -> Line
     requires { given < 7 }
-    ensures line { drop given opening ≡ result ∷ drop (given + 1) opening }
+    ensures line { drop given opening_lines ≡ result ∷ drop (given + 1) opening_lines }
     ensures spellable { IsSpellable result }
 {
     match given {

@@ -1,6 +1,6 @@
 //! How many lines and calls a generated trace has.
 ghost use Rattle.std.specs.Prelude.{◌≡◌, ◌≤◌, ℕ, count_by, length};
-ghost use Rattle.rd_gen.specs.Counts.{is_call};
+ghost use Rattle.rd_gen.specs.Counts.{is_call_line};
 ghost use Rattle.rd_gen.specs.Generated.{generated};
 ghost use Rattle.rd_gen.specs.declared.counts.TheConstants.{MOST_CALLS};
 
@@ -22,7 +22,7 @@ pub fn lines_in(number: u64, count: u32) -> u32
 /// How many of its lines are calls, whatever its number: the last one is counted too.
 pub fn calls_in(count: u32) -> u32
     requires { count ≤ MOST_CALLS }
-    ensures { (number : ℕ) → result ≡ count_by is_call (generated number count) }
+    ensures { (number : ℕ) → result ≡ count_by is_call_line (generated number count) }
 {
     count + 1
 }

@@ -1,13 +1,13 @@
 -- What a report on generated lines leaves.
 use Rattle.std.proofs.Common.{◌≡◌, ℕ, ◌+◌, ◌<◌, ◌≤◌, ◌^◌, List, [], ◌∷◌, ◌++◌, Option, Some, None, refl, ap, ◌∙◌, arith}
 use Rattle.std.proofs.lemmas.List.{append_assoc}
+use Rattle.rd_base.specs.Bytes.{IsFront}
 use Rattle.rd_base.specs.Limits.{AreUsable}
 use Rattle.rd_base.specs.declared.limits.Limits.{Limits}
 use Rattle.rd_ecl.specs.Kinds.{Kind}
 use Rattle.rd_event.specs.declared.items.Line.{Line}
 use Rattle.rd_gen_command.specs.GeneratedWalks.{walk_items}
 use Rattle.rd_walk.proofs.WalkLemmas.{bound_front, entries_after}
-use Rattle.rd_walk.specs.Output.{IsFront}
 use Rattle.rd_walk.specs.Walk.{Entry, Walked, accepted_or, after, entries_of, goes_or_ends, items, step_bound}
 use Rattle.rd_rules.proofs.FollowLemmas.{follows_from_none}
 use Rattle.rd_rules.specs.Events.{AreAcceptedFrom}

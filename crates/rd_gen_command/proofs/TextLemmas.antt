@@ -1,9 +1,9 @@
 -- The text of lines, one behind another.
 use Rattle.std.proofs.Common.{◌≡◌, ℕ, List, [], ◌∷◌, ◌++◌, Option, Some, None, refl, sym, ap, ◌∙◌}
 use Rattle.std.proofs.lemmas.List.{append_assoc}
+use Rattle.rd_event.specs.Items.{line_text, lines_text}
 use Rattle.rd_event.specs.declared.items.Line.{Line}
 use Rattle.rd_gen.specs.Generator.{behind_first, first_of}
-use Rattle.rd_gen_command.specs.GeneratedTexts.{line_text, lines_text}
 use Rattle.rd_io.proofs.SinkLemmas.{appends_on}
 use Rattle.rd_io.specs.Sinks.{Appends}
 use Rattle.rd_walk.specs.Analysis.{WritesFront}

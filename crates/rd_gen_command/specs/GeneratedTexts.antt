@@ -1,18 +1,11 @@
 -- What `gen-text` writes, and what it means: this project's profile.
 use Rattle.std.specs.Prelude.{ℕ, List, ◌++◌, codes, flat_map}
-use Rattle.rd_event.specs.Items.{line_spelling}
+use Rattle.rd_event.specs.Items.{line_spelling, line_text, lines_text}
 use Rattle.rd_event.specs.declared.items.Line.{Line}
 use Rattle.rd_gen.specs.Generated.{generated}
 use Rattle.rd_walk.specs.Meanings.{Meaning, text_meaning}
 use Rattle.rd_walk.specs.Output.{IsTextStatus, Outcome}
 use Rattle.rd_walk.specs.declared.status.Status.TheVariants.{Clean}
-
--- a line with its line feed, and lines
-abbrev pub line_text : Line → List ℕ
-line_text line = line_spelling line ++ codes "\n"
-
-abbrev pub lines_text : List Line → List ℕ
-lines_text lines = flat_map line_text lines
 
 -- the trace of a number with so many calls
 abbrev pub gen_text_outcome : ℕ → ℕ → Outcome

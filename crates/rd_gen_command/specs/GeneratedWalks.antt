@@ -3,7 +3,7 @@ use Rattle.std.specs.Prelude.{◌≡◌, ◌⊎◌, ℕ, ◌+◌, ◌≤◌, Lis
 use Rattle.rd_base.specs.declared.limits.Limits.{Limits}
 use Rattle.rd_ecl.specs.Kinds.{Kind}
 use Rattle.rd_event.specs.declared.items.Line.{Line}
-use Rattle.rd_gen.specs.Counts.{is_call}
+use Rattle.rd_gen.specs.Counts.{is_call_line}
 use Rattle.rd_gen.specs.Generated.{generated}
 use Rattle.rd_io.specs.Lines.LinesEnding.{at_end}
 use Rattle.rd_walk.specs.Meanings.{Meaning}
@@ -24,14 +24,14 @@ abbrev pub generated_walk : List Kind → Limits → ℕ → ℕ → Walked
 generated_walk kinds limits number count = walk_items kinds limits [] 1 (generated number count)
 
 -- how many lines and calls the whole trace has
-abbrev pub counts_text : ℕ → ℕ → List ℕ
-counts_text number count =
-    codes "lines " ++ decimal (length (generated number count)) ++ codes "\ncalls " ++ decimal (count_by is_call (generated number count)) ++ codes "\n"
+abbrev pub trace_counts_text : ℕ → ℕ → List ℕ
+trace_counts_text number count =
+    codes "lines " ++ decimal (length (generated number count)) ++ codes "\ncalls " ++ decimal (count_by is_call_line (generated number count)) ++ codes "\n"
 
 -- what `gen` writes: the counts, and behind them what a report has as outcome of the walk, with its status
 abbrev pub gen_outcome : (Walked → Outcome) → List Kind → Limits → ℕ → ℕ → Outcome
 gen_outcome report kinds limits number count = record {
-  text = counts_text number count ++ (report (generated_walk kinds limits number count)).text;
+  text = trace_counts_text number count ++ (report (generated_walk kinds limits number count)).text;
   status = (report (generated_walk kinds limits number count)).status;
 }
 

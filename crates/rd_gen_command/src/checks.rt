@@ -2,7 +2,7 @@
 ghost use Rattle.std.specs.Prelude.{◌≡◌, ◌≢◌, ◌+◌, ◌≤◌, ℕ, List, [], Ok, IfOk, OnOk, OnErr};
 ghost use Rattle.rd_base.specs.Limits.{AreUsable};
 ghost use Rattle.rd_gen.specs.declared.counts.TheConstants.{MOST_CALLS};
-ghost use Rattle.rd_gen_command.specs.GeneratedWalks.{counts_text, gen_outcome, generated_walk};
+ghost use Rattle.rd_gen_command.specs.GeneratedWalks.{trace_counts_text, gen_outcome, generated_walk};
 ghost use Rattle.rd_io.specs.Sinks.{Appends};
 ghost use Rattle.rd_walk.specs.Analysis.{TellsFault, WritesFront};
 ghost use Rattle.rd_walk.specs.Output.{IsOutput, IsTraceEnd, IsWell, ended_status};
@@ -20,7 +20,7 @@ use std::sync::ledger::Ledger;
 // How many lines and calls the trace has.
 fn counts(alloc: Global, number: u64, count: u32) -> Result<Bytes, NoMemory>
     requires { count ≤ MOST_CALLS }
-    ensures { IfOk result (λ text. text ≡ counts_text number count) }
+    ensures { IfOk result (λ text. text ≡ trace_counts_text number count) }
 {
     let mut text = Bytes::new(alloc);
     text.append(b"lines ")?;
@@ -35,9 +35,9 @@ fn counts(alloc: Global, number: u64, count: u32) -> Result<Bytes, NoMemory>
 fn write_counts<S: Sink>(alloc: Global, number: u64, count: u32, out: &mut S) -> Result<(), Halt>
     requires { count ≤ MOST_CALLS }
     ensures ok { OnOk result
-        (Appends (S.written out.old) (S.written out.new) (counts_text number count)) }
+        (Appends (S.written out.old) (S.written out.new) (trace_counts_text number count)) }
     ensures front { OnErr result (WritesFront (S.written out.old) (S.written out.new) []
-        (counts_text number count)) }
+        (trace_counts_text number count)) }
     ensures fault { TellsFault (S.faults out.old) (S.faults out.new) (S.at_fault out.new)
         (S.written out.new) result }
 {

@@ -1,15 +1,14 @@
 //! The commands `gen` and `gen-text`.
-ghost use Rattle.std.specs.Prelude.{◌≡◌, ◌≢◌, ◌+◌, ◌≤◌, ℕ, List, [], Ok, Option, IfOk};
+ghost use Rattle.std.specs.Prelude.{◌≡◌, ◌≢◌, ◌+◌, ◌≤◌, ℕ, List, Ok, Option, IfOk};
 ghost use Rattle.rd_base.specs.Limits.{AreUsable};
 ghost use Rattle.rd_base.specs.declared.limits.Limits.{Limits as LimitsOf};
 ghost use Rattle.rd_check_command.specs.Checked.{check_bound, check_outcome};
 ghost use Rattle.rd_gen.specs.declared.counts.TheConstants.{MOST_CALLS};
 ghost use Rattle.rd_gen_command.specs.GeneratedTexts.{gen_text_meaning};
-ghost use Rattle.rd_gen_command.specs.GeneratedWalks.{gen_meaning, gen_outcome, generated_walk};
+ghost use Rattle.rd_gen_command.specs.GeneratedWalks.{gen_outcome, generated_walk};
 ghost use Rattle.rd_gen_command.specs.Meanings.{gen_check_meaning};
 ghost use Rattle.rd_io.specs.Inputs.{Source};
 ghost use Rattle.rd_io.specs.Sinks.{Appends};
-ghost use Rattle.rd_json.specs.declared.forms.Form.{Form as FormOf};
 ghost use Rattle.rd_kinds.specs.Shipped.{shipped_kinds};
 ghost use Rattle.rd_replay_command.specs.States.{built_in_kinds};
 ghost use Rattle.rd_walk.specs.Analysis.{TellsFault};

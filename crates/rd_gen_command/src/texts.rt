@@ -1,7 +1,7 @@
 //! The text of a generated trace.
 ghost use Rattle.std.specs.Prelude.{◌≡◌, ◌≤◌, ℕ, List, [], IfOk, OnOk, OnErr};
-ghost use Rattle.rd_event.specs.Items.{IsSpellable};
-ghost use Rattle.rd_gen_command.specs.GeneratedTexts.{gen_text_outcome, line_text, lines_text};
+ghost use Rattle.rd_event.specs.Items.{IsSpellable, line_text, lines_text};
+ghost use Rattle.rd_gen_command.specs.GeneratedTexts.{gen_text_outcome};
 ghost use Rattle.rd_gen.specs.declared.counts.TheConstants.{MOST_CALLS};
 ghost use Rattle.rd_io.specs.Sinks.{Appends};
 ghost use Rattle.rd_walk.specs.Analysis.{TellsFault, WritesFront};

@@ -6,7 +6,7 @@ use Rattle.std.proofs.lemmas.List.Elements.{filter_map-append}
 use Rattle.std.proofs.lemmas.List.Sums.{sum_by-cons, sum_by_push}
 use Rattle.rd_ecl.specs.Kinds.{Kind, kinds_of}
 use Rattle.rd_event.specs.declared.items.Line.{Line}
-use Rattle.rd_gen.specs.Generated.{opening}
+use Rattle.rd_gen.specs.Generated.{opening_lines}
 use Rattle.rd_kinds.specs.Shipped.{counter_kind, dictionary_kind, register_kind, set_kind, shipped_kinds}
 use Rattle.rd_rules.specs.MayFollow.{acquires, acting_name, begun_name, declared_kind, declared_name, headers, is_acquire_of, is_header, is_release_of, is_share_of, is_unshare_of, joined_name, joined_of, object_kinds, objects_of, passes, releases, same_name, shared_name, shares, threads_of, unshared_name, unshares}
 use Rattle.rd_rules.proofs.EventsLemmas.{shares_more, unshares_more}
@@ -90,31 +90,31 @@ none_counted test (line ∷ lines) others =
     let first = ap {B = ℕ} (λ b. cond b 1 0) others.0 in
     omega (arith, sum_by-cons (λ x. cond (test x) 1 0) line lines, first, rest)
 
-none_acquired : (thread : List ℕ) → acquires opening thread (codes "l") ≡ 0
+none_acquired : (thread : List ℕ) → acquires opening_lines thread (codes "l") ≡ 0
 unfolding acquires
 none_acquired thread =
     let other = and_none (same_name thread (codes "main")) in
-    none_counted (is_acquire_of thread (codes "l")) opening (refl, (refl, (refl, (other, (other, (other, (other, tt)))))))
+    none_counted (is_acquire_of thread (codes "l")) opening_lines (refl, (refl, (refl, (other, (other, (other, (other, tt)))))))
 
-none_released : (thread : List ℕ) → releases opening thread (codes "l") ≡ 0
+none_released : (thread : List ℕ) → releases opening_lines thread (codes "l") ≡ 0
 unfolding releases
 none_released thread =
     let other = and_none (same_name thread (codes "main")) in
-    none_counted (is_release_of thread (codes "l")) opening (refl, (refl, (refl, (other, (other, (other, (other, tt)))))))
+    none_counted (is_release_of thread (codes "l")) opening_lines (refl, (refl, (refl, (other, (other, (other, (other, tt)))))))
 
-none_shared : (thread : List ℕ) → shares opening thread (codes "l") ≡ 0
+none_shared : (thread : List ℕ) → shares opening_lines thread (codes "l") ≡ 0
 unfolding shares
 none_shared thread =
     let other = and_none (same_name thread (codes "main")) in
-    none_counted (is_share_of thread (codes "l")) opening (refl, (refl, (refl, (other, (other, (other, (other, tt)))))))
+    none_counted (is_share_of thread (codes "l")) opening_lines (refl, (refl, (refl, (other, (other, (other, (other, tt)))))))
 
-none_unshared : (thread : List ℕ) → unshares opening thread (codes "l") ≡ 0
+none_unshared : (thread : List ℕ) → unshares opening_lines thread (codes "l") ≡ 0
 unfolding unshares
 none_unshared thread =
     let other = and_none (same_name thread (codes "main")) in
-    none_counted (is_unshare_of thread (codes "l")) opening (refl, (refl, (refl, (other, (other, (other, (other, tt)))))))
+    none_counted (is_unshare_of thread (codes "l")) opening_lines (refl, (refl, (refl, (other, (other, (other, (other, tt)))))))
 
-pub knows_opening : Knows opening [] nobody
+pub knows_opening : Knows opening_lines [] nobody
 unfolding counter_kind dictionary_kind register_kind set_kind
 knows_opening = record {
   headers_are = refl;

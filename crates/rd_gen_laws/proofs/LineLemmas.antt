@@ -8,7 +8,7 @@ use Rattle.rd_ecl.specs.Kinds.{kind_slots_at, method_names, methods_at}
 use Rattle.rd_event.specs.declared.items.Line.{Line}
 use Rattle.rd_event.specs.declared.items.Line.TheVariants.{Event}
 use Rattle.rd_event.specs.declared.items.LineEvent.TheVariants.{Join, Acquire, Release, Call}
-use Rattle.rd_gen.specs.Generated.{arguments_for, method_name, worker_name}
+use Rattle.rd_gen.specs.Generated.{arguments_for, dictionary_method, worker_name}
 use Rattle.rd_kinds.specs.Shipped.{counter_kind, dictionary_kind, register_kind, set_kind}
 use Rattle.rd_gen_laws.proofs.CauseLemmas.{IsFine, fine_causes}
 use Rattle.rd_gen_laws.proofs.KnownLemmas.{Knows, acquires_more, and_none, and_true, held_by, kinds, knows_more, nobody, releases_more, threads}
@@ -40,14 +40,14 @@ slots_length zero key value result = refl
 slots_length (suc zero) key value result = refl
 slots_length (suc (suc method)) key value result = refl
 
-has_method : (method : ℕ) → not (is_among (method_names (methods_at kinds 3)) (method_name method)) ≡ false
+has_method : (method : ℕ) → not (is_among (method_names (methods_at kinds 3)) (dictionary_method method)) ≡ false
 unfolding counter_kind dictionary_kind register_kind set_kind
 has_method zero = refl
 has_method (suc zero) = refl
 has_method (suc (suc method)) = refl
 
 right_count : (method count : ℕ) → count ≡ slots_of method
-    → not (count == kind_slots_at (methods_at kinds 3) (place (method_names (methods_at kinds 3)) (method_name method))) ≡ false
+    → not (count == kind_slots_at (methods_at kinds 3) (place (method_names (methods_at kinds 3)) (dictionary_method method))) ≡ false
 unfolding counter_kind dictionary_kind register_kind set_kind
 right_count zero count is = ap (λ n. not (n == 3)) is
 right_count (suc zero) count is = ap (λ n. not (n == 2)) is
@@ -66,14 +66,14 @@ module _ (limits : Limits) (before : List Line) (joined : List (List ℕ)) (ahea
   running thread not_joined = ap (λ js. is_among js thread) k.joined_are ∙ not_joined
 
   pub call_fine : (thread : List ℕ) (method : ℕ) (slots : List Value) → is_among threads thread ≡ true → is_among joined thread ≡ false → length slots ≡ slots_of method
-      → IsFine (first_broken kinds limits before (Event (Call thread (codes "d") (method_name method) slots)))
+      → IsFine (first_broken kinds limits before (Event (Call thread (codes "d") (dictionary_method method) slots)))
   unfolding first_broken
   call_fine thread method slots among not_joined count =
-      fine_causes (is_broken kinds before (Event (Call thread (codes "d") (method_name method) slots))) limits before
+      fine_causes (is_broken kinds before (Event (Call thread (codes "d") (dictionary_method method) slots))) limits before
       (ap (λ n. n == 0) k.headers_are) refl refl (ap (λ b. b || false) (known thread among)) (running thread not_joined) refl refl
       (ap (λ os. not (is_among os (codes "d"))) k.objects_are)
-      (ap (λ ms. not (is_among (method_names ms) (method_name method))) methods_are ∙ has_method method)
-      (ap (λ ms. not (length slots == kind_slots_at ms (place (method_names ms) (method_name method)))) methods_are ∙ right_count method (length slots) count)
+      (ap (λ ms. not (is_among (method_names ms) (dictionary_method method))) methods_are ∙ has_method method)
+      (ap (λ ms. not (length slots == kind_slots_at ms (place (method_names ms) (dictionary_method method)))) methods_are ∙ right_count method (length slots) count)
       (λ holder. refl) refl
 
   pub join_fine : (child : List ℕ) → is_among threads child ≡ true → is_among joined (codes "main") ≡ false → same_name child (codes "main") ≡ false

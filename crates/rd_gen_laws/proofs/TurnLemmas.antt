@@ -4,7 +4,7 @@ use Rattle.std.specs.Prelude.{◌==◌, codes, cond, if◌then◌else◌}
 use Rattle.rd_base.specs.declared.limits.Limits.{Limits}
 use Rattle.rd_event.specs.declared.items.Line.{Line}
 use Rattle.rd_event.specs.declared.items.Line.TheVariants.{Header, Thread, Object}
-use Rattle.rd_gen.specs.Generated.{acquire_of, arguments_of, call_line, call_of, choice_of, closing, entries_after, fork_of, generated, join_of, method_name, method_of, next_number, opening, release_of, result_in, turns, worker_name, worker_of}
+use Rattle.rd_gen.specs.Generated.{acquire_of, arguments_chosen, call_line, call_of, choice_of, closing_lines, entries_after, fork_of, generated, join_of, dictionary_method, method_chosen, next_number, opening_lines, release_of, result_in, lines_of_turns, worker_name, worker_of}
 use Rattle.rd_gen_command.specs.GeneratedWalks.{walk_items}
 use Rattle.rd_gen_laws.proofs.CauseLemmas.{IsFine, fine_causes, fine_step}
 use Rattle.rd_gen_laws.proofs.KnownLemmas.{Knows, held_by, kinds, knows_opening, nobody}
@@ -25,12 +25,12 @@ module _ (limits : Limits) where
       → IsWellEnded (walk_items kinds limits before number (call_of choice entries ∷ lines))
   unfolding call_line
   call_step before ahead number choice entries lines k rest =
-      let result = result_in (dictionary_row (method_of choice) (arguments_of choice) entries) in
-      let slots = arguments_of choice ++ result ∷ [] in
-      let count = slots_length (method_of choice) (choice / 16 % 32) (choice / 512) result in
+      let result = result_in (dictionary_row (method_chosen choice) (arguments_chosen choice) entries) in
+      let slots = arguments_chosen choice ++ result ∷ [] in
+      let count = slots_length (method_chosen choice) (choice / 16 % 32) (choice / 512) result in
       fine_step kinds limits before number (call_of choice entries) lines
-      (call_fine limits before [] ahead k (worker_of choice) (method_of choice) slots (worker_known (choice % 4)) refl count)
-      (rest (call_knows limits before [] ahead k (worker_of choice) (method_name (method_of choice)) slots))
+      (call_fine limits before [] ahead k (worker_of choice) (method_chosen choice) slots (worker_known (choice % 4)) refl count)
+      (rest (call_knows limits before [] ahead k (worker_of choice) (dictionary_method (method_chosen choice)) slots))
 
   -- behind the last line
   last_end : (before : List Line) (joined : List (List ℕ)) (number : ℕ) → Knows before joined nobody → IsWellEnded (walk_items kinds limits before number [])
@@ -50,7 +50,7 @@ module _ (limits : Limits) where
   last_fine before entries k =
       call_fine limits before (worker_name 0 ∷ worker_name 1 ∷ worker_name 2 ∷ worker_name 3 ∷ []) nobody k (codes "main") 2 (result_in (dictionary_row 2 [] entries) ∷ []) refl refl refl
 
-  closing_end : (before : List Line) (number : ℕ) (entries : Entries) → Knows before [] nobody → IsWellEnded (walk_items kinds limits before number (closing entries))
+  closing_end : (before : List Line) (number : ℕ) (entries : Entries) → Knows before [] nobody → IsWellEnded (walk_items kinds limits before number (closing_lines entries))
   closing_end before number entries k =
       let last = call_line (codes "main") 2 [] entries in
       let b1 = before ++ join_of 0 ∷ [] in
@@ -72,20 +72,20 @@ module _ (limits : Limits) where
       (fine_step kinds limits b4 (number + 1 + 1 + 1 + 1) last [] (last_fine b4 entries k4) (last_call b4 j4 (number + 1 + 1 + 1 + 1) entries k4)))))
 
   turns_end : (locked : Bool) (calls number : ℕ) (entries : Entries) (before : List Line) (at : ℕ) → Knows before [] nobody
-      → IsWellEnded (walk_items kinds limits before at (turns locked calls number entries))
+      → IsWellEnded (walk_items kinds limits before at (lines_of_turns locked calls number entries))
   turns_end locked zero number entries before at k = closing_end before at entries k
   turns_end false (suc calls) number entries before at k =
       let next = next_number number in
       let choice = choice_of next in
       let after = entries_after choice entries in
-      call_step before nobody at choice entries (turns false calls next after) k
+      call_step before nobody at choice entries (lines_of_turns false calls next after) k
       (λ known. turns_end false calls next after (before ++ call_of choice entries ∷ []) (at + 1) known)
   turns_end true (suc calls) number entries before at k =
       let next = next_number number in
       let choice = choice_of next in
       let after = entries_after choice entries in
       let worker = worker_of choice in
-      let rest = turns true calls next after in
+      let rest = lines_of_turns true calls next after in
       let b1 = before ++ acquire_of choice ∷ [] in
       let b2 = b1 ++ call_of choice entries ∷ [] in
       let b3 = b2 ++ release_of choice ∷ [] in
@@ -96,7 +96,7 @@ module _ (limits : Limits) where
       (release_fine limits b2 [] (held_by worker) known worker (worker_known (choice % 4)) refl (ap {B = ℕ} (λ b. cond b 1 0) (worker_same (choice % 4))))
       (turns_end true calls next after b3 (at + 1 + 1 + 1) (release_knows limits b2 [] (held_by worker) known worker (λ other. refl)))))
 
-  opening_end : (rest : List Line) → IsWellEnded (walk_items kinds limits opening 8 rest) → IsWellEnded (walk_items kinds limits [] 1 (opening ++ rest))
+  opening_end : (rest : List Line) → IsWellEnded (walk_items kinds limits opening_lines 8 rest) → IsWellEnded (walk_items kinds limits [] 1 (opening_lines ++ rest))
   unfolding first_broken counter_kind dictionary_kind register_kind set_kind
   opening_end rest end =
       let l1 = Header 1 in
@@ -127,4 +127,4 @@ module _ (limits : Limits) where
 pub lines_end : (limits : Limits) (number calls : ℕ) → IsWellEnded (walk_items kinds limits [] 1 (generated number calls))
 unfolding generated
 lines_end limits number calls =
-    opening_end limits (turns (number % 2 == 0) calls (number % 65536) []) (turns_end limits (number % 2 == 0) calls (number % 65536) [] opening 8 knows_opening)
+    opening_end limits (lines_of_turns (number % 2 == 0) calls (number % 65536) []) (turns_end limits (number % 2 == 0) calls (number % 65536) [] opening_lines 8 knows_opening)

@@ -5,9 +5,9 @@ use Rattle.std.proofs.lemmas.Bool.{cases_eq, cases_Bool}
 use Rattle.std.proofs.lemmas.Bool.Decides.{not_from_Decides}
 use Rattle.std.proofs.lemmas.Option.{slice_get_within, same_Some}
 use Rattle.rd_event.specs.declared.events.Event.{Event}
-use Rattle.rd_order.specs.Order.{thread_of, same_thread, Reaches}
+use Rattle.rd_order.specs.Order.{IsOf, Reaches, same_thread, thread_of}
 use Rattle.rd_order.specs.OrderTests.{reaches}
-use Rattle.rd_hb.specs.EventClocks.{IsOf, OwnNumber, IsClock}
+use Rattle.rd_hb.specs.EventClocks.{OwnNumber, IsClock}
 use Rattle.rd_order.proofs.CountsLemmas.{Front, covers, counted, counts_bound, counts_cut, counts_like, counts_same}
 use Rattle.rd_order.proofs.OrderLemmas.{at_front, edge_reaches, reaches_decides, reaches_joined, reaches_longer, reaches_rises, reaches_shorter}
 

@@ -7,8 +7,8 @@ use Rattle.std.proofs.lemmas.Option.{none-some, same_Some}
 use Rattle.rd_event.specs.declared.events.Event.{Event}
 use Rattle.rd_hb.specs.ClockTests.{count_below, is_of, clock_at}
 use Rattle.rd_order.specs.Counts.{Counts}
-use Rattle.rd_hb.specs.EventClocks.{IsOf, IsClock}
-use Rattle.rd_order.specs.Order.{thread_of, Reaches}
+use Rattle.rd_hb.specs.EventClocks.{IsClock}
+use Rattle.rd_order.specs.Order.{IsOf, Reaches, thread_of}
 use Rattle.rd_order.specs.OrderTests.{reaches}
 use Rattle.rd_order.proofs.OrderLemmas.{reaches_decides}
 

@@ -4,10 +4,9 @@ use Rattle.std.specs.Prelude.{slice_get}
 use Rattle.std.proofs.lemmas.Bool.{cases_lt}
 use Rattle.std.proofs.lemmas.Option.{slice_get_within, same_Some}
 use Rattle.rd_event.specs.declared.events.Event.{Event}
-use Rattle.rd_order.specs.Order.{thread_of, forked_thread, joined_thread, Against, Hold, exclusive, hold_taken, hold_given, Linked, same_thread, begins, ends, spans, hands_over, Reaches}
+use Rattle.rd_order.specs.Order.{Against, GivesBack, Hold, IsOf, Linked, Reaches, begins, ends, exclusive, forked_thread, hands_over, hold_given, hold_taken, joined_thread, same_thread, spans, thread_of}
 use Rattle.rd_order.specs.EventLists.{WellFormed}
-use Rattle.rd_hb.specs.EventClocks.{IsOf}
-use Rattle.rd_hb.specs.Knows.{Carries, GivesBack, Knows}
+use Rattle.rd_hb.specs.Knows.{Carries, Knows}
 use Rattle.rd_order.proofs.CountsLemmas.{Front}
 use Rattle.rd_order.proofs.LockLemmas.{holds_reach}
 use Rattle.rd_order.proofs.OrderLemmas.{at_front, at_end, edge_reaches, length_more, reaches_joined, reaches_last, reaches_longer, reaches_rises, reaches_shorter}

@@ -5,11 +5,11 @@ use Rattle.std.proofs.lemmas.Bool.{cases_eq, cases_lt}
 use Rattle.rd_event.specs.declared.events.Event.{Event}
 use Rattle.rd_order.specs.Counts.{Counts}
 use Rattle.rd_order.specs.EventLists.{IsKnownThread, WellFormed}
-use Rattle.rd_order.specs.Order.{exclusive, forked_thread}
+use Rattle.rd_order.specs.Order.{GivesBack, IsOf, exclusive, forked_thread}
 use Rattle.rd_order.proofs.CountsLemmas.{counts_le, covers}
 use Rattle.rd_order.proofs.EventListLemmas.{known_later, may_follow_at}
-use Rattle.rd_hb.specs.EventClocks.{IsOf, OwnNumber}
-use Rattle.rd_hb.specs.Knows.{Carries, GivesBack, Knows, KnownCount}
+use Rattle.rd_hb.specs.EventClocks.{OwnNumber}
+use Rattle.rd_hb.specs.Knows.{Carries, Knows, KnownCount}
 use Rattle.rd_clock.specs.Clock.{component}
 use Rattle.rd_clock.specs.declared.clock.Stamp.{Stamp}
 use Rattle.rd_hb.specs.Tracker.{IsLastRelease, clock_of}

@@ -6,10 +6,10 @@ use Rattle.std.proofs.lemmas.Bool.Decides.{not_from_Decides}
 use Rattle.std.proofs.lemmas.Option.{none-some, same_Some}
 use Rattle.rd_event.specs.declared.events.Event.{Event}
 use Rattle.rd_event.specs.declared.events.Event.TheVariants.{Fork, Join, Acquire, Release, Share, Unshare, Call}
-use Rattle.rd_order.specs.Order.{thread_of, forked_thread, joined_thread, Against, Hold, exclusive, shared, hold_taken, hold_given, Reaches}
+use Rattle.rd_order.specs.Order.{Against, GivesBack, Hold, IsOf, Reaches, exclusive, forked_thread, hold_given, hold_taken, joined_thread, shared, thread_of}
 use Rattle.rd_order.specs.Counts.{Counts}
-use Rattle.rd_hb.specs.EventClocks.{IsOf, OwnNumber, IsClock}
-use Rattle.rd_hb.specs.Knows.{Carries, GivesBack, Knows, KnownCount}
+use Rattle.rd_hb.specs.EventClocks.{OwnNumber, IsClock}
+use Rattle.rd_hb.specs.Knows.{Carries, Knows, KnownCount}
 use Rattle.rd_hb.specs.TrackerParts.{news_of, known_with_news, clock_after, gathered, known_after, handed_after}
 use Rattle.rd_order.proofs.CountsLemmas.{counts_bound, counts_cut, counts_like, counts_max, counts_more, counts_none, counts_same}
 use Rattle.rd_order.proofs.EventListLemmas.{exclusive_not_shared}

@@ -12,17 +12,17 @@ use Rattle.rd_event.specs.declared.events.Event.TheVariants.{Fork, Join, Acquire
 use Rattle.rd_clock.specs.Clock.{component, IsTick}
 use Rattle.rd_clock.specs.declared.clock.Stamp.{Stamp}
 use Rattle.rd_order.specs.EventLists.{forks, joins, IsKnownThread, MayHappen, WellFormed, threads_after, is_hold}
-use Rattle.rd_order.specs.Order.{thread_of, forked_thread, joined_thread, Hold, exclusive, shared, hold_given}
+use Rattle.rd_order.specs.Order.{GivesBack, Hold, IsOf, exclusive, forked_thread, hold_given, joined_thread, shared, thread_of}
 use Rattle.rd_order.specs.OrderTests.{is_this}
 use Rattle.rd_order.proofs.CountsLemmas.{counts_all, counts_le}
 use Rattle.rd_order.proofs.EventListLemmas.{exclusive_not_shared, forks_more, formed_more, known_later, known_more, may_follow_at}
 use Rattle.rd_order.proofs.HoldLemmas.{hold_decides}
 use Rattle.rd_order.proofs.OrderLemmas.{at_end}
-use Rattle.rd_hb.specs.EventClocks.{IsClock, IsOf, OwnNumber}
-use Rattle.rd_hb.specs.Knows.{Carries, GivesBack, Knows, KnownCount}
+use Rattle.rd_hb.specs.EventClocks.{IsClock, OwnNumber}
+use Rattle.rd_hb.specs.Knows.{Carries, Knows, KnownCount}
 use Rattle.rd_hb.specs.declared.tracker.Tracked.{Tracked}
 use Rattle.rd_hb.specs.Tracker.{TrackedLocks, Tracking, clock_of, handed_by, known_to, last_stamp, no_thread, last_release, tracked_thread, unshared, IsLastRelease, IsNextEvent, IsStamp, TrackerStandsFor}
-use Rattle.rd_hb.specs.TrackerParts.{news_of, clock_after, handed_after, heard_from, known_after, IsAlike, IsBegun, IsCounted, IsHeard, IsLearnt, IsReleased, IsUnshared}
+use Rattle.rd_hb.specs.TrackerParts.{news_of, clock_after, handed_after, heard_from, known_after, IsAlike, IsForked, IsCounted, IsHeard, IsLearnt, IsReleased, IsUnshared}
 use Rattle.rd_hb.proofs.ClockLemmas.{is_of_longer, own_number_longer}
 use Rattle.rd_hb.proofs.KeptLemmas.{tracked_push}
 use Rattle.rd_hb.proofs.KnowsLemmas.{gives_longer, gives_within, last_is_of, other_gives}
@@ -116,7 +116,7 @@ root_stands old new roots thread x numbered pushed same nothing running stands =
 -- ---- a thread is begun
 
 pub begins_push : (old : List Tracked) (thread child : ℕ) (clock : List ℕ) → child ≡ length old → IsTick (tracked_thread old thread).clock clock thread
-    → IsBegun thread child old (old ++ record { clock = clock; events = 0; joined = false } ∷ [])
+    → IsForked thread child old (old ++ record { clock = clock; events = 0; joined = false } ∷ [])
 begins_push old thread child clock numbered ticks = record {
   count = length-append old (record { clock = clock; events = 0; joined = false } ∷ []);
   others = λ t other. tracked_push old (record { clock = clock; events = 0; joined = false }) t ∙ rw (ne_eqb t (length old) (λ last. other (last ∙ sym numbered))) refl;
@@ -197,7 +197,7 @@ nothing_learnt thread threads = record {
 
 -- a fork
 pub fork_tracks : (thread child : ℕ) (old new : Tracking) (middle : List Tracked) (stamp : Stamp) → thread < length old.threads → child ≡ length old.threads
-    → IsBegun thread child old.threads middle → IsCounted thread middle new.threads stamp → new.locks ≡ old.locks → Tracks (Fork thread child) old new stamp
+    → IsForked thread child old.threads middle → IsCounted thread middle new.threads stamp → new.locks ≡ old.locks → Tracks (Fork thread child) old new stamp
 fork_tracks thread child old new middle stamp inside numbered begun is locks = record {
   thread = is.thread_is;
   number = is.number ∙ ap (λ x. component x.clock thread + 1) (begun.others thread apart);
@@ -517,7 +517,7 @@ ok_unshare old new thread lock (Ok value) is gives same = λ roots es next.
 ok_unshare old new thread lock (Err error) is gives same = tt
 
 pub ok_fork : {A E : Type 0} (old new : Tracking) (thread child : ℕ) (result : Result A E)
-    → OnOk result ((middle : List Tracked) × IsBegun thread child old.threads middle × IsCounted thread middle new.threads (last_stamp new.threads thread))
+    → OnOk result ((middle : List Tracked) × IsForked thread child old.threads middle × IsCounted thread middle new.threads (last_stamp new.threads thread))
     → new.locks ≡ old.locks → Answers old new (Fork thread child) result
 ok_fork old new thread child (Ok value) is locks = λ roots es next.
     fork_tracks thread child old new is.0 (last_stamp new.threads thread) (next_inside old roots es (Fork thread child) next) (next.numbered child refl) is.1 is.2 locks

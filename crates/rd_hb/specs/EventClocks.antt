@@ -2,11 +2,7 @@
 use Rattle.std.specs.Prelude.{◌≡◌, ◌⊎◌, ℕ, suc, List, length, Some, slice_get}
 use Rattle.rd_event.specs.declared.events.Event.{Event}
 use Rattle.rd_order.specs.Counts.{Counts}
-use Rattle.rd_order.specs.Order.{thread_of, Reaches}
-
--- the event at place i is of thread t
-abbrev pub IsOf : List Event → ℕ → ℕ → Type 0
-IsOf es t i = (e : Event) × (slice_get es i ≡ Some e) × (thread_of e ≡ t)
+use Rattle.rd_order.specs.Order.{IsOf, Reaches, thread_of}
 
 -- the event at place i is the o-th of thread t, counted from 1
 abbrev pub OwnNumber : List Event → ℕ → ℕ → ℕ → Type 0

@@ -1,19 +1,14 @@
 -- What is known after a list of events: what a clock counts that carries on from some places (Fidge 1988 and Mattern 1989).
 use Rattle.std.specs.Prelude.{◌≡◌, ◌⊎◌, ℕ, List, length, Some, slice_get}
 use Rattle.rd_event.specs.declared.events.Event.{Event}
-use Rattle.rd_order.specs.Order.{forked_thread, Hold, hold_given, Reaches}
+use Rattle.rd_order.specs.Order.{Hold, IsOf, Reaches, forked_thread, hold_given}
 use Rattle.rd_order.specs.Counts.{Counts}
-use Rattle.rd_hb.specs.EventClocks.{IsOf}
 
 -- ---- where a clock carries on from
 
 -- thread t carries on from place m: its event is of t, or forks t
 abbrev pub Carries : List Event → ℕ → ℕ → Type 0
 Carries es t m = IsOf es t m ⊎ ((e : Event) × (slice_get es m ≡ Some e) × (forked_thread e ≡ Some t))
-
--- and a hold, where its event gives the hold back
-abbrev pub GivesBack : List Event → Hold → ℕ → Type 0
-GivesBack es hold m = (e : Event) × (slice_get es m ≡ Some e) × (hold_given e ≡ Some hold)
 
 -- ---- what is known there
 

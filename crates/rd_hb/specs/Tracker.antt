@@ -3,10 +3,10 @@ use Rattle.std.specs.Prelude.{◌≡◌, ◌↔◌, ◌⊎◌, ℕ, ◌*◌, ◌
 use Rattle.rd_event.specs.declared.events.Event.{Event}
 use Rattle.rd_event.specs.declared.events.Event.TheVariants.{Fork, Join, Acquire, Release, Share, Unshare, Call}
 use Rattle.rd_clock.specs.Clock.{component}
-use Rattle.rd_hb.specs.EventClocks.{IsOf, OwnNumber, IsClock}
+use Rattle.rd_hb.specs.EventClocks.{OwnNumber, IsClock}
 use Rattle.rd_order.specs.EventLists.{IsKnownThread, WellFormed, joins}
-use Rattle.rd_hb.specs.Knows.{Carries, GivesBack, KnownCount}
-use Rattle.rd_order.specs.Order.{thread_of, forked_thread, Hold, exclusive, shared}
+use Rattle.rd_hb.specs.Knows.{Carries, KnownCount}
+use Rattle.rd_order.specs.Order.{GivesBack, Hold, IsOf, exclusive, forked_thread, shared, thread_of}
 use Rattle.rd_clock.specs.declared.clock.Stamp.{Stamp}
 use Rattle.rd_hb.specs.declared.tracker.Tracked.{Tracked}
 

@@ -105,7 +105,7 @@ pub record IsCounted (thread : ℕ) (old new : List Tracked) (stamp : Stamp) : T
   pub clock : IsTick (tracked_thread old thread).clock stamp.clock thread
 
 -- the next thread is known, with the clock that another has after its next event
-pub record IsBegun (thread child : ℕ) (old new : List Tracked) : Type 0 where
+pub record IsForked (thread child : ℕ) (old new : List Tracked) : Type 0 where
   pub count : length new ≡ length old + 1
   pub others : (t : ℕ) → t ≢ child → tracked_thread new t ≡ tracked_thread old t
   pub clock : IsTick (tracked_thread old thread).clock (tracked_thread new child).clock thread

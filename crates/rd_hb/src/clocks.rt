@@ -3,8 +3,8 @@ ghost use Rattle.std.specs.Prelude.{◌↔◌, ◌≡◌, ℕ, ◌<◌, ◌≤�
 ghost use Rattle.rd_event.specs.declared.events.Event.{Event};
 ghost use Rattle.rd_event.specs.declared.events.Event.TheVariants.{Fork, Join};
 ghost use Rattle.rd_hb.specs.ClockTests.{clock_at};
-ghost use Rattle.rd_hb.specs.EventClocks.{IsOf, OwnNumber, IsClock};
-ghost use Rattle.rd_order.specs.Order.{Reaches};
+ghost use Rattle.rd_hb.specs.EventClocks.{OwnNumber, IsClock};
+ghost use Rattle.rd_order.specs.Order.{IsOf, Reaches};
 
 /// Each place has one clock, which a test computes. The clock of a later place covers the own number of an event exactly where
 /// the event reaches that place, and the clock at an event's own thread is its own number. Events that

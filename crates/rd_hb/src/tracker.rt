@@ -7,7 +7,7 @@ ghost use Rattle.rd_order.specs.Order.{exclusive, shared, thread_of};
 ghost use Rattle.rd_clock.specs.Clock.{component, IsTick};
 ghost use Rattle.rd_clock.specs.Stamps.{lent_stamp};
 ghost use Rattle.rd_hb.specs.Tracker.{IsNextEvent, IsStamp, MayGrow, TrackerStandsFor, event_bound, handed_by, known_to, last_stamp, last_release, tracked_thread, unshared};
-ghost use Rattle.rd_hb.specs.TrackerParts.{IsBegun, IsCounted, IsHeard, IsLearnt, IsReleased, IsShared, IsUnshared, heard_from};
+ghost use Rattle.rd_hb.specs.TrackerParts.{IsForked, IsCounted, IsHeard, IsLearnt, IsReleased, IsShared, IsUnshared, heard_from};
 ghost use Rattle.rd_hb.specs.declared.tracker.Tracked.{Tracked as TrackedOf};
 
 mod floor;
@@ -17,6 +17,7 @@ use locks::{Release, SharedClock, gather, join_release, join_unshares, reserve_i
 use rd_base::{NoMemory, Steps};
 use rd_clock::{Clock, Stamp, StampRef};
 use rd_event::Event;
+use rd_order::thread_of;
 use std::alloc::Global;
 use std::marker::Model;
 use std::mem;
@@ -118,7 +119,7 @@ impl Tracker {
         ensures cost { steps.new ≤ steps.old + event_bound event.now
             (threads_after event.now (length self.old.threads)) }
     {
-        let thread = actor(event);
+        let thread = thread_of(event);
         let memory = Vec::with_capacity(self.alloc, self.threads.len())?;
         self.pass(event, steps)?;
         let own = &self.threads[thread as usize];
@@ -248,7 +249,7 @@ impl Tracker {
         requires below { known_to self.old.threads thread thread < 4294967295 }
 
         // the child begins, and the locks stay
-        ensures ok { OnOk result (IsBegun thread child self.old.threads self.new.threads) }
+        ensures ok { OnOk result (IsForked thread child self.old.threads self.new.threads) }
         ensures room { OnOk result
             (length (tracked_thread self.new.threads thread).clock ≤ length self.old.threads) }
         ensures locks { self.new.locks ≡ self.old.locks }
@@ -424,7 +425,7 @@ impl Tracker {
 
         // the child begins, and the locks stay
         ensures ok { OnOk result
-            ((middle : List TrackedOf) × IsBegun thread child self.old.threads middle ×
+            ((middle : List TrackedOf) × IsForked thread child self.old.threads middle ×
             IsCounted thread middle self.new.threads (last_stamp self.new.threads thread)) }
         ensures room { OnOk result
             (length (tracked_thread self.new.threads thread).clock ≤ length self.old.threads) }
@@ -799,21 +800,6 @@ impl Tracker {
         self.tick(thread, steps);
         self.gather_unshare(lock, thread, steps);
         Ok(())
-    }
-}
-
-/// The thread of an event.
-fn actor(event: &Event) -> u32
-    ensures { result ≡ thread_of event.now }
-{
-    match event {
-        Event::Fork { thread, .. }
-        | Event::Join { thread, .. }
-        | Event::Acquire { thread, .. }
-        | Event::Release { thread, .. }
-        | Event::Share { thread, .. }
-        | Event::Unshare { thread, .. } => *thread,
-        Event::Call(call) => call.thread,
     }
 }
 

@@ -138,16 +138,16 @@ HasLine r = Contains (take r.room r.pending) line_feed
 
 -- What an answer says of the lines that were still to come, where these bytes were taken in the call. A line is the next of
 -- them and leaves the others to come, whatever comes behind the bytes; so do bytes that hold no line when a read fails.
-abbrev pub Tells : Reader → List ℕ → Reader → Result Next ReadEnd → Type 0
-Tells old bytes new (Ok next.Line) =
+abbrev pub TellsNext : Reader → List ℕ → Reader → Result Next ReadEnd → Type 0
+TellsNext old bytes new (Ok next.Line) =
     (stop : Stop) (more : List ℕ) → lines_left old stop (bytes ++ more) ≡ line new.line (lines_left new stop more)
-Tells old bytes new (Ok next.End) = lines_left old end bytes ≡ stops at_end
-Tells old bytes new (Err read_end.ReadFault) =
+TellsNext old bytes new (Ok next.End) = lines_left old end bytes ≡ stops at_end
+TellsNext old bytes new (Err read_end.ReadFault) =
     ((stop : Stop) (more : List ℕ) → lines_left old stop (bytes ++ more) ≡ lines_left new stop more)
     × (lines_left old fault bytes ≡ stops faulted)
-Tells old bytes new (Err read_end.LineTooLong) = (stop : Stop) (more : List ℕ) → lines_left old stop (bytes ++ more) ≡ stops line_too_long
-Tells old bytes new (Err read_end.BytesLimit) = (stop : Stop) (more : List ℕ) → lines_left old stop (bytes ++ more) ≡ stops bytes_limit
-Tells old bytes new (Err read_end.NoFinalNewline) = (lines_left old end bytes ≡ stops no_final_newline) × (new.line ≡ old.pending ++ bytes)
+TellsNext old bytes new (Err read_end.LineTooLong) = (stop : Stop) (more : List ℕ) → lines_left old stop (bytes ++ more) ≡ stops line_too_long
+TellsNext old bytes new (Err read_end.BytesLimit) = (stop : Stop) (more : List ℕ) → lines_left old stop (bytes ++ more) ≡ stops bytes_limit
+TellsNext old bytes new (Err read_end.NoFinalNewline) = (lines_left old end bytes ≡ stops no_final_newline) × (new.line ≡ old.pending ++ bytes)
 
 -- where the reader stands after an answer, where these bytes were taken in the call
 abbrev pub Leaves : Reader → List ℕ → Reader → Result Next ReadEnd → Type 0
@@ -161,7 +161,7 @@ Leaves old bytes new (Err read_end.NoFinalNewline) = new ≡ with_rest (with_mor
 -- What an answer says of the lines to come and where it leaves the reader, where these bytes were taken in the call: no
 -- more than one past the limit on bytes, and with the pending ones no more than a line may have.
 pub record IsAnswered (old : Reader) (bytes : List ℕ) (new : Reader) (result : Result Next ReadEnd) : Type 0 where
-  pub tells : Tells old bytes new result
+  pub tells : TellsNext old bytes new result
   pub leaves : Leaves old bytes new result
   pub past : length (old.pending ++ bytes) ≤ old.room + 1
   pub fits : length (old.pending ++ bytes) ≤ old.limit

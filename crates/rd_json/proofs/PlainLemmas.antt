@@ -19,7 +19,7 @@ use Rattle.rd_print.specs.Printed.{pair_text}
 use Rattle.rd_reading.specs.RefusedTexts.{reason_text, spec_cause_text}
 use Rattle.rd_pairs.specs.declared.spec_causes.SpecCause.{SpecCause}
 use Rattle.rd_pairs.specs.declared.spec_causes.SpecCause.TheVariants.{Header, Syntax, UnknownMethod, UnknownVariable, NoVariable, OutsideFragment, Duplicate, MissingPair, KindTaken, Limit}
-use Rattle.rd_report.specs.Races.{formula_line, formula_words}
+use Rattle.rd_report.specs.Races.{formula_line, formula_line_words}
 use Rattle.rd_report.specs.Writing.{ArePlain}
 use Rattle.rd_report.proofs.PlainLemmas.{decimal_plain, limit_cause_plain, name_plain, plain_both, written_plain}
 use Rattle.rd_json.specs.Json.{string_byte}
@@ -71,8 +71,8 @@ escapes bytes plain = escapes_are bytes (each_by_recursion (λ b. is_plain b ≡
 
 -- ---- formulas
 
-pub formula_split : (kind : SpecifiedKind) (first second : ℕ) → formula_line kind first second ≡ codes "formula " ++ formula_words kind first second ++ codes "\n"
-unfolding formula_line formula_words
+pub formula_split : (kind : SpecifiedKind) (first second : ℕ) → formula_line kind first second ≡ codes "formula " ++ formula_line_words kind first second ++ codes "\n"
+unfolding formula_line formula_line_words
 formula_split kind first second = regroup (codes "formula ") kind.name (codes " ") (pair_text kind first second) (codes "\n")
   where
     regroup : (a b c d e : List ℕ) → a ++ b ++ c ++ d ++ e ≡ a ++ (b ++ c ++ d) ++ e

@@ -4,7 +4,7 @@ use Rattle.rd_ecl.specs.Specified.{SpecifiedKind, kind_at}
 use Rattle.rd_event.specs.declared.events.Call.{Call}
 use Rattle.rd_reading.specs.RefusedTexts.{spec_cause_text}
 use Rattle.rd_reading.specs.declared.parsing.SpecRefused.{SpecRefused as Refusal}
-use Rattle.rd_report.specs.Races.{Told, clock_text, formula_words, named_call}
+use Rattle.rd_report.specs.Races.{Told, clock_text, formula_line_words, named_call}
 use Rattle.rd_report.specs.Texts.{Naming, refused_words, replay_words, verdict_words}
 use Rattle.rd_report.specs.declared.endings.Ending.{Ending}
 use Rattle.rd_report.specs.declared.endings.Ending.TheVariants.{End, Refused, Fault}
@@ -28,7 +28,7 @@ told_json kinds naming told =
 
 -- the formula that two calls fail
 abbrev pub failed_words : List SpecifiedKind → Call → Call → List ℕ
-failed_words kinds a b = formula_words (kind_at kinds a.kind) (min a.method b.method) (max a.method b.method)
+failed_words kinds a b = formula_line_words (kind_at kinds a.kind) (min a.method b.method) (max a.method b.method)
 
 -- the line of a race: the earlier call, the formula that the calls fail, and the later call
 unfoldable pub race_json : List SpecifiedKind → Naming → Told → Told → List ℕ

@@ -4,7 +4,7 @@ ghost use Rattle.serde_json.specs.View.{view};
 ghost use Rattle.rd_ecl.specs.Specified.{kind_at};
 ghost use Rattle.rd_json.specs.Json.{failed_words, race_json, told_json};
 ghost use Rattle.rd_json.specs.Values.{IsPlainCall, told_value};
-ghost use Rattle.rd_report.specs.Races.{IsKnownRace, IsNamed, formula_line, formula_words, told_by};
+ghost use Rattle.rd_report.specs.Races.{IsKnownRace, IsNamed, formula_line, formula_line_words, told_by};
 ghost use Rattle.rd_report.specs.Texts.{Naming, naming_in};
 ghost use Rattle.rd_report.specs.Writing.{ArePlain};
 
@@ -59,8 +59,8 @@ fn append_told(
 fn formula_inside<'a>(kind: &KindSpec, first: u8, second: u8, line: &'a [u8]) -> &'a [u8]
     requires methods { (first ≤ second) × (second < length kind.now.methods) }
     requires line { line.now ≡ formula_line kind.now first second }
-    ensures words { result.now ≡ formula_words kind.now first second }
-    ensures plain { ArePlain (formula_words kind.now first second) }
+    ensures words { result.now ≡ formula_line_words kind.now first second }
+    ensures plain { ArePlain (formula_line_words kind.now first second) }
 {
     // its clause says what is known of a kind
     let _methods = kind.methods();

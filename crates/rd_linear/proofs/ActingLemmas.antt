@@ -10,7 +10,7 @@ use Rattle.rd_order.proofs.OrderLemmas.{reaches_decides}
 use Rattle.rd_order.specs.OrderTests.{reaches}
 use Rattle.rd_linear.proofs.OrderLemmas.{range_at, range_below}
 use Rattle.rd_linear.proofs.TurnLemmas.{found_passes, turns_linear}
-use Rattle.rd_linear.specs.Lanes.{HaveThreads, IsRising, order_by, thread_at}
+use Rattle.rd_linear.specs.Lanes.{HaveThreads, AreThreadsRising, order_by, thread_at}
 use Rattle.rd_linear.specs.Linear.{Stands}
 use Rattle.rd_linear.specs.Orders.{IsLinear}
 use Rattle.rd_linear.specs.Turns.{choices, is_placed, keep_if, ready_at, turns}
@@ -20,7 +20,7 @@ use Rattle.rd_linear.specs.Turns.{choices, is_placed, keep_if, ready_at, turns}
 module _ (f : ℕ → Option ℕ) where
   -- from a number on, it has all that give something
   record Has (from : ℕ) (ts : List ℕ) : Type 0 where
-    rising : IsRising ts
+    rising : AreThreadsRising ts
     above : (i t : ℕ) → slice_get ts i ≡ Some t → from ≤ t
     all : (t x : ℕ) → from ≤ t → f t ≡ Some x → Stands ts t
 
@@ -97,7 +97,7 @@ keep_some g (Some p) x is = by (g p) is
 
 -- the numbers rise, and each thread that acts is among them
 pub record HaveActing (es : List Event) (threads : List ℕ) : Type 0 where
-  pub rising : IsRising threads
+  pub rising : AreThreadsRising threads
   pub all : (p : ℕ) → p < length es → Stands threads (thread_at es p)
 
 pub have_acting : (es : List Event) (threads : List ℕ) → HaveThreads es threads → HaveActing es threads

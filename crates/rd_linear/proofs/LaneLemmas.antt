@@ -13,7 +13,7 @@ use Rattle.rd_order.proofs.OrderLemmas.{reaches_rises}
 use Rattle.rd_linear.specs.declared.lanes.Lane.{Lane}
 use Rattle.rd_linear.specs.declared.waits.Part.{Part}
 use Rattle.rd_linear.specs.declared.waits.Waits.{Waits}
-use Rattle.rd_linear.specs.Lanes.{IsRising, threads_in, are_over, is_over, is_seen, part_over, ready_in, thread_at, places_of, IsLane, AreLanes}
+use Rattle.rd_linear.specs.Lanes.{AreThreadsRising, threads_in, are_over, is_over, is_seen, part_over, ready_in, thread_at, places_of, IsLane, AreLanes}
 use Rattle.rd_linear.specs.Linear.{Marks, Placed, Stands}
 use Rattle.rd_linear.specs.Noting.{HaveWaits, IsPart}
 use Rattle.rd_linear.specs.Turns.{is_placed, keep_if, ready_at, choices}
@@ -180,7 +180,7 @@ threads_kept [] i lane next at same = refl
 threads_kept (l ∷ ls) zero lane next at same = ap (λ t. t ∷ threads_in ls) (same ∙ sym (ap (λ l. l.thread) (same_Some l lane at)))
 threads_kept (l ∷ ls) (suc i) lane next at same = ap (λ ts. l.thread ∷ ts) (threads_kept ls i lane next at same)
 
-apart : (lanes : List Lane) (i j : ℕ) (lane other : Lane) → IsRising (threads_in lanes) → slice_get lanes i ≡ Some lane → slice_get lanes j ≡ Some other → i ≢ j → lane.thread ≢ other.thread
+apart : (lanes : List Lane) (i j : ℕ) (lane other : Lane) → AreThreadsRising (threads_in lanes) → slice_get lanes i ≡ Some lane → slice_get lanes j ≡ Some other → i ≢ j → lane.thread ≢ other.thread
 apart lanes i j lane other rising at also differ same = elim (cases_lt i j) [
   | inl below ↦ (let l = rising i j lane.thread other.thread below (thread_at_lane lanes i lane at) (thread_at_lane lanes j other also) in omega (arith, l, same))
   | inr past ↦ (let l = rising j i other.thread lane.thread (omega (arith, past, differ)) (thread_at_lane lanes j other also) (thread_at_lane lanes i lane at) in omega (arith, l, same))
@@ -199,7 +199,7 @@ changed (l ∷ ls) (suc t) next (suc u) other is = elim (changed ls t next u oth
   | inr n ↦ inr (λ e. n.0 (omega (arith, e)), n.1)
 ]
 
-pub lanes_more : (es : List Event) (places : List ℕ) (lanes : List Lane) (t p : ℕ) (lane next : Lane) → AreLanes es places lanes → IsRising (threads_in lanes) → slice_get lanes t ≡ Some lane
+pub lanes_more : (es : List Event) (places : List ℕ) (lanes : List Lane) (t p : ℕ) (lane next : Lane) → AreLanes es places lanes → AreThreadsRising (threads_in lanes) → slice_get lanes t ≡ Some lane
     → slice_get lane.places.items lane.given ≡ Some p → next.thread ≡ lane.thread → next.places.items ≡ lane.places.items → next.given ≡ lane.given + 1
     → AreLanes es (places ++ p ∷ []) (slice_set lanes t next)
 lanes_more es places lanes t p lane next are rising at picked thread items given u other is = elim (changed lanes t next u other is) [

@@ -5,11 +5,11 @@ use Rattle.std.proofs.lemmas.Bool.{cases_eq, eq-eqb, ne_eqb}
 use Rattle.std.proofs.lemmas.Option.{none-some, same_Some, slice_get_within}
 use Rattle.rd_event.specs.declared.events.Event.{Event}
 use Rattle.rd_event.specs.declared.events.Event.TheVariants.{Fork, Join, Acquire, Release, Share, Unshare, Call}
-use Rattle.rd_order.specs.Order.{Reaches, exclusive, shared, forked_thread, hands_over, hold_given, same_thread, thread_of}
+use Rattle.rd_order.specs.Order.{GivesBack, IsOf, Reaches, exclusive, forked_thread, hands_over, hold_given, same_thread, shared, thread_of}
 use Rattle.rd_order.proofs.OrderLemmas.{edge_reaches}
 use Rattle.rd_linear.specs.declared.waits.Notes.{Notes}
 use Rattle.rd_linear.specs.Linear.{Stands}
-use Rattle.rd_linear.specs.Noting.{AreNoted, AreUnsharesAfter, GivesBack, IsLastBelow, IsOf, IsReplaced, Touches, UsesLock, noted_at, noted_if, release_noted, released_lock, thread_noted, unshares_noted}
+use Rattle.rd_linear.specs.Noting.{AreNotedBelow, AreUnsharesAfter, IsLastBelow, IsReplaced, Touches, UsesLock, noted_at, noted_if, release_noted, lock_in_release, touch_noted, unshares_noted}
 use Rattle.rd_linear.proofs.LaneLemmas.{changed}
 use Rattle.rd_linear.proofs.LinearLemmas.{stands_last, stands_more, stands_still}
 
@@ -104,7 +104,7 @@ shareds a b e = cc
 not_shared : (a b : ℕ) → ¬ (Some (exclusive a) ≡ Some (shared b))
 not_shared a b e = cc
 
-released_gives : (e : Event) (lock : ℕ) → released_lock e ≡ Some lock → hold_given e ≡ Some (exclusive lock)
+released_gives : (e : Event) (lock : ℕ) → lock_in_release e ≡ Some lock → hold_given e ≡ Some (exclusive lock)
 released_gives (Release thread released) lock is = ap (λ l. Some (exclusive l)) (same_Some released lock is)
 released_gives (Fork thread child) lock is = absurd (none-some lock is)
 released_gives (Join thread child) lock is = absurd (none-some lock is)
@@ -113,7 +113,7 @@ released_gives (Share thread taken) lock is = absurd (none-some lock is)
 released_gives (Unshare thread given) lock is = absurd (none-some lock is)
 released_gives (Call call) lock is = absurd (none-some lock is)
 
-gives_released : (e : Event) (lock : ℕ) → hold_given e ≡ Some (exclusive lock) → released_lock e ≡ Some lock
+gives_released : (e : Event) (lock : ℕ) → hold_given e ≡ Some (exclusive lock) → lock_in_release e ≡ Some lock
 gives_released (Release thread released) lock is = ap Some (exclusives released lock is)
 gives_released (Fork thread child) lock is = absurd (none-some _ is)
 gives_released (Join thread child) lock is = absurd (none-some _ is)
@@ -123,9 +123,9 @@ gives_released (Unshare thread given) lock is = absurd (not_shared lock given (s
 gives_released (Call call) lock is = absurd (none-some _ is)
 
 release_more : (es : List Event) (n : ℕ) (e : Event) (known : ℕ → Option ℕ) → slice_get es n ≡ Some e → ((lock : ℕ) → IsLastBelow (GivesBack es (exclusive lock)) n (known lock))
-    → (lock : ℕ) → IsLastBelow (GivesBack es (exclusive lock)) (n + 1) (noted_if known (released_lock e) n lock)
+    → (lock : ℕ) → IsLastBelow (GivesBack es (exclusive lock)) (n + 1) (noted_if known (lock_in_release e) n lock)
 release_more es n e known at noted lock =
-    if_more (GivesBack es (exclusive lock)) known (released_lock e) n lock (λ is. (e, at, released_gives e lock is))
+    if_more (GivesBack es (exclusive lock)) known (lock_in_release e) n lock (λ is. (e, at, released_gives e lock is))
     (λ other. last_stays (GivesBack es (exclusive lock)) n (known lock)
     (λ x. other (gives_released e lock (sym (ap hold_given (event_is es n e x.0 at x.1)) ∙ x.2))) (noted lock))
 
@@ -227,8 +227,8 @@ unshare_more es n (Call call) old new at state after lock =
 
 -- ---- all that is noted
 
-pub nothing_noted : (es : List Event) (notes : Notes) → ((t : ℕ) → thread_noted notes t ≡ None) → ((lock : ℕ) → release_noted notes lock ≡ None)
-    → ((lock : ℕ) → unshares_noted notes lock ≡ []) → AreNoted es 0 notes
+pub nothing_noted : (es : List Event) (notes : Notes) → ((t : ℕ) → touch_noted notes t ≡ None) → ((lock : ℕ) → release_noted notes lock ≡ None)
+    → ((lock : ℕ) → unshares_noted notes lock ≡ []) → AreNotedBelow es 0 notes
 nothing_noted es notes no_thread no_release no_unshare = record {
   threads_are = λ t. subst (IsLastBelow (Touches es t) 0) (sym (no_thread t)) (λ k below has. omega arith);
   releases_are = λ lock. subst (IsLastBelow (GivesBack es (exclusive lock)) 0) (sym (no_release lock)) (λ k below has. omega arith);
@@ -236,12 +236,12 @@ nothing_noted es notes no_thread no_release no_unshare = record {
   others = λ lock k below. absurd (omega (arith, below));
 }
 
-pub noted_more : (es : List Event) (n : ℕ) (e : Event) → slice_get es n ≡ Some e → (old new : Notes) → AreNoted es n old
-    → ((t : ℕ) → thread_noted new t ≡ noted_if (noted_at (thread_noted old) (thread_of e) n) (forked_thread e) n t)
-    → ((lock : ℕ) → release_noted new lock ≡ noted_if (release_noted old) (released_lock e) n lock)
-    → AreUnsharesAfter es e n (unshares_noted old) (unshares_noted new) → AreNoted es (n + 1) new
+pub noted_more : (es : List Event) (n : ℕ) (e : Event) → slice_get es n ≡ Some e → (old new : Notes) → AreNotedBelow es n old
+    → ((t : ℕ) → touch_noted new t ≡ noted_if (noted_at (touch_noted old) (thread_of e) n) (forked_thread e) n t)
+    → ((lock : ℕ) → release_noted new lock ≡ noted_if (release_noted old) (lock_in_release e) n lock)
+    → AreUnsharesAfter es e n (unshares_noted old) (unshares_noted new) → AreNotedBelow es (n + 1) new
 noted_more es n e at old new noted by_threads by_releases by_unshares = record {
-  threads_are = λ t. subst (IsLastBelow (Touches es t) (n + 1)) (sym (by_threads t)) (thread_more es n e (thread_noted old) at noted.threads_are t);
+  threads_are = λ t. subst (IsLastBelow (Touches es t) (n + 1)) (sym (by_threads t)) (thread_more es n e (touch_noted old) at noted.threads_are t);
   releases_are = λ lock. subst (IsLastBelow (GivesBack es (exclusive lock)) (n + 1)) (sym (by_releases lock)) (release_more es n e (release_noted old) at noted.releases_are lock);
   unshares_are = λ lock. (unshares lock).are;
   others = λ lock. (unshares lock).others;

@@ -9,7 +9,7 @@ use Rattle.rd_order.specs.OrderTests.{reaches}
 use Rattle.rd_order.proofs.OrderLemmas.{reaches_decides}
 use Rattle.rd_linear.specs.declared.lanes.Lane.{Lane}
 use Rattle.rd_linear.specs.declared.waits.Waits.{Waits}
-use Rattle.rd_linear.specs.Lanes.{AreLanes, AreTurning, HaveThreads, IsChoice, IsNoneReady, IsRising, are_over, order_by, ready_in, thread_at, threads_in}
+use Rattle.rd_linear.specs.Lanes.{AreLanes, AreTurning, HaveThreads, IsChoice, IsNoneReady, AreThreadsRising, are_over, order_by, ready_in, thread_at, threads_in}
 use Rattle.rd_linear.specs.Linear.{Marks, Placed, Stands}
 use Rattle.rd_linear.specs.Orders.{IsLinear}
 use Rattle.rd_linear.specs.Noting.{HaveWaits}
@@ -63,7 +63,7 @@ module _ (es : List Event) (number turn : ℕ) (threads : List ℕ) (have_thread
       record {
         placed = placed_more es places p state.placed ready.0 ready.1 ready.2;
         marks = marks_next seen (length es) p places state.marks ready.0 seen_length;
-        lanes_are = lanes_more es places lanes i p lane next state.lanes_are (subst IsRising (sym state.one_each) have_threads.rising) at (found_place lane p is) thread items given;
+        lanes_are = lanes_more es places lanes i p lane next state.lanes_are (subst AreThreadsRising (sym state.one_each) have_threads.rising) at (found_place lane p is) thread items given;
         one_each = threads_kept lanes i lane next at thread ∙ state.one_each;
         given = omega (arith, length-append places (p ∷ []), state.given);
         rest = state.rest ∙ step;

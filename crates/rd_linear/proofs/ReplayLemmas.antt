@@ -11,13 +11,13 @@ use Rattle.rd_event.specs.declared.events.Call.{Call as CallOf}
 use Rattle.rd_event.specs.declared.events.Event.{Event}
 use Rattle.rd_event.specs.declared.events.Event.TheVariants.{Fork, Join, Acquire, Release, Share, Unshare, Call}
 use Rattle.rd_ecl.specs.Specified.{SpecifiedKind, commutes, kind_at}
-use Rattle.rd_ecl.proofs.CommuteLemmas.{symmetric}
 use Rattle.rd_object.specs.Machines.{IsSound, KeepsShapes, Machine}
 use Rattle.rd_object.specs.declared.shapes.Shape.{Shape}
 use Rattle.rd_order.specs.Order.{Linked, Reaches}
 use Rattle.rd_order.proofs.OrderLemmas.{reaches_rises}
 use Rattle.rd_replay.specs.Replays.{Recorded, calls_on, is_on, shape_by}
 use Rattle.rd_races.specs.Commuting.{Commute, calls_commute}
+use Rattle.rd_races.proofs.CommutingLemmas.{commute_back}
 use Rattle.rd_linear.specs.Determinism.{AreOnObjects, Ends, NoneReported, held_behind, kinds_from, recorded_calls, recorded_in}
 use Rattle.rd_linear.specs.Orders.{exchanged}
 use Rattle.rd_races.specs.Races.{Racing}
@@ -121,11 +121,6 @@ module _ (kinds : List SpecifiedKind) (objects : List ℕ) where
   one_kind : (es : List Event) → AreOnObjects objects es → (i j : ℕ) (c d : CallOf) → slice_get es i ≡ Some (Call c) → slice_get es j ≡ Some (Call d) → c.object ≡ d.object → c.kind ≡ d.kind
   one_kind es on i j c d at_i at_j same = same_Some c.kind d.kind (sym (on i c at_i) ∙ (ap (slice_get objects) same ∙ on j d at_j))
 
-  commute_back : (c d : CallOf) → c.kind ≡ d.kind → Commute kinds c d → Commute kinds d c
-  unfolding calls_commute
-  commute_back c d alike holds =
-      symmetric (kind_at kinds d.kind) d.method c.method d.slots c.slots ∙ ap (λ number. commutes (kind_at kinds number) c.method c.slots d.method d.slots) (sym alike) ∙ holds
-
   -- still no call is reported
   pub none_exchanged : (xs : List Event) (a b : Event) (ys : List Event) → ¬ (Linked a b) → ¬ (Linked b a) → AreOnObjects objects (xs ++ a ∷ b ∷ ys)
       → NoneReported kinds (xs ++ a ∷ b ∷ ys) → NoneReported kinds (xs ++ b ∷ a ∷ ys)
@@ -155,7 +150,7 @@ module _ (kinds : List SpecifiedKind) (objects : List ℕ) where
               at_j = got_exchanged xs b a ys j ∙ r.at_i;
               object = sym r.object;
               unordered = (omega arith, λ x. let y = reaches_rises (xs ++ b ∷ a ∷ ys) k j ((moved k j).1 x) in let s = r.unordered.0 in omega (arith, s, y));
-              apart = λ commute. r.apart (commute_back r.b r.a (one_kind (xs ++ b ∷ a ∷ ys) (objects_exchanged xs a b ys on) k j r.b r.a r.at_j r.at_i (sym r.object)) commute);
+              apart = λ commute. r.apart (commute_back kinds r.b r.a (one_kind (xs ++ b ∷ a ∷ ys) (objects_exchanged xs a b ys on) k j r.b r.a r.at_j r.at_i (sym r.object)) commute);
             },
           )
         ]

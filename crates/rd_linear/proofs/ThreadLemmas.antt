@@ -11,7 +11,7 @@ use Rattle.std.proofs.lemmas.List.Sorted.{searched}
 use Rattle.std.proofs.lemmas.Option.{none-some, same_Some, get_or_from_slice_get, slice_get-get_or, slice_get_within}
 use Rattle.rd_event.specs.declared.events.Event.{Event}
 use Rattle.rd_linear.specs.declared.lanes.Lane.{Lane}
-use Rattle.rd_linear.specs.Lanes.{AreLanes, AreLanesBelow, AreThreadsBelow, HaveThreads, IsPlaceAdded, IsRising, places_below, thread_at, threads_in}
+use Rattle.rd_linear.specs.Lanes.{AreLanes, AreLanesBelow, AreThreadsBelow, HaveThreads, IsPlaceAdded, AreThreadsRising, places_below, thread_at, threads_in}
 use Rattle.rd_linear.specs.Linear.{Stands}
 use Rattle.rd_linear.proofs.LaneLemmas.{changed, thread_at_lane, threads_kept}
 use Rattle.rd_linear.proofs.LinearLemmas.{take_one}
@@ -47,7 +47,7 @@ insert_kept (x ∷ xs) (suc i) y z le (zero, at) = (0, at)
 insert_kept (x ∷ xs) (suc i) y z le (suc j, at) = let s = insert_kept xs i y z (omega arith) (j, at) in (suc s.0, s.1)
 
 -- rising numbers don't fall
-pub rising_orders : (xs : List ℕ) → IsRising xs → (i j : ℕ) → i ≤ j → j < length xs → get_or xs i 0 ≤ get_or xs j 0
+pub rising_orders : (xs : List ℕ) → AreThreadsRising xs → (i j : ℕ) → i ≤ j → j < length xs → get_or xs i 0 ≤ get_or xs j 0
 rising_orders xs rising i j le inside = elim (cases_eq i j) [
   | inl same ↦ subst (λ k. get_or xs i 0 ≤ get_or xs k 0) same (omega arith)
   | inr apart ↦
@@ -59,7 +59,7 @@ rising_orders xs rising i j le inside = elim (cases_eq i j) [
 abbrev pub Gap : List ℕ → ℕ → ℕ → Type 0
 Gap xs y at = (at ≤ length xs) × ((k : ℕ) → k < at → get_or xs k 0 < y) × ((k : ℕ) → at ≤ k → k < length xs → y < get_or xs k 0)
 
-pub rising_inserted : (xs : List ℕ) (y at : ℕ) → IsRising xs → Gap xs y at → IsRising (insert xs at y)
+pub rising_inserted : (xs : List ℕ) (y at : ℕ) → AreThreadsRising xs → Gap xs y at → AreThreadsRising (insert xs at y)
 rising_inserted xs y at rising (inside, lower, higher) i j t u less at_i at_j =
     by (inserted xs at y i t inside at_i) (inserted xs at y j u inside at_j)
   where
@@ -110,7 +110,7 @@ no_threads es threads none = subst (AreThreadsBelow es 0) (sym none) (record {
   only = λ t stands. absurd (none-some t stands.1);
 })
 
-pub threads_more : (es : List Event) (n t : ℕ) (old new : List ℕ) → AreThreadsBelow es n old → thread_at es n ≡ t → IsRising new
+pub threads_more : (es : List Event) (n t : ℕ) (old new : List ℕ) → AreThreadsBelow es n old → thread_at es n ≡ t → AreThreadsRising new
     → ((u : ℕ) → Stands new u ↔ ((u ≡ t) ⊎ Stands old u)) → AreThreadsBelow es (n + 1) new
 threads_more es n t old new are of rising has = record { rising = rising; all = all; only = only }
   where
@@ -181,7 +181,7 @@ places_without : (es : List Event) (t n : ℕ) → thread_at es n ≢ t → plac
 places_without es t n other = filter_more (λ p. thread_at es p == t) n
     ∙ (ap (λ b. places_below es t n ++ cond b (n ∷ []) []) (ne_eqb (thread_at es n) t other) ∙ append-nil (places_below es t n))
 
-pub place_added : (es : List Event) (n at : ℕ) (threads : List ℕ) (old new : List Lane) → AreLanesBelow es n threads old → IsRising threads → (at < length threads) × (get_or threads at 0 ≡ thread_at es n)
+pub place_added : (es : List Event) (n at : ℕ) (threads : List ℕ) (old new : List Lane) → AreLanesBelow es n threads old → AreThreadsRising threads → (at < length threads) × (get_or threads at 0 ≡ thread_at es n)
     → IsPlaceAdded old new at n → AreLanesBelow es (n + 1) threads new
 place_added es n at threads old new are rising found added = record {
   threads_are = added.0 ∙ are.threads_are;
@@ -238,16 +238,16 @@ place_put lanes at place old next is thread given items = (
 
 -- ---- what a search finds
 
-pub gap_found : (xs slice : List ℕ) (y at : ℕ) → slice ≡ xs → IsRising xs → IsBinarySearchResult (λ z. nat_cmp z y) slice (Err at) → Gap xs y at
+pub gap_found : (xs slice : List ℕ) (y at : ℕ) → slice ≡ xs → AreThreadsRising xs → IsBinarySearchResult (λ z. nat_cmp z y) slice (Err at) → Gap xs y at
 gap_found xs slice y at same rising is = searched xs y (Err at) (subst (λ l. IsBinarySearchResult (λ z. nat_cmp z y) l (Err at)) same is) (rising_orders xs rising)
 
-pub hit_found : (xs slice : List ℕ) (y at : ℕ) → slice ≡ xs → IsRising xs → IsBinarySearchResult (λ z. nat_cmp z y) slice (Ok at) → (at < length xs) × (get_or xs at 0 ≡ y)
+pub hit_found : (xs slice : List ℕ) (y at : ℕ) → slice ≡ xs → AreThreadsRising xs → IsBinarySearchResult (λ z. nat_cmp z y) slice (Ok at) → (at < length xs) × (get_or xs at 0 ≡ y)
 hit_found xs slice y at same rising is = searched xs y (Ok at) (subst (λ l. IsBinarySearchResult (λ z. nat_cmp z y) l (Ok at)) same is) (rising_orders xs rising)
 
-pub gap_at : (xs slice : List ℕ) (y at : ℕ) (r : Result ℕ ℕ) → slice ≡ xs → IsRising xs → IsBinarySearchResult (λ z. nat_cmp z y) slice r → r ≡ Err at → Gap xs y at
+pub gap_at : (xs slice : List ℕ) (y at : ℕ) (r : Result ℕ ℕ) → slice ≡ xs → AreThreadsRising xs → IsBinarySearchResult (λ z. nat_cmp z y) slice r → r ≡ Err at → Gap xs y at
 gap_at xs slice y at r same rising told is = gap_found xs slice y at same rising (subst (IsBinarySearchResult (λ z. nat_cmp z y) slice) is told)
 
-pub hit_at : (xs slice : List ℕ) (y at : ℕ) (r : Result ℕ ℕ) → slice ≡ xs → IsRising xs → IsBinarySearchResult (λ z. nat_cmp z y) slice r → r ≡ Ok at → (at < length xs) × (get_or xs at 0 ≡ y)
+pub hit_at : (xs slice : List ℕ) (y at : ℕ) (r : Result ℕ ℕ) → slice ≡ xs → AreThreadsRising xs → IsBinarySearchResult (λ z. nat_cmp z y) slice r → r ≡ Ok at → (at < length xs) × (get_or xs at 0 ≡ y)
 hit_at xs slice y at r same rising told is = hit_found xs slice y at same rising (subst (IsBinarySearchResult (λ z. nat_cmp z y) slice) is told)
 
 -- a thread of an event is found

@@ -5,7 +5,7 @@ use Rattle.std.proofs.lemmas.Option.{none-some, same_Some}
 use Rattle.rd_event.specs.declared.events.Event.{Event}
 use Rattle.rd_event.specs.declared.events.Event.TheVariants.{Fork, Join, Acquire, Release, Share, Unshare, Call}
 use Rattle.rd_order.specs.EventLists.{IsKnownThread, WellFormed, forks}
-use Rattle.rd_order.specs.Order.{Against, Edge, Hold, Linked, Reaches, begins, ends, exclusive, shared, forked_thread, hands_over, hold_taken, joined_thread, same_thread, spans, thread_of}
+use Rattle.rd_order.specs.Order.{Against, Edge, GivesBack, Hold, Linked, Reaches, begins, ends, exclusive, forked_thread, hands_over, hold_taken, joined_thread, same_thread, shared, spans, thread_of}
 use Rattle.rd_order.specs.OrderTests.{is_this}
 use Rattle.rd_order.proofs.EventListLemmas.{counted_once, known_later, may_follow_at}
 use Rattle.rd_order.proofs.LockLemmas.{holds_reach}
@@ -14,7 +14,7 @@ use Rattle.rd_linear.specs.declared.waits.Notes.{Notes}
 use Rattle.rd_linear.specs.declared.waits.Part.{Part}
 use Rattle.rd_linear.specs.declared.waits.Waits.{Waits}
 use Rattle.rd_linear.specs.Linear.{Stands}
-use Rattle.rd_linear.specs.Noting.{AreFirstWaits, AreNoted, GivesBack, IsLastBelow, IsPart, Touches, UsesLock, one_if, other_waits, release_noted, thread_noted, unshares_noted, waits_by}
+use Rattle.rd_linear.specs.Noting.{AreFirstWaits, AreNotedBelow, IsLastBelow, IsPart, Touches, UsesLock, one_if, other_waits, release_noted, touch_noted, unshares_noted, waits_by}
 use Rattle.rd_linear.specs.Waits.{AreWaits}
 
 -- ---- lists of places
@@ -108,19 +108,19 @@ module _ (roots : ℕ → Bool) (es : List Event) (formed : WellFormed roots es)
   uses_reach lock m n e rises (a, at_m, inl uses) at takes = holds_reach roots es m n a e (exclusive lock) (exclusive lock) formed rises at_m at uses (inl takes) refl
   uses_reach lock m n e rises (a, at_m, inr uses) at takes = holds_reach roots es m n a e (shared lock) (exclusive lock) formed rises at_m at uses (inl takes) refl
 
-  module _ (n : ℕ) (e : Event) (at : slice_get es n ≡ Some e) (notes : Notes) (noted : AreNoted es n notes) where
+  module _ (n : ℕ) (e : Event) (at : slice_get es n ≡ Some e) (notes : Notes) (noted : AreNotedBelow es n notes) where
     edge : (k : ℕ) (a : Event) → k < n → slice_get es k ≡ Some a → Linked a e → Reaches es k n
     edge k a rises at_k linked = edge_reaches es k n (record { rises = rises; a = a; b = e; at_i = at_k; at_j = at; linked = linked })
 
-    own_reaches : (w : ℕ) → thread_noted notes (thread_of e) ≡ Some w → Reaches es w n
-    own_reaches w is = by (last_is (Touches es (thread_of e)) n (thread_noted notes (thread_of e)) w (noted.threads_are (thread_of e)) is)
+    own_reaches : (w : ℕ) → touch_noted notes (thread_of e) ≡ Some w → Reaches es w n
+    own_reaches w is = by (last_is (Touches es (thread_of e)) n (touch_noted notes (thread_of e)) w (noted.threads_are (thread_of e)) is)
       where
         by : (w < n) × Touches es (thread_of e) w → Reaches es w n
         by (rises, (a, at_w, inl same)) = edge w a rises at_w (same_thread same)
         by (rises, (a, at_w, inr fork)) = edge w a rises at_w (begins fork)
 
-    child_reaches : (child w : ℕ) → joined_thread e ≡ Some child → thread_noted notes child ≡ Some w → Reaches es w n
-    child_reaches child w joins is = by (last_is (Touches es child) n (thread_noted notes child) w (noted.threads_are child) is)
+    child_reaches : (child w : ℕ) → joined_thread e ≡ Some child → touch_noted notes child ≡ Some w → Reaches es w n
+    child_reaches child w joins is = by (last_is (Touches es child) n (touch_noted notes child) w (noted.threads_are child) is)
       where
         by : (w < n) × Touches es child w → Reaches es w n
         by (rises, (a, at_w, inl same)) = edge w a rises at_w (ends (joins ∙ ap Some (sym same)))
@@ -142,16 +142,16 @@ module _ (roots : ℕ → Bool) (es : List Event) (formed : WellFormed roots es)
     abbrev Passed : ℕ → Type 0
     Passed k = (m : ℕ) × Reaches es k m × Reaches es m n
 
-    own_rest : (k : ℕ) → k < n → Touches es (thread_of e) k → (thread_noted notes (thread_of e) ≡ Some k) ⊎ Passed k
+    own_rest : (k : ℕ) → k < n → Touches es (thread_of e) k → (touch_noted notes (thread_of e) ≡ Some k) ⊎ Passed k
     own_rest k rises touches =
-        elim (chained (Touches es (thread_of e)) n (thread_noted notes (thread_of e)) (touches_reach (thread_of e)) (noted.threads_are (thread_of e)) k rises touches) [
+        elim (chained (Touches es (thread_of e)) n (touch_noted notes (thread_of e)) (touches_reach (thread_of e)) (noted.threads_are (thread_of e)) k rises touches) [
           | inl last ↦ inl last
           | inr x ↦ inr (x.0, x.2, own_reaches x.0 x.1)
         ]
 
-    child_rest : (child k : ℕ) → joined_thread e ≡ Some child → k < n → Touches es child k → (thread_noted notes child ≡ Some k) ⊎ Passed k
+    child_rest : (child k : ℕ) → joined_thread e ≡ Some child → k < n → Touches es child k → (touch_noted notes child ≡ Some k) ⊎ Passed k
     child_rest child k joins rises touches =
-        elim (chained (Touches es child) n (thread_noted notes child) (touches_reach child) (noted.threads_are child) k rises touches) [
+        elim (chained (Touches es child) n (touch_noted notes child) (touches_reach child) (noted.threads_are child) k rises touches) [
           | inl last ↦ inl last
           | inr x ↦ inr (x.0, x.2, child_reaches child x.0 joins x.1)
         ]
@@ -169,10 +169,10 @@ module _ (roots : ℕ → Bool) (es : List Event) (formed : WellFormed roots es)
       | inr x ↦ inr (x.0, x.2, uses_reach lock x.0 n e x.1 x.3 at takes)
     ]
 
-others_reach : (roots : ℕ → Bool) (es : List Event) → WellFormed roots es → (n : ℕ) (e : Event) → slice_get es n ≡ Some e → (notes : Notes) → AreNoted es n notes
+others_reach : (roots : ℕ → Bool) (es : List Event) → WellFormed roots es → (n : ℕ) (e : Event) → slice_get es n ≡ Some e → (notes : Notes) → AreNotedBelow es n notes
     → (w : ℕ) → Stands (other_waits notes e) w → Reaches es w n
 others_reach roots es formed n (Join thread child) at notes noted w stands =
-    child_reaches roots es formed n (Join thread child) at notes noted child w refl (stands_one (thread_noted notes child) w stands)
+    child_reaches roots es formed n (Join thread child) at notes noted child w refl (stands_one (touch_noted notes child) w stands)
 others_reach roots es formed n (Acquire thread lock) at notes noted w stands = elim (stands_either (one_if (release_noted notes lock)) (unshares_noted notes lock) w stands) [
   | inl release ↦ release_reaches roots es formed n (Acquire thread lock) at notes noted lock w (exclusive lock) refl refl (stands_one (release_noted notes lock) w release)
   | inr unshare ↦ unshare_reaches roots es formed n (Acquire thread lock) at notes noted lock w refl unshare
@@ -185,11 +185,11 @@ others_reach roots es formed n (Unshare thread lock) at notes noted w stands = a
 others_reach roots es formed n (Call call) at notes noted w stands = absurd (none-some w stands.1)
 
 -- what leads to a join by the joined thread
-joined_rest : (roots : ℕ → Bool) (es : List Event) (formed : WellFormed roots es) (n : ℕ) (e : Event) (at : slice_get es n ≡ Some e) (notes : Notes) (noted : AreNoted es n notes)
+joined_rest : (roots : ℕ → Bool) (es : List Event) (formed : WellFormed roots es) (n : ℕ) (e : Event) (at : slice_get es n ≡ Some e) (notes : Notes) (noted : AreNotedBelow es n notes)
     → (k u : ℕ) → joined_thread e ≡ Some u → k < n → Touches es u k → Stands (other_waits notes e) k ⊎ ((m : ℕ) × Reaches es k m × Reaches es m n)
 joined_rest roots es formed n (Join thread child) at notes noted k u joins rises touches =
     elim (child_rest roots es formed n (Join thread child) at notes noted child k refl rises (subst (λ t. Touches es t k) (sym (same_Some child u joins)) touches)) [
-      | inl last ↦ inl (one_stands (thread_noted notes child) k last)
+      | inl last ↦ inl (one_stands (touch_noted notes child) k last)
       | inr x ↦ inr x
     ]
 joined_rest roots es formed n (Fork thread child) at notes noted k u joins rises touches = absurd (none-some u joins)
@@ -207,7 +207,7 @@ taken_shared : (a : ℕ) (h : Hold) → Some (shared a) ≡ Some h → h ≡ sha
 taken_shared a h is = sym (same_Some (shared a) h is)
 
 -- what leads to an event by a hold that it takes
-handed_rest : (roots : ℕ → Bool) (es : List Event) (formed : WellFormed roots es) (n : ℕ) (e : Event) (at : slice_get es n ≡ Some e) (notes : Notes) (noted : AreNoted es n notes)
+handed_rest : (roots : ℕ → Bool) (es : List Event) (formed : WellFormed roots es) (n : ℕ) (e : Event) (at : slice_get es n ≡ Some e) (notes : Notes) (noted : AreNotedBelow es n notes)
     → (k : ℕ) (given taken : Hold) → hold_taken e ≡ Some taken → Against given taken → k < n → GivesBack es given k
     → Stands (other_waits notes e) k ⊎ ((m : ℕ) × Reaches es k m × Reaches es m n)
 handed_rest roots es formed n (Acquire thread lock) at notes noted k (exclusive released) taken takes against rises gives =
@@ -240,24 +240,24 @@ handed_rest roots es formed n (Call call) at notes noted k given taken takes aga
 abbrev IsRest : List Event → ℕ → Notes → Event → ℕ → Type 0
 IsRest es n notes e k = Stands (waits_by notes e) k ⊎ ((m : ℕ) × Reaches es k m × Reaches es m n)
 
-pub waits_hold : (roots : ℕ → Bool) (es : List Event) (formed : WellFormed roots es) (n : ℕ) (e : Event) (at : slice_get es n ≡ Some e) (notes : Notes) (noted : AreNoted es n notes)
+pub waits_hold : (roots : ℕ → Bool) (es : List Event) (formed : WellFormed roots es) (n : ℕ) (e : Event) (at : slice_get es n ≡ Some e) (notes : Notes) (noted : AreNotedBelow es n notes)
     → AreWaits es n (waits_by notes e)
 waits_hold roots es formed n e at notes noted = record { reach = reach; rest = rest }
   where
     reach : (w : ℕ) → Stands (waits_by notes e) w → Reaches es w n
-    reach w stands = elim (stands_either (one_if (thread_noted notes (thread_of e))) (other_waits notes e) w stands) [
-      | inl mine ↦ own_reaches roots es formed n e at notes noted w (stands_one (thread_noted notes (thread_of e)) w mine)
+    reach w stands = elim (stands_either (one_if (touch_noted notes (thread_of e))) (other_waits notes e) w stands) [
+      | inl mine ↦ own_reaches roots es formed n e at notes noted w (stands_one (touch_noted notes (thread_of e)) w mine)
       | inr other ↦ others_reach roots es formed n e at notes noted w other
     ]
 
     mine : (k : ℕ) → k < n → Touches es (thread_of e) k → IsRest es n notes e k
     mine k rises touches = elim (own_rest roots es formed n e at notes noted k rises touches) [
-      | inl last ↦ inl (stands_front (one_if (thread_noted notes (thread_of e))) (other_waits notes e) k (one_stands (thread_noted notes (thread_of e)) k last))
+      | inl last ↦ inl (stands_front (one_if (touch_noted notes (thread_of e))) (other_waits notes e) k (one_stands (touch_noted notes (thread_of e)) k last))
       | inr x ↦ inr x
     ]
 
     other : (k : ℕ) → Stands (other_waits notes e) k ⊎ ((m : ℕ) × Reaches es k m × Reaches es m n) → IsRest es n notes e k
-    other k (inl stands) = inl (stands_behind (one_if (thread_noted notes (thread_of e))) (other_waits notes e) k stands)
+    other k (inl stands) = inl (stands_behind (one_if (touch_noted notes (thread_of e))) (other_waits notes e) k stands)
     other k (inr x) = inr x
 
     linked : (k : ℕ) (a : Event) → k < n → slice_get es k ≡ Some a → Linked a e → IsRest es n notes e k

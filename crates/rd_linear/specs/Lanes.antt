@@ -18,12 +18,12 @@ abbrev pub thread_at : List Event → ℕ → ℕ
 thread_at es p = option_map_or thread_of (slice_get es p) 0
 
 -- each number is below those behind it
-abbrev pub IsRising : List ℕ → Type 0
-IsRising threads = (i j t u : ℕ) → i < j → slice_get threads i ≡ Some t → slice_get threads j ≡ Some u → t < u
+abbrev pub AreThreadsRising : List ℕ → Type 0
+AreThreadsRising threads = (i j t u : ℕ) → i < j → slice_get threads i ≡ Some t → slice_get threads j ≡ Some u → t < u
 
 -- the threads of the first events, in the order of their numbers
 pub record AreThreadsBelow (es : List Event) (count : ℕ) (threads : List ℕ) : Type 0 where
-  pub rising : IsRising threads
+  pub rising : AreThreadsRising threads
   pub all : (p : ℕ) → p < count → Stands threads (thread_at es p)
   pub only : (t : ℕ) → Stands threads t → (p : ℕ) × (p < count) × (thread_at es p ≡ t)
 

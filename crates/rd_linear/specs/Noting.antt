@@ -3,7 +3,7 @@ use Rattle.std.specs.Prelude.{◌≡◌, ◌≢◌, ◌⊎◌, ◌<◌, ◌≤�
 use Rattle.indexmap.specs.IndexMap.{get}
 use Rattle.rd_event.specs.declared.events.Event.{Event}
 use Rattle.rd_event.specs.declared.events.Event.TheVariants.{Join, Acquire, Release, Share, Unshare}
-use Rattle.rd_order.specs.Order.{Hold, Reaches, Uses, exclusive, shared, forked_thread, hold_given, thread_of}
+use Rattle.rd_order.specs.Order.{GivesBack, Hold, IsOf, Reaches, Uses, exclusive, forked_thread, hold_given, shared, thread_of}
 use Rattle.rd_linear.specs.declared.waits.Notes.{Notes}
 use Rattle.rd_linear.specs.declared.waits.Part.{Part}
 use Rattle.rd_linear.specs.declared.waits.Unshared.{Unshared}
@@ -13,17 +13,9 @@ use Rattle.rd_linear.specs.Waits.{AreWaits}
 
 -- ---- what events do
 
--- the event at the place is of the thread
-abbrev pub IsOf : List Event → ℕ → ℕ → Type 0
-IsOf es thread k = (e : Event) × (slice_get es k ≡ Some e) × (thread_of e ≡ thread)
-
 -- it is of the thread or forks it
 abbrev pub Touches : List Event → ℕ → ℕ → Type 0
 Touches es thread k = (e : Event) × (slice_get es k ≡ Some e) × ((thread_of e ≡ thread) ⊎ (forked_thread e ≡ Some thread))
-
--- it gives back the hold
-abbrev pub GivesBack : List Event → Hold → ℕ → Type 0
-GivesBack es hold k = (e : Event) × (slice_get es k ≡ Some e) × (hold_given e ≡ Some hold)
 
 -- it takes or gives back the lock or a share of it
 abbrev pub UsesLock : List Event → ℕ → ℕ → Type 0
@@ -41,8 +33,8 @@ abbrev pub places_in : Option Unshared → List ℕ
 places_in None = []
 places_in (Some unshared) = unshared.places.items
 
-abbrev pub thread_noted : Notes → ℕ → Option ℕ
-thread_noted notes thread = get nat_eq notes.threads thread
+abbrev pub touch_noted : Notes → ℕ → Option ℕ
+touch_noted notes thread = get nat_eq notes.threads thread
 
 abbrev pub release_noted : Notes → ℕ → Option ℕ
 release_noted notes lock = get nat_eq notes.releases lock
@@ -52,8 +44,8 @@ unshares_noted notes lock = places_in (get nat_eq notes.unshares lock)
 
 -- What is noted behind the first events: for each thread the last place that touches it, for each lock the last release, and unshares so
 -- that each other one reaches a later place that uses the lock.
-pub record AreNoted (es : List Event) (count : ℕ) (notes : Notes) : Type 0 where
-  pub threads_are : (thread : ℕ) → IsLastBelow (Touches es thread) count (thread_noted notes thread)
+pub record AreNotedBelow (es : List Event) (count : ℕ) (notes : Notes) : Type 0 where
+  pub threads_are : (thread : ℕ) → IsLastBelow (Touches es thread) count (touch_noted notes thread)
   pub releases_are : (lock : ℕ) → IsLastBelow (GivesBack es (exclusive lock)) count (release_noted notes lock)
   pub unshares_are : (lock k : ℕ) → Stands (unshares_noted notes lock) k → (k < count) × GivesBack es (shared lock) k
   pub others : (lock k : ℕ) → k < count → GivesBack es (shared lock) k
@@ -70,9 +62,9 @@ noted_if known None place q = known q
 noted_if known (Some key) place q = noted_at known key place q
 
 -- the lock that the event releases
-abbrev pub released_lock : Event → Option ℕ
-released_lock (Release thread lock) = Some lock
-released_lock _ = None
+abbrev pub lock_in_release : Event → Option ℕ
+lock_in_release (Release thread lock) = Some lock
+lock_in_release _ = None
 
 -- the place takes that of the thread among these, or is one more
 pub record IsReplaced (es : List Event) (thread place : ℕ) (old new : List ℕ) : Type 0 where
@@ -99,13 +91,13 @@ one_if (Some place) = place ∷ []
 -- beside that of its own thread: a join waits for the thread that it joins, an acquire for the release and the unshares that are noted, a
 -- share for the release alone
 abbrev pub other_waits : Notes → Event → List ℕ
-other_waits notes (Join thread child) = one_if (thread_noted notes child)
+other_waits notes (Join thread child) = one_if (touch_noted notes child)
 other_waits notes (Acquire thread lock) = one_if (release_noted notes lock) ++ unshares_noted notes lock
 other_waits notes (Share thread lock) = one_if (release_noted notes lock)
 other_waits notes _ = []
 
 abbrev pub waits_by : Notes → Event → List ℕ
-waits_by notes e = one_if (thread_noted notes (thread_of e)) ++ other_waits notes e
+waits_by notes e = one_if (touch_noted notes (thread_of e)) ++ other_waits notes e
 
 -- these places stand in a part of a list
 pub record IsPart (places : List ℕ) (part : Part) (waits : List ℕ) : Type 0 where

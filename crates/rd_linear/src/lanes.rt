@@ -1,16 +1,16 @@
 //! The events of each thread, and which of them comes next.
 ghost use Rattle.std.specs.Prelude.{ℕ, Bool, List, [], ◌<◌, ◌↔◌, ◌⊎◌, IfOk, OnOk, ◌≡◌, ◌≤◌, length, filter_map, slice_get, IfSome, IfNone, Some};
 ghost use Rattle.rd_order.specs.EventLists.{WellFormed};
-ghost use Rattle.rd_linear.specs.Lanes.{AreLanes, AreLanesBelow, HaveThreads, IsChoice, IsNoneReady, IsPlaceAdded, IsRising, are_over, is_over, order_by, part_over, ready_in, threads_in};
+ghost use Rattle.rd_linear.specs.Lanes.{AreLanes, AreLanesBelow, HaveThreads, IsChoice, IsNoneReady, IsPlaceAdded, AreThreadsRising, are_over, is_over, order_by, part_over, ready_in, threads_in};
 ghost use Rattle.rd_linear.specs.Linear.{Stands};
 ghost use Rattle.rd_linear.specs.Orders.{IsLinear};
 ghost use Rattle.rd_linear.specs.declared.lanes.Lane.{Lane as LaneOf};
 
 use crate::linear::no_marks;
-use crate::waits::{Part, Waits, thread_of, waits_of};
+use crate::waits::{Part, Waits, waits_of};
 use rd_base::NoMemory;
 use rd_event::Event;
-use rd_order::Places;
+use rd_order::{Places, thread_of};
 use std::alloc::Global;
 
 // The places of a thread's events, and how many of them were given.
@@ -121,8 +121,8 @@ fn choose(waits: &Waits, seen: &[bool], lanes: &[Lane], left: u64) -> Option<(us
 
 // With this thread among those in the order of their numbers.
 fn add_thread(threads: &mut Vec<u32>, thread: u32) -> Result<(), NoMemory>
-    requires rising { IsRising threads.old.items }
-    ensures rising { OnOk result (IsRising threads.new.items) }
+    requires rising { AreThreadsRising threads.old.items }
+    ensures rising { OnOk result (AreThreadsRising threads.new.items) }
     ensures has { OnOk result ((t : ℕ) →
         (Stands threads.new.items t ↔ ((t ≡ thread) ⊎ Stands threads.old.items t))) }
 {

@@ -1,14 +1,14 @@
 //! The places for which each event waits.
 ghost use Rattle.std.specs.Prelude.{◌≡◌, ◌≢◌, ℕ, Bool, ◌++◌, nat_eq, IfOk, OnOk, Some, None, IsTrue, option_copied};
 ghost use Rattle.indexmap.specs.IndexMap.{get};
-ghost use Rattle.rd_event.specs.declared.events.Event.{Event as EventOf};
 ghost use Rattle.rd_order.specs.EventLists.{WellFormed};
-ghost use Rattle.rd_order.specs.Order.{forked_thread, thread_of};
-ghost use Rattle.rd_linear.specs.Noting.{AreFirstWaits, AreNoted, AreUnsharesAfter, HaveWaits, IsOf, IsPart, IsReplaced, noted_at, noted_if, one_if, other_waits, places_in, release_noted, released_lock, thread_noted, unshares_noted, waits_by};
+ghost use Rattle.rd_order.specs.Order.{IsOf, forked_thread, thread_of};
+ghost use Rattle.rd_linear.specs.Noting.{AreFirstWaits, AreNotedBelow, AreUnsharesAfter, HaveWaits, IsReplaced, noted_at, noted_if, one_if, other_waits, places_in, release_noted, lock_in_release, touch_noted, unshares_noted, waits_by};
 
 use indexmap::IndexMap;
 use rd_base::NoMemory;
 use rd_event::Event;
+use rd_order::thread_of;
 use std::alloc::Global;
 
 /// Which of all waits are those of one event: those from one number to another.
@@ -37,20 +37,6 @@ struct Notes {
     threads: IndexMap<u32, u32>,
     releases: IndexMap<u32, u32>,
     unshares: IndexMap<u32, Unshared>,
-}
-
-pub(crate) fn thread_of(event: &Event) -> u32
-    ensures { result ≡ thread_of event.now }
-{
-    match event {
-        Event::Fork { thread, .. } => *thread,
-        Event::Join { thread, .. } => *thread,
-        Event::Acquire { thread, .. } => *thread,
-        Event::Release { thread, .. } => *thread,
-        Event::Share { thread, .. } => *thread,
-        Event::Unshare { thread, .. } => *thread,
-        Event::Call(call) => call.thread,
-    }
 }
 
 fn place_of(map: &IndexMap<u32, u32>, key: u32) -> Option<u32>
@@ -130,7 +116,7 @@ fn note_releases(
     place: u32,
 ) -> Result<(), NoMemory>
     ensures { OnOk result ((lock : ℕ) → get nat_eq releases.new lock
-        ≡ noted_if (get nat_eq releases.old) (released_lock event.now) place lock) }
+        ≡ noted_if (get nat_eq releases.old) (lock_in_release event.now) place lock) }
 {
     match event {
         Event::Release { lock, .. } => put(releases, *lock, place),
@@ -239,10 +225,10 @@ fn note(
     event: &Event,
     place: u32,
 ) -> Result<(), NoMemory>
-    ensures threads { OnOk result ((t : ℕ) → thread_noted notes.new t
-        ≡ noted_if (noted_at (thread_noted notes.old) (thread_of event.now) place) (forked_thread event.now) place t) }
+    ensures threads { OnOk result ((t : ℕ) → touch_noted notes.new t
+        ≡ noted_if (noted_at (touch_noted notes.old) (thread_of event.now) place) (forked_thread event.now) place t) }
     ensures releases { OnOk result ((lock : ℕ) → release_noted notes.new lock
-        ≡ noted_if (release_noted notes.old) (released_lock event.now) place lock) }
+        ≡ noted_if (release_noted notes.old) (lock_in_release event.now) place lock) }
     ensures unshares { OnOk result (AreUnsharesAfter events.now event.now place
         (unshares_noted notes.old) (unshares_noted notes.new)) }
 {
@@ -259,7 +245,7 @@ fn put_waits(
     waits: &mut Waits,
 ) -> Result<(), NoMemory>
     requires formed { (roots : ℕ → Bool) × WellFormed roots events.now }
-    requires noted { AreNoted events.now 0 notes.old }
+    requires noted { AreNotedBelow events.now 0 notes.old }
     requires first { AreFirstWaits events.now 0 waits.old }
     ensures { OnOk result (HaveWaits events.now waits.new) }
 {

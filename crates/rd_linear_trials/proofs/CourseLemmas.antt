@@ -14,7 +14,7 @@ use Rattle.rd_wf.specs.Roster.{RosterStandsFor}
 use Rattle.rd_rules.specs.declared.causes.Accepted.{Accepted}
 use Rattle.rd_wf.specs.declared.roster.Roster.{Roster}
 use Rattle.rd_rules.proofs.EventsLemmas.{events_more, told_more}
-use Rattle.rd_linear_trials.specs.Courses.{IsCourse, event_in}
+use Rattle.rd_linear_trials.specs.Courses.{HasEvents, event_in}
 
 -- what is told of a success, where there is one
 pub on_ok : {A E : Type 0} {P : Type 0} (result : Result A E) (x : A) → result ≡ Ok x → OnOk result P → P
@@ -36,9 +36,9 @@ one_more : (events : List Numbered) (o : Option Numbered) → events ++ cons_opt
 one_more events None = refl
 one_more events (Some event) = refl
 
-pub course_more : (old new : Roster) (events : List Numbered) (course : IsCourse old events) (limits : Limits) (line : Line) (accepted : Accepted) → AreUsable limits
+pub course_more : (old new : Roster) (events : List Numbered) (course : HasEvents old events) (limits : Limits) (line : Line) (accepted : Accepted) → AreUsable limits
     → MayFollow course.kinds limits course.lines line → length (threads_of (course.lines ++ line ∷ [])) ≤ 4294967295 → accepted ≡ accepted_of course.kinds course.lines line
-    → RosterStandsFor course.kinds new (course.lines ++ line ∷ []) → IsCourse new (events ++ option_to_list (event_in accepted))
+    → RosterStandsFor course.kinds new (course.lines ++ line ∷ []) → HasEvents new (events ++ option_to_list (event_in accepted))
 course_more old new events course limits line accepted usable follows few is stands = record {
   kinds = course.kinds;
   lines = course.lines ++ line ∷ [];

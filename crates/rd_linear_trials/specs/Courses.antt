@@ -15,7 +15,7 @@ event_in (Event event) = Some event
 event_in _ = None
 
 -- the roster stands for some lines, of which these are the events
-pub record IsCourse (roster : Roster) (events : List Numbered) : Type 0 where
+pub record HasEvents (roster : Roster) (events : List Numbered) : Type 0 where
   pub kinds : List Kind
   pub lines : List Line
   pub stands : RosterStandsFor kinds roster lines

@@ -32,13 +32,13 @@ pub struct Course {
 
 impl Model for Course {
     ghost use Rattle.std.specs.Prelude.{ℕ};
-    ghost use Rattle.rd_linear_trials.specs.Courses.{IsCourse};
+    ghost use Rattle.rd_linear_trials.specs.Courses.{HasEvents};
 
     ghost Value = { ℕ };
 
     ghost view = { λ c. 0 };
 
-    ghost invariant = { λ c. IsCourse c.roster.value c.events.items };
+    ghost invariant = { λ c. HasEvents c.roster.value c.events.items };
 }
 
 impl Course {

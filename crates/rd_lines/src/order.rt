@@ -1,7 +1,7 @@
 //! The order of methods.
 ghost use Rattle.std.specs.Prelude.{◌≡◌, ◌↔◌, IsTrue};
 ghost use Rattle.rd_ecl.specs.Specified.{names_of};
-ghost use Rattle.rd_ecl.specs.Variables.{is_among};
+ghost use Rattle.rd_ecl.specs.Variables.{is_one_of};
 ghost use Rattle.rd_lines.specs.Lines.{IsOutOfOrder};
 ghost use Rattle.rd_lines.specs.Reading.{names_behind};
 
@@ -22,7 +22,7 @@ fn behind<'a>(methods: &'a [Method], name: &[u8]) -> &'a [Method]
 
 // Is one of the methods of this name?
 fn is_among(methods: &[Method], name: &[u8]) -> bool
-    ensures { result ≡ is_among name.now (names_of methods.now) }
+    ensures { result ≡ is_one_of name.now (names_of methods.now) }
 {
     for method in methods {
         if name == method.name.items() {

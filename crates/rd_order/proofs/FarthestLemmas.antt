@@ -6,7 +6,7 @@ use Rattle.std.proofs.lemmas.Bool.Decides.{Decides-and, Decides-eqb, Decides-or}
 use Rattle.rd_event.specs.declared.events.Event.{Event}
 use Rattle.rd_order.specs.Order.{Edge, IsPath, Leads, Reaches}
 use Rattle.rd_order.specs.OrderTests.{is_edge, reaches}
-use Rattle.rd_order.specs.Paths.{Comes, GoesFarthest, IsFarthest, IsFarthestPath, LeadsOn, farthest_from, farthest_next, farthest_path, last_below, leads_on}
+use Rattle.rd_order.specs.Paths.{Comes, GoesFarthest, IsFarthest, IsFarthestPath, LeadsOn, farthest_from, farthest_next, farthest_path, last_below_or, leads_on}
 use Rattle.rd_order.proofs.NextLemmas.{no_step, step_comes}
 use Rattle.rd_order.proofs.OrderLemmas.{edge_decides, edge_within, reaches_decides, reaches_rises, reaches_within_length}
 
@@ -84,15 +84,15 @@ record IsGreatest (T : ℕ → Bool) (n m : ℕ) : Type 0 where
   passes : T m ≡ true
   most : (k : ℕ) → k < n → T k ≡ true → k ≤ m
 
-greatest : (T : ℕ → Bool) (n k other : ℕ) → k < n → T k ≡ true → IsGreatest T n (last_below T n other)
+greatest : (T : ℕ → Bool) (n k other : ℕ) → k < n → T k ≡ true → IsGreatest T n (last_below_or T n other)
 greatest T zero k other below passes = absurd (omega arith)
 greatest T (suc n) k other below passes = elim (cases_Bool (T n)) [
-  | inl is ↦ subst (IsGreatest T (suc n)) (sym (ap (λ b. cond b n (last_below T n other)) is))
+  | inl is ↦ subst (IsGreatest T (suc n)) (sym (ap (λ b. cond b n (last_below_or T n other)) is))
       (record { below = omega arith; passes = is; most = λ p l also. omega (arith, l) })
   | inr isnt ↦ (let before : k ≢ n = λ same. true≢false (sym passes ∙ ap T same ∙ isnt) in
       let rest = greatest T n k other (omega (arith, below, before)) passes in
       let inside = rest.below in
-      subst (IsGreatest T (suc n)) (sym (ap (λ b. cond b n (last_below T n other)) isnt))
+      subst (IsGreatest T (suc n)) (sym (ap (λ b. cond b n (last_below_or T n other)) isnt))
       (record {
         below = omega (arith, inside);
         passes = rest.passes;
@@ -115,7 +115,7 @@ unfolding farthest_next
 next_farthest es place j reach =
     let step = first_step es place j reach in
     let found = greatest (leads_on es j place) (length es) step.0 j (edge_within es place step.0 step.1.0) ((leads_decides es j place step.0).1 step.1) in (
-      (leads_decides es j place (last_below (leads_on es j place) (length es) j)).0 found.passes,
+      (leads_decides es j place (last_below_or (leads_on es j place) (length es) j)).0 found.passes,
       λ k leads. found.most k (edge_within es place k leads.0) ((leads_decides es j place k).1 leads),
     )
 

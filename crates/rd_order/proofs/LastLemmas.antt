@@ -4,7 +4,7 @@ use Rattle.std.specs.Prelude.{max}
 use Rattle.std.specs.Option.{option_or}
 use Rattle.std.proofs.lemmas.Bool.{cases_eq, cases_lt, eq-eqb, ne_eqb}
 use Rattle.std.proofs.lemmas.Option.{none-some, same_Some}
-use Rattle.rd_order.specs.Noting.{IsLastFrom, kept_at, kept_if, later, noted_of}
+use Rattle.rd_order.specs.Noting.{IsLastFrom, kept_at, kept_if, later_of_two, noted_of}
 
 -- of a property that says the same
 pub last_like : (P Q : ℕ → Type 0) (lo : ℕ) (x : Option ℕ) → ((k : ℕ) → lo ≤ k → P k → Q k) → ((k : ℕ) → lo ≤ k → Q k → P k) → IsLastFrom P lo x → IsLastFrom Q lo x
@@ -18,7 +18,7 @@ left_is : (x y : ℕ) → ¬ (x < y) → max x y ≡ x
 left_is x y l = omega arith
 
 -- of two properties it is the later one
-pub later_last : (P Q : ℕ → Type 0) (lo : ℕ) (x y : Option ℕ) → IsLastFrom P lo x → IsLastFrom Q lo y → IsLastFrom (λ k. P k ⊎ Q k) lo (later x y)
+pub later_last : (P Q : ℕ → Type 0) (lo : ℕ) (x y : Option ℕ) → IsLastFrom P lo x → IsLastFrom Q lo y → IsLastFrom (λ k. P k ⊎ Q k) lo (later_of_two x y)
 later_last P Q lo None None a b = λ k least has. elim has [ inl p ↦ a k least p | inr q ↦ b k least q ]
 later_last P Q lo None (Some y) a b = (b.0, inr b.1, λ k least has. elim has [ inl p ↦ absurd (a k least p) | inr q ↦ b.2 k least q ])
 later_last P Q lo (Some x) None a b = (a.0, inl a.1, λ k least has. elim has [ inl p ↦ a.2 k least p | inr q ↦ absurd (b k least q) ])

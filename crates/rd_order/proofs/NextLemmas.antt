@@ -7,7 +7,7 @@ use Rattle.rd_order.specs.Order.{Against, Edge, Hold, Linked, Reaches, begins, e
 use Rattle.rd_order.proofs.OrderLemmas.{edge_reaches, reaches_joined}
 use Rattle.rd_order.specs.declared.steps.Notes.{Notes}
 use Rattle.rd_order.specs.Paths.{Comes, IsFarthest, LeadsOn}
-use Rattle.rd_order.specs.Noting.{AreNoted, IsLastFrom, Meets, TakesOn, acquire_noted, next_by, noted_of, share_noted, taker, thread_noted}
+use Rattle.rd_order.specs.Noting.{AreNoted, IsLastFrom, MeetsThread, TakesOn, acquire_noted, next_by, noted_of, share_noted, taker, thread_noted}
 use Rattle.rd_order.proofs.LastLemmas.{last_like, later_last, of_option}
 
 -- its event takes a hold against this one
@@ -16,7 +16,7 @@ TakesBehind es j o k = (given : Hold) × (taken : Hold) × (o ≡ Some given) ×
 
 -- it is of a thread that e forks, or joins it
 abbrev pub MeetsFork : List Event → ℕ → Event → ℕ → Type 0
-MeetsFork es j e k = (u : ℕ) × (forked_thread e ≡ Some u) × Meets es j u k
+MeetsFork es j e k = (u : ℕ) × (forked_thread e ≡ Some u) × MeetsThread es j u k
 
 -- who takes a hold against an exclusive one acquires the lock or shares it, and against a share acquires it
 from_exclusive : (es : List Event) (j k lock : ℕ) (taken : Hold) → Against (exclusive lock) taken → TakesOn es j taken k → TakesOn es j (exclusive lock) k ⊎ TakesOn es j (shared lock) k
@@ -44,7 +44,7 @@ taker_is es j lo (Some (shared lock)) notes noted =
 
 -- what is meant by all three
 abbrev Goes : List Event → ℕ → Event → ℕ → Type 0
-Goes es j e k = (Meets es j (thread_of e) k ⊎ MeetsFork es j e k) ⊎ TakesBehind es j (hold_given e) k
+Goes es j e k = (MeetsThread es j (thread_of e) k ⊎ MeetsFork es j e k) ⊎ TakesBehind es j (hold_given e) k
 
 edge_by : (es : List Event) (n k : ℕ) (e b : Event) → slice_get es n ≡ Some e → slice_get es k ≡ Some b → n < k → Linked e b → Edge es n k
 edge_by es n k e b at also rises linked = record { rises = rises; a = e; b = b; at_i = at; at_j = also; linked = linked }
@@ -80,9 +80,9 @@ farthest_by es j n e (Some w) at last =
 pub next_is : (es : List Event) (j n : ℕ) (e : Event) (notes : Notes) → slice_get es n ≡ Some e → AreNoted es j (n + 1) notes → IsFarthest es j n (next_by notes e)
 next_is es j n e notes at noted =
     farthest_by es j n e (next_by notes e) at
-    (later_last (λ k. Meets es j (thread_of e) k ⊎ MeetsFork es j e k) (TakesBehind es j (hold_given e)) (n + 1) _ (taker notes (hold_given e))
-    (later_last (Meets es j (thread_of e)) (MeetsFork es j e) (n + 1) (thread_noted notes (thread_of e)) (noted_of (thread_noted notes) (forked_thread e))
-    (noted.threads_are (thread_of e)) (of_option (Meets es j) (thread_noted notes) (forked_thread e) (n + 1) noted.threads_are))
+    (later_last (λ k. MeetsThread es j (thread_of e) k ⊎ MeetsFork es j e k) (TakesBehind es j (hold_given e)) (n + 1) _ (taker notes (hold_given e))
+    (later_last (MeetsThread es j (thread_of e)) (MeetsFork es j e) (n + 1) (thread_noted notes (thread_of e)) (noted_of (thread_noted notes) (forked_thread e))
+    (noted.threads_are (thread_of e)) (of_option (MeetsThread es j) (thread_noted notes) (forked_thread e) (n + 1) noted.threads_are))
     (taker_is es j (n + 1) (hold_given e) notes noted))
 
 -- ---- whether the place comes to j

@@ -15,8 +15,8 @@ IsLastFrom P lo None = (k : ℕ) → lo ≤ k → ¬ (P k)
 IsLastFrom P lo (Some w) = (lo ≤ w) × P w × ((k : ℕ) → lo ≤ k → P k → k ≤ w)
 
 -- the place is j or reaches it, and its event is of the thread or joins it
-abbrev pub Meets : List Event → ℕ → ℕ → ℕ → Type 0
-Meets es j thread k = Comes es j k × ((e : Event) × (slice_get es k ≡ Some e) × ((thread_of e ≡ thread) ⊎ (joined_thread e ≡ Some thread)))
+abbrev pub MeetsThread : List Event → ℕ → ℕ → ℕ → Type 0
+MeetsThread es j thread k = Comes es j k × ((e : Event) × (slice_get es k ≡ Some e) × ((thread_of e ≡ thread) ⊎ (joined_thread e ≡ Some thread)))
 
 -- it is j or reaches it, and its event takes the hold
 abbrev pub TakesOn : List Event → ℕ → Hold → ℕ → Type 0
@@ -34,7 +34,7 @@ share_noted notes lock = get nat_eq notes.shares lock
 
 -- of the places from lo on, of each thread and each lock the last one is noted
 pub record AreNoted (es : List Event) (j lo : ℕ) (notes : Notes) : Type 0 where
-  pub threads_are : (thread : ℕ) → IsLastFrom (Meets es j thread) lo (thread_noted notes thread)
+  pub threads_are : (thread : ℕ) → IsLastFrom (MeetsThread es j thread) lo (thread_noted notes thread)
   pub acquires_are : (lock : ℕ) → IsLastFrom (TakesOn es j (exclusive lock)) lo (acquire_noted notes lock)
   pub shares_are : (lock : ℕ) → IsLastFrom (TakesOn es j (shared lock)) lo (share_noted notes lock)
 
@@ -61,10 +61,10 @@ shared_in (Some (shared lock)) = Some lock
 -- ---- the next place
 
 -- the later of two places that may be there
-abbrev pub later : Option ℕ → Option ℕ → Option ℕ
-later None y = y
-later (Some x) None = Some x
-later (Some x) (Some y) = Some (max x y)
+abbrev pub later_of_two : Option ℕ → Option ℕ → Option ℕ
+later_of_two None y = y
+later_of_two (Some x) None = Some x
+later_of_two (Some x) (Some y) = Some (max x y)
 
 -- what is noted by a key that may be there
 abbrev pub noted_of : (ℕ → Option ℕ) → Option ℕ → Option ℕ
@@ -74,9 +74,9 @@ noted_of known (Some key) = known key
 -- the last place that takes a hold against the one that is given back
 abbrev pub taker : Notes → Option Hold → Option ℕ
 taker notes None = None
-taker notes (Some (exclusive lock)) = later (acquire_noted notes lock) (share_noted notes lock)
+taker notes (Some (exclusive lock)) = later_of_two (acquire_noted notes lock) (share_noted notes lock)
 taker notes (Some (shared lock)) = acquire_noted notes lock
 
 -- the latest of what is noted of the event's thread, of the one that it forks, and of the hold that it gives back
 abbrev pub next_by : Notes → Event → Option ℕ
-next_by notes e = later (later (thread_noted notes (thread_of e)) (noted_of (thread_noted notes) (forked_thread e))) (taker notes (hold_given e))
+next_by notes e = later_of_two (later_of_two (thread_noted notes (thread_of e)) (noted_of (thread_noted notes) (forked_thread e))) (taker notes (hold_given e))

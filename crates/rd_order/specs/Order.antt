@@ -126,3 +126,13 @@ IsPath es i places j = (inner : List ℕ) × (places ≡ i ∷ inner ++ j ∷ []
 -- the earlier place doesn't reach the later one (Lamport 1978: concurrent)
 abbrev pub Unordered : List Event → ℕ → ℕ → Type 0
 Unordered es i j = (i < j) × ¬ (Reaches es i j)
+
+-- ---- what the event at a place is
+
+-- it is of thread t
+abbrev pub IsOf : List Event → ℕ → ℕ → Type 0
+IsOf es t i = (e : Event) × (slice_get es i ≡ Some e) × (thread_of e ≡ t)
+
+-- it gives back the hold
+abbrev pub GivesBack : List Event → Hold → ℕ → Type 0
+GivesBack es hold m = (e : Event) × (slice_get es m ≡ Some e) × (hold_given e ≡ Some hold)

@@ -33,9 +33,9 @@ AreFarthestSteps es j steps = (back : ℕ) → back < length steps → IsFarthes
 -- ---- the path as a function
 
 -- the greatest number below n that passes the test; the other number where none does
-abbrev pub last_below : (ℕ → Bool) → ℕ → ℕ → ℕ
-last_below test zero other = other
-last_below test (suc n) other = if test n then n else last_below test n other
+abbrev pub last_below_or : (ℕ → Bool) → ℕ → ℕ → ℕ
+last_below_or test zero other = other
+last_below_or test (suc n) other = if test n then n else last_below_or test n other
 
 -- an edge leads from the place to k, which is j or reaches it
 unfoldable pub leads_on : List Event → ℕ → ℕ → ℕ → Bool
@@ -43,7 +43,7 @@ leads_on es j place k = is_edge es place k && ((k == j) || reaches es k j)
 
 -- the greatest such place
 unfoldable pub farthest_next : List Event → ℕ → ℕ → ℕ
-farthest_next es j place = last_below (leads_on es j place) (length es) j
+farthest_next es j place = last_below_or (leads_on es j place) (length es) j
 
 -- from the place to j, by at most so many steps
 abbrev pub farthest_from : List Event → ℕ → ℕ → ℕ → List ℕ

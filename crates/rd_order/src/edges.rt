@@ -6,7 +6,8 @@ ghost use Rattle.rd_order.specs.OrderTests.{is_against, is_handed, is_linked, is
 
 use rd_event::Event;
 
-pub(crate) fn thread_of(event: &Event) -> u32
+/// The thread that acts in an event.
+pub fn thread_of(event: &Event) -> u32
     ensures { result ≡ thread_of event.now }
 {
     match event {

@@ -6,7 +6,7 @@ mod laws;
 mod paths;
 mod steps;
 
-pub use edges::edge;
+pub use edges::{edge, thread_of};
 pub use laws::{
     examples_of_order, law_of_farthest_paths, law_of_lists, law_of_locks, law_of_reaching,
 };

@@ -2,7 +2,7 @@
 ghost use Rattle.std.specs.Prelude.{◌≡◌, ◌<◌, ◌≤◌, ◌+◌, ◌-◌, ◌↔◌, ℕ, nat_eq, List, length, None, IsSome, IfOk, OnOk};
 ghost use Rattle.rd_event.specs.declared.events.Event.{Event};
 ghost use Rattle.indexmap.specs.IndexMap.{get};
-ghost use Rattle.rd_order.specs.Noting.{AreNoted, acquire_noted, exclusive_in, kept_at, kept_if, later, next_by, noted_of, share_noted, shared_in, taker, thread_noted};
+ghost use Rattle.rd_order.specs.Noting.{AreNoted, acquire_noted, exclusive_in, kept_at, kept_if, later_of_two, next_by, noted_of, share_noted, shared_in, taker, thread_noted};
 ghost use Rattle.rd_order.specs.Order.{Reaches, forked_thread, hold_given, hold_taken, joined_thread, thread_of};
 ghost use Rattle.rd_order.specs.Paths.{AreFarthestSteps, IsFarthest};
 
@@ -70,7 +70,7 @@ fn noted_of(map: &IndexMap<u32, u32>, key: Option<u32>) -> Option<u32>
 }
 
 fn later(one: Option<u32>, other: Option<u32>) -> Option<u32>
-    ensures { result ≡ later one other }
+    ensures { result ≡ later_of_two one other }
 {
     match (one, other) {
         (None, other) => other,

@@ -6,7 +6,7 @@ use Rattle.rd_base.specs.declared.limits.LimitName.TheVariants.{Nodes, FormulaDe
 use Rattle.rd_pairs.specs.declared.spec_causes.Fault.{Fault}
 use Rattle.rd_pairs.specs.declared.spec_causes.SpecCause.{SpecCause}
 use Rattle.rd_pairs.specs.declared.spec_causes.SpecCause.TheVariants.{UnknownMethod, UnknownVariable, NoVariable, OutsideFragment, Duplicate, Limit}
-use Rattle.rd_pairs.specs.PairCauses.{AreNumbers, FormulaHas, FormulaPasses, HasManyPredicates, PairHas, SaysPair, scope_of, variables_at}
+use Rattle.rd_pairs.specs.PairCauses.{AreNumbers, FormulaHas, FormulaPasses, HasManyPredicates, PairHas, SaysPair, scope_of, variables_of_method}
 use Rattle.rd_pairs.specs.Causes.{HasNone, IsFirstOf, place_at, rank, IsSpecLineRefused}
 use Rattle.rd_ecl.specs.declared.formulas.Outside.{Outside}
 use Rattle.rd_ecl.specs.declared.kinds.Method.{Method}
@@ -125,7 +125,7 @@ module _ (kind : SpecifiedKind) (line : List ℕ) (tokens : List Token) (first s
     troubled_first formula.NoMemory troubled = tt
 
     -- nothing is wrong with the formula alone
-    module _ (left : AreDifferent (variables_at kind m)) (right : AreDifferent (variables_at kind n)) (f : Tree)
+    module _ (left : AreDifferent (variables_of_method kind m)) (right : AreDifferent (variables_of_method kind n)) (f : Tree)
         (gives : Gives (MeansAt (scope_of kind line tokens m n)) read f) (inside : InFragment f) where
       same_formula : (g : Tree) → Gives (MeansAt (scope_of kind line tokens m n)) read g → g ≡ f
       same_formula g given = one_formula (scope_of kind line tokens m n) left right read g f given gives

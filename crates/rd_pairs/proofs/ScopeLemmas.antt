@@ -5,7 +5,7 @@ use Rattle.std.proofs.lemmas.Option.{get_or_from_slice_get, slice_get-get_or}
 use Rattle.rd_ecl.specs.declared.kinds.Method.{Method}
 use Rattle.rd_ecl.specs.Specified.{AreMethods, SpecifiedKind, slots_at}
 use Rattle.rd_ecl.specs.Variables.{AreVariables}
-use Rattle.rd_pairs.specs.PairCauses.{variables_at}
+use Rattle.rd_pairs.specs.PairCauses.{variables_of_method}
 use Rattle.rd_formulas.specs.declared.scope.Scope.{Scope}
 use Rattle.rd_tokens.specs.declared.sorts.Token.{Token}
 use Rattle.rd_pairs.specs.PairJudging.{kind_with}
@@ -36,7 +36,7 @@ variables_by methods i None are within here = absurd (missing methods i within h
 variables_by methods i (Some method) are within here =
     subst (λ (m : Method). AreVariables m.variables) (get_or_from_slice_get methods i method method here) (are.each i method within)
 
-pub variables_are : (methods : List Method) (i : ℕ) → AreMethods methods → i < length methods → AreVariables (variables_at (kind_with methods) i)
+pub variables_are : (methods : List Method) (i : ℕ) → AreMethods methods → i < length methods → AreVariables (variables_of_method (kind_with methods) i)
 variables_are methods i are within = variables_by methods i (slice_get methods i) are within refl
 
 -- as many as there are slots
@@ -45,5 +45,5 @@ slots_by : (o : Option Method) → length (unwrap_or (option_map (λ (method : M
 slots_by None = refl
 slots_by (Some method) = refl
 
-pub slots_are : (kind : SpecifiedKind) (i : ℕ) → length (variables_at kind i) ≡ slots_at kind.methods i
+pub slots_are : (kind : SpecifiedKind) (i : ℕ) → length (variables_of_method kind i) ≡ slots_at kind.methods i
 slots_are kind i = slots_by (slice_get kind.methods i)

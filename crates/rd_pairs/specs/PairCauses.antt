@@ -23,16 +23,16 @@ pub record AreNumbers (kind : SpecifiedKind) (first second : List ℕ) (m n : �
   pub second_name : slice_get (names_of kind.methods) n ≡ Some second
 
 -- the variables of the method with this number; none where no method has it
-abbrev pub variables_at : SpecifiedKind → ℕ → List (List ℕ)
-variables_at kind number = unwrap_or (option_map (λ method. method.variables) (slice_get kind.methods number)) []
+abbrev pub variables_of_method : SpecifiedKind → ℕ → List (List ℕ)
+variables_of_method kind number = unwrap_or (option_map (λ method. method.variables) (slice_get kind.methods number)) []
 
 -- the words behind `when`, with the variables of two methods
 abbrev pub scope_of : SpecifiedKind → List ℕ → List Token → ℕ → ℕ → Scope
 scope_of kind line tokens m n = record {
   line = record { ref_ptr = (0, 0); now = line };
   tokens = record { ref_ptr = (0, 0); now = drop 4 tokens };
-  first = record { ref_ptr = (0, 0); now = variables_at kind m };
-  second = record { ref_ptr = (0, 0); now = variables_at kind n };
+  first = record { ref_ptr = (0, 0); now = variables_of_method kind m };
+  second = record { ref_ptr = (0, 0); now = variables_of_method kind n };
 }
 
 -- the methods of the pair are known, and its formula is this

@@ -1,6 +1,6 @@
 //! The formula of a pair.
 ghost use Rattle.std.specs.Prelude.{◌≡◌, ◌≢◌, ◌≤◌, ◌<◌, ℕ, length, drop, IfOk, IfErr};
-ghost use Rattle.rd_pairs.specs.PairCauses.{scope_of, variables_at};
+ghost use Rattle.rd_pairs.specs.PairCauses.{scope_of, variables_of_method};
 ghost use Rattle.rd_ecl.specs.Formulas.{tree_of};
 ghost use Rattle.rd_ecl.specs.Specified.{AreMethods};
 ghost use Rattle.rd_formulas.specs.declared.reading.FormulaRefused.TheVariants.{Syntax};
@@ -29,7 +29,7 @@ fn behind_when(tokens: &[Token]) -> &[Token]
 // The variables of the method with this number.
 fn variables_of(methods: &[Method], number: u8) -> &[Name]
     requires { number < length methods.now }
-    ensures { result.now ≡ variables_at (kind_with methods.now) number }
+    ensures { result.now ≡ variables_of_method (kind_with methods.now) number }
 {
     methods[usize::from(number)].variables.items()
 }

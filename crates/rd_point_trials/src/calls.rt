@@ -3,7 +3,7 @@ ghost use Rattle.std.specs.Prelude.{◌≡◌, ◌<◌, IsTrue, length};
 ghost use Rattle.rd_ecl.specs.Specified.{slots_at};
 
 use rd_base::Value;
-use rd_classes::merge;
+use rd_classes::merged_table;
 use rd_ecl::{KindSpec, Method};
 use rd_kinds::shipped;
 use rd_points::{Table, Touch};
@@ -125,16 +125,10 @@ fn is_told(rt: &impl Abort, kind: &KindSpec, table: &Table, first: &Call, calls:
     }
 }
 
-/// The merged table of a kind.
-pub fn merged_table(rt: &impl Abort, alloc: Global, kind: &KindSpec) -> Table {
-    let table = Table::compile(alloc, kind).expect(rt, "memory");
-    merge(alloc, table).ok().expect(rt, "memory")
-}
-
 /// So do all calls of a kind, in both orders, by its table and by the merged one.
 pub fn tells(rt: &impl Abort, alloc: Global, kind: &KindSpec) {
     let table = Table::compile(alloc, kind).expect(rt, "memory");
-    let merged = merged_table(rt, alloc, kind);
+    let merged = merged_table(alloc, kind).expect(rt, "memory");
     let calls = calls_of(rt, alloc, kind);
     assert!(rt; calls.len() > 8);
     for first in &calls {

@@ -1,6 +1,6 @@
 //! Merging keeps which touches conflict.
 
-use crate::calls::merged_table;
+use rd_classes::merged_table;
 use rd_ecl::{KindSpec, Valuation};
 use rd_kinds::shipped;
 use rd_points::{Table, Touch};
@@ -69,7 +69,7 @@ fn all_asked(rt: &impl Abort, alloc: Global, kind: &KindSpec, table: &Table) -> 
 /// Each two touches of a kind conflict by its merged table exactly where they do by the other.
 pub fn keeps_conflicts(rt: &impl Abort, alloc: Global, kind: &KindSpec) {
     let table = Table::compile(alloc, kind).expect(rt, "memory");
-    let merged = merged_table(rt, alloc, kind);
+    let merged = merged_table(alloc, kind).expect(rt, "memory");
     let asked = all_asked(rt, alloc, kind, &table);
     for first in &asked {
         for second in &asked {
@@ -79,7 +79,7 @@ pub fn keeps_conflicts(rt: &impl Abort, alloc: Global, kind: &KindSpec) {
 }
 
 fn has_classes(rt: &impl Abort, alloc: Global, kind: &KindSpec, classes: u32) {
-    assert!(rt; merged_table(rt, alloc, kind).classes() == classes);
+    assert!(rt; merged_table(alloc, kind).expect(rt, "memory").classes() == classes);
 }
 
 // How many merged classes the kinds that are built in have.

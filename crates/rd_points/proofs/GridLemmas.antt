@@ -8,7 +8,7 @@ use Rattle.rd_ecl.specs.declared.reduction.Reduced.{Reduced}
 use Rattle.rd_ecl.specs.declared.reduction.Reduced.TheVariants.{True}
 use Rattle.rd_ecl.specs.Specified.{SpecifiedKind}
 use Rattle.rd_points.specs.declared.blocks.Block.{Block}
-use Rattle.rd_points.specs.Blocks.{Column, IsSquare, column, columns_at, formula_at, grid_of, numbers_in, one_way, row_from, slots_in}
+use Rattle.rd_points.specs.Blocks.{Column, IsSquare, column, columns_at, formula_of_blocks, grid_of, numbers_in, one_way, row_from, slots_in}
 
 -- ---- rows that are seen
 
@@ -47,7 +47,7 @@ module _ (kind : SpecifiedKind) (blocks : List Block) where
   none : Block
   none = record { method = 0; bits = 0; slots = 0 }
 
-  formula_is : (x y : ℕ) → x < length blocks → y < length blocks → formula_at (grid_of kind blocks) x y ≡ one_way kind (get_or blocks x none) (get_or blocks y none)
+  formula_is : (x y : ℕ) → x < length blocks → y < length blocks → formula_of_blocks (grid_of kind blocks) x y ≡ one_way kind (get_or blocks x none) (get_or blocks y none)
   formula_is x y first second =
       ap (λ row. slice_index_or row y True) (get_or-map (λ b. map (one_way kind b) blocks) blocks x none [] first)
       ∙ get_or-map (one_way kind (get_or blocks x none)) blocks y none True second
@@ -56,8 +56,8 @@ module _ (kind : SpecifiedKind) (blocks : List Block) where
   unfolding none
   columns_are at within =
       let of : Reduced → Reduced → ℕ → Column = λ f b s. record { forward = f; backward = b; slots = s } in
-      by_places (λ other. of (formula_at (grid_of kind blocks) at other) (formula_at (grid_of kind blocks) other at) (slots_in blocks other)) (column kind (get_or blocks at none)) blocks none (λ i h.
-      ap (λ f. of f (formula_at (grid_of kind blocks) i at) (slots_in blocks i)) (formula_is at i within h)
+      by_places (λ other. of (formula_of_blocks (grid_of kind blocks) at other) (formula_of_blocks (grid_of kind blocks) other at) (slots_in blocks other)) (column kind (get_or blocks at none)) blocks none (λ i h.
+      ap (λ f. of f (formula_of_blocks (grid_of kind blocks) i at) (slots_in blocks i)) (formula_is at i within h)
       ∙ ap (λ b. of (one_way kind (get_or blocks at none) (get_or blocks i none)) b (slots_in blocks i)) (formula_is i at h within))
 
   pub square : IsSquare (length blocks) (grid_of kind blocks)
@@ -68,16 +68,16 @@ module _ (kind : SpecifiedKind) (blocks : List Block) where
 -- ---- the row of a class
 
 module _ (grid : List (List Reduced)) (blocks : List Block) (at : ℕ) (slot : Option ℕ) where
-  pub row_more : (n i : ℕ) (row new all : List ℕ) (forward backward : Reduced) (slots : ℕ) → i < length blocks → forward ≡ formula_at grid at i → backward ≡ formula_at grid i at
+  pub row_more : (n i : ℕ) (row new all : List ℕ) (forward backward : Reduced) (slots : ℕ) → i < length blocks → forward ≡ formula_of_blocks grid at i → backward ≡ formula_of_blocks grid i at
       → slots ≡ slots_in blocks i → new ≡ row ++ numbers_in n slot (record { forward = forward; backward = backward; slots = slots })
       → row ++ row_from n slot (drop i (columns_at grid blocks at)) ≡ all → new ++ row_from (n + (slots + 1)) slot (drop (i + 1) (columns_at grid blocks at)) ≡ all
   row_more n i row new all forward backward slots within is_forward is_backward few more rest =
       let columns : List Column = columns_at grid blocks at in
       let of : Reduced → Reduced → ℕ → Column = λ f b s. record { forward = f; backward = b; slots = s } in
-      let f : ℕ → Column = λ other. of (formula_at grid at other) (formula_at grid other at) (slots_in blocks other) in
+      let f : ℕ → Column = λ other. of (formula_of_blocks grid at other) (formula_of_blocks grid other at) (slots_in blocks other) in
       let long : i < length columns = omega (arith, length-map-range_with_len f 0 (length blocks)) in
       let here : of forward backward slots ≡ get_or columns i (f 0) =
-      ap (λ x. of x backward slots) is_forward ∙ ap (λ x. of (formula_at grid at i) x slots) is_backward ∙ ap (of (formula_at grid at i) (formula_at grid i at)) few
+      ap (λ x. of x backward slots) is_forward ∙ ap (λ x. of (formula_of_blocks grid at i) x slots) is_backward ∙ ap (of (formula_of_blocks grid at i) (formula_of_blocks grid i at)) few
       ∙ sym (get_or-map-range_with_len f 0 (length blocks) i i (f 0) within (omega arith)) in
       let next : Column → List ℕ = λ c. numbers_in n slot c ++ row_from (n + (c.slots + 1)) slot (drop (i + 1) columns) in
       ap (λ l. l ++ row_from (n + (slots + 1)) slot (drop (i + 1) columns)) more
@@ -87,6 +87,6 @@ module _ (grid : List (List Reduced)) (blocks : List Block) (at : ℕ) (slot : O
   pub row_whole : (n i : ℕ) (row : List ℕ) → length blocks ≤ i → row ++ row_from n slot (drop i (columns_at grid blocks at)) ≡ row_from 0 slot (columns_at grid blocks at)
       → row ≡ row_from 0 slot (columns_at grid blocks at)
   row_whole n i row all rest =
-      let f : ℕ → Column = λ other. record { forward = formula_at grid at other; backward = formula_at grid other at; slots = slots_in blocks other } in
+      let f : ℕ → Column = λ other. record { forward = formula_of_blocks grid at other; backward = formula_of_blocks grid other at; slots = slots_in blocks other } in
       let past : length (columns_at grid blocks at) ≤ i = omega (arith, length-map-range_with_len f 0 (length blocks)) in
       sym (append-nil row) ∙ ap (λ l. row ++ row_from n slot l) (sym (drop_all i (columns_at grid blocks at) past)) ∙ rest

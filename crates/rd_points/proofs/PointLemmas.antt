@@ -18,7 +18,7 @@ use Rattle.rd_ecl.specs.declared.reduction.Reduced.TheVariants.{True, False, Pai
 use Rattle.rd_ecl.specs.SlotPairs.{has_pair, same_pair, union_pairs}
 use Rattle.rd_ecl.specs.Reduction.{HaveBits, constant, differ, flipped, means, of_both, of_either, predicate_holds, predicate_of, reduce_of, truth_in}
 use Rattle.rd_points.specs.Classes.{bits_of, clash, clashes, reduced_pair}
-use Rattle.rd_points.specs.Points.{IsSlot, Meets, class_of, value_at}
+use Rattle.rd_points.specs.Points.{IsSlot, Meets, class_of, value_of_slot}
 use Rattle.rd_ecl.proofs.ReductionLemmas.{all_union, pairs_same, reduces}
 use Rattle.rd_ecl.proofs.ListedLemmas.{pair_listed}
 
@@ -136,7 +136,7 @@ module _ (a b : List Value) where
 
   -- slots whose classes clash, with one value
   Hits : ℕ → ℕ → Reduced → Type 0
-  Hits m n r = (s : Option ℕ) × (t : Option ℕ) × IsSlot m s × IsSlot n t × (clash r s t ≡ true) × (value_at a s ≡ value_at b t)
+  Hits m n r = (s : Option ℕ) × (t : Option ℕ) × IsSlot m s × IsSlot n t × (clash r s t ≡ true) × (value_of_slot a s ≡ value_of_slot b t)
 
   hit_from : (m n : ℕ) (r : Reduced) → PairsFit m n r → means r a b ≡ false → Hits m n r
   unfolding Hits
@@ -150,7 +150,7 @@ module _ (a b : List Value) where
   in_slot n i (inl none) = absurd (none-some i (sym none))
   in_slot n i (inr x) = subst (λ k. k < n) (sym (same_Some i x.0 x.2)) x.1
 
-  hit_to : (r : Reduced) (s t : Option ℕ) → IsSlot (length a) s → clash r s t ≡ true → value_at a s ≡ value_at b t → means r a b ≡ false
+  hit_to : (r : Reduced) (s t : Option ℕ) → IsSlot (length a) s → clash r s t ≡ true → value_of_slot a s ≡ value_of_slot b t → means r a b ≡ false
   hit_to True s t is c e = absurd (true≢false (sym c))
   hit_to False s t is c e = refl
   hit_to (Pairs ps) (Some s) (Some t) is c e = pair_equal (s, t) ps (in_slot (length a) s is) c e
@@ -187,14 +187,14 @@ module _ (kind : SpecifiedKind) (is : IsKind kind) where
 
       OneWay : Type 0
       OneWay = (s : Option ℕ) × (t : Option ℕ) × IsSlot (slots_at kind.methods m) s × IsSlot (slots_at kind.methods n) t
-          × (clashes kind (class_of kind m a s) (class_of kind n b t) ≡ true) × (value_at a s ≡ value_at b t)
+          × (clashes kind (class_of kind m a s) (class_of kind n b t) ≡ true) × (value_of_slot a s ≡ value_of_slot b t)
 
       one_way : pair_holds kind m n a b ≡ false → OneWay
       unfolding reduction formula OneWay Hits
       one_way fails = hit_from a b (slots_at kind.methods m) (slots_at kind.methods n) reduction
           (pairs_fit (slots_at kind.methods m) (slots_at kind.methods n) (formula m n) _ _ _ _ pair.fits) (sym said ∙ fails)
 
-      way_one : (s t : Option ℕ) → IsSlot (length a) s → clashes kind (class_of kind m a s) (class_of kind n b t) ≡ true → value_at a s ≡ value_at b t → pair_holds kind m n a b ≡ false
+      way_one : (s t : Option ℕ) → IsSlot (length a) s → clashes kind (class_of kind m a s) (class_of kind n b t) ≡ true → value_of_slot a s ≡ value_of_slot b t → pair_holds kind m n a b ≡ false
       unfolding reduction formula
       way_one s t slot c e = said ∙ hit_to a b reduction s t slot c e
 

@@ -12,8 +12,8 @@ use Rattle.rd_points.specs.declared.classes.Class.{Class}
 use Rattle.rd_points.specs.declared.touches.Touch.{Touch}
 use Rattle.rd_points.specs.Classes.{bits_of, classes_conflict, classes_of, first_class, slot_at, valuations}
 use Rattle.rd_points.specs.Compiled.{compiled, numbers_from, touches_of}
-use Rattle.rd_points.specs.Points.{IsSlot, Meets, class_of, value_at}
-use Rattle.rd_points.specs.Tables.{IsInRange, IsRising, IsSymmetric, MeetsIn, Tells, class_count, conflicts_at, predicates_of_method, touched, touches_at}
+use Rattle.rd_points.specs.Points.{IsSlot, Meets, class_of, value_of_slot}
+use Rattle.rd_points.specs.Tables.{IsInRange, HasRisingConflicts, IsSymmetric, MeetsIn, Tells, class_count, conflicts_at, predicates_of_method, touched, touches_at}
 use Rattle.rd_points.proofs.ClassLemmas.{bits_below, class_at, classes_few, conflict_turned, get_in_map}
 use Rattle.rd_points.proofs.NumberLemmas.{has_number, number_has, numbers_rise}
 use Rattle.rd_points.proofs.PointLemmas.{points_law}
@@ -90,7 +90,7 @@ module _ (kind : SpecifiedKind) where
       let (x, y, at, other, meets) = conflict_from c d h in
       conflict_to d c (y, x, other, at, conflict_turned kind y x ∙ meets)
 
-  pub rising : IsRising (compiled kind)
+  pub rising : HasRisingConflicts (compiled kind)
   unfolding conflicts_of
   rising c = elim (conflicts_are c) [
     | inl (x, at, row) ↦ subst IsStrictlyIncreasing (sym row) (numbers_rise (classes_conflict kind x) (classes_of kind) 0)
@@ -178,7 +178,7 @@ module _ (kind : SpecifiedKind) where
           slot_is (slots_at kind.methods m) i within,
           slot_is (slots_at kind.methods n) j within_too,
           said_to m v i n w j known possible within known_too possible_too within_too said,
-          ap (value_at a) (sym slot_x) ∙ same ∙ ap (value_at b) slot_y,
+          ap (value_of_slot a) (sym slot_x) ∙ same ∙ ap (value_of_slot b) slot_y,
         )
 
     meets_from : Meets kind m a n b → MeetsIn (compiled kind) m a n b
@@ -196,7 +196,7 @@ module _ (kind : SpecifiedKind) where
           subst (λ l. Contains l x) (sym (touched_are m known a)) (touch_to m v i within),
           subst (λ l. Contains l y) (sym (touched_are n known_too b)) (touch_to n w j within_too),
           conflict_to x.class y.class (said_from m v i n w j known possible within known_too possible_too within_too slots),
-          ap (value_at a) at_s ∙ same ∙ ap (value_at b) (sym at_t),
+          ap (value_of_slot a) at_s ∙ same ∙ ap (value_of_slot b) (sym at_t),
         )
 
   pub tells : IsKind kind → Tells kind (compiled kind)

@@ -50,8 +50,8 @@ abbrev pub grid_of : SpecifiedKind → List Block → List (List Reduced)
 grid_of kind blocks = map (λ x. map (one_way kind x) blocks) blocks
 
 -- that of the blocks with these numbers
-abbrev pub formula_at : List (List Reduced) → ℕ → ℕ → Reduced
-formula_at grid x y = slice_index_or (slice_index_or grid x []) y True
+abbrev pub formula_of_blocks : List (List Reduced) → ℕ → ℕ → Reduced
+formula_of_blocks grid x y = slice_index_or (slice_index_or grid x []) y True
 
 -- there is one for each two of this many blocks
 abbrev pub IsSquare : ℕ → List (List Reduced) → Type 0
@@ -64,7 +64,7 @@ slots_in blocks at = (slice_index_or blocks at (record { method = 0; bits = 0; s
 -- the columns of the block with this number
 abbrev pub columns_at : List (List Reduced) → List Block → ℕ → List Column
 columns_at grid blocks at =
-    map (λ other. record { forward = formula_at grid at other; backward = formula_at grid other at; slots = slots_in blocks other })
+    map (λ other. record { forward = formula_of_blocks grid at other; backward = formula_of_blocks grid other at; slots = slots_in blocks other })
     (range_with_len 0 (length blocks))
 
 -- two classes of these blocks conflict, that have these slots

@@ -11,9 +11,9 @@ abbrev pub IsSlot : ℕ → Option ℕ → Type 0
 IsSlot n s = (s ≡ None) ⊎ ((i : ℕ) × (i < n) × (s ≡ Some i))
 
 -- the value of a slot, or none
-abbrev pub value_at : List Value → Option ℕ → Option Value
-value_at slots None = None
-value_at slots (Some i) = slice_get slots i
+abbrev pub value_of_slot : List Value → Option ℕ → Option Value
+value_of_slot slots None = None
+value_of_slot slots (Some i) = slice_get slots i
 
 -- the class that a call touches, plain or with one of its slots
 abbrev pub class_of : SpecifiedKind → ℕ → List Value → Option ℕ → Class
@@ -22,4 +22,4 @@ class_of kind m slots s = record { method = m; bits = bits_of (method_predicates
 -- two calls on one object touch points that conflict: their classes do, and their values are equal or there are none
 abbrev pub Meets : SpecifiedKind → ℕ → List Value → ℕ → List Value → Type 0
 Meets kind m a n b = (s t : Option ℕ) × IsSlot (slots_at kind.methods m) s × IsSlot (slots_at kind.methods n) t
-    × (classes_conflict kind (class_of kind m a s) (class_of kind n b t) ≡ true) × (value_at a s ≡ value_at b t)
+    × (classes_conflict kind (class_of kind m a s) (class_of kind n b t) ≡ true) × (value_of_slot a s ≡ value_of_slot b t)

@@ -6,7 +6,7 @@ use Rattle.rd_ecl.specs.declared.formulas.Predicate.{Predicate}
 use Rattle.rd_ecl.specs.Specified.{SpecifiedKind, commutes, slots_at}
 use Rattle.rd_points.specs.declared.touches.Touch.{Touch}
 use Rattle.rd_points.specs.Classes.{bits_of}
-use Rattle.rd_points.specs.Points.{value_at}
+use Rattle.rd_points.specs.Points.{value_of_slot}
 
 -- what a table says of a kind
 pub record PointTable : Type 0 where
@@ -30,8 +30,8 @@ predicates_of_method table m = slice_index_or table.predicates m []
 abbrev pub touches_at : PointTable → ℕ → ℕ → List Touch
 touches_at table m bits = slice_index_or (slice_index_or table.touches m []) bits []
 
-abbrev pub is_plain : PointTable → ℕ → Bool
-is_plain table c = slice_index_or table.plain c false
+abbrev pub is_plain_class : PointTable → ℕ → Bool
+is_plain_class table c = slice_index_or table.plain c false
 
 abbrev pub conflicts_at : PointTable → ℕ → List ℕ
 conflicts_at table c = slice_index_or table.conflicts c []
@@ -43,7 +43,7 @@ touched table m slots = touches_at table m (bits_of (predicates_of_method table 
 -- two calls on one object touch points that conflict by the table
 abbrev pub MeetsIn : PointTable → ℕ → List Value → ℕ → List Value → Type 0
 MeetsIn table m a n b = (x y : Touch) × Contains (touched table m a) x × Contains (touched table n b) y
-    × Contains (conflicts_at table x.class) y.class × (value_at a x.slot ≡ value_at b y.slot)
+    × Contains (conflicts_at table x.class) y.class × (value_of_slot a x.slot ≡ value_of_slot b y.slot)
 
 -- the table tells which calls commute: two calls on one object touch points that conflict exactly where they don't commute
 abbrev pub Tells : SpecifiedKind → PointTable → Type 0
@@ -63,8 +63,8 @@ pub record IsInRange (table : PointTable) : Type 0 where
   pub conflicts : (c : ℕ) → All (λ d. d < class_count table) (conflicts_at table c)
 
 -- the classes that conflict with one stand in rising order
-abbrev pub IsRising : PointTable → Type 0
-IsRising table = (c : ℕ) → IsStrictlyIncreasing (conflicts_at table c)
+abbrev pub HasRisingConflicts : PointTable → Type 0
+HasRisingConflicts table = (c : ℕ) → IsStrictlyIncreasing (conflicts_at table c)
 
 -- ---- other numbers for classes
 

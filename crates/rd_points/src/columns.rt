@@ -1,7 +1,7 @@
 //! What the formula of two blocks of classes says.
 ghost use Rattle.std.specs.Prelude.{◌≡◌, ◌<◌, ◌||◌, [], All, IfOk, length, map, slice_index_or};
 ghost use Rattle.rd_ecl.specs.Specified.{IsKind};
-ghost use Rattle.rd_points.specs.Blocks.{ArePredicates, formula_at, grid_of, one_way};
+ghost use Rattle.rd_points.specs.Blocks.{ArePredicates, formula_of_blocks, grid_of, one_way};
 ghost use Rattle.rd_points.specs.Classes.{clash};
 
 use crate::blocks::Block;
@@ -78,7 +78,7 @@ pub(crate) fn grid_of(
 // What the formula of the blocks with these numbers says, with the method of the first on side 1.
 pub(crate) fn formula_at(grid: &[Vec<Reduced>], x: usize, y: usize) -> &Reduced
     requires { y < length (slice_index_or (map (λ row. row.items) grid.now) x []) }
-    ensures { result.now ≡ formula_at (map (λ row. row.items) grid.now) x y }
+    ensures { result.now ≡ formula_of_blocks (map (λ row. row.items) grid.now) x y }
 {
     &grid[x][y]
 }

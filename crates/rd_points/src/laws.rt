@@ -5,7 +5,7 @@ ghost use Rattle.rd_ecl.specs.Specified.{IsKind, SpecifiedKind, commutes, slots_
 ghost use Rattle.rd_points.specs.Compiled.{compiled};
 ghost use Rattle.rd_points.specs.PointLists.{same_point};
 ghost use Rattle.rd_points.specs.Points.{Meets};
-ghost use Rattle.rd_points.specs.Tables.{IsInRange, IsRising, IsSymmetric, Tells, class_count};
+ghost use Rattle.rd_points.specs.Tables.{IsInRange, HasRisingConflicts, IsSymmetric, Tells, class_count};
 ghost use Rattle.rd_points.specs.declared.points.Point.{Point as PointOf};
 
 use rd_base::law_of_order;
@@ -25,7 +25,7 @@ pub fn law_of_tables()
     ensures tells { (kind : SpecifiedKind) → IsKind kind → Tells kind (compiled kind) }
     ensures symmetric { (kind : SpecifiedKind) → IsSymmetric (compiled kind) }
     ensures in_range { (kind : SpecifiedKind) → IsInRange (compiled kind) }
-    ensures rising { (kind : SpecifiedKind) → IsRising (compiled kind) }
+    ensures rising { (kind : SpecifiedKind) → HasRisingConflicts (compiled kind) }
     ensures few { (kind : SpecifiedKind) → IsKind kind → class_count (compiled kind) ≤ 4096 }
 {}
 

@@ -3,7 +3,7 @@ ghost use Rattle.std.specs.Prelude.{◌≡◌, ◌+◌, ◌*◌, ◌^◌, ◌<�
 ghost use Rattle.std.specs.Option.{option_map_or, option_to_list};
 ghost use Rattle.rd_base.specs.declared.limits.TheConstants.{MOST_PREDICATES};
 ghost use Rattle.rd_points.specs.Classes.{bits_of};
-ghost use Rattle.rd_points.specs.Tables.{PointTable, class_count, conflicts_at, is_plain, predicates_of_method, renamed_touch, renamed_touches, touched, touches_at};
+ghost use Rattle.rd_points.specs.Tables.{PointTable, class_count, conflicts_at, is_plain_class, predicates_of_method, renamed_touch, renamed_touches, touched, touches_at};
 
 use crate::touches::Touch;
 use arrayvec::ArrayVec;
@@ -222,7 +222,7 @@ impl Table {
 
     /// Is the class one without a value? Not where there is no such class. It takes no memory.
     pub fn plain(&self, class: u32) -> bool
-        ensures { result ≡ is_plain self.now class }
+        ensures { result ≡ is_plain_class self.now class }
     {
         match self.plain.get(class as usize) {
             Some(plain) => *plain,

@@ -10,7 +10,7 @@ use Rattle.rd_classes.specs.Merged.{merged}
 use Rattle.rd_points.specs.declared.touches.Touch.{Touch}
 use Rattle.rd_points.specs.Classes.{joined}
 use Rattle.rd_points.specs.Compiled.{compiled}
-use Rattle.rd_points.specs.Tables.{PointTable, class_count, conflicts_at, is_plain, predicates_of_method, touches_at}
+use Rattle.rd_points.specs.Tables.{PointTable, class_count, conflicts_at, is_plain_class, predicates_of_method, touches_at}
 use Rattle.rd_print.specs.Canonical.{relation_sign}
 use Rattle.rd_print.specs.Printed.{name_at, variables_at}
 use Rattle.rd_tokens.specs.Words.{sign_word}
@@ -57,7 +57,7 @@ sort_text false = codes " value"
 
 -- the line of a class: whether it is plain, and the classes in conflict with it
 abbrev pub class_line : PointTable → ℕ → List ℕ
-class_line table c = codes "class " ++ decimal c ++ sort_text (is_plain table c) ++ codes " conflicts" ++ numbers_text (conflicts_at table c) ++ codes "\n"
+class_line table c = codes "class " ++ decimal c ++ sort_text (is_plain_class table c) ++ codes " conflicts" ++ numbers_text (conflicts_at table c) ++ codes "\n"
 
 -- ---- touches
 

@@ -1,5 +1,5 @@
 //! What the command `points` writes.
-ghost use Rattle.std.specs.Prelude.{◌≡◌, ℕ, [], OnErr, OnOk, IfOk};
+ghost use Rattle.std.specs.Prelude.{ℕ, [], OnErr, OnOk};
 ghost use Rattle.rd_classes.specs.Merged.{merged};
 ghost use Rattle.rd_io.specs.Sinks.{Appends};
 ghost use Rattle.rd_points.specs.Compiled.{compiled};
@@ -13,7 +13,7 @@ ghost use Rattle.rd_walk.specs.Output.{ended_status};
 use crate::numbered::{Numbered, write_numbered};
 use crate::texts::{append_class, append_kind, append_method_touches, append_predicates};
 use rd_base::{Bytes, NoMemory, Word};
-use rd_classes::merge;
+use rd_classes::merged_table;
 use rd_ecl::{KindSpec, Spec};
 use rd_io::{Inputs, Sink};
 use rd_points::Table;
@@ -119,16 +119,6 @@ fn write_kind<S: Sink>(
     write_numbered(text, &PredicateLines { kind, table }, methods, out)?;
     write_numbered(text, &ClassLines { table }, table.classes(), out)?;
     write_numbered(text, &TouchLines { kind, table }, methods, out)
-}
-
-// The merged table of a kind.
-fn merged_table(alloc: Global, kind: &KindSpec) -> Result<Table, NoMemory>
-    ensures { IfOk result (λ table. table ≡ merged (compiled kind.now)) }
-{
-    match merge(alloc, Table::compile(alloc, kind)?) {
-        Ok(table) => Ok(table),
-        Err(_) => Err(NoMemory),
-    }
 }
 
 // Writes the access points of a kind.

@@ -1,13 +1,14 @@
 //! Lines of the text of a kind's access points.
-ghost use Rattle.std.specs.Prelude.{◌≡◌, ◌++◌, ◌∷◌, [], ◌<◌, ◌≤◌, ◌^◌, OnOk};
+ghost use Rattle.std.specs.Prelude.{◌≡◌, ◌++◌, [], ◌<◌, ◌≤◌, OnOk};
 ghost use Rattle.rd_points_command.specs.PointTexts.{bit_text, bits_text, class_line, kind_line, number_text, numbers_text, predicate_line, predicate_line_at, predicate_lines, predicate_text, slot_text, sort_text, term_text, touch_line, touch_lines, touch_text, touches_text, variable_at};
 ghost use Rattle.rd_print.specs.Canonical.{relation_sign};
 ghost use Rattle.rd_print.specs.Printed.{name_at, variables_at};
 ghost use Rattle.rd_tokens.specs.Words.{sign_word};
 
 use rd_base::{Bytes, Name, NoMemory, append_number, append_value};
-use rd_ecl::{KindSpec, Method, Predicate, Rel, Term, Valuation};
+use rd_ecl::{KindSpec, Method, Predicate, Term, Valuation};
 use rd_points::{Table, Touch};
+use rd_print::{relation_sign, sign_word};
 
 // The name of the method with this number.
 fn append_name(text: &mut Bytes, methods: &[Method], method: u8) -> Result<(), NoMemory>
@@ -50,17 +51,6 @@ fn append_term(text: &mut Bytes, variables: &[Name], term: &Term) -> Result<(), 
     }
 }
 
-// The sign of a relation.
-fn sign(rel: Rel) -> &'static [u8]
-    ensures { result.now ≡ sign_word (relation_sign rel) }
-{
-    match rel {
-        Rel::Eq => b"=",
-        Rel::Lt => b"<",
-        Rel::Le => b"<=",
-    }
-}
-
 fn append_predicate(
     text: &mut Bytes,
     variables: &[Name],
@@ -70,7 +60,7 @@ fn append_predicate(
 {
     append_term(text, variables, &predicate.left)?;
     text.append(b" ")?;
-    text.append(sign(predicate.rel))?;
+    text.append(sign_word(relation_sign(predicate.rel)))?;
     text.append(b" ")?;
     append_term(text, variables, &predicate.right)
 }

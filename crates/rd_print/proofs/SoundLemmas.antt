@@ -17,7 +17,7 @@ use Rattle.rd_ecl.specs.Variables.{IsVariable, is_variable_byte}
 use Rattle.rd_tokens.specs.Tokens.{is_word_byte}
 use Rattle.rd_print.specs.Text.{IsRightWord}
 use Rattle.rd_print.proofs.TextSoundLemmas.{AreSound, formula_sound}
-use Rattle.rd_print.specs.Printed.{block_lines, commute_words, formula_words, header_words, kind_words, method_words, name_at, pairs_of, slot_words, spec_lines, variables_at}
+use Rattle.rd_print.specs.Printed.{block_lines, commute_words, formula_words, printed_header, kind_words, method_words, name_at, pairs_of, slot_words, spec_lines, variables_at}
 
 -- names and variables
 name_byte : (b : ℕ) → is_name_byte b ≡ true → is_word_byte b ≡ true
@@ -141,7 +141,7 @@ kind_sound kind is = (
 pub lines_sound : (kinds : List SpecifiedKind) → All IsKind kinds → All (All IsRightWord) (spec_lines kinds)
 lines_sound kinds are =
     each_from_recursion (All IsRightWord) (spec_lines kinds) (
-      line_sound header_words (written_sound (codes "rdspec") (omega arith) refl, (written_sound (codes "1") (omega arith) refl, tt)),
+      line_sound printed_header (written_sound (codes "rdspec") (omega arith) refl, (written_sound (codes "1") (omega arith) refl, tt)),
       each_flat (All IsRightWord) block_lines kinds
           (each_by_recursion (λ kind. AllByRecursion (All IsRightWord) (block_lines kind)) kinds
           (λ k d inside. kind_sound (get_or kinds k d) (are k d inside))),

@@ -1,10 +1,11 @@
 -- The text of words that stand behind others.
 use Rattle.std.proofs.Common.{◌≡◌, ℕ, List, [], ◌∷◌, ◌++◌, zero, suc, ◌<◌, length, drop, get_or, arith, refl, sym, append_assoc, append-nil}
 use Rattle.std.specs.Prelude.{Result, Ok, Err, OnErr}
+use Rattle.rd_base.specs.Bytes.{IsFront}
 use Rattle.rd_print.specs.declared.canonical.word_list.PrintedWord.{PrintedWord}
 use Rattle.rd_tokens.specs.declared.sorts.Sort.{Sort}
 use Rattle.rd_tokens.specs.declared.sorts.Sort.TheVariants.{Open}
-use Rattle.rd_print.specs.Text.{IsFront, gap, words_text}
+use Rattle.rd_print.specs.Text.{gap, words_text}
 
 -- the text of words behind a word of this sort
 abbrev pub text_behind : Sort → List PrintedWord → List ℕ

@@ -15,7 +15,7 @@ use Rattle.rd_base.specs.declared.values.Value.TheVariants.{Nil, Bool as Truth, 
 use Rattle.rd_base.specs.Spelling.{IsValue}
 use Rattle.rd_base.proofs.FoundLemmas.{each_by_recursion, each_from_recursion}
 use Rattle.rd_print.specs.declared.canonical.word_list.PrintedWord.{PrintedWord}
-use Rattle.rd_print.specs.Canonical.{closing, is_of_two, is_or, not_words, part_words, plain_word, relation_words, sided_words, relation_sign, slot_word, term_word, value_word, canonical_words}
+use Rattle.rd_print.specs.Canonical.{closing, has_two_parts, is_or, not_words, part_words, plain_word, relation_words, sided_words, relation_sign, slot_word, term_word, value_word, canonical_words}
 use Rattle.rd_ecl.specs.declared.formulas.Rel.TheVariants.{Eq, Lt, Le}
 use Rattle.rd_ecl.specs.declared.formulas.Side.{Side}
 use Rattle.rd_ecl.specs.declared.formulas.Side.TheVariants.{First, Second}
@@ -145,8 +145,8 @@ module _ (first second : List (List ℕ)) (firsts : All IsVariable first) (secon
   second_sound slot within = slot_sound Second second slot seconds within
 
   -- a plain `not`
-  plain_not : (f : Tree) (words : List PrintedWord) → AreSound words → AreSound (plain_word (codes "not") ∷ part_words (is_of_two f) words)
-  plain_not f words each = (not_sound, part_sound (is_of_two f) words each)
+  plain_not : (f : Tree) (words : List PrintedWord) → AreSound words → AreSound (plain_word (codes "not") ∷ part_words (has_two_parts f) words)
+  plain_not f words each = (not_sound, part_sound (has_two_parts f) words each)
 
   negated : (f : Tree) (words : List PrintedWord) → Fits f (length first) (length second) → AreValues f → AreSound words → AreSound (not_words first second f words)
   negated (atom side Eq left right) words fits values each = sided_sound side Different left right fits.0 fits.1 values.0 values.1
@@ -168,7 +168,7 @@ module _ (first second : List (List ℕ)) (firsts : All IsVariable first) (secon
   words_sound (negation f) fits values = negated f (canonical_words first second f) fits values (words_sound f fits values)
   words_sound (both f g) fits values =
       sound_both (part_words (is_or f) (canonical_words first second f)) _ (part_sound (is_or f) _ (words_sound f fits.0 values.0))
-      (and_sound, part_sound (is_of_two g) _ (words_sound g fits.1 values.1))
+      (and_sound, part_sound (has_two_parts g) _ (words_sound g fits.1 values.1))
   words_sound (either f g) fits values =
       sound_both (canonical_words first second f) _ (words_sound f fits.0 values.0)
       (or_sound, part_sound (is_or g) _ (words_sound g fits.1 values.1))

@@ -34,7 +34,7 @@ use Rattle.rd_tokens.specs.declared.words.terms.Said.TheVariants.{Variable, Valu
 use Rattle.rd_tokens.specs.Words.{IsSymbol, IsTerm, side_mark}
 use Rattle.rd_tokens.proofs.WordLemmas.{some_symbol, term_word as word_of_term}
 use Rattle.rd_print.specs.declared.canonical.word_list.PrintedWord.{PrintedWord}
-use Rattle.rd_print.specs.Canonical.{AreWords, is_of_two, is_or, not_words, part_words, plain_word, relation_words, relation_sign, slot_word, term_word, value_word, canonical_words}
+use Rattle.rd_print.specs.Canonical.{AreWords, has_two_parts, is_or, not_words, part_words, plain_word, relation_words, relation_sign, slot_word, term_word, value_word, canonical_words}
 use Rattle.rd_print.proofs.WordStandLemmas.{AreFrom, Stand, are_marks, from_append, stand_all, stand_back, stand_front}
 
 -- Terms
@@ -115,7 +115,7 @@ record IsShown (scope : Scope) (n : ℕ) (words : List PrintedWord) (f : Tree) :
   canonical : AreCanonical read marks
   from : AreFrom n words marks
   gives : Gives (MeansAt scope) read f
-  of_two : reads_two read ≡ is_of_two f
+  of_two : reads_two read ≡ has_two_parts f
   of_or : is_either read ≡ is_or f
 
 -- the same of a part that may need parentheses
@@ -125,7 +125,7 @@ record IsPart (scope : Scope) (n : ℕ) (words : List PrintedWord) (f : Tree) (n
   part : ArePart needs (AreCanonical read) marks
   from : AreFrom n words marks
   gives : Gives (MeansAt scope) read f
-  of_two : reads_two read ≡ is_of_two f
+  of_two : reads_two read ≡ has_two_parts f
   of_or : is_either read ≡ is_or f
 
 abbrev Shows : Scope → List PrintedWord → Tree → Type 0
@@ -150,7 +150,7 @@ part_shown scope true n words f shows stand =
     }
 
 relation_shown : (scope : Scope) (n : ℕ) (left right : PrintedWord) (sign : Sign) (x y : Meant) (f : Tree) → IsTermWord left → IsTermWord right
-    → MeansAt scope n x → MeansAt scope (suc (suc n)) y → relation_of_terms sign x y ≡ Some f → is_of_two f ≡ false → is_or f ≡ false
+    → MeansAt scope n x → MeansAt scope (suc (suc n)) y → relation_of_terms sign x y ≡ Some f → has_two_parts f ≡ false → is_or f ≡ false
     → IsShown scope n (relation_words left sign right) f
 relation_shown scope n left right sign x y f first second here there same two or =
     record {
@@ -174,7 +174,7 @@ named scope Second names = names.second
 
 side_shown : (scope : Scope) (n : ℕ) (side : Side) (sign : Sign) (left right : Term) (f : Tree) → AreNames scope
     → FitsTerm left (length (variables_of scope side)) → FitsTerm right (length (variables_of scope side)) → IsConstant left → IsConstant right
-    → (is_slot left || is_slot right) ≡ true → sided_relation sign side left right ≡ f → is_of_two f ≡ false → is_or f ≡ false
+    → (is_slot left || is_slot right) ≡ true → sided_relation sign side left right ≡ f → has_two_parts f ≡ false → is_or f ≡ false
     → Stand scope n (relation_words (term_word side (variables_of scope side) left) sign (term_word side (variables_of scope side) right))
     → IsShown scope n (relation_words (term_word side (variables_of scope side) left) sign (term_word side (variables_of scope side) right)) f
 side_shown scope n side sign left right f names fits more is be some same two or stand =
@@ -187,7 +187,7 @@ side_shown scope n side sign left right f names fits more is be some same two or
 
 across_shown : (scope : Scope) (n : ℕ) (left right : Side) (sign : Sign) (i j : ℕ) (f : Tree) → AreNames scope
     → i < length (variables_of scope left) → j < length (variables_of scope right)
-    → relation_of_terms sign (SlotOf left i) (SlotOf right j) ≡ Some f → is_of_two f ≡ false → is_or f ≡ false
+    → relation_of_terms sign (SlotOf left i) (SlotOf right j) ≡ Some f → has_two_parts f ≡ false → is_or f ≡ false
     → Stand scope n (relation_words (slot_word left (variables_of scope left) i) sign (slot_word right (variables_of scope right) j))
     → IsShown scope n (relation_words (slot_word left (variables_of scope left) i) sign (slot_word right (variables_of scope right) j)) f
 across_shown scope n left right sign i j f names within below same two or stand =
@@ -209,9 +209,9 @@ record IsGood (scope : Scope) (f : Tree) : Type 0 where
   values : AreValues f
 
 plain_not : (scope : Scope) (f : Tree) → Shows scope (words_in scope f) f
-    → Shows scope (plain_word (codes "not") ∷ part_words (is_of_two f) (words_in scope f)) (negation f)
+    → Shows scope (plain_word (codes "not") ∷ part_words (has_two_parts f) (words_in scope f)) (negation f)
 plain_not scope f shows n stand =
-    let p = part_shown scope (is_of_two f) (suc n) (words_in scope f) f shows stand.1 in
+    let p = part_shown scope (has_two_parts f) (suc n) (words_in scope f) f shows stand.1 in
     record {
       read = read_not n p.read;
       marks = mark Not n ∷ p.marks;
@@ -243,7 +243,7 @@ both_shown scope f g first second n stand =
     let p = part_shown scope (is_or f) n (words_in scope f) f first (stand_front scope n front _ stand) in
     let middle = n + length front in
     let rest = stand_back scope n front _ stand in
-    let q = part_shown scope (is_of_two g) (suc middle) (words_in scope g) g second rest.1 in
+    let q = part_shown scope (has_two_parts g) (suc middle) (words_in scope g) g second rest.1 in
     record {
       read = read_and p.read middle q.read;
       marks = p.marks ++ mark And middle ∷ q.marks;

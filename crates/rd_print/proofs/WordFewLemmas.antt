@@ -3,7 +3,7 @@ use Rattle.std.proofs.Common.{◌≡◌, ℕ, ◌+◌, ◌*◌, ◌≤◌, Bool,
 use Rattle.rd_ecl.specs.declared.formulas.Rel.TheVariants.{Eq, Lt, Le}
 use Rattle.rd_ecl.specs.Formulas.{Tree, truth, atom, cross, mixed, negation, both, either, nodes, post_order}
 use Rattle.rd_print.specs.declared.canonical.word_list.PrintedWord.{PrintedWord}
-use Rattle.rd_print.specs.Canonical.{closing, is_of_two, is_or, not_words, part_words, plain_word, canonical_words}
+use Rattle.rd_print.specs.Canonical.{closing, has_two_parts, is_or, not_words, part_words, plain_word, canonical_words}
 
 -- how many parentheses a part has that needs them
 abbrev pair : Bool → ℕ
@@ -14,7 +14,7 @@ part_length : (needs : Bool) (words : List PrintedWord) → length (part_words n
 part_length false words = omega arith
 part_length true words = omega (arith, length-append words (closing ∷ []))
 
-or_of_two : (f : Tree) → pair (is_or f) ≤ pair (is_of_two f)
+or_of_two : (f : Tree) → pair (is_or f) ≤ pair (has_two_parts f)
 or_of_two (truth value) = omega arith
 or_of_two (atom side rel left right) = omega arith
 or_of_two (cross i j) = omega arith
@@ -25,11 +25,11 @@ or_of_two (either f g) = omega arith
 
 module _ (first second : List (List ℕ)) where
   abbrev Few : Tree → List PrintedWord → ℕ → Type 0
-  Few f words count = length words + pair (is_of_two f) ≤ 3 * count
+  Few f words count = length words + pair (has_two_parts f) ≤ 3 * count
 
   plain_not : (f : Tree) (bytes : List ℕ) (words : List PrintedWord) (count : ℕ) → Few f words count
-      → length (plain_word bytes ∷ part_words (is_of_two f) words) + 0 ≤ 3 * (count + 1)
-  plain_not f bytes words count few = omega (arith, part_length (is_of_two f) words, few)
+      → length (plain_word bytes ∷ part_words (has_two_parts f) words) + 0 ≤ 3 * (count + 1)
+  plain_not f bytes words count few = omega (arith, part_length (has_two_parts f) words, few)
 
   not_few : (f : Tree) (words : List PrintedWord) (count : ℕ) → Few f words count → length (not_words first second f words) + 0 ≤ 3 * (count + 1)
   not_few (truth value) words count few = plain_not (truth value) (codes "not") words count few
@@ -52,14 +52,14 @@ module _ (first second : List (List ℕ)) where
       omega (arith, not_few f (canonical_words first second f) (nodes f) (few_nodes f), length-append (post_order f) (negation f ∷ []))
   few_nodes (both f g) =
       let left = part_words (is_or f) (canonical_words first second f) in
-      let right = part_words (is_of_two g) (canonical_words first second g) in
+      let right = part_words (has_two_parts g) (canonical_words first second g) in
       omega (
         arith,
         few_nodes f,
         few_nodes g,
         or_of_two f,
         part_length (is_or f) (canonical_words first second f),
-        part_length (is_of_two g) (canonical_words first second g),
+        part_length (has_two_parts g) (canonical_words first second g),
         length-append left (plain_word (codes "and") ∷ right),
         length-append (post_order f ++ post_order g) (both f g ∷ []),
         length-append (post_order f) (post_order g),

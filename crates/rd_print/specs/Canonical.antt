@@ -57,10 +57,10 @@ is_or (either f g) = true
 is_or _ = false
 
 -- is it of two formulas, with `and` or `or` between them?
-abbrev pub is_of_two : Tree → Bool
-is_of_two (both f g) = true
-is_of_two (either f g) = true
-is_of_two _ = false
+abbrev pub has_two_parts : Tree → Bool
+has_two_parts (both f g) = true
+has_two_parts (either f g) = true
+has_two_parts _ = false
 
 -- the two parentheses
 abbrev pub opening : PrintedWord
@@ -87,7 +87,7 @@ sided_words first second side sign left right =
 -- the `not` of a formula with these words: `!=` where it is a relation with `=` on one side
 abbrev pub not_words : List (List ℕ) → List (List ℕ) → Tree → List PrintedWord → List PrintedWord
 not_words first second (atom side Eq left right) words = sided_words first second side Different left right
-not_words first second f words = plain_word (codes "not") ∷ part_words (is_of_two f) words
+not_words first second f words = plain_word (codes "not") ∷ part_words (has_two_parts f) words
 
 -- the canonical words of a formula, where these are the variables of side 1 and of side 2
 abbrev pub canonical_words : List (List ℕ) → List (List ℕ) → Tree → List PrintedWord
@@ -100,7 +100,7 @@ canonical_words first second (mixed rel true i j) = relation_words (slot_word Se
 canonical_words first second (negation f) = not_words first second f (canonical_words first second f)
 canonical_words first second (both f g) =
     part_words (is_or f) (canonical_words first second f)
-    ++ plain_word (codes "and") ∷ part_words (is_of_two g) (canonical_words first second g)
+    ++ plain_word (codes "and") ∷ part_words (has_two_parts g) (canonical_words first second g)
 canonical_words first second (either f g) =
     canonical_words first second f ++ plain_word (codes "or") ∷ part_words (is_or g) (canonical_words first second g)
 

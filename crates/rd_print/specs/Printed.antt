@@ -52,22 +52,22 @@ abbrev pub block_lines : SpecifiedKind → List (List PrintedWord)
 block_lines kind = kind_words kind ∷ map method_words kind.methods ++ map (commute_words kind) (pairs_of (length kind.methods))
 
 -- the lines of a specification: the header, then those of its kinds
-abbrev pub header_words : List PrintedWord
-header_words = plain_word (codes "rdspec") ∷ plain_word (codes "1") ∷ []
+abbrev pub printed_header : List PrintedWord
+printed_header = plain_word (codes "rdspec") ∷ plain_word (codes "1") ∷ []
 
 abbrev pub spec_lines : List SpecifiedKind → List (List PrintedWord)
-spec_lines kinds = header_words ∷ flat_map block_lines kinds
+spec_lines kinds = printed_header ∷ flat_map block_lines kinds
 
 -- the text of a line, with its line feed
-abbrev pub line_text : List PrintedWord → List ℕ
-line_text words = words_text words ++ codes "\n"
+abbrev pub printed_line : List PrintedWord → List ℕ
+printed_line words = words_text words ++ codes "\n"
 
 -- the text of a kind's lines, and of a specification
 abbrev pub block_text : SpecifiedKind → List ℕ
-block_text kind = flat_map line_text (block_lines kind)
+block_text kind = flat_map printed_line (block_lines kind)
 
 abbrev pub spec_text : List SpecifiedKind → List ℕ
-spec_text kinds = flat_map line_text (spec_lines kinds)
+spec_text kinds = flat_map printed_line (spec_lines kinds)
 
 -- the text of a pair, as it stands in its line behind `commute`
 abbrev pub pair_text : SpecifiedKind → ℕ → ℕ → List ℕ

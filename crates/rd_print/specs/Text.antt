@@ -18,10 +18,6 @@ words_text [] = []
 words_text (w ∷ []) = w.bytes
 words_text (w ∷ v ∷ words) = w.bytes ++ gap w.sort v.sort ++ words_text (v ∷ words)
 
--- the bytes are the first of the whole
-abbrev pub IsFront : List ℕ → List ℕ → Type 0
-IsFront front whole = (rest : List ℕ) × (whole ≡ front ++ rest)
-
 -- the bytes alone are a token of the sort, one that is right
 abbrev pub IsRightToken : Sort → List ℕ → Type 0
 IsRightToken Open bytes = bytes ≡ codes "("

@@ -2,7 +2,7 @@
 use Rattle.std.specs.Prelude.{◌≡◌, ℕ, Bool, true, false, List, [], ◌∷◌, codes}
 use Rattle.rd_ecl.specs.Formulas.{Tree, negation, both, either}
 use Rattle.rd_print.specs.declared.canonical.word_list.PrintedWord.{PrintedWord}
-use Rattle.rd_print.specs.Canonical.{closing, is_of_two, not_words, opening, part_words, plain_word}
+use Rattle.rd_print.specs.Canonical.{closing, has_two_parts, not_words, opening, part_words, plain_word}
 
 -- is it made of other formulas?
 abbrev pub has_part : Tree → Bool
@@ -24,4 +24,4 @@ behind_part true = closing ∷ []
 -- its `not` is the word `not` and the formula, whatever the variables are and the formula's words
 abbrev pub IsPlainNot : Tree → Type 0
 IsPlainNot f = (first second : List (List ℕ)) (words : List PrintedWord)
-    → not_words first second f words ≡ plain_word (codes "not") ∷ part_words (is_of_two f) words
+    → not_words first second f words ≡ plain_word (codes "not") ∷ part_words (has_two_parts f) words

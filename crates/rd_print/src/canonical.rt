@@ -13,5 +13,6 @@ mod word_list;
 mod writing;
 
 pub use laws::law_of_canonical_words;
+pub use relations::{relation_sign, sign_word};
 pub use word_list::{PrintedWord, Words};
 pub use writing::words;

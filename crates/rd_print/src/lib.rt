@@ -12,7 +12,7 @@ mod pairs;
 mod printing;
 mod texts;
 
-pub use canonical::{PrintedWord, Words, law_of_canonical_words, words};
+pub use canonical::{PrintedWord, Words, law_of_canonical_words, relation_sign, sign_word, words};
 pub use laws::law_of_printed_texts;
 pub use pairs::formula_text;
 pub use printing::{print, print_kind};

@@ -1,6 +1,6 @@
 //! The lines of a kind and of its methods.
 ghost use Rattle.std.specs.Prelude.{◌≡◌, ◌++◌, OnOk};
-ghost use Rattle.rd_print.specs.Printed.{kind_words, line_text, method_words, slot_words};
+ghost use Rattle.rd_print.specs.Printed.{kind_words, printed_line, method_words, slot_words};
 ghost use Rattle.rd_print.specs.Writing.{methods_text, spaced_text};
 
 use rd_base::{Bytes, Name, NoMemory};
@@ -8,7 +8,7 @@ use rd_ecl::{KindSpec, Method};
 
 // Puts the line of a kind last.
 pub(crate) fn append_head(text: &mut Bytes, kind: &KindSpec) -> Result<(), NoMemory>
-    ensures { OnOk result (text.new ≡ text.old ++ line_text (kind_words kind.now)) }
+    ensures { OnOk result (text.new ≡ text.old ++ printed_line (kind_words kind.now)) }
 {
     text.append(b"kind ")?;
     text.append(kind.name().items())?;
@@ -32,7 +32,7 @@ fn append_slots(text: &mut Bytes, variables: &[Name]) -> Result<(), NoMemory>
 
 // Puts the line of a method last.
 fn append_method(text: &mut Bytes, method: &Method) -> Result<(), NoMemory>
-    ensures { OnOk result (text.new ≡ text.old ++ line_text (method_words method.now)) }
+    ensures { OnOk result (text.new ≡ text.old ++ printed_line (method_words method.now)) }
 {
     text.append(b"method ")?;
     text.append(method.name.items())?;

@@ -1,6 +1,6 @@
 //! The lines of a kind's pairs, and the part of such a line behind `commute`.
 ghost use Rattle.std.specs.Prelude.{◌≡◌, ◌≤◌, ◌<◌, ◌++◌, IfOk, OnOk, Some, length, slice_get};
-ghost use Rattle.rd_print.specs.Printed.{commute_words, line_text, pair_text};
+ghost use Rattle.rd_print.specs.Printed.{commute_words, printed_line, pair_text};
 ghost use Rattle.rd_print.specs.Writing.{pairs_text, row_text};
 
 use crate::{append_text, words};
@@ -61,7 +61,7 @@ fn append_commute(
 ) -> Result<(), NoMemory>
     requires { (first ≤ second) × (second < length kind.now.methods) }
     ensures { OnOk result
-        (text.new ≡ text.old ++ line_text (commute_words kind.now (first, second))) }
+        (text.new ≡ text.old ++ printed_line (commute_words kind.now (first, second))) }
 {
     text.append(b"commute ")?;
     append_pair(alloc, text, kind, first, second)?;

@@ -9,7 +9,7 @@ use Rattle.rd_pairs.specs.PairCauses.{SaysPair}
 use Rattle.rd_reading.specs.Known.{kind_in, stage_in, stage_of}
 use Rattle.rd_ecl.specs.Formulas.{Tree}
 use Rattle.rd_ecl.specs.Specified.{MayAdd, SpecifiedKind, names_of, with_method, with_pair}
-use Rattle.rd_ecl.specs.Variables.{IsVariable, is_among, is_variable}
+use Rattle.rd_ecl.specs.Variables.{IsVariable, is_one_of, is_variable}
 use Rattle.rd_ecl.proofs.VariableLemmas.{different_decides, variable_decides}
 use Rattle.rd_grammar.specs.Grammar.{ParsedTree}
 use Rattle.rd_lines.specs.declared.forms.Stage.{Stage}
@@ -39,7 +39,7 @@ argument_count stage line tokens name arguments value right =
 -- the method of a right line may be added
 pub may_add : (kind : SpecifiedKind) (stage : Stage) (words : List LineWord) (name : List ℕ) (arguments : List (List ℕ)) (value : List ℕ)
     (held variables : List (List ℕ)) → held ≡ arguments → variables ≡ arguments ++ value ∷ [] → IsMethodLine stage words name arguments value
-    → (length kind.methods < MOST_METHODS) × (length held ≤ MOST_ARGUMENTS) → is_among name (names_of kind.methods) ≡ false → Different (held ++ value ∷ [])
+    → (length kind.methods < MOST_METHODS) × (length held ≤ MOST_ARGUMENTS) → is_one_of name (names_of kind.methods) ≡ false → Different (held ++ value ∷ [])
     → MayAdd kind name variables
 may_add kind stage words name arguments value held variables same are right room fresh different =
     subst (λ (l : List (List ℕ)). MayAdd kind name l) (sym are)

@@ -8,7 +8,7 @@ use Rattle.rd_base.specs.declared.limits.LimitName.TheVariants.{Arguments, Formu
 use Rattle.rd_base.specs.declared.limits.TheConstants.{MOST_ARGUMENTS, MOST_KINDS, MOST_LEVELS, MOST_METHODS, MOST_NODES, MOST_PREDICATES, MOST_TOKENS}
 use Rattle.rd_ecl.specs.Formulas.{InFragment, Tree, levels, nodes}
 use Rattle.rd_ecl.specs.Specified.{IsDraft, SpecifiedKind, formula_at, method_predicates, names_of, with_method, with_pair}
-use Rattle.rd_ecl.specs.Variables.{is_among}
+use Rattle.rd_ecl.specs.Variables.{is_one_of}
 use Rattle.rd_ecl.proofs.VariableLemmas.{among_decides}
 use Rattle.rd_formulas.specs.declared.reading.FormulaRefused.TheVariants as formula
 use Rattle.rd_formulas.specs.Meaning.{Gives}
@@ -23,7 +23,7 @@ use Rattle.rd_tokens.specs.Tokens.{AreTokens, IsTokenOf, LiesIn}
 use Rattle.rd_tokens.proofs.CutLemmas.{each_is, each_lies, some_tokens}
 use Rattle.rd_reading.specs.Adding.{AcceptsSpecLine, FormAdds, adds_form, adds_header, with_header, with_kind, with_open}
 use Rattle.rd_reading.specs.Causes.{FormHas, Has, HasManyTokens, IsFirstRepeated, KindHas, MethodHas, header_words, variable_token}
-use Rattle.rd_pairs.specs.PairCauses.{AreNumbers, HasManyPredicates, PairHas, SaysPair, scope_of, variables_at}
+use Rattle.rd_pairs.specs.PairCauses.{AreNumbers, HasManyPredicates, PairHas, SaysPair, scope_of, variables_of_method}
 use Rattle.rd_pairs.specs.Causes.{HasNone, IsFirstOf, place_at, rank}
 use Rattle.rd_reading.specs.Known.{kind_in, kinds_so_far, open_method_names, specified_kind_names, stage_of}
 use Rattle.rd_pairs.specs.PairJudging.{IsFirstPassed, LateHas, Passes}
@@ -53,7 +53,7 @@ HasFirst H = (cause : SpecCause) × (place : ℕ) × IsFirstOf H cause place
 
 judged_kind : (taken : List (List ℕ)) (known : Known) (line : List ℕ) (tokens : List Token) (name : List ℕ)
     → HasFirst (KindHas taken known line tokens name) ⊎ HasNone (KindHas taken known line tokens name)
-judged_kind taken known line tokens name = elim (cases_Bool (is_among name (specified_kind_names (kinds_so_far known)))) [
+judged_kind taken known line tokens name = elim (cases_Bool (is_one_of name (specified_kind_names (kinds_so_far known)))) [
   | inl there ↦ inl (Duplicate, place_at line tokens 1, known_kind taken known line tokens name (place_at line tokens 1) refl there)
   | inr fresh ↦ elim (lacks_or_whole (kind_in known.block)) [
     | inl lacks ↦
@@ -62,7 +62,7 @@ judged_kind taken known line tokens name = elim (cases_Bool (is_among name (spec
           0,
           missing_kind taken known line tokens name fresh (MissingPair lacks.0 lacks.1) (lacks.0, lacks.1, refl, lacks.2),
         )
-    | inr whole ↦ elim (cases_Bool (is_among name taken)) [
+    | inr whole ↦ elim (cases_Bool (is_one_of name taken)) [
       | inl there ↦ inl (KindTaken, place_at line tokens 1, taken_kind taken known line tokens name fresh whole (place_at line tokens 1) refl there)
       | inr free ↦ elim (cases_lt (length (kinds_so_far known)) MOST_KINDS) [
         | inl few ↦ inr (right_kind taken known line tokens name fresh whole free few)
@@ -77,7 +77,7 @@ judged_kind taken known line tokens name = elim (cases_Bool (is_among name (spec
 
 repeated_in : (names before rest : List (List ℕ)) → names ≡ before ++ rest → AreDifferent before → ((n : ℕ) × IsFirstRepeated names n) ⊎ AreDifferent names
 repeated_in names before [] same different = inr (subst AreDifferent (sym (same ∙ append-nil before)) different)
-repeated_in names before (name ∷ rest) same different = elim (decided (is_among name before) (among_decides name before)) [
+repeated_in names before (name ∷ rest) same different = elim (decided (is_one_of name before) (among_decides name before)) [
   | inl among ↦ inl (
     length before,
     record {
@@ -92,7 +92,7 @@ repeated_in names before (name ∷ rest) same different = elim (decided (is_amon
 
 judged_method : (kind : SpecifiedKind) (line : List ℕ) (tokens : List Token) (name : List ℕ) (arguments : List (List ℕ)) (result : List ℕ)
     → HasFirst (MethodHas kind line tokens name arguments result) ⊎ HasNone (MethodHas kind line tokens name arguments result)
-judged_method kind line tokens name arguments result = elim (cases_Bool (is_among name (names_of kind.methods))) [
+judged_method kind line tokens name arguments result = elim (cases_Bool (is_one_of name (names_of kind.methods))) [
   | inl there ↦ inl (Duplicate, place_at line tokens 1, known_method kind line tokens name arguments result (place_at line tokens 1) refl there)
   | inr fresh ↦ elim (repeated_in (arguments ++ result ∷ []) [] (arguments ++ result ∷ []) refl none_apart) [
     | inl twice ↦
@@ -203,7 +203,7 @@ module _ (kind : SpecifiedKind) (line : List ℕ) (tokens : List Token) (cut : A
   Wrong cause place = PairHas kind line tokens first second read cause place
 
   number_or : (name : List ℕ) → ((i : ℕ) × (slice_get (names_of kind.methods) i ≡ Some name)) ⊎ ¬ (Contains (names_of kind.methods) name)
-  number_or name = elim (decided (is_among name (names_of kind.methods)) (among_decides name (names_of kind.methods))) [
+  number_or name = elim (decided (is_one_of name (names_of kind.methods)) (among_decides name (names_of kind.methods))) [
     | inl among ↦ inl (contained_at (names_of kind.methods) name among)
     | inr lacks ↦ inr lacks
   ]
@@ -226,10 +226,10 @@ module _ (kind : SpecifiedKind) (line : List ℕ) (tokens : List Token) (cut : A
           second = (variables_are kind.methods n draft.methods right_within).few;
         }) marked right.says
 
-    left_different : AreDifferent (variables_at kind m)
+    left_different : AreDifferent (variables_of_method kind m)
     left_different = (variables_are kind.methods m draft.methods left_within).different
 
-    right_different : AreDifferent (variables_at kind n)
+    right_different : AreDifferent (variables_of_method kind n)
     right_different = (variables_are kind.methods n draft.methods right_within).different
 
     troubled : IsTroubledBy (scope_of kind line tokens m n) read → HasFirst Wrong

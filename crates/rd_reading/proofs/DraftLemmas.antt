@@ -10,12 +10,12 @@ use Rattle.rd_base.specs.declared.limits.TheConstants.{MOST_ARGUMENTS, MOST_LEVE
 use Rattle.rd_ecl.specs.declared.formulas.Outside.{Outside}
 use Rattle.rd_ecl.specs.Formulas.{InFragment, Tree, first_offence, levels, nodes, post_order}
 use Rattle.rd_ecl.specs.Specified.{IsDraft, IsKind, IsWhole, MayAdd, MayPair, SpecifiedKind, formula_at, names_of}
-use Rattle.rd_ecl.specs.Variables.{IsVariable, is_among, is_variable}
+use Rattle.rd_ecl.specs.Variables.{IsVariable, is_one_of, is_variable}
 use Rattle.rd_ecl.proofs.FragmentLemmas.{fragment_is}
 use Rattle.rd_ecl.proofs.PairLemmas.{draft_more, draft_set, no_draft}
 use Rattle.rd_ecl.proofs.VariableLemmas.{among_decides, different_decides, variable_decides}
 use Rattle.rd_formulas.specs.Meaning.{node_tokens}
-use Rattle.rd_formulas.specs.Scope.{MeansAt, place_at as formula_place_at}
+use Rattle.rd_formulas.specs.Scope.{MeansAt, place_in_scope}
 use Rattle.rd_formulas.proofs.BuildingLemmas.{given_of}
 use Rattle.rd_formulas.proofs.ReadingLemmas.{token_there}
 use Rattle.rd_grammar.specs.Grammar.{ParsedTree}
@@ -47,9 +47,9 @@ unset (Some f) h = absurd (h refl)
 
 -- ---- the methods
 
-absent : (name : List ℕ) (names : List (List ℕ)) → ¬ (Contains names name) → IsTrue (not (is_among name names))
-absent name names lacks = by (is_among name names) refl where
-  by : (test : Bool) → is_among name names ≡ test → not (is_among name names) ≡ true
+absent : (name : List ℕ) (names : List (List ℕ)) → ¬ (Contains names name) → IsTrue (not (is_one_of name names))
+absent name names lacks = by (is_one_of name names) refl where
+  by : (test : Bool) → is_one_of name names ≡ test → not (is_one_of name names) ≡ true
   by true is = absurd (lacks ((among_decides name names).0 is))
   by false is = ap not is
 
@@ -88,7 +88,7 @@ inside kind line tokens first second read m n f says clean = by (first_offence 0
   told : (o : Outside) (t : Option ℕ) → first_offence 0 (post_order f) ≡ Some o → slice_get (node_tokens read f) o.node ≡ t → IsSome t → ⊥
   told o None found is some = absurd (cc)
   told o (Some number) found is some =
-      clean (OutsideFragment o.reason) (formula_place_at (scope_of kind line tokens m n) number) (m, n, says.numbers, (f, o.node, number, says.gives, found, is, refl))
+      clean (OutsideFragment o.reason) (place_in_scope (scope_of kind line tokens m n) number) (m, n, says.numbers, (f, o.node, number, says.gives, found, is, refl))
 
   by : (o : Option Outside) → first_offence 0 (post_order f) ≡ o → InFragment f
   by None is = (fragment_is f).0 (subst IsNone (sym is) refl)

@@ -5,7 +5,7 @@ use Rattle.std.specs.Cmp.Lexicographic.{bytes_decides, pointwise}
 use Rattle.std.proofs.Math.Seq.{take-append_seam}
 use Rattle.rd_base.specs.Names.{IsName, is_name}
 use Rattle.rd_base.proofs.NameLemmas.{is_name_decides}
-use Rattle.rd_ecl.specs.Variables.{IsVariable, is_among, is_variable}
+use Rattle.rd_ecl.specs.Variables.{IsVariable, is_one_of, is_variable}
 use Rattle.rd_ecl.proofs.VariableLemmas.{variable_decides}
 use Rattle.rd_grammar.specs.FirstWrong.{WrongAt}
 use Rattle.rd_grammar.specs.Grammar.{ParsedTree, MarksSay, disj}
@@ -191,7 +191,7 @@ ordered : (methods : List (List ℕ)) (first second : List ℕ) → IsOutOfOrder
 ordered methods first second = elim (decided (pointwise nat_eq first second) (bytes_decides first second)) [
   | inl same ↦ inr (λ out. out.4 same)
   | inr differ ↦
-      decided (is_among first (names_behind second methods)) (found_out first second differ methods, finds_out first second differ methods)
+      decided (is_one_of first (names_behind second methods)) (found_out first second differ methods, finds_out first second differ methods)
 ]
 
 module _ (stage : Stage) (inside : stage ≢ Outside) (methods : List (List ℕ)) where

@@ -9,7 +9,7 @@ use Rattle.rd_reading.specs.Causes.{KindHas, LacksPair}
 use Rattle.rd_pairs.specs.Causes.{HasNone, IsFirstOf, place_at, rank}
 use Rattle.rd_reading.specs.Known.{kind_in, specified_kind_names, kinds_so_far}
 use Rattle.rd_ecl.specs.Specified.{IsWhole}
-use Rattle.rd_ecl.specs.Variables.{is_among}
+use Rattle.rd_ecl.specs.Variables.{is_one_of}
 use Rattle.rd_ecl.proofs.VariableLemmas.{among_decides}
 use Rattle.rd_tokens.specs.declared.sorts.Token.{Token}
 use Rattle.rd_reading.specs.Parts.{IsMissing}
@@ -17,8 +17,8 @@ use Rattle.rd_reading.proofs.MissingLemmas.{whole_lacks}
 use Rattle.rd_base.specs.declared.limits.TheConstants.{MOST_KINDS}
 
 -- a test that fails
-lacks : (name : List ℕ) (names : List (List ℕ)) → is_among name names ≡ false → ¬ (Contains names name)
-lacks name names fails among = let yes : is_among name names ≡ true = (among_decides name names).1 among in cc
+lacks : (name : List ℕ) (names : List (List ℕ)) → is_one_of name names ≡ false → ¬ (Contains names name)
+lacks name names fails among = let yes : is_one_of name names ≡ true = (among_decides name names).1 among in cc
 
 module _ (taken : List (List ℕ)) (known : Known) (line : List ℕ) (tokens : List Token) (name : List ℕ) where
   -- the line has the cause at the place
@@ -33,10 +33,10 @@ module _ (taken : List (List ℕ)) (known : Known) (line : List ℕ) (tokens : L
   least_known cause place has = absurd has
 
   -- a kind that is there already is told first
-  pub known_kind : (place : ℕ) → place ≡ place_at line tokens 1 → is_among name (specified_kind_names (kinds_so_far known)) ≡ true → IsFirstOf Wrong Duplicate place
+  pub known_kind : (place : ℕ) → place ≡ place_at line tokens 1 → is_one_of name (specified_kind_names (kinds_so_far known)) ≡ true → IsFirstOf Wrong Duplicate place
   known_kind place at is = record { has = ((among_decides name (specified_kind_names (kinds_so_far known))).0 is, at); first = least_known }
 
-  module _ (fresh : is_among name (specified_kind_names (kinds_so_far known)) ≡ false) where
+  module _ (fresh : is_one_of name (specified_kind_names (kinds_so_far known)) ≡ false) where
     least_missing : (cause : SpecCause) (place : ℕ) → Wrong cause place → 8 ≤ rank cause
     least_missing Duplicate place has = absurd (lacks name _ fresh has.0)
     least_missing (MissingPair first second) place has = omega arith
@@ -61,10 +61,10 @@ module _ (taken : List (List ℕ)) (known : Known) (line : List ℕ) (tokens : L
       least_taken cause place has = absurd has
 
       -- then a name that is taken
-      pub taken_kind : (place : ℕ) → place ≡ place_at line tokens 1 → is_among name taken ≡ true → IsFirstOf Wrong KindTaken place
+      pub taken_kind : (place : ℕ) → place ≡ place_at line tokens 1 → is_one_of name taken ≡ true → IsFirstOf Wrong KindTaken place
       taken_kind place at is = record { has = ((among_decides name taken).0 is, at); first = least_taken }
 
-      module _ (free : is_among name taken ≡ false) where
+      module _ (free : is_one_of name taken ≡ false) where
         least_limit : (cause : SpecCause) (place : ℕ) → Wrong cause place → 10 ≤ rank cause
         least_limit Duplicate place has = absurd (lacks name _ fresh has.0)
         least_limit (MissingPair first second) place has = absurd (whole_lacks (kind_in known.block) first second whole has.0)

@@ -8,7 +8,7 @@ use Rattle.rd_pairs.specs.declared.spec_causes.SpecCause.TheVariants.{Duplicate,
 use Rattle.rd_reading.specs.Causes.{IsFirstRepeated, MethodHas, variable_token}
 use Rattle.rd_pairs.specs.Causes.{HasNone, IsFirstOf, Judged, place_at, rank}
 use Rattle.rd_ecl.specs.Specified.{SpecifiedKind, names_of}
-use Rattle.rd_ecl.specs.Variables.{is_among}
+use Rattle.rd_ecl.specs.Variables.{is_one_of}
 use Rattle.rd_ecl.proofs.VariableLemmas.{among_decides}
 use Rattle.rd_tokens.specs.declared.sorts.Token.{Token}
 use Rattle.rd_reading.specs.Parts.{IsPassed}
@@ -16,8 +16,8 @@ use Rattle.rd_reading.proofs.RepeatLemmas.{Different, none_repeated}
 use Rattle.rd_base.specs.declared.limits.TheConstants.{MOST_ARGUMENTS, MOST_METHODS}
 
 -- a test that fails
-lacks : (name : List ℕ) (names : List (List ℕ)) → is_among name names ≡ false → ¬ (Contains names name)
-lacks name names fails among = let yes : is_among name names ≡ true = (among_decides name names).1 among in cc
+lacks : (name : List ℕ) (names : List (List ℕ)) → is_one_of name names ≡ false → ¬ (Contains names name)
+lacks name names fails among = let yes : is_one_of name names ≡ true = (among_decides name names).1 among in cc
 
 module _ (kind : SpecifiedKind) (line : List ℕ) (tokens : List Token) (name : List ℕ) (arguments : List (List ℕ)) (value : List ℕ) where
   -- the line has the cause at the place
@@ -31,10 +31,10 @@ module _ (kind : SpecifiedKind) (line : List ℕ) (tokens : List Token) (name : 
   least_known cause place has = absurd has
 
   -- a method that is there already is told first
-  pub known_method : (place : ℕ) → place ≡ place_at line tokens 1 → is_among name (names_of kind.methods) ≡ true → IsFirstOf Wrong Duplicate place
+  pub known_method : (place : ℕ) → place ≡ place_at line tokens 1 → is_one_of name (names_of kind.methods) ≡ true → IsFirstOf Wrong Duplicate place
   known_method place at is = record { has = inl ((among_decides name (names_of kind.methods)).0 is, at); first = least_known }
 
-  module _ (fresh : is_among name (names_of kind.methods) ≡ false) where
+  module _ (fresh : is_one_of name (names_of kind.methods) ≡ false) where
     -- then a variable that stands twice
     pub variable_twice : (number place : ℕ) → IsFirstRepeated (arguments ++ value ∷ []) number
         → place ≡ place_at line tokens (variable_token (length arguments) number) → IsFirstOf Wrong Duplicate place

@@ -8,14 +8,14 @@ use Rattle.std.proofs.lemmas.Map.Made.{AllPairs-from_IsDistinct, IsDistinct-from
 use Rattle.rd_reading.specs.Adding.{AcceptsSpecLine, Adds, FormAdds, adds_form, adds_header, with_open}
 use Rattle.rd_reading.specs.Causes.{EndHas, FormHas, Has, IsFirstRepeated, form_has}
 use Rattle.rd_pairs.specs.Causes.{HasNone}
-use Rattle.rd_pairs.specs.PairCauses.{scope_of, variables_at}
+use Rattle.rd_pairs.specs.PairCauses.{scope_of, variables_of_method}
 use Rattle.rd_reading.specs.Known.{kind_in, kind_without, kinds_so_far, open_method_names, nothing, stage_of}
 use Rattle.rd_pairs.specs.declared.spec_causes.SpecCause.TheVariants.{Duplicate}
 use Rattle.rd_reading.specs.declared.known.Known.{Known}
 use Rattle.rd_ecl.specs.declared.kinds.Method.{Method}
 use Rattle.rd_ecl.specs.Formulas.{Tree}
 use Rattle.rd_ecl.specs.Specified.{SpecifiedKind, names_of, with_method, with_pair}
-use Rattle.rd_ecl.specs.Variables.{is_among}
+use Rattle.rd_ecl.specs.Variables.{is_one_of}
 use Rattle.rd_ecl.proofs.VariableLemmas.{among_decides}
 use Rattle.rd_formulas.specs.Meaning.{Gives}
 use Rattle.rd_formulas.specs.Scope.{MeansAt}
@@ -72,7 +72,7 @@ lines_one text other lines others e (line_first {line} {more} {lines = ls} clean
 -- no two methods are of one name, and no two variables of a method
 pub record AreApart (kind : SpecifiedKind) : Type 0 where
   pub names : AreDifferent (names_of kind.methods)
-  pub variables : (n : ℕ) → AreDifferent (variables_at kind n)
+  pub variables : (n : ℕ) → AreDifferent (variables_of_method kind n)
 
 pub none_apart : AreDifferent []
 none_apart i j d less within = absurd (omega (arith, within))
@@ -84,8 +84,8 @@ apart_without name = record { names = none_apart; variables = λ n. none_apart }
 pub name_more : (names : List (List ℕ)) (name : List ℕ) → AreDifferent names → ¬ (Contains names name) → AreDifferent (names ++ name ∷ [])
 name_more names name different fresh =
     AllPairs-from_IsDistinct bytes_decides (names ++ name ∷ [])
-    (IsDistinct-push nat_list_eq_equiv names name (IsDistinct-from_AllPairs bytes_decides names different) (not_among (is_among name names) refl)) where
-      not_among : (test : Bool) → is_among name names ≡ test → is_among name names ≡ false
+    (IsDistinct-push nat_list_eq_equiv names name (IsDistinct-from_AllPairs bytes_decides names different) (not_among (is_one_of name names) refl)) where
+      not_among : (test : Bool) → is_one_of name names ≡ test → is_one_of name names ≡ false
       not_among true is = absurd (fresh ((among_decides name names).0 is))
       not_among false is = is
 

@@ -14,7 +14,7 @@ use Rattle.rd_formulas.specs.declared.reading.FormulaRefused.TheVariants as form
 use Rattle.rd_formulas.specs.declared.scope.Scope.{Scope}
 use Rattle.rd_formulas.specs.Meaning.{IsFirst, IsFirstSign, NoneOf, Related, node_tokens, relations_in, terms_in}
 use Rattle.rd_formulas.specs.Reading.{IsTroubled}
-use Rattle.rd_formulas.specs.Scope.{IsBare, IsUnknown, place_at as formula_place_at}
+use Rattle.rd_formulas.specs.Scope.{IsBare, IsUnknown, place_in_scope}
 use Rattle.rd_grammar.proofs.FirstWrong.{one_place}
 use Rattle.rd_grammar.specs.Grammar.{ParsedTree}
 use Rattle.rd_lines.specs.Lines.{IsWrongBehind, LineWord, RightLine, SaidForm, words_of}
@@ -184,17 +184,17 @@ sign_is_one P xs m n (Some x, first, is) (None, also, same) = absurd (cc)
 module _ (scope : Scope) (read : ParsedTree) where
   one_variable : (p q : ℕ) → IsTroubled scope read (formula.UnknownVariable p) → IsTroubled scope read (formula.UnknownVariable q) → p ≡ q
   one_variable p q (number, first, at) (other, also, there) =
-      at ∙ ap (formula_place_at scope) (first_is_one (IsUnknown scope) (terms_in read) number other first also) ∙ sym there
+      at ∙ ap (place_in_scope scope) (first_is_one (IsUnknown scope) (terms_in read) number other first also) ∙ sym there
 
   one_bare : (p q : ℕ) → IsTroubled scope read (formula.NoVariable p) → IsTroubled scope read (formula.NoVariable q) → p ≡ q
   one_bare p q (number, none, first, at) (other, free, also, there) =
-      at ∙ ap (formula_place_at scope) (sign_is_one (IsBare scope) (relations_in read) number other first also) ∙ sym there
+      at ∙ ap (place_in_scope scope) (sign_is_one (IsBare scope) (relations_in read) number other first also) ∙ sym there
 
   one_token : (f g : Tree) (i j x y p q : ℕ) → f ≡ g → i ≡ j → slice_get (node_tokens read f) i ≡ Some x → slice_get (node_tokens read g) j ≡ Some y
-      → p ≡ formula_place_at scope x → q ≡ formula_place_at scope y → p ≡ q
+      → p ≡ place_in_scope scope x → q ≡ place_in_scope scope y → p ≡ q
   one_token f g i j x y p q formulas nodes here there at also =
       at
-      ∙ ap (formula_place_at scope) (same_Some x y (sym here ∙ ap (λ (h : Tree). slice_get (node_tokens read h) i) formulas
+      ∙ ap (place_in_scope scope) (same_Some x y (sym here ∙ ap (λ (h : Tree). slice_get (node_tokens read h) i) formulas
       ∙ ap (slice_get (node_tokens read g)) nodes ∙ there))
       ∙ sym also
 

@@ -15,7 +15,7 @@ use Rattle.std.proofs.lemmas.Map.Made.{AllPairs-from_IsDistinct, IsDistinct-from
 use Rattle.std.proofs.lemmas.Map.Text.{is_eq-slice_cmp}
 use Rattle.std.proofs.lemmas.Option.{get_or_from_slice_get, slice_get_read, slice_get_within}
 use Rattle.rd_reading.specs.Causes.{IsFirstRepeated}
-use Rattle.rd_ecl.specs.Variables.{is_among}
+use Rattle.rd_ecl.specs.Variables.{is_one_of}
 use Rattle.rd_ecl.proofs.VariableLemmas.{among_decides, different_decides, negated}
 
 -- no two of the names are alike
@@ -37,7 +37,7 @@ none_repeated names number different repeated =
 pub none_different : Different []
 none_different = (different_decides []).0 refl
 
-pub one_different : (names : List (List ℕ)) (name : List ℕ) → Different names → is_among name names ≡ false → Different (names ++ name ∷ [])
+pub one_different : (names : List (List ℕ)) (name : List ℕ) → Different names → is_one_of name names ≡ false → Different (names ++ name ∷ [])
 one_different names name different fresh =
     AllPairs-from_IsDistinct bytes_decides (names ++ name ∷ [])
     (IsDistinct-push nat_list_eq_equiv names name (IsDistinct-from_AllPairs bytes_decides names different) fresh)
@@ -49,7 +49,7 @@ negated_back false h = absurd (cc)
 module _ (names : List (List ℕ)) (last : List ℕ) where
   -- a name that is one of those before it is the first such, where those differ
   pub repeated_at : (number : ℕ) (name : List ℕ) → number < length names → name ≡ get_or names number name → Different (take number names)
-      → is_among name (take number names) ≡ true → IsFirstRepeated (names ++ last ∷ []) number
+      → is_one_of name (take number names) ≡ true → IsFirstRepeated (names ++ last ∷ []) number
   repeated_at number name within is different among =
       let front : take number (names ++ last ∷ []) ≡ take number names = take-append-le number names (last ∷ []) (omega (arith, within)) in
       record {
@@ -60,7 +60,7 @@ module _ (names : List (List ℕ)) (last : List ℕ) where
         others = subst Different (sym front) different;
       }
 
-  pub repeated_last : Different names → is_among last names ≡ true → IsFirstRepeated (names ++ last ∷ []) (length names)
+  pub repeated_last : Different names → is_one_of last names ≡ true → IsFirstRepeated (names ++ last ∷ []) (length names)
   repeated_last different among =
       let front : take (length names) (names ++ last ∷ []) ≡ names = take-append_seam names (last ∷ []) in
       record {
@@ -77,13 +77,13 @@ is_found name keys = list_any (λ key. is_eq (slice_cmp nat_cmp name key.now)) k
 
 -- the names before an index, which differ
 pub record AreSeen (names : List (List ℕ)) (keys : List (Bor (List ℕ))) (number : ℕ) : Type 0 where
-  pub so_far : (name : List ℕ) → is_found name keys ≡ is_among name (take number names)
+  pub so_far : (name : List ℕ) → is_found name keys ≡ is_one_of name (take number names)
   pub different : Different (take number names)
 
 -- one of the names, or one more behind them
-among_more : (names : List (List ℕ)) (name other : List ℕ) → is_among other (names ++ name ∷ []) ≡ cond (bytes_eq name other) true (is_among other names)
+among_more : (names : List (List ℕ)) (name other : List ℕ) → is_one_of other (names ++ name ∷ []) ≡ cond (bytes_eq name other) true (is_one_of other names)
 among_more names name other =
-    list_any-append (pointwise nat_eq other) names (name ∷ []) ∙ turned (is_among other names) (bytes_eq name other) (bytes_eq other name) (nat_list_eq_equiv.symm name other) where
+    list_any-append (pointwise nat_eq other) names (name ∷ []) ∙ turned (is_one_of other names) (bytes_eq name other) (bytes_eq other name) (nat_list_eq_equiv.symm name other) where
       turned : (among one way : Bool) → one ≡ way → (among || (way || false)) ≡ cond one true among
       turned true true true e = refl
       turned true false false e = refl
@@ -105,7 +105,7 @@ module _ (names : List (List ℕ)) (keys : List (Bor (List ℕ))) (number : ℕ)
       → ((key : Bor (List ℕ)) → is_found key.now more ≡ cond (is_eq (slice_cmp nat_cmp name key.now)) true (is_found key.now keys)) → is_new ≡ true
       → AreSeen names more (number + 1)
   seen_once more grown new =
-      let fresh : is_among name (take number names) ≡ false = sym (seen.so_far name) ∙ negated (is_found name keys) (sym added ∙ new) in
+      let fresh : is_one_of name (take number names) ≡ false = sym (seen.so_far name) ∙ negated (is_found name keys) (sym added ∙ new) in
       let next : take (number + 1) names ≡ take number names ++ name ∷ [] =
       take_more names number name within ∙ ap (λ (n : List ℕ). take number names ++ n ∷ []) (sym is) in
       record {
@@ -114,7 +114,7 @@ module _ (names : List (List ℕ)) (keys : List (Bor (List ℕ))) (number : ℕ)
             ∙ ap (λ (b : Bool). cond b true (is_found other keys)) (is_eq-slice_cmp name other)
             ∙ ap (λ (b : Bool). cond (bytes_eq name other) true b) (seen.so_far other)
             ∙ sym (among_more (take number names) name other)
-            ∙ ap (is_among other) (sym next);
+            ∙ ap (is_one_of other) (sym next);
         different = subst Different (sym next) (one_different (take number names) name seen.different fresh);
       }
 
@@ -125,8 +125,8 @@ module _ (names : List (List ℕ)) (keys : List (Bor (List ℕ))) (number : ℕ)
 
   pub last_twice : (last : List ℕ) → is_found last keys ≡ true → IsFirstRepeated (names ++ last ∷ []) (length names)
   last_twice last among =
-      repeated_last names last (subst Different whole seen.different) (ap (is_among last) (sym whole) ∙ sym (seen.so_far last) ∙ among)
+      repeated_last names last (subst Different whole seen.different) (ap (is_one_of last) (sym whole) ∙ sym (seen.so_far last) ∙ among)
 
   pub last_once : (last : List ℕ) → is_found last keys ≡ false → Different (names ++ last ∷ [])
   last_once last fresh =
-      one_different names last (subst Different whole seen.different) (ap (is_among last) (sym whole) ∙ sym (seen.so_far last) ∙ fresh)
+      one_different names last (subst Different whole seen.different) (ap (is_one_of last) (sym whole) ∙ sym (seen.so_far last) ∙ fresh)

@@ -6,7 +6,7 @@ use Rattle.rd_ecl.specs.declared.formulas.Outside.{Outside}
 use Rattle.rd_ecl.specs.declared.formulas.Reason.{Reason}
 use Rattle.rd_ecl.specs.declared.formulas.Side.{Side}
 use Rattle.rd_ecl.specs.Formulas.{InFragment, Tree, both as tree_both, either as tree_either, first_offence, negation as tree_not, post_order, truth as tree_truth}
-use Rattle.rd_ecl.specs.Variables.{is_among}
+use Rattle.rd_ecl.specs.Variables.{is_one_of}
 use Rattle.rd_ecl.proofs.FragmentLemmas.{fragment_is}
 use Rattle.rd_ecl.proofs.VariableLemmas.{among_decides}
 use Rattle.rd_formulas.specs.declared.reading.FormulaRefused.TheVariants as formula
@@ -15,7 +15,7 @@ use Rattle.rd_formulas.specs.declared.terms.Meant.{Meant}
 use Rattle.rd_formulas.specs.declared.terms.Meant.TheVariants.{Slot, Value as ValueOf}
 use Rattle.rd_formulas.specs.Meaning.{Gives, IsFirst, NoneOf, Related, node_tokens, relation_of_terms, relations_in, terms_in}
 use Rattle.rd_formulas.specs.Reading.{IsTroubled}
-use Rattle.rd_formulas.specs.Scope.{HasTerms, IsBare, IsReady, IsTermAt, IsUnknown, IsVariableAt, MeansAt, place_at, token_bytes_at, variables_of}
+use Rattle.rd_formulas.specs.Scope.{HasTerms, IsBare, IsReady, IsTermAt, IsUnknown, IsVariableAt, MeansAt, place_in_scope, token_bytes_at, variables_of}
 use Rattle.rd_formulas.proofs.BuildingLemmas.{ready, related_some}
 use Rattle.rd_formulas.proofs.ReadingLemmas.{token_there}
 use Rattle.rd_grammar.specs.Grammar.{ParsedTree, truth, relation, negation, both, either}
@@ -82,7 +82,7 @@ module _ (scope : Scope) where
     | inr none ↦ inr (λ is. none (Variable is.0 is.1) is.2)
   ] where
     by : (said : Said) → SaysTerm (token_bytes_at scope number) said → IsUnknown scope number ⊎ ¬ (IsUnknown scope number)
-    by (Variable side name) says = elim (decided (is_among name (variables_of scope side)) (among_decides name (variables_of scope side))) [
+    by (Variable side name) says = elim (decided (is_one_of name (variables_of scope side)) (among_decides name (variables_of scope side))) [
       | inl among ↦ inr (known_or number side name says among)
       | inr lacks ↦ inl (side, name, says, lacks)
     ]
@@ -101,7 +101,7 @@ module _ (scope : Scope) where
   meaning_at : (number : ℕ) → IsTermAt scope number → ¬ (IsUnknown scope number) → (x : Meant) × MeansAt scope number x
   meaning_at number term known = by term.1.0 term.1.1 where
     by : (said : Said) → SaysTerm (token_bytes_at scope number) said → (x : Meant) × MeansAt scope number x
-    by (Variable side name) says = elim (decided (is_among name (variables_of scope side)) (among_decides name (variables_of scope side))) [
+    by (Variable side name) says = elim (decided (is_one_of name (variables_of scope side)) (among_decides name (variables_of scope side))) [
       | inl among ↦
           let at = contained_at (variables_of scope side) name among in
           (Slot side at.0, (name, says, at.1))
@@ -143,7 +143,7 @@ module _ (scope : Scope) where
   outside_or read f gives = by (first_offence 0 (post_order f)) refl where
     told : (o : Outside) (t : Option ℕ) → first_offence 0 (post_order f) ≡ Some o → slice_get (node_tokens read f) o.node ≡ t → IsSome t → IsTroubledBy read
     told o None found is some = absurd (cc)
-    told o (Some number) found is some = by_outside (place_at scope number) o.reason (f, o.node, number, gives, found, is, refl)
+    told o (Some number) found is some = by_outside (place_in_scope scope number) o.reason (f, o.node, number, gives, found, is, refl)
 
     by : (o : Option Outside) → first_offence 0 (post_order f) ≡ o → IsTroubledBy read ⊎ ((g : Tree) × Gives (MeansAt scope) read g × InFragment g)
     by None is = inr (f, gives, (fragment_is f).0 (subst IsNone (sym is) refl))
@@ -151,9 +151,9 @@ module _ (scope : Scope) where
 
   pub troubled_or : (read : ParsedTree) → HasTerms scope read → IsTroubledBy read ⊎ ((f : Tree) × Gives (MeansAt scope) read f × InFragment f)
   troubled_or read terms = elim (first_of (IsUnknown scope) unknown_or (terms_in read)) [
-    | inl found ↦ inl (by_variable (place_at scope found.0) (found.0, found.1, refl))
+    | inl found ↦ inl (by_variable (place_in_scope scope found.0) (found.0, found.1, refl))
     | inr known ↦ elim (first_of (IsBare scope) bare_or (relations_in read)) [
-      | inl found ↦ inl (by_bare (place_at scope found.0.sign) (found.0.sign, known, (Some found.0, found.1, refl), refl))
+      | inl found ↦ inl (by_bare (place_in_scope scope found.0.sign) (found.0.sign, known, (Some found.0, found.1, refl), refl))
       | inr none ↦
           let f = given read terms (ready scope read known none) in
           outside_or read f.0 f.1

@@ -3,13 +3,14 @@ use Rattle.std.proofs.Common.{◌≡◌, ℕ, ◌≤◌, true, List, [], ◌∷�
 use Rattle.std.specs.List.{AllPass, list_all, starts_with}
 use Rattle.std.proofs.lemmas.Bool.{cases_Bool, cases_lt}
 use Rattle.std.proofs.lemmas.List.Sums.{AllPass-from_list_all, list_all-from_AllPass}
+use Rattle.rd_base.specs.Bytes.{is_space}
 use Rattle.rd_base.specs.declared.limits.LimitName.TheVariants.{SpecText}
 use Rattle.rd_base.specs.declared.limits.TheConstants.{MOST_SPEC_BYTES}
 use Rattle.rd_ecl.specs.Specified.{IsWhole, SpecifiedKind}
 use Rattle.rd_reading.specs.Causes.{EndHas}
 use Rattle.rd_pairs.specs.Causes.{HasNone, rank}
 use Rattle.rd_reading.specs.Known.{kind_in, kinds_so_far, nothing}
-use Rattle.rd_reading.specs.Texts.{AreLines, BeginsComment, IsSkipped, IsSpecRefused, ReadsLines, SpecSays, is_space, no_more, skips, takes}
+use Rattle.rd_reading.specs.Texts.{AreLines, BeginsComment, IsSkipped, IsSpecRefused, ReadsLines, SpecSays, no_more, skips, takes}
 use Rattle.rd_reading.specs.declared.known.Known.{Known}
 use Rattle.rd_reading.specs.declared.parsing.SpecRefused.{SpecRefused}
 use Rattle.rd_pairs.specs.declared.spec_causes.SpecCause.{SpecCause}

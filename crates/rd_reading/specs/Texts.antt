@@ -15,7 +15,7 @@ use Rattle.rd_reading.specs.declared.parsing.SpecRefused.{SpecRefused}
 use Rattle.rd_tokens.specs.declared.sorts.Token.{Token}
 use Rattle.rd_tokens.specs.Tokens.{AreTokens}
 use Rattle.rd_base.specs.declared.limits.TheConstants.{MOST_KINDS, MOST_SPEC_BYTES}
-use Rattle.rd_base.specs.Bytes.{hash, line_feed, space}
+use Rattle.rd_base.specs.Bytes.{hash, is_space, line_feed, space}
 
 -- ---- lines
 
@@ -29,9 +29,6 @@ pub data AreLines : List ℕ → List (List ℕ) → Type 0 where
   last_line : {line : List ℕ} → line ≢ [] → IsLine line → AreLines line (line ∷ [])
   line_first : {line more : List ℕ} {lines : List (List ℕ)} → IsLine line → AreLines more lines
       → AreLines (line ++ line_feed ∷ more) (line ∷ lines)
-
-abbrev pub is_space : ℕ → Bool
-is_space b = b == space
 
 -- the line says nothing: it begins with #, or has only spaces, or no byte
 abbrev pub BeginsComment : List ℕ → Type 0

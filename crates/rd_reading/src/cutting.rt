@@ -1,7 +1,8 @@
 //! Cutting a text into lines.
 ghost use Rattle.std.specs.Prelude.{◌≢◌, ◌<◌, ◌≤◌, ◌↔◌, ◌∷◌, [], ℕ, List, IsTrue, length};
 ghost use Rattle.std.specs.List.{AllPass};
-ghost use Rattle.rd_reading.specs.Texts.{AreLines, BeginsComment, IsSkipped, is_space};
+ghost use Rattle.rd_base.specs.Bytes.{is_space};
+ghost use Rattle.rd_reading.specs.Texts.{AreLines, BeginsComment, IsSkipped};
 
 use memchr::memchr;
 

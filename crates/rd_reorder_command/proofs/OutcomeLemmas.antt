@@ -1,5 +1,6 @@
 -- The outcome of `reorder`.
 use Rattle.std.proofs.Common.{◌≡◌, ◌↔◌, ℕ, List, [], refl, sym, subst, ◌∙◌, inl}
+use Rattle.rd_base.specs.Bytes.{IsFront}
 use Rattle.rd_ecl.specs.Kinds.{Kind}
 use Rattle.rd_reorder_command.specs.Outcomes.{ended_outcome, picked_text, reorder_outcome}
 use Rattle.rd_report.proofs.EndingLemmas.{well_exactly}
@@ -7,7 +8,7 @@ use Rattle.rd_report.specs.Endings.{thread_names}
 use Rattle.rd_object.specs.declared.shapes.ReplayEnd.TheVariants.{Exact}
 use Rattle.rd_walk.proofs.FileLemmas.{ending_at, entries_at}
 use Rattle.rd_walk.proofs.OutputLemmas.{fault_no_well}
-use Rattle.rd_walk.specs.Output.{IsFront, IsOutput, IsWell}
+use Rattle.rd_walk.specs.Output.{IsOutput, IsWell}
 use Rattle.rd_walk.specs.Walk.{Entry, Walked, after, ending_of, ends, entries_of, items}
 use Rattle.rd_walk.specs.declared.status.Status.{Status}
 use Rattle.rd_walk.specs.declared.walk.WalkEnd.TheVariants.{End, Refused, Fault}

@@ -1,6 +1,7 @@
 -- What `reorder` writes and answers. This project's profile.
 use Rattle.std.specs.Prelude.{ℕ, List, [], length}
 use Rattle.std.specs.List.{range_with_len}
+use Rattle.rd_event.specs.Items.{lines_text}
 use Rattle.rd_ecl.specs.Kinds.{Kind}
 use Rattle.rd_event.specs.declared.items.Line.{Line}
 use Rattle.rd_io.specs.Inputs.{fault_line}
@@ -8,7 +9,7 @@ use Rattle.rd_linear.specs.Lanes.{order_by}
 use Rattle.rd_report.specs.Endings.{check_status, thread_names}
 use Rattle.rd_report.specs.Texts.{refused_line}
 use Rattle.rd_report.specs.declared.endings.Ending.TheVariants as report
-use Rattle.rd_rewriting.specs.Reordered.{lines_text, reordered}
+use Rattle.rd_rewriting.specs.Reordered.{reordered}
 use Rattle.rd_walk.specs.Output.{Outcome, fault_outcome}
 use Rattle.rd_walk.specs.Traces.{ReportTexts}
 use Rattle.rd_walk.specs.Walk.{Walked, ending_of, entries_of, items}

@@ -2,7 +2,7 @@
 use Rattle.std.specs.Prelude.{◌≡◌, List}
 use Rattle.rd_ecl.specs.Kinds.{Kind}
 use Rattle.rd_reorder_command.specs.declared.reordering.Reordering.{Reordering}
-use Rattle.rd_rewriting.specs.Keeping.{Keeps, KeepsNothing}
+use Rattle.rd_rewriting.specs.Keeping.{KeepsLines, KeepsNothing}
 use Rattle.rd_walk.specs.Walk.{Entry, items}
 
 -- nothing is kept
@@ -12,4 +12,4 @@ ReorderingBegins kinds start = KeepsNothing kinds start.kept
 -- from the first on, what is kept is of these lines
 pub record ReorderingLeads (kinds : List Kind) (start : Reordering) (entries : List Entry) (now : Reordering) : Type 0 where
   pub number : now.number ≡ start.number
-  pub keeps : Keeps kinds now.kept (items entries)
+  pub keeps : KeepsLines kinds now.kept (items entries)

@@ -1,12 +1,13 @@
 -- What `reorder` says of the bytes of a trace, in the words of accepted lines and of linear orders. This project's profile.
 use Rattle.std.specs.Prelude.{◌≡◌, ℕ, List, [], filter, IsPermutation}
+use Rattle.rd_event.specs.Items.{lines_text}
 use Rattle.rd_base.specs.declared.limits.Limits.{Limits}
 use Rattle.rd_io.specs.Lines.{Stop, reading}
 use Rattle.rd_linear.specs.Orders.{IsLinear}
 use Rattle.rd_reorder_command.specs.Outcomes.{ended_outcome}
 use Rattle.rd_report.specs.Endings.{thread_names}
 use Rattle.rd_replay_command.specs.States.{built_in_kinds}
-use Rattle.rd_rewriting.specs.Reordered.{is_counted, lines_text, reordered}
+use Rattle.rd_rewriting.specs.Reordered.{is_counted, reordered}
 use Rattle.rd_walk.specs.AcceptedLines.{IsWalk}
 use Rattle.rd_walk.specs.Output.{Outcome}
 use Rattle.rd_walk.specs.Walk.{Entry, items}

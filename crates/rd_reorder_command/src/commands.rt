@@ -1,5 +1,4 @@
 //! The command `reorder`.
-ghost use Rattle.std.specs.Prelude.{◌≡◌};
 ghost use Rattle.rd_base.specs.Limits.{AreUsable};
 ghost use Rattle.rd_reorder_command.specs.Meanings.{reorder_meaning};
 ghost use Rattle.rd_walk.specs.Meanings.{Ran, seen};

@@ -16,7 +16,7 @@ use Rattle.rd_object.specs.declared.shapes.Expected.{Expected}
 use Rattle.rd_object.specs.declared.shapes.ReplayEnd.TheVariants.{Exact, Differs, NotShipped}
 use Rattle.rd_order.proofs.OrderLemmas.{at_end, at_front, length_more}
 use Rattle.rd_replay.specs.Replays.{Recorded, arguments_of, difference, held_shape, object_machine, replay_end, result_of, shape_after, step_at, step_difference}
-use Rattle.rd_replay.specs.Replayer.{AreHeld, IsHeld, IsRecordable, ReplayerStandsFor, match_of}
+use Rattle.rd_replay.specs.Replayer.{AreObjectsHeld, IsHeld, IsRecordable, ReplayerStandsFor, match_of}
 use Rattle.rd_replay.specs.declared.replayer.Match.TheVariants as match
 use Rattle.rd_replay.specs.declared.replayer.Replayer.{Replayer}
 use Rattle.rd_replay.proofs.ReplayLemmas.{AreDeclared, difference_here, end_differs, end_foreign, end_longer, end_same, end_stopped, end_unknown, held_elsewhere, held_here, held_longer, held_new}
@@ -44,7 +44,7 @@ machine_is (Counter number) = refl
 machine_is (Set items) = refl
 machine_is (Dictionary entries) = refl
 
-none_held : AreHeld [] [] []
+none_held : AreObjectsHeld [] [] []
 none_held = record { count = refl; each = λ number kind object at. absurd (none-some kind at) }
 
 pub stands_none : (replayer : Replayer) → replayer.end ≡ Exact → replayer.objects.items ≡ [] → ReplayerStandsFor replayer [] []
@@ -52,7 +52,7 @@ unfolding replay_end
 stands_none replayer end empty = record {
   end = end;
   declared = All-nil (λ (r : Recorded). r.1.object < 0);
-  objects = λ _. subst (AreHeld [] []) (sym empty) none_held;
+  objects = λ _. subst (AreObjectsHeld [] []) (sym empty) none_held;
 }
 
 -- the machine of an object that is kept
@@ -61,9 +61,9 @@ machine_held : (kinds : List ℕ) (number kind : ℕ) (object : Object) → slic
 machine_held kinds number kind object at is machine = ap (option_and_then machine_of) at ∙ (ap machine_of (sym is) ∙ machine)
 
 -- one object more
-held_push : (kinds : List ℕ) (calls : List Recorded) (objects : List Object) (kind : ℕ) (object : Object) → AreDeclared kinds calls → AreHeld kinds calls objects
+held_push : (kinds : List ℕ) (calls : List Recorded) (objects : List Object) (kind : ℕ) (object : Object) → AreDeclared kinds calls → AreObjectsHeld kinds calls objects
     → object_kind object ≡ kind → machine_of (object_kind object) ≡ Some (machine_for object) → shape_of object ≡ (machine_for object).first
-    → AreHeld (kinds ++ kind ∷ []) calls (objects ++ object ∷ [])
+    → AreObjectsHeld (kinds ++ kind ∷ []) calls (objects ++ object ∷ [])
 held_push kinds calls objects kind object all kept is machine first = record {
   count = omega (arith, kept.count, length_more objects object, length_more kinds kind);
   each = λ number k o at_kind at_object. elim (cases_lt number (length kinds)) [
@@ -101,7 +101,7 @@ pub stands_declared : (old now : Replayer) (kinds : List ℕ) (calls : List Reco
 stands_declared old now kinds calls kind object stands exact same pushed known is machine first = record {
   end = same ∙ (stands.end ∙ sym (end_longer kinds kind calls stands.declared known));
   declared = more_declared kinds kind calls stands.declared;
-  objects = λ _. subst (AreHeld (kinds ++ kind ∷ []) calls) (sym pushed)
+  objects = λ _. subst (AreObjectsHeld (kinds ++ kind ∷ []) calls) (sym pushed)
       (held_push kinds calls old.objects.items kind object stands.declared (stands.objects exact) is machine first);
 }
 
@@ -149,7 +149,7 @@ stands_unshipped old now kinds calls last stands may foreign same = record {
 }
 
 -- a call that is run: the object that it is on, before it and then
-module _ (kinds : List ℕ) (calls : List Recorded) (objects : List Object) (last : Recorded) (object next : Object) (kept : AreHeld kinds calls objects)
+module _ (kinds : List ℕ) (calls : List Recorded) (objects : List Object) (last : Recorded) (object next : Object) (kept : AreObjectsHeld kinds calls objects)
     (may : IsRecordable kinds last.1) (at : slice_get objects last.1.object ≡ Some object)
     (machine : machine_of (object_kind object) ≡ Some (machine_for object)) (kind : object_kind next ≡ object_kind object) where
   here : IsHeld kinds calls last.1.object last.1.kind object
@@ -163,7 +163,7 @@ module _ (kinds : List ℕ) (calls : List Recorded) (objects : List Object) (las
 
   -- it gave what was recorded
   pub held_run : shape_after (step_at (machine_for object) (shape_of object) last.1) (result_of last.1.slots) ≡ Some (shape_of next)
-      → AreHeld kinds (calls ++ last ∷ []) (set objects last.1.object next)
+      → AreObjectsHeld kinds (calls ++ last ∷ []) (set objects last.1.object next)
   held_run goes = record {
     count = length-set objects last.1.object next ∙ kept.count;
     each = λ number k o at_kind at_object. elim (cases_eq number last.1.object) [
@@ -187,7 +187,7 @@ module _ (kinds : List ℕ) (calls : List Recorded) (objects : List Object) (las
       }
 
   -- it was refused for want of memory, and the object is as before
-  pub held_still : shape_of next ≡ shape_of object → AreHeld kinds calls (set objects last.1.object next)
+  pub held_still : shape_of next ≡ shape_of object → AreObjectsHeld kinds calls (set objects last.1.object next)
   held_still still = record {
     count = length-set objects last.1.object next ∙ kept.count;
     each = λ number k o at_kind at_object. elim (cases_eq number last.1.object) [
@@ -214,11 +214,11 @@ pub stands_unchanged : (kinds : List ℕ) (calls : List Recorded) (old now : Rep
 stands_unchanged kinds calls old now stands end items = record {
   end = end ∙ stands.end;
   declared = stands.declared;
-  objects = λ exact. subst (AreHeld kinds calls) (sym items) (stands.objects (sym end ∙ exact));
+  objects = λ exact. subst (AreObjectsHeld kinds calls) (sym items) (stands.objects (sym end ∙ exact));
 }
 
 -- the object of a call may run it
-pub fits_here : (kinds : List ℕ) (calls : List Recorded) (objects : List Object) (call : Call) (object : Object) → AreHeld kinds calls objects
+pub fits_here : (kinds : List ℕ) (calls : List Recorded) (objects : List Object) (call : Call) (object : Object) → AreObjectsHeld kinds calls objects
     → IsRecordable kinds call → slice_get objects call.object ≡ Some object → (0 < length call.slots) × IsTaken (machine_for object) call.method (arguments_of call.slots)
 fits_here kinds calls objects call object kept may at =
     let here = kept.each call.object call.kind object may.declared at in
@@ -227,7 +227,7 @@ fits_here kinds calls objects call object kept may at =
     (some, (known, slots ∙ omega (arith, some, count)))
 
 -- and it is kept
-pub inside_here : (kinds : List ℕ) (calls : List Recorded) (objects : List Object) (call : Call) → AreHeld kinds calls objects → IsRecordable kinds call
+pub inside_here : (kinds : List ℕ) (calls : List Recorded) (objects : List Object) (call : Call) → AreObjectsHeld kinds calls objects → IsRecordable kinds call
     → call.object < length objects
 inside_here kinds calls objects call kept may = omega (arith, kept.count, slice_get_within kinds call.object call.kind may.declared)
 
@@ -245,7 +245,7 @@ module _ (kinds : List ℕ) (calls : List Recorded) (old now : Replayer) (last :
     end = end ∙ (exact ∙ sym (end_same kinds calls last was_exact
         (unlike_here kinds calls old.objects.items last object next (stands.objects exact) may at (machine_is object) kind ∙ same)));
     declared = push_declared kinds calls last last.1.kind stands.declared may.declared;
-    objects = λ _. subst (AreHeld kinds (calls ++ last ∷ [])) (sym items)
+    objects = λ _. subst (AreObjectsHeld kinds (calls ++ last ∷ [])) (sym items)
         (held_run kinds calls old.objects.items last object next (stands.objects exact) may at (machine_is object) kind goes);
   }
 
@@ -277,7 +277,7 @@ module _ (kinds : List ℕ) (calls : List Recorded) (old now : Replayer) (last :
   still_stands still end items = record {
     end = end ∙ stands.end;
     declared = stands.declared;
-    objects = λ _. subst (AreHeld kinds calls) (sym items)
+    objects = λ _. subst (AreObjectsHeld kinds calls) (sym items)
         (held_still kinds calls old.objects.items last object next (stands.objects exact) may at (machine_is object) kind still);
   }
 
@@ -291,7 +291,7 @@ pub unshipped_answer : (kinds : List ℕ) (calls : List Recorded) (last : Record
 unshipped_answer kinds calls last foreign = sym (ap (λ end. match_of end (replay_end kinds (calls ++ last ∷ []))) foreign)
 
 -- what an object holds that is kept
-pub held_state : (kinds : List ℕ) (calls : List Recorded) (objects : List Object) (number : ℕ) (object : Object) → AreHeld kinds calls objects
+pub held_state : (kinds : List ℕ) (calls : List Recorded) (objects : List Object) (number : ℕ) (object : Object) → AreObjectsHeld kinds calls objects
     → number < length kinds → slice_get objects number ≡ Some object → held_shape kinds calls number ≡ Some (shape_of object)
 held_state kinds calls objects number object kept inside at =
     (kept.each number (get_or kinds number 0) object (slice_get-get_or kinds number 0 inside) at).holds

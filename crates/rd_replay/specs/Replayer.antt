@@ -19,7 +19,7 @@ pub record IsHeld (kinds : List ℕ) (calls : List Recorded) (number kind : ℕ)
   pub holds : held_shape kinds calls number ≡ Some (shape_of object)
 
 -- so is each object, by its number
-pub record AreHeld (kinds : List ℕ) (calls : List Recorded) (objects : List Object) : Type 0 where
+pub record AreObjectsHeld (kinds : List ℕ) (calls : List Recorded) (objects : List Object) : Type 0 where
   pub count : length objects ≡ length kinds
   pub each : (number kind : ℕ) (object : Object) → slice_get kinds number ≡ Some kind → slice_get objects number ≡ Some object
       → IsHeld kinds calls number kind object
@@ -29,7 +29,7 @@ pub record AreHeld (kinds : List ℕ) (calls : List Recorded) (objects : List Ob
 pub record ReplayerStandsFor (replayer : Replayer) (kinds : List ℕ) (calls : List Recorded) : Type 0 where
   pub end : replayer.end ≡ replay_end kinds calls
   pub declared : All (λ (recorded : Recorded). recorded.1.object < length kinds) calls
-  pub objects : replayer.end ≡ Exact → AreHeld kinds calls replayer.objects.items
+  pub objects : replayer.end ≡ Exact → AreObjectsHeld kinds calls replayer.objects.items
 
 -- the call may be told next: its object is declared with its kind, and where that is built in, its method is the kind's and it has as many
 -- slots as the method, its result among them

@@ -1,11 +1,12 @@
 -- The outcome of `replay`.
+use Rattle.rd_base.specs.Bytes.{IsFront}
 use Rattle.rd_ecl.specs.Kinds.{Kind}
 use Rattle.rd_object.specs.declared.shapes.ReplayEnd.TheVariants.{Exact, Differs, NotShipped}
 use Rattle.rd_object.specs.declared.shapes.ReplayEnd.{ReplayEnd}
 use Rattle.rd_report.specs.declared.endings.Ending.{Ending}
 use Rattle.rd_report.proofs.EndingLemmas.{well_exactly}
 use Rattle.rd_walk.proofs.FileLemmas.{ending_at, entries_at}
-use Rattle.rd_walk.specs.Output.{IsOutput, IsWell, Outcome, IsFront}
+use Rattle.rd_walk.specs.Output.{IsOutput, IsWell, Outcome}
 use Rattle.rd_replay_command.specs.States.{is_exact, replay_outcome, replayed_text, states_text}
 use Rattle.rd_report.specs.Endings.{check_status, ending_of_report, thread_names}
 use Rattle.rd_replay_command.specs.Replaying.{replay_of}

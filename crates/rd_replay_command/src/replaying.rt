@@ -1,5 +1,5 @@
 //! The command `replay`.
-ghost use Rattle.std.specs.Prelude.{◌≡◌, ◌↔◌, ◌+◌, ◌≤◌, List, [], ◌∷◌, ◌++◌, IfOk};
+ghost use Rattle.std.specs.Prelude.{[]};
 ghost use Rattle.rd_base.specs.Limits.{AreUsable};
 ghost use Rattle.rd_replay_command.specs.Meanings.{replay_meaning};
 ghost use Rattle.rd_walk.specs.Meanings.{Ran, seen};

@@ -26,7 +26,7 @@ use Rattle.rd_print.specs.Printed.{commute_words, pair_text, pair_words}
 use Rattle.rd_print.specs.Text.{IsRightWord}
 use Rattle.rd_print.proofs.SoundLemmas.{commute_sound}
 use Rattle.rd_print.proofs.TextPlainLemmas.{words_plain}
-use Rattle.rd_report.specs.Races.{formula_words}
+use Rattle.rd_report.specs.Races.{formula_line_words}
 use Rattle.rd_report.specs.Texts.{expected_text, replay_line, replay_words}
 use Rattle.rd_report.specs.Writing.{ArePlain, comma}
 
@@ -105,8 +105,8 @@ call_plain thread object method slots first second third values =
 -- ---- formulas
 
 pub formula_plain : (kind : SpecifiedKind) → IsKind kind → (first second : ℕ) → first ≤ second → second < length kind.methods
-    → ArePlain (formula_words kind first second)
-unfolding formula_words
+    → ArePlain (formula_line_words kind first second)
+unfolding formula_line_words
 formula_plain kind is first second ordered within =
     let sound = each_by_recursion IsRightWord (commute_words kind (first, second)) (commute_sound kind is first second ordered within) in
     plain_both (kind.name ++ codes " ") (pair_text kind first second)

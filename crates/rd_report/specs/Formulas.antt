@@ -5,5 +5,5 @@ use Rattle.rd_report.specs.Races.{formula_line}
 use Rattle.rd_report.specs.declared.formula_lines.Kept.{Kept}
 
 -- it is the line of its methods, by these kinds
-abbrev pub IsKept : List SpecifiedKind → Kept → Type 0
-IsKept kinds kept = kept.line ≡ formula_line (kind_at kinds kept.kind) kept.first kept.second
+abbrev pub IsKeptLine : List SpecifiedKind → Kept → Type 0
+IsKeptLine kinds kept = kept.line ≡ formula_line (kind_at kinds kept.kind) kept.first kept.second

@@ -61,8 +61,8 @@ unfoldable pub formula_line : SpecifiedKind → ℕ → ℕ → List ℕ
 formula_line kind first second = codes "formula " ++ kind.name ++ codes " " ++ pair_text kind first second ++ codes "\n"
 
 -- the same without its first word and its line feed
-unfoldable pub formula_words : SpecifiedKind → ℕ → ℕ → List ℕ
-formula_words kind first second = kind.name ++ codes " " ++ pair_text kind first second
+unfoldable pub formula_line_words : SpecifiedKind → ℕ → ℕ → List ℕ
+formula_line_words kind first second = kind.name ++ codes " " ++ pair_text kind first second
 
 -- the line of the formula that two calls fail
 abbrev pub failed_line : List SpecifiedKind → Call → Call → List ℕ

@@ -29,7 +29,7 @@ impl<'a> Model for Formulas<'a> {
     ghost use Rattle.std.specs.Coded.{codes};
     ghost use Rattle.rd_ecl.specs.Codes.{coded_tree};
     ghost use Rattle.rd_ecl.specs.Specified.{SpecifiedKind};
-    ghost use Rattle.rd_report.specs.Formulas.{IsKept};
+    ghost use Rattle.rd_report.specs.Formulas.{IsKeptLine};
 
     ghost Value = { List SpecifiedKind };
 
@@ -37,7 +37,7 @@ impl<'a> Model for Formulas<'a> {
 
     ghost view = { λ f. f.spec.now };
 
-    ghost invariant = { λ f. All (IsKept f.spec.now) f.kept.items };
+    ghost invariant = { λ f. All (IsKeptLine f.spec.now) f.kept.items };
 }
 
 impl<'a> Formulas<'a> {

@@ -6,7 +6,7 @@ use Rattle.std.proofs.lemmas.List.Elements.{filter_map-append}
 use Rattle.rd_ecl.specs.Kinds.{Kind, kinds_of}
 use Rattle.rd_event.specs.declared.items.Line.{Line}
 use Rattle.rd_event.specs.declared.items.Line.TheVariants.{Skip, Header, Thread, Object, Event}
-use Rattle.rd_rewriting.specs.Keeping.{FollowFrom, IsFollower, Keeps, KeepsMore, event_told, kind_told, roots_with}
+use Rattle.rd_rewriting.specs.Keeping.{FollowFrom, IsFollower, KeepsLines, KeepsMore, event_told, kind_told, roots_with}
 use Rattle.rd_rewriting.specs.declared.kept.Kept.{Kept}
 use Rattle.rd_walk.proofs.WalkLemmas.{items_more}
 use Rattle.rd_walk.specs.Analysis.{IsNextEntry}
@@ -89,8 +89,8 @@ pub next_follower : (kinds : List Kind) (roster : Roster) (before : List Entry) 
     → IsFollower kinds (items before) item
 next_follower kinds roster before item numbers next = record { limits = next.limits; usable = next.usable; follows = next.follows; few = next.few }
 
-module _ (kinds : List Kind) (lines : List Line) (item : Line) (old new : Kept) (keeps : Keeps kinds old lines) (next : IsFollower kinds lines item) where
-  keeps_more : KeepsMore old new (accepted_of kinds lines item) → Keeps kinds new (lines ++ item ∷ [])
+module _ (kinds : List Kind) (lines : List Line) (item : Line) (old new : Kept) (keeps : KeepsLines kinds old lines) (next : IsFollower kinds lines item) where
+  keeps_more : KeepsMore old new (accepted_of kinds lines item) → KeepsLines kinds new (lines ++ item ∷ [])
   keeps_more more = record {
     kinds_are = ap kinds_of more.spec ∙ keeps.kinds_are;
     follow = follow_more kinds [] lines item keeps.follow next;
@@ -101,10 +101,10 @@ module _ (kinds : List Kind) (lines : List Line) (item : Line) (old new : Kept) 
   }
 
 -- what is kept of entries and one more
-pub keeps_entry : (kinds : List Kind) (before : List Entry) (entry : Entry) (old new : Kept) (roster : Roster) (numbers : Accepted) → Keeps kinds old (items before)
-    → IsNextEntry kinds roster before entry.item numbers → KeepsMore old new numbers → Keeps kinds new (items (before ++ entry ∷ []))
+pub keeps_entry : (kinds : List Kind) (before : List Entry) (entry : Entry) (old new : Kept) (roster : Roster) (numbers : Accepted) → KeepsLines kinds old (items before)
+    → IsNextEntry kinds roster before entry.item numbers → KeepsMore old new numbers → KeepsLines kinds new (items (before ++ entry ∷ []))
 keeps_entry kinds before entry old new roster numbers keeps next more =
-    subst (Keeps kinds new) (sym (items_more before entry))
+    subst (KeepsLines kinds new) (sym (items_more before entry))
     (keeps_more kinds (items before) entry.item old new keeps (next_follower kinds roster before entry.item numbers next)
     (subst (KeepsMore old new) next.numbers more))
 

@@ -6,13 +6,13 @@ use Rattle.std.proofs.lemmas.Option.{get_or_from_slice_get, slice_get-map}
 use Rattle.rd_ecl.specs.Kinds.{Kind, KindMethod, kind_names, kind_of, kinds_of, method_names, method_of, methods_at}
 use Rattle.rd_ecl.specs.Specified.{SpecifiedKind}
 use Rattle.rd_ecl.specs.declared.kinds.Method.{Method}
-use Rattle.rd_rewriting.specs.Naming.{kind_name, method_name}
+use Rattle.rd_rewriting.specs.Naming.{name_of_kind, method_name}
 
 module _ (kinds : List SpecifiedKind) (number : ℕ) (kind : SpecifiedKind) (at : slice_get kinds number ≡ Some kind) where
   kind_at : slice_get (kinds_of kinds) number ≡ Some (kind_of kind)
   kind_at = slice_get-map kind_of kinds number ∙ ap (option_map kind_of) at
 
-  pub kind_named : kind_name (kinds_of kinds) number ≡ kind.name
+  pub kind_named : name_of_kind (kinds_of kinds) number ≡ kind.name
   kind_named =
       get_or_from_slice_get (kind_names (kinds_of kinds)) number kind.name []
       (slice_get-map (λ (k : Kind). k.name) (kinds_of kinds) number ∙ ap (option_map (λ (k : Kind). k.name)) kind_at)

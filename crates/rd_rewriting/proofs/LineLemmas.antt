@@ -13,7 +13,7 @@ use Rattle.rd_rewriting.proofs.KeepingLemmas.{follow_told}
 use Rattle.rd_rewriting.proofs.NamingLemmas.{all_named}
 use Rattle.rd_rewriting.proofs.ReorderedLemmas.{all_counted, event_line, header_line, object_line_at, root_line, roots_few}
 use Rattle.rd_rewriting.specs.Keeping.{ArePlaces, KeepsNamed}
-use Rattle.rd_rewriting.specs.Naming.{HasNames, kind_name, named_event, object_name, thread_name}
+use Rattle.rd_rewriting.specs.Naming.{HasNames, name_of_kind, named_event, object_name, thread_name}
 use Rattle.rd_rewriting.specs.Reordered.{reordered}
 use Rattle.rd_rewriting.specs.declared.kept.Kept.{Kept}
 use Rattle.rd_rules.proofs.EventsLemmas.{kinds_placed}
@@ -70,7 +70,7 @@ module _ (kinds : List Kind) (now : Kept) (names : Roster) (lines : List Line) (
     root_at index i is below = root_line kinds lines kept.keeps.follow places places_inside index i is (omega (arith, below, kept.keeps.roots))
 
     pub object_at : (index i kind : ℕ) → index ≡ i + now.roots + 1 → i < object_count names → kind ≡ get_or now.objects.items i kind
-        → slice_get (reordered lines places) index ≡ Some (Object (object_name lines i) (kind_name (kinds_of now.spec.now) kind))
+        → slice_get (reordered lines places) index ≡ Some (Object (object_name lines i) (name_of_kind (kinds_of now.spec.now) kind))
     object_at index i kind is below at =
         let below_kinds : i < length (object_kinds kinds lines) = omega (arith, below, objects_kept, ap length kept.keeps.objects) in
         let same : get_or (object_kinds kinds lines) i 0 ≡ kind =
@@ -78,7 +78,7 @@ module _ (kinds : List Kind) (now : Kept) (names : Roster) (lines : List Line) (
         (sym (slice_get-get_or (object_kinds kinds lines) i 0 below_kinds) ∙ (slice_get-get_or (object_kinds kinds lines) i kind below_kinds
         ∙ ap Some (sym (at ∙ ap (λ l. get_or l i kind) kept.keeps.objects)))) in
         object_line_at kinds lines kept.keeps.follow places places_inside index i (omega (arith, is, kept.keeps.roots)) (omega (arith, below, kept.stands.object_total))
-        ∙ (λ j. Some (Object (object_name lines i) (kind_name (sym kept.keeps.kinds_are j) (same j))))
+        ∙ (λ j. Some (Object (object_name lines i) (name_of_kind (sym kept.keeps.kinds_are j) (same j))))
 
     pub event_at : (index i p : ℕ) (e : Numbered) → index ≡ i + object_count names + now.roots + 1 → i < length places → p ≡ get_or places i 0
         → p < length now.events.items → e ≡ get_or now.events.items p e

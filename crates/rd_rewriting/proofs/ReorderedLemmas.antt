@@ -13,7 +13,7 @@ use Rattle.rd_event.specs.declared.items.Line.TheVariants.{Skip, Header, Thread,
 use Rattle.rd_order.proofs.OrderLemmas.{at_front}
 use Rattle.rd_rewriting.proofs.NamingLemmas.{as_line, lines_spelled}
 use Rattle.rd_rewriting.specs.Keeping.{FollowFrom, IsFollower}
-use Rattle.rd_rewriting.specs.Naming.{kind_name, named_event, object_name, thread_name}
+use Rattle.rd_rewriting.specs.Naming.{name_of_kind, named_event, object_name, thread_name}
 use Rattle.rd_rewriting.specs.Reordered.{is_declaration, reordered}
 use Rattle.rd_rules.proofs.FollowLemmas.{met}
 use Rattle.rd_rules.proofs.PlaceLemmas.{got_left, place_named}
@@ -110,7 +110,7 @@ objects_counted (Event event ∷ lines) = objects_counted lines
 
 -- the line of an object, by its number
 abbrev object_line : List Kind → List Line → ℕ → Line
-object_line kinds lines object = Object (object_name lines object) (kind_name kinds (get_or (object_kinds kinds lines) object 0))
+object_line kinds lines object = Object (object_name lines object) (name_of_kind kinds (get_or (object_kinds kinds lines) object 0))
 
 declared_at : (kinds : List Kind) (before lines : List Line) → FollowFrom kinds before lines → (object : ℕ) → object < length (objects_of lines)
     → slice_get (filter is_declaration lines) object ≡ Some (object_line kinds lines object)

@@ -2,8 +2,8 @@
 use Rattle.std.proofs.Common.{◌≡◌, ℕ, zero, suc, ◌+◌, ◌≤◌, List, [], ◌∷◌, ◌++◌, length, Some, take, drop, slice_get, refl, sym, ap, ◌∙◌, arith}
 use Rattle.std.proofs.lemmas.Grind.{flat_map-append}
 use Rattle.std.proofs.lemmas.List.{append-nil, append_assoc, take-append-drop}
+use Rattle.rd_event.specs.Items.{line_text, lines_text}
 use Rattle.rd_event.specs.declared.items.Line.{Line}
-use Rattle.rd_rewriting.specs.Reordered.{line_text, lines_text}
 
 -- the first lines, and one more
 taken_more : (lines : List Line) (i : ℕ) (line : Line) → slice_get lines i ≡ Some line → take (suc i) lines ≡ take i lines ++ line ∷ []

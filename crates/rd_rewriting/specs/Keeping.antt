@@ -28,7 +28,7 @@ FollowFrom kinds before (line ∷ lines) = IsFollower kinds before line × Follo
 
 -- The roots, the kinds of the objects and the events of these lines are kept, each of which may follow those in front of it. The kinds are those of
 -- the specification that is kept.
-pub record Keeps (kinds : List Kind) (now : Kept) (lines : List Line) : Type 0 where
+pub record KeepsLines (kinds : List Kind) (now : Kept) (lines : List Line) : Type 0 where
   pub kinds_are : kinds_of now.spec.now ≡ kinds
   pub follow : FollowFrom kinds [] lines
   pub roots : now.roots ≡ root_count lines
@@ -68,7 +68,7 @@ pub record KeepsMore (old new : Kept) (numbers : Accepted) : Type 0 where
 
 -- what is kept is of these lines, and the roster stands for them
 pub record KeepsNamed (kinds : List Kind) (now : Kept) (names : Roster) (lines : List Line) : Type 0 where
-  pub keeps : Keeps kinds now lines
+  pub keeps : KeepsLines kinds now lines
   pub stands : RosterStandsFor kinds names lines
 
 -- these are places of events

@@ -20,8 +20,8 @@ abbrev pub object_name : List Line → ℕ → List ℕ
 object_name lines object = name_of (objects_of lines) object
 
 -- those of a kind and of a method of it
-abbrev pub kind_name : List Kind → ℕ → List ℕ
-kind_name kinds kind = name_of (kind_names kinds) kind
+abbrev pub name_of_kind : List Kind → ℕ → List ℕ
+name_of_kind kinds kind = name_of (kind_names kinds) kind
 
 abbrev pub method_name : List Kind → ℕ → ℕ → List ℕ
 method_name kinds kind method = name_of (method_names (methods_at kinds kind)) method

@@ -1,6 +1,6 @@
 -- The lines of a trace in another order. This project's profile.
 use Rattle.std.specs.Prelude.{ℕ, Bool, true, false, not, List, ◌∷◌, ◌++◌, codes, filter, filter_map, flat_map, slice_get}
-use Rattle.rd_event.specs.Items.{line_spelling}
+use Rattle.rd_event.specs.Items.{line_spelling, line_text}
 use Rattle.rd_event.specs.declared.items.Line.{Line}
 use Rattle.rd_event.specs.declared.items.Line.TheVariants.{Header, Object}
 use Rattle.rd_rules.specs.MayFollow.{is_event, is_root, is_skip, version_of}
@@ -19,10 +19,3 @@ is_counted line = not (is_skip line)
 unfoldable pub reordered : List Line → List ℕ → List Line
 reordered lines places =
     Header (version_of lines) ∷ (filter is_root lines ++ (filter is_declaration lines ++ filter_map (slice_get (filter is_event lines)) places))
-
--- a line with its line feed, and lines
-abbrev pub line_text : Line → List ℕ
-line_text line = line_spelling line ++ codes "\n"
-
-abbrev pub lines_text : List Line → List ℕ
-lines_text lines = flat_map line_text lines

@@ -1,9 +1,9 @@
 //! Lines by numbers, spelled with the names that a roster has.
-ghost use Rattle.std.specs.Prelude.{◌≡◌, ◌<◌, ◌++◌, ◌∷◌, [], codes, List, length, OnOk};
-ghost use Rattle.rd_ecl.specs.Kinds.{Kind, kinds_of, kind_names, methods_at};
+ghost use Rattle.std.specs.Prelude.{◌≡◌, ◌<◌, ◌++◌, codes, List, length, OnOk};
+ghost use Rattle.rd_ecl.specs.Kinds.{Kind, kinds_of, methods_at};
 ghost use Rattle.rd_event.specs.Items.{event_spelling, line_spelling, words_apart};
 ghost use Rattle.rd_event.specs.declared.items.Line.{Line as LineOf};
-ghost use Rattle.rd_rewriting.specs.Naming.{HasNames, kind_name, lock_name, method_name, named_event, object_name, thread_name};
+ghost use Rattle.rd_rewriting.specs.Naming.{HasNames, name_of_kind, lock_name, method_name, named_event, object_name, thread_name};
 ghost use Rattle.rd_rules.specs.MayFollow.{version_of};
 ghost use Rattle.rd_wf.specs.Roster.{RosterStandsFor, lock_count, object_count, thread_count};
 
@@ -15,7 +15,7 @@ use rd_wf::Roster;
 // The name of a kind.
 fn kind_name(spec: &Spec, kind: u32) -> &Name
     requires { kind < length spec.now }
-    ensures { result.now ≡ kind_name (kinds_of spec.now) kind }
+    ensures { result.now ≡ name_of_kind (kinds_of spec.now) kind }
 {
     let kind = &spec.kinds()[kind as usize];
     kind.name()
@@ -159,7 +159,7 @@ pub(crate) fn append_object(
     requires kind { kind < length spec.now }
     ensures { OnOk result ((kinds : List Kind) (lines : List LineOf) → RosterStandsFor kinds names.now lines →
         text.new ≡ text.old ++ line_spelling
-        (LineOf.Object (object_name lines object) (kind_name (kinds_of spec.now) kind))) }
+        (LineOf.Object (object_name lines object) (name_of_kind (kinds_of spec.now) kind))) }
 {
     append_names(
         text,

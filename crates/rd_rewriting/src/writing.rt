@@ -1,11 +1,11 @@
 //! Writing the lines that are kept, with their events in any order.
 ghost use Rattle.std.specs.Prelude.{◌≡◌, ◌<◌, ◌++◌, ℕ, List, [], Some, length, slice_get, OnOk, OnErr};
 ghost use Rattle.rd_ecl.specs.Kinds.{Kind};
-ghost use Rattle.rd_event.specs.Items.{line_spelling};
+ghost use Rattle.rd_event.specs.Items.{line_spelling, line_text, lines_text};
 ghost use Rattle.rd_event.specs.declared.items.Line.{Line as LineOf};
 ghost use Rattle.rd_io.specs.Sinks.{Appends};
 ghost use Rattle.rd_rewriting.specs.Keeping.{ArePlaces, KeepsNamed};
-ghost use Rattle.rd_rewriting.specs.Reordered.{line_text, lines_text, reordered};
+ghost use Rattle.rd_rewriting.specs.Reordered.{reordered};
 ghost use Rattle.rd_walk.specs.Analysis.{TellsFault, WritesFront};
 
 use crate::kept::Kept;

@@ -11,7 +11,7 @@ use Rattle.rd_reading.specs.Adding.{with_header, with_kind}
 use Rattle.rd_reading.specs.Causes.{EndHas}
 use Rattle.rd_pairs.specs.Causes.{HasNone}
 use Rattle.rd_reading.specs.Known.{kind_in, specified_kind_names, kind_without, kinds_so_far, nothing}
-use Rattle.rd_pairs.specs.PairCauses.{variables_at}
+use Rattle.rd_pairs.specs.PairCauses.{variables_of_method}
 use Rattle.rd_pairs.specs.declared.spec_causes.SpecCause.TheVariants.{Header, Syntax, UnknownMethod, UnknownVariable, NoVariable, OutsideFragment, Duplicate, MissingPair, KindTaken, Limit}
 use Rattle.rd_reading.specs.declared.known.Known.{Known}
 use Rattle.rd_ecl.specs.declared.kinds.Method.{Method}
@@ -20,7 +20,7 @@ use Rattle.rd_ecl.specs.Specified.{IsKind, IsWhole, SpecifiedKind, formula_at}
 use Rattle.rd_ecl.specs.Variables.{AreVariables, IsVariable}
 use Rattle.rd_ecl.proofs.PairLemmas.{equal_kinds}
 use Rattle.rd_pairs.proofs.NumberLemmas.{AreDifferent}
-use Rattle.rd_print.specs.Printed.{block_lines, commute_words, header_words, kind_words, method_words, pairs_of, spec_lines, spec_text}
+use Rattle.rd_print.specs.Printed.{block_lines, commute_words, printed_header, kind_words, method_words, pairs_of, spec_lines, spec_text}
 use Rattle.rd_print.proofs.SoundLemmas.{commute_sound, kind_sound, lines_sound, method_sound, name_at_is}
 use Rattle.rd_print.specs.Text.{IsRightWord, words_text}
 use Rattle.rd_spec.specs.Again.{MayBeRead}
@@ -62,7 +62,7 @@ module _ (kind : SpecifiedKind) (is : IsKind kind) where
       )
 
   variables_apart : (methods : List Method) (n : ℕ) → AllByRecursion (λ (method : Method). AreVariables method.variables) methods
-      → AreDifferent (variables_at (record kind { methods = methods }) n)
+      → AreDifferent (variables_of_method (record kind { methods = methods }) n)
   variables_apart [] zero each = none_apart
   variables_apart [] (suc n) each = none_apart
   variables_apart (method ∷ methods) zero (here, rest) = here.different
@@ -225,8 +225,8 @@ end_clean known begun whole (Limit name number) place has = has
 pub read_again : (kinds : List SpecifiedKind) (taken : List (List ℕ)) → MayBeRead kinds taken → SpecSays (spec_text kinds) taken kinds
 read_again kinds taken may =
     let sound : AllByRecursion (All IsRightWord) (spec_lines kinds) = each_by_recursion (All IsRightWord) (spec_lines kinds) (lines_sound kinds may.each) in
-    let head = line_read taken nothing (with_header nothing) header_words sound.0 (kept_line 114 (codes "dspec") (plain_word (codes "1") ∷ []) (λ e. omega (arith, e)) (λ e. omega (arith, e)))
-    (λ tokens are words. header_accepted taken (words_text header_words) tokens words are) in
+    let head = line_read taken nothing (with_header nothing) printed_header sound.0 (kept_line 114 (codes "dspec") (plain_word (codes "1") ∷ []) (λ e. omega (arith, e)) (λ e. omega (arith, e)))
+    (λ tokens are words. header_accepted taken (words_text printed_header) tokens words are) in
     let blocks = blocks_read taken kinds [] (with_header nothing) refl refl (λ first second up low. absurd (omega (arith, low)))
     (each_by_recursion IsKind kinds may.each)
     may.few may.different may.free in

@@ -16,7 +16,7 @@ use Rattle.rd_lines.specs.Lines.{words_of, kind as kind_said, method as method_s
 use Rattle.rd_reading.specs.Adding.{AcceptsSpecLine, with_header, with_kind}
 use Rattle.rd_reading.specs.Blocks.{IsBlock, IsOfBlocks, SaidPair, SaysMethod, SaysPairOf, WithoutSkipped, kept_first, none_left, passed_over}
 use Rattle.rd_reading.specs.Causes.{HasManyTokens}
-use Rattle.rd_pairs.specs.PairCauses.{AreNumbers, HasManyPredicates, variables_at}
+use Rattle.rd_pairs.specs.PairCauses.{AreNumbers, HasManyPredicates, variables_of_method}
 use Rattle.rd_reading.specs.Known.{kind_in, kind_without, kinds_so_far, nothing, specified_kind_names, stage_of}
 use Rattle.rd_reading.specs.Texts.{HasNewNames, ReadsLines, SpecSays, no_more, skips, takes}
 use Rattle.rd_reading.specs.declared.known.Known.{Known}
@@ -138,7 +138,7 @@ tail_pairs pair pairs all i j d less within = all (suc i) (suc j) d (omega (arit
 head_pairs : (pair : SaidPair) (pairs : List SaidPair) → AllPairs Differs (pair ∷ pairs) → AllByRecursion (Differs pair) pairs
 head_pairs pair pairs all = each_by_recursion (Differs pair) pairs (λ k d within. all 0 (suc k) d (omega arith) (omega (arith, within)))
 
-module _ (taken : List (List ℕ)) (closed : List SpecifiedKind) (kind : SpecifiedKind) (is : IsKind kind) (variables : (n : ℕ) → AreDifferent (variables_at kind n)) where
+module _ (taken : List (List ℕ)) (closed : List SpecifiedKind) (kind : SpecifiedKind) (is : IsKind kind) (variables : (n : ℕ) → AreDifferent (variables_of_method kind n)) where
   -- some of the kind's formulas are set
   record AreSome (set_so : List (Option Tree)) : Type 0 where
     rows : length set_so ≡ MOST_METHODS * length kind.methods
@@ -309,7 +309,7 @@ module _ (taken : List (List ℕ)) (closed : List SpecifiedKind) (kind : Specifi
 -- ---- a block
 
 variables_apart : (methods : List Method) (n : ℕ) → AllByRecursion (λ (method : Method). AreVariables method.variables) methods
-    → AreDifferent (variables_at (record { name = []; methods = methods; pairs = [] }) n)
+    → AreDifferent (variables_of_method (record { name = []; methods = methods; pairs = [] }) n)
 variables_apart [] zero each = none_apart
 variables_apart [] (suc n) each = none_apart
 variables_apart (method ∷ methods) zero (here, rest) = here.different

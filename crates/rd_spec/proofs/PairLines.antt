@@ -13,7 +13,7 @@ use Rattle.rd_print.specs.Canonical.{plain_word, canonical_words}
 use Rattle.rd_print.proofs.WordFewLemmas.{few_words}
 use Rattle.rd_reading.specs.Adding.{AcceptsSpecLine}
 use Rattle.rd_reading.specs.Causes.{HasManyTokens}
-use Rattle.rd_pairs.specs.PairCauses.{AreNumbers, HasManyPredicates, PairHas, SaysPair, scope_of, variables_at}
+use Rattle.rd_pairs.specs.PairCauses.{AreNumbers, HasManyPredicates, PairHas, SaysPair, scope_of, variables_of_method}
 use Rattle.rd_pairs.specs.Causes.{HasNone}
 use Rattle.rd_reading.specs.Known.{stage_of}
 use Rattle.rd_pairs.specs.declared.spec_causes.SpecCause.TheVariants.{Header, Syntax, UnknownMethod, UnknownVariable, NoVariable, OutsideFragment, Duplicate, MissingPair, KindTaken, Limit}
@@ -50,7 +50,7 @@ use Rattle.rd_base.specs.declared.limits.TheConstants.{MOST_LEVELS, MOST_NODES}
 -- the kind, two of its methods, and a formula that may be set
 pub record IsReady (kind : SpecifiedKind) (m n : ℕ) (f : Tree) : Type 0 where
   pub names : AreDifferent (names_of kind.methods)
-  pub variables : (i : ℕ) → AreDifferent (variables_at kind i)
+  pub variables : (i : ℕ) → AreDifferent (variables_of_method kind i)
   pub inside : InFragment f
   pub few : nodes f ≤ MOST_NODES
   pub shallow : levels f ≤ 32
@@ -186,7 +186,7 @@ module _ (taken : List (List ℕ)) (closed : List SpecifiedKind) (kind part : Sp
   second = name_at kind.methods j
 
   abbrev pub words : List PrintedWord
-  words = canonical_words (variables_at kind i) (variables_at kind j) f
+  words = canonical_words (variables_of_method kind i) (variables_of_method kind j) f
 
   abbrev pub front : List PrintedWord
   front = plain_word (codes "commute") ∷ plain_word first ∷ plain_word second ∷ plain_word (codes "when") ∷ []
@@ -211,10 +211,10 @@ module _ (taken : List (List ℕ)) (closed : List SpecifiedKind) (kind part : Sp
     second_name = subst (λ (ms : List Method). slice_get (names_of ms) j ≡ Some (name_at kind.methods j)) (sym methods) (name_there kind.methods j printed_there.known);
   }
 
-  variables_first : AreVariables (variables_at kind i)
+  variables_first : AreVariables (variables_of_method kind i)
   variables_first = variables_there kind.methods i within_first printed_there.methods.each
 
-  variables_second : AreVariables (variables_at kind j)
+  variables_second : AreVariables (variables_of_method kind j)
   variables_second = variables_there kind.methods j printed_there.known printed_there.methods.each
 
   -- the tokens behind `when` say the formula
@@ -223,7 +223,7 @@ module _ (taken : List (List ℕ)) (closed : List SpecifiedKind) (kind part : Sp
       let pair = printed_there.pair in
       let scope = scope_of kind line tokens i j in
       says_formula front tokens scope f sound_front variables_first.each variables_second.each
-      (subst (λ (x : ℕ). Fits f x (length (variables_at kind j))) (sym (slots_are kind i)) (subst (λ (y : ℕ). Fits f (slots_at kind.methods i) y) (sym (slots_are kind j)) pair.fits))
+      (subst (λ (x : ℕ). Fits f x (length (variables_of_method kind j))) (sym (slots_are kind i)) (subst (λ (y : ℕ). Fits f (slots_at kind.methods i) y) (sym (slots_are kind j)) pair.fits))
       pair.slots printed_there.values (ap words_text all_words) are refl
 
   -- the words behind `when`
@@ -232,7 +232,7 @@ module _ (taken : List (List ℕ)) (closed : List SpecifiedKind) (kind part : Sp
       sym (drop-map (word_at line) 4 tokens) ∙ ap (λ (l : List LineWord). drop 4 l) (read ∙ ap (map lift) all_words)
 
   few_behind : length words ≤ 192
-  few_behind = let few = ready.few in let count = few_words (variables_at kind i) (variables_at kind j) f in omega (arith, few, count)
+  few_behind = let few = ready.few in let count = few_words (variables_of_method kind i) (variables_of_method kind j) f in omega (arith, few, count)
 
   short_line : (tokens : List Token) → words_of line tokens ≡ map lift (commute_words kind (i, j)) → ¬ (HasManyTokens (words_of line tokens))
   short_line tokens read many =
@@ -244,7 +244,7 @@ module _ (taken : List (List ℕ)) (closed : List SpecifiedKind) (kind part : Sp
       let few = few_behind in
       omega (arith, count, long, few)
 
-  same_variables : (n : ℕ) → variables_at part n ≡ variables_at kind n
+  same_variables : (n : ℕ) → variables_of_method part n ≡ variables_of_method kind n
   same_variables n = ap (λ (ms : List Method). unwrap_or (option_map (λ (m : Method). m.variables) (slice_get ms n)) []) methods
 
   same_scope : (tokens : List Token) (read : ParsedTree) → Gives (MeansAt (scope_of kind line tokens i j)) read f → Gives (MeansAt (scope_of part line tokens i j)) read f

@@ -8,7 +8,7 @@ use Rattle.rd_ecl.specs.declared.kinds.Method.{Method}
 use Rattle.rd_ecl.specs.Formulas.{Tree}
 use Rattle.rd_ecl.specs.Specified.{IsPair, SpecifiedKind, formula_at, method_predicates, names_of, slots_at, with_pair}
 use Rattle.rd_ecl.proofs.PairLemmas.{at_other, at_set}
-use Rattle.rd_pairs.specs.PairCauses.{HasManyPredicates, variables_at}
+use Rattle.rd_pairs.specs.PairCauses.{HasManyPredicates, variables_of_method}
 use Rattle.rd_pairs.proofs.NumberLemmas.{AreDifferent}
 use Rattle.rd_print.specs.Printed.{commute_words, pairs_of}
 use Rattle.rd_print.specs.Text.{words_text}
@@ -55,7 +55,7 @@ pub record IsPart (kind part : SpecifiedKind) (i j : ℕ) : Type 0 where
 pub record IsSource (kind : SpecifiedKind) : Type 0 where
   pub few : length kind.methods ≤ MOST_METHODS
   pub names : AreDifferent (names_of kind.methods)
-  pub variables : (n : ℕ) → AreDifferent (variables_at kind n)
+  pub variables : (n : ℕ) → AreDifferent (variables_of_method kind n)
   pub predicates : (method : ℕ) → length (method_predicates kind method) ≤ MOST_PREDICATES
   pub pairs : (m n : ℕ) → m ≤ n → n < length kind.methods → (f : Tree) × IsPrinted kind m n f
 
@@ -141,7 +141,7 @@ not_before i j before = elim before [
 ready_for : (kind part : SpecifiedKind) (i j : ℕ) (f : Tree) → IsSource kind → IsPrinted kind i j f → IsPart kind part i j → IsReady part i j f
 ready_for kind part i j f source there is = record {
   names = subst (λ (ms : List Method). AreDifferent (names_of ms)) (sym is.methods) source.names;
-  variables = λ n. subst (λ (ms : List Method). AreDifferent (variables_at (record kind { methods = ms }) n)) (sym is.methods) (source.variables n);
+  variables = λ n. subst (λ (ms : List Method). AreDifferent (variables_of_method (record kind { methods = ms }) n)) (sym is.methods) (source.variables n);
   inside = pair.inside;
   few = pair.few;
   shallow = pair.shallow;

@@ -5,17 +5,18 @@ use Rattle.std.proofs.lemmas.Bool.Decides.{Decides-eqb}
 use Rattle.std.specs.List.{AllPass, AllByRecursion}
 use Rattle.std.proofs.lemmas.List.{append_assoc, append-nil}
 use Rattle.std.proofs.lemmas.Simd.{map-map}
+use Rattle.rd_base.specs.Bytes.{is_space}
 use Rattle.rd_base.specs.Spelling.{is_plain}
 use Rattle.rd_print.specs.declared.canonical.word_list.PrintedWord.{PrintedWord}
 use Rattle.rd_print.specs.Canonical.{plain_word}
 use Rattle.rd_lines.specs.Lines.{LineWord, words_of}
-use Rattle.rd_print.specs.Printed.{line_text}
+use Rattle.rd_print.specs.Printed.{printed_line}
 use Rattle.rd_print.proofs.TextAgainLemmas.{words_again}
 use Rattle.rd_print.proofs.TextPlainLemmas.{words_plain}
 use Rattle.rd_print.specs.Text.{IsRightWord, gap, words_text}
 use Rattle.rd_tokens.specs.declared.sorts.Token.{Token}
 use Rattle.rd_tokens.specs.Tokens.{AreTokens, bytes_of}
-use Rattle.rd_reading.specs.Texts.{AreLines, IsLine, IsSkipped, is_space, line_first, no_line}
+use Rattle.rd_reading.specs.Texts.{AreLines, IsLine, IsSkipped, line_first, no_line}
 
 -- a word that is written, as one that is read
 abbrev pub lift : PrintedWord → LineWord
@@ -27,10 +28,10 @@ no_feed_plain bytes plain k within feed =
     let wrong : is_plain 10 ≡ true = subst (λ (b : ℕ). is_plain b ≡ true) feed here in absurd (cc)
 
 -- the lines of the text
-pub lines_cut : (lines : List (List PrintedWord)) → AllByRecursion (All IsRightWord) lines → AreLines (flat_map line_text lines) (map words_text lines)
+pub lines_cut : (lines : List (List PrintedWord)) → AllByRecursion (All IsRightWord) lines → AreLines (flat_map printed_line lines) (map words_text lines)
 lines_cut [] sound = no_line
 lines_cut (line ∷ lines) (here, rest) =
-    subst (λ (t : List ℕ). AreLines t (map words_text (line ∷ lines))) (sym (append_assoc (words_text line) (codes "\n") (flat_map line_text lines)))
+    subst (λ (t : List ℕ). AreLines t (map words_text (line ∷ lines))) (sym (append_assoc (words_text line) (codes "\n") (flat_map printed_line lines)))
     (line_first (no_feed_plain (words_text line) (words_plain line here)) (lines_cut lines rest))
 
 -- the words of its tokens

@@ -9,7 +9,7 @@ use Rattle.std.proofs.lemmas.List.Sums.{count_by-le-length, length-filter}
 use Rattle.rd_points.specs.declared.points.Point.{Point}
 use Rattle.rd_store.specs.declared.Witness.{Witness}
 use Rattle.rd_store.specs.Stores.{Cell, HasOneEach, IsCovered, IsLatestUncovered, PointCells, cell_at, cell_of, cells_at, is_covered, place_of, uncovered}
-use Rattle.rd_store.specs.StoreParts.{Held, cell, later, latest_of, live, with_cell}
+use Rattle.rd_store.specs.StoreParts.{Held, cell, later_found, latest_in_cells, live, with_cell}
 
 abbrev pub own_cell : ℕ → Witness → Cell
 own_cell thread witness = record { thread = thread; witness = witness }
@@ -217,7 +217,7 @@ module _ (clock : List ℕ) where
     keeps : (b : Witness) → before ≡ Some b → (m : Witness) × (mid ≡ Some m) × (b.place ≤ m.place)
     takes : ¬ (IsCovered clock c.thread c.witness) → (m : Witness) × (mid ≡ Some m) × (c.witness.place ≤ m.place)
 
-  step_is : (before : Option Witness) (c : Cell) → IsStep before c (later clock before c)
+  step_is : (before : Option Witness) (c : Cell) → IsStep before c (later_found clock before c)
   step_is None c = by (is_covered clock c.thread c.witness) refl
     where
       by : (b : Bool) → is_covered clock c.thread c.witness ≡ b → IsStep None c (cond b None (Some c.witness))
@@ -271,14 +271,14 @@ module _ (clock : List ℕ) where
       let apart : c.thread ≡ t → ⊥ = λ same. (let own : cell_of cells t ≡ None = subst (λ x. cell_of cells x ≡ None) same none in cc) in
       rw (ne_eqb c.thread t apart) at
 
-  latest_after : (before : Option Witness) (cells : List Cell) → HasOneEach cells → IsLatest clock before cells (fold (later clock) before cells)
+  latest_after : (before : Option Witness) (cells : List Cell) → HasOneEach cells → IsLatest clock before cells (fold (later_found clock) before cells)
   latest_after before [] each = record {
     none = λ h. (h, λ t seen at. cc);
     some = λ latest h. inl h;
     most_before = λ latest one h b. (let same : latest ≡ one = cc in subst (λ (z : Witness). one.place ≤ z.place) (sym same) (omega arith));
     most = λ latest h t seen at un. cc;
   }
-  latest_after before (c ∷ cells) each = joined (later clock before c) (step_is before c) (fold (later clock) (later clock before c) cells) (latest_after (later clock before c) cells each.1)
+  latest_after before (c ∷ cells) each = joined (later_found clock before c) (step_is before c) (fold (later_found clock) (later_found clock before c) cells) (latest_after (later_found clock before c) cells each.1)
     where
       joined : (mid : Option Witness) → IsStep before c mid → (found : Option Witness) → IsLatest clock mid cells found → IsLatest clock before (c ∷ cells) found
       joined mid step found rest = record {
@@ -311,7 +311,7 @@ module _ (clock : List ℕ) where
         ];
       }
 
-  pub latest_is : (store : List PointCells) (point : Point) (cells : List Cell) (found : Option Witness) → cells_at store point ≡ cells → HasOneEach cells → found ≡ latest_of clock cells
+  pub latest_is : (store : List PointCells) (point : Point) (cells : List Cell) (found : Option Witness) → cells_at store point ≡ cells → HasOneEach cells → found ≡ latest_in_cells clock cells
       → IsLatestUncovered store point clock found
   latest_is store point cells found is each same = by found (subst (IsLatest clock None cells) (sym same) (latest_after None cells each))
     where

@@ -48,14 +48,14 @@ with_cell (cell ∷ cells) thread witness =
     if cell.thread == thread then record { thread = thread; witness = witness } ∷ cells else cell ∷ with_cell cells thread witness
 
 -- the later of what was found before and a cell, where the clock doesn't cover it
-abbrev pub later : List ℕ → Option Witness → Cell → Option Witness
-later clock None cell = if is_covered clock cell.thread cell.witness then None else Some cell.witness
-later clock (Some found) cell =
+abbrev pub later_found : List ℕ → Option Witness → Cell → Option Witness
+later_found clock None cell = if is_covered clock cell.thread cell.witness then None else Some cell.witness
+later_found clock (Some found) cell =
     if is_covered clock cell.thread cell.witness then Some found else if nat_le cell.witness.place found.place then Some found else Some cell.witness
 
 -- the latest that the clock doesn't cover, of cells from the first on
-abbrev pub latest_of : List ℕ → List Cell → Option Witness
-latest_of clock cells = fold (later clock) None cells
+abbrev pub latest_in_cells : List ℕ → List Cell → Option Witness
+latest_in_cells clock cells = fold (later_found clock) None cells
 
 -- the cells that the clock doesn't cover
 abbrev pub live : List ℕ → List Cell → List Cell

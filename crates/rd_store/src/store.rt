@@ -1,7 +1,7 @@
 //! The cells of access points.
 ghost use Rattle.std.specs.Prelude.{◌≡◌, ℕ, Some, false, ◌+◌, ◌*◌, ◌<◌, ◌≤◌, ◌⊎◌, not, [], Contains, length, map, option_map, is_some, OnOk, OnErr, IfOk, IsSome, IsTrue, if◌then◌else◌};
 ghost use Rattle.rd_points.specs.declared.points.Point.{Point as PointOf};
-ghost use Rattle.rd_store.specs.StoreParts.{cell, cells_of, room_of, later as later_of, latest_of, live, swept_at, with_cell};
+ghost use Rattle.rd_store.specs.StoreParts.{cell, cells_of, room_of, later_found, latest_in_cells, live, swept_at, with_cell};
 ghost use Rattle.rd_store.specs.Lent.{lent_witness};
 ghost use Rattle.rd_store.specs.Stores.{HasOneEach, HasRoom, IsLatestUncovered, IsSameStore, IsSwept, IsTouched, cell_count, cell_of, cells_at, is_covered, others_of, place_of, point_at};
 
@@ -37,7 +37,7 @@ fn later<'a, L: Ledger>(
     steps: &mut Steps<L>,
 ) -> Option<&'a Rc<Witness>>
     ensures value { option_map (λ one. one.now.value) result
-        ≡ later_of clock.now (option_map (λ one. one.now.value) found.entry) (cell held.now) }
+        ≡ later_found clock.now (option_map (λ one. one.now.value) found.entry) (cell held.now) }
     ensures cost { steps.new ≡ steps.old + 1 }
 {
     if clock.covers(held.0, held.1.stamp.number, steps) {
@@ -62,7 +62,7 @@ fn latest_of<'a, L: Ledger>(
     steps: &mut Steps<L>,
 ) -> Option<&'a Rc<Witness>>
     ensures value { option_map (λ one. one.now.value) result
-        ≡ latest_of clock.now (map cell cells.now) }
+        ≡ latest_in_cells clock.now (map cell cells.now) }
     ensures cost { steps.new ≡ steps.old + length cells.now }
 {
     let mut latest = None;

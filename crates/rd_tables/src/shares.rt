@@ -1,7 +1,7 @@
 //! The threads that share locks.
 ghost use Rattle.std.specs.Prelude.{ℕ, ◌≡◌, ◌+◌, ◌<◌, ◌≤◌, ◌^◌, ◌==◌, ◌&&◌, true, if◌then◌else◌, OnOk, OnErr, vec_len};
 ghost use Rattle.rd_tables.specs.Sharers.{IsLeast};
-ghost use Rattle.rd_tables.specs.Shares.{HasRoom, is_other_sharer, share_depth};
+ghost use Rattle.rd_tables.specs.Shares.{HasSharerRoom, is_other_sharer, share_depth};
 
 use crate::sharers::Sharers;
 use rd_base::NoMemory;
@@ -48,7 +48,7 @@ impl Shares {
 
     /// Whether there is room for one more thread that shares the lock. It takes no memory.
     pub fn has_room(&self, lock: u32) -> bool
-        ensures { result ≡ true → HasRoom self.now lock }
+        ensures { result ≡ true → HasSharerRoom self.now lock }
     {
         match self.locks.get(lock as usize) {
             None => false,
@@ -79,7 +79,7 @@ impl Shares {
             ((other sharer : ℕ) → share_depth self.new other sharer ≡ share_depth self.old other sharer + (if (sharer == thread) && (other == lock) then 1 else 0)) }
         ensures err { OnErr result
             ((other sharer : ℕ) → share_depth self.new other sharer ≡ share_depth self.old other sharer) }
-        ensures room { OnErr result (¬ (HasRoom self.old lock)) }
+        ensures room { OnErr result (¬ (HasSharerRoom self.old lock)) }
     {
         self.grow(lock)?;
         self.locks[lock as usize].add(thread)

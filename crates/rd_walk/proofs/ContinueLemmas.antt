@@ -5,7 +5,7 @@ use Rattle.rd_io.specs.Lines.{Stop, LinesEnding}
 use Rattle.rd_io.specs.Lines.Stop.{end, fault}
 use Rattle.rd_io.specs.Lines.LinesEnding.{at_end, no_final_newline, line_too_long, bytes_limit, faulted}
 use Rattle.rd_io.specs.Lines.Reading.{stops, line}
-use Rattle.rd_io.specs.LineReader.{Reader, lines_left, fresh, Tells, Moves, IsAtEnd}
+use Rattle.rd_io.specs.LineReader.{Reader, lines_left, fresh, TellsNext, Moves, IsAtEnd}
 use Rattle.rd_base.specs.declared.limits.Limits.{Limits}
 use Rattle.rd_io.specs.declared.lines.ReadEnd.{ReadEnd}
 use Rattle.rd_io.specs.declared.lines.ReadEnd.TheVariants.{ReadFault, LineTooLong, BytesLimit, NoFinalNewline}
@@ -63,7 +63,7 @@ module _ (kinds : List Kind) where
         (to_ended limits (taken ++ bytes) held entries (old.number + 1) (Wf HeaderFirst) (eqb (headers (items entries)) 0) none
         (ap (trace_of kinds limits end) (at_held held none) ∙ stopped end at_end is))
 
-    pub walks_refused : (held : List ℕ) (refused : ReadEnd) → Tells old bytes new (Err refused) → Moves old new (Err refused)
+    pub walks_refused : (held : List ℕ) (refused : ReadEnd) → TellsNext old bytes new (Err refused) → Moves old new (Err refused)
         → (IsAtEnd (Err refused) → held ≡ []) → WalksTo kinds limits (taken ++ bytes) held entries (ending_for limits new.number refused)
     walks_refused held ReadFault tells moves none = stopped fault faulted tells.1
     walks_refused held LineTooLong tells moves none = rw moves.number (cut line_too_long tells held)

@@ -3,6 +3,7 @@ use Rattle.std.proofs.Common.{◌≡◌, ◌≢◌, ℕ, ◌+◌, ◌^◌, ◌<�
 use Rattle.std.specs.Prelude.{option_map}
 use Rattle.std.proofs.lemmas.Bool.Decides.{nat_tests}
 use Rattle.std.proofs.lemmas.List.{append_assoc, append-nil}
+use Rattle.rd_base.specs.Bytes.{IsFront}
 use Rattle.rd_base.specs.Limits.{AreUsable}
 use Rattle.rd_base.specs.declared.limits.Limits.{Limits}
 use Rattle.rd_ecl.specs.Kinds.{Kind}
@@ -14,7 +15,7 @@ use Rattle.rd_walk.specs.declared.walk.WalkEnd.TheVariants.{End, Refused, Fault}
 use Rattle.rd_rules.specs.Events.{AreAccepted}
 use Rattle.rd_walk.specs.Meanings.{Runs, report_meaning}
 use Rattle.rd_walk.specs.Traces.{HasReported, IsReadWhole, IsTraceOutcome, ReportTexts, walk_of, walk_on}
-use Rattle.rd_walk.specs.Output.{IsFront, IsOutput, IsWell, ended_status, unopened_outcome}
+use Rattle.rd_walk.specs.Output.{IsOutput, IsWell, ended_status, unopened_outcome}
 use Rattle.rd_walk.specs.declared.analysis.Halt.{Halt}
 use Rattle.rd_walk.specs.declared.status.Ended.{Ended}
 use Rattle.std.specs.Result.{IsErr, IsErrAnd}

@@ -1,4 +1,5 @@
 -- What a command writes, and its status, and how far it is written. This project's profile.
+use Rattle.rd_base.specs.Bytes.{IsFront}
 use Rattle.rd_io.specs.Inputs.{Rose, fault_line}
 use Rattle.rd_walk.specs.declared.analysis.Halt.TheVariants as halt
 use Rattle.rd_walk.specs.declared.analysis.Halt.{Halt}
@@ -29,10 +30,6 @@ pub record Outcome : Type 0 where
 -- the status says that a trace was read to its end
 abbrev pub IsWell : Status → Type 0
 IsWell status = (status ≡ Clean) ⊎ ((status ≡ Raced) ⊎ (status ≡ ReplayDiffers))
-
--- the bytes are a front of the whole
-abbrev pub IsFront : List ℕ → List ℕ → Type 0
-IsFront bytes whole = (rest : List ℕ) × (whole ≡ bytes ++ rest)
 
 -- a run that ends with this status and wrote these bytes has this outcome, or was cut short in it by a write fault or want of memory
 abbrev pub IsOutput : Status → List ℕ → Outcome → Type 0

@@ -1,6 +1,7 @@
 -- Where a walk over the lines of an input has come.
 use Rattle.std.specs.Prelude.{◌≡◌, ◌≤◌, ℕ, ◌+◌, List, [], ◌∷◌, ◌++◌, All, length}
 use Rattle.std.specs.List.{flat_map}
+use Rattle.rd_base.specs.Bytes.{IsFront}
 use Rattle.rd_io.specs.LineReader.{HasNoFeed, Reader, lines_left}
 use Rattle.rd_io.specs.Lines.{Stop}
 use Rattle.rd_io.specs.Lines.Stop.{end, fault}
@@ -9,7 +10,6 @@ use Rattle.rd_io.specs.declared.lines.ReadEnd.TheVariants.{ReadFault, LineTooLon
 use Rattle.rd_base.specs.declared.limits.Limits.{Limits}
 use Rattle.rd_base.specs.declared.limits.LimitName.TheVariants.{Bytes, Line}
 use Rattle.rd_ecl.specs.Kinds.{Kind}
-use Rattle.rd_walk.specs.Output.{IsFront}
 use Rattle.rd_walk.specs.Walk.{Entry, Walked, after, ends, items, trace_of, walk}
 use Rattle.rd_rules.specs.declared.causes.TraceCause.TheVariants.{NoFinalNewline, Limit}
 use Rattle.rd_walk.specs.declared.walk.WalkEnd.{WalkEnd}

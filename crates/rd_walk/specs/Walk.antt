@@ -1,12 +1,13 @@
 -- The walk over the lines of a trace: which are accepted, and how they end. This project's profile.
 use Rattle.std.specs.Prelude.{ℕ, ◌+◌, ◌*◌, ◌==◌, List, [], ◌∷◌, ◌++◌, map, length, Option, Some, None, option_map, Result, Ok, Err, IsTrue, if◌then◌else◌}
+use Rattle.rd_base.specs.Bytes.{is_space}
 use Rattle.rd_io.specs.Lines.{Stop, Reading, reading, LinesEnding}
 use Rattle.rd_io.specs.Lines.LinesEnding.{at_end, no_final_newline, line_too_long, bytes_limit, faulted}
 use Rattle.rd_io.specs.Lines.Reading.{stops, line}
 use Rattle.rd_base.specs.declared.limits.Limits.{Limits}
 use Rattle.rd_base.specs.declared.limits.LimitName.TheVariants.{Bytes, Line as LineBytes}
 use Rattle.std.specs.List.{before_first}
-use Rattle.rd_event.specs.Reading.{is_call_keyword, is_space, item_of}
+use Rattle.rd_event.specs.Reading.{is_call_keyword, item_of}
 use Rattle.rd_event.specs.declared.items.Line.{Line}
 use Rattle.rd_ecl.specs.Kinds.{Kind}
 use Rattle.rd_rules.specs.MayFollow.{first_broken, is_call, headers, is_event, threads_of, version_of}

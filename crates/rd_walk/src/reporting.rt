@@ -1,5 +1,6 @@
 //! A report on a trace: the walk over its lines, and what stands behind their texts.
 ghost use Rattle.std.specs.Prelude.{◌≡◌, ◌↔◌, ◌+◌, ◌<◌, ◌≤◌, ◌^◌, ℕ, nat_lt, List, [], ◌++◌, Some, length, IfOk};
+ghost use Rattle.rd_base.specs.Bytes.{IsFront};
 ghost use Rattle.rd_base.specs.Limits.{AreUsable};
 ghost use Rattle.rd_ecl.specs.Kinds.{Kind};
 ghost use Rattle.rd_io.specs.Inputs.{Source, Goes, Takes};
@@ -8,7 +9,7 @@ ghost use Rattle.rd_io.specs.Sinks.{Appends};
 ghost use Rattle.rd_walk.specs.Meanings.{Ran, Runs, report_meaning, seen};
 ghost use Rattle.rd_walk.specs.Traces.{HasReported, texts_of};
 ghost use Rattle.rd_walk.specs.Analysis.{TellsFault, TellsFaults};
-ghost use Rattle.rd_walk.specs.Output.{IsFront, IsOutput, IsTraceEnd, IsWell, Outcome, ended_status};
+ghost use Rattle.rd_walk.specs.Output.{IsOutput, IsTraceEnd, IsWell, Outcome, ended_status};
 ghost use Rattle.rd_walk.specs.Progress.{IsBegun, IsTakenOfTrace};
 ghost use Rattle.rd_walk.specs.Walk.{Entry, Walked, after, ending_of, ends, entries_of, items, step_bound};
 ghost use Rattle.rd_rules.specs.Events.{AreAccepted};

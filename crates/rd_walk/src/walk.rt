@@ -1,5 +1,6 @@
 //! The walk over the lines of a trace.
-ghost use Rattle.std.specs.Prelude.{◌≡◌, ◌≢◌, ◌⊎◌, ℕ, ◌+◌, ◌-◌, ◌<◌, ◌≤◌, ◌^◌, true, false, List, [], ◌∷◌, ◌++◌, Ok, Err, None, Some, IsSome, length, IfOk, IfErr, OnErr};
+ghost use Rattle.std.specs.Prelude.{◌≡◌, ◌≢◌, ◌⊎◌, ℕ, ◌+◌, ◌-◌, ◌<◌, ◌≤◌, ◌^◌, true, false, List, [], Ok, Err, None, Some, IsSome, length, IfOk, IfErr, OnErr};
+ghost use Rattle.rd_base.specs.Bytes.{IsFront};
 ghost use Rattle.rd_base.specs.Limits.{AreUsable};
 ghost use Rattle.rd_event.specs.Reading.{item_of};
 ghost use Rattle.rd_event.specs.declared.items.Line.{Line as Item};
@@ -8,7 +9,6 @@ ghost use Rattle.rd_io.specs.LineReader.{fresh};
 ghost use Rattle.rd_io.specs.Lines.LinesEnding.{at_end};
 ghost use Rattle.rd_io.specs.Sinks.{Appends};
 ghost use Rattle.rd_walk.specs.Analysis.{IsCutIn, IsHandedOn, TellsFault};
-ghost use Rattle.rd_walk.specs.Output.{IsFront};
 ghost use Rattle.rd_walk.specs.Progress.{IsBegun, IsTakenOfTrace, WalksOn, WalksTo, ending_for};
 ghost use Rattle.rd_rules.specs.MayFollow.{MayFollow, first_broken, version_of};
 ghost use Rattle.rd_rules.specs.declared.causes.WfCause.{WfCause};
@@ -57,7 +57,7 @@ impl<A: Drop> Walker<A> {
     ghost use Rattle.rd_ecl.specs.Kinds.{kind_names, kinds_of};
     ghost use Rattle.rd_wf.specs.Roster.{RosterStandsFor, kinds_in};
 
-    /// At the first line of a trace whose objects are of these kinds, which have different names.
+    /// At the first line of a trace whose objects are of these kinds, which have different names. Its error is want of memory.
     pub fn new(
         alloc: Global,
         limits: &Limits,

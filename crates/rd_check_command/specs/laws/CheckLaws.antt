@@ -3,9 +3,9 @@ use Rattle.std.specs.Prelude.{◌≡◌, ℕ, List, [], length}
 use Rattle.std.proofs.Common.{refl, sym, ap, subst, arith, true≢false}
 use Rattle.std.proofs.lemmas.Option.{none-some}
 use Rattle.rd_order.specs.EventLists.{WellFormedWith, forks, joins}
-use Rattle.rd_hb.specs.Knows.{GivesBack, KnownCount}
+use Rattle.rd_hb.specs.Knows.{KnownCount}
 use Rattle.rd_hb.specs.Tracker.{TrackerStandsFor, Tracking, handed_by}
-use Rattle.rd_order.specs.Order.{Hold, exclusive, shared}
+use Rattle.rd_order.specs.Order.{GivesBack, Hold, exclusive, shared}
 use Rattle.rd_rules.specs.Events.{events_of, roots_of}
 use Rattle.rd_ecl.specs.Kinds.{Kind, kinds_of}
 use Rattle.rd_rules.specs.laws.NoLines.{told_none}
@@ -36,9 +36,9 @@ stands_none kinds = record {
 formed_none : (kinds : List Kind) → WellFormedWith kinds (roots_of []) []
 formed_none kinds = record { formed = (told_none kinds).told.formed; fit = λ k d inside. absurd (omega (arith, inside)) }
 
-pub leads_none : (kinds : List Kind) (start : Check) → CheckBegins kinds start → CheckLeads kinds start [] start
+pub checks_none : (kinds : List Kind) (start : Check) → CheckBegins kinds start → CheckLeads kinds start [] start
 unfolding races_of races_before
-leads_none kinds start begins = record {
+checks_none kinds start begins = record {
   kinds_are = begins.kinds_are;
   checks = record {
     starts = begins.new;

@@ -32,8 +32,8 @@ impl<'a> Variables<'a> {
     }
 }
 
-// How a sign is written.
-fn sign_word(sign: Sign) -> &'static [u8]
+/// How a sign is written.
+pub fn sign_word(sign: Sign) -> &'static [u8]
     ensures { result.now ≡ sign_word sign }
 {
     match sign {
@@ -44,8 +44,8 @@ fn sign_word(sign: Sign) -> &'static [u8]
     }
 }
 
-// The sign of a relation.
-pub(crate) fn relation_sign(rel: Rel) -> Sign
+/// The sign of a relation.
+pub fn relation_sign(rel: Rel) -> Sign
     ensures { result ≡ relation_sign rel }
 {
     match rel {

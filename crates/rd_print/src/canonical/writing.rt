@@ -2,7 +2,7 @@
 ghost use Rattle.std.specs.Prelude.{◌≡◌, ◌++◌, [], ◌∷◌, IfOk, IfSome, IfNone, OnOk, false, length};
 ghost use Rattle.rd_ecl.specs.Formulas.{Fits, atom, tree_of, AreValues};
 ghost use Rattle.rd_ecl.specs.declared.formulas.Rel.TheVariants.{Eq};
-ghost use Rattle.rd_print.specs.Canonical.{is_of_two, is_or, canonical_words, part_words};
+ghost use Rattle.rd_print.specs.Canonical.{has_two_parts, is_or, canonical_words, part_words};
 ghost use Rattle.rd_print.specs.WordWriting.{IsPlainNot, before_part, behind_part, has_part};
 
 use crate::canonical::relations::{
@@ -27,7 +27,7 @@ fn is_or(formula: &Formula) -> bool
 
 // Is it of two formulas, with `and` or `or` between them?
 fn is_of_two(formula: &Formula) -> bool
-    ensures { result ≡ is_of_two (tree_of formula.now) }
+    ensures { result ≡ has_two_parts (tree_of formula.now) }
 {
     match formula {
         Formula::And(_, _) | Formula::Or(_, _) => true,

@@ -1,6 +1,7 @@
 //! Writing words as a text.
 ghost use Rattle.std.specs.Prelude.{◌≡◌, [], ◌++◌, codes, if◌then◌else◌, OnErr, OnOk};
-ghost use Rattle.rd_print.specs.Text.{IsFront, gap, words_text};
+ghost use Rattle.rd_base.specs.Bytes.{IsFront};
+ghost use Rattle.rd_print.specs.Text.{gap, words_text};
 
 use crate::PrintedWord;
 use rd_base::{Bytes, NoMemory};

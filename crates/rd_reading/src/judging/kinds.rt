@@ -4,7 +4,7 @@ ghost use Rattle.rd_reading.specs.Causes.{KindHas};
 ghost use Rattle.rd_pairs.specs.Causes.{Judged};
 ghost use Rattle.rd_reading.specs.Known.{kind_in, specified_kind_names, kinds_so_far, open_kinds};
 ghost use Rattle.rd_ecl.specs.Specified.{IsWhole};
-ghost use Rattle.rd_ecl.specs.Variables.{is_among};
+ghost use Rattle.rd_ecl.specs.Variables.{is_one_of};
 
 use crate::judging::missing::missing_in;
 use crate::{Fault, Known, SpecCause};
@@ -15,7 +15,7 @@ use rd_tokens::Token;
 
 // Is one of the kinds of this name?
 fn names_kind(kinds: &[KindSpec], name: &Name) -> bool
-    ensures { result ≡ is_among name.now (specified_kind_names kinds.now) }
+    ensures { result ≡ is_one_of name.now (specified_kind_names kinds.now) }
 {
     for kind in kinds {
         if name.items() == kind.name().items() {
@@ -27,7 +27,7 @@ fn names_kind(kinds: &[KindSpec], name: &Name) -> bool
 
 // Is the name one of these?
 fn is_taken(taken: &[Name], name: &Name) -> bool
-    ensures { result ≡ is_among name.now taken.now }
+    ensures { result ≡ is_one_of name.now taken.now }
 {
     for other in taken {
         if name.items() == other.items() {
@@ -39,7 +39,7 @@ fn is_taken(taken: &[Name], name: &Name) -> bool
 
 // Is the kind that is open of this name?
 fn names_open(known: &Known, name: &Name) -> bool
-    ensures { result ≡ is_among name.now (specified_kind_names (open_kinds known.now.block)) }
+    ensures { result ≡ is_one_of name.now (specified_kind_names (open_kinds known.now.block)) }
 {
     match &known.block {
         Some(block) => name.items() == block.draft.name().items(),
@@ -49,7 +49,7 @@ fn names_open(known: &Known, name: &Name) -> bool
 
 // Is one of the kinds so far of this name?
 fn is_known(known: &Known, name: &Name) -> bool
-    ensures { result ≡ is_among name.now (specified_kind_names (kinds_so_far known.now)) }
+    ensures { result ≡ is_one_of name.now (specified_kind_names (kinds_so_far known.now)) }
 {
     names_open(known, name) || names_kind(known.closed.kinds(), name)
 }

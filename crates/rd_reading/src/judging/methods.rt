@@ -3,7 +3,7 @@ ghost use Rattle.std.specs.Prelude.{◌≡◌, ◌≢◌, ◌++◌, ◌∷◌, [
 ghost use Rattle.rd_reading.specs.Causes.{MethodHas, variable_token};
 ghost use Rattle.rd_pairs.specs.Causes.{Judged, place_at};
 ghost use Rattle.rd_ecl.specs.Specified.{names_of};
-ghost use Rattle.rd_ecl.specs.Variables.{is_among};
+ghost use Rattle.rd_ecl.specs.Variables.{is_one_of};
 ghost use Rattle.rd_reading.specs.Parts.{IsPassed};
 
 use crate::judging::repeated::first_repeated;
@@ -16,7 +16,7 @@ use std::alloc::Global;
 
 // Is one of the methods of this name?
 fn is_known(methods: &[Method], name: &Name) -> bool
-    ensures { result ≡ is_among name.now (names_of methods.now) }
+    ensures { result ≡ is_one_of name.now (names_of methods.now) }
 {
     for method in methods {
         if name.items() == method.name.items() {
@@ -77,7 +77,7 @@ pub(crate) fn judge_method(
     ensures room { IfOk result
         (λ found. IfNone found ((length kind.now.methods < MOST_METHODS) × (length arguments.now ≤ MOST_ARGUMENTS))) }
     ensures fresh { IfOk result
-        (λ found. IfNone found (is_among name.now (names_of kind.now.methods) ≡ false)) }
+        (λ found. IfNone found (is_one_of name.now (names_of kind.now.methods) ≡ false)) }
     ensures different { IfOk result
         (λ found. IfNone found (AllPairs (λ x y. x ≢ y) (arguments.now ++ value.now ∷ []))) }
 {

@@ -2,7 +2,7 @@
 ghost use Rattle.std.specs.Prelude.{◌≡◌, ℕ, List, Some, None, IfOk, OnErr, IfSome, IfNone, IsTrue, is_some};
 ghost use Rattle.std.specs.List.{list_all};
 ghost use Rattle.std.specs.Str.{bytes_eq};
-ghost use Rattle.rd_ecl.specs.Variables.{is_letter, is_variable_byte, is_variable, is_among, kept_words};
+ghost use Rattle.rd_ecl.specs.Variables.{is_letter, is_variable_byte, is_variable, is_one_of, kept_words};
 ghost use Rattle.rd_ecl.specs.declared.formulas.Side.{Side};
 ghost use Rattle.rd_tokens.specs.Tokens.{SpellsText};
 ghost use Rattle.rd_tokens.specs.declared.words.terms.Said.{Said};
@@ -50,7 +50,7 @@ fn are_variable_bytes(bytes: &[u8]) -> bool
 
 // Are the bytes a word of formulas, which names no variable?
 fn is_kept(bytes: &[u8]) -> bool
-    ensures { result ≡ is_among bytes.now kept_words }
+    ensures { result ≡ is_one_of bytes.now kept_words }
 {
     bytes_are(bytes, "true")
         || bytes_are(bytes, "false")

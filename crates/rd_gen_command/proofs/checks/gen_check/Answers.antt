@@ -1,6 +1,6 @@
 use Rattle.std.proofs.Common.{◌++◌, ap, ◌∙◌}
 use Rattle.std.proofs.lemmas.List.{append_assoc}
-use Rattle.rd_gen_command.specs.GeneratedWalks.{counts_text, gen_outcome, generated_walk}
+use Rattle.rd_gen_command.specs.GeneratedWalks.{trace_counts_text, gen_outcome, generated_walk}
 use Rattle.rd_io.proofs.SinkLemmas.{appends_on}
 use Rattle.rd_walk.proofs.OutputLemmas.{behind, report_cut}
 use Rattle.rd_walk.specs.Output.{Outcome, ended_status}
@@ -25,7 +25,7 @@ returns-clause-output g c =
     let (part, writes, output) = c.report_generated.ensures.output in
     let kinds = kinds_in c.args.walker.now.roster in
     let whole : Outcome = g.A.Report.outcome kinds c.args.walker.now.analysis (generated_walk kinds c.args.walker.now.limits c.args.number c.args.count) in
-    let front = counts_text c.args.number c.args.count in (
+    let front = trace_counts_text c.args.number c.args.count in (
       front ++ part,
       appends_on _ _ _ front part c.in_ok-write_counts.ensures.ok writes,
       behind (ended_status c.report_generated.result) front part whole.text whole.status output,

@@ -1,6 +1,6 @@
 use Rattle.std.proofs.Common.{◌++◌, ap, ◌∙◌}
+use Rattle.rd_event.specs.Items.{line_text, lines_text}
 use Rattle.rd_gen_command.proofs.TextLemmas.{front_behind, part_more, text_more}
-use Rattle.rd_gen_command.specs.GeneratedTexts.{line_text, lines_text}
 use Rattle.rd_io.proofs.SinkLemmas.{appends_on}
 use Rattle.rd_walk.proofs.OutputLemmas.{always_err}
 use Rattle.rd_gen_command.proofs.texts.write_rest.Goals as goal

@@ -1,5 +1,5 @@
 use Rattle.std.proofs.Common.{◌≡◌, ℕ, List, ◌++◌, length}
-use Rattle.rd_gen_command.specs.GeneratedTexts.{lines_text}
+use Rattle.rd_event.specs.Items.{lines_text}
 use Rattle.rd_io.specs.Sinks.{Appends}
 use Rattle.rd_gen_command.proofs.texts.write_rest.Given as goal
 

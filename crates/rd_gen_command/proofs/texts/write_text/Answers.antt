@@ -1,6 +1,7 @@
 use Rattle.std.proofs.Common.{◌≡◌, ap, refl}
+use Rattle.rd_event.specs.Items.{lines_text}
 use Rattle.rd_gen.specs.Generated.{generated}
-use Rattle.rd_gen_command.specs.GeneratedTexts.{gen_text_outcome, lines_text}
+use Rattle.rd_gen_command.specs.GeneratedTexts.{gen_text_outcome}
 use Rattle.rd_walk.proofs.OutputLemmas.{report_cut}
 use Rattle.rd_gen_command.proofs.texts.write_text.Goals as goal
 

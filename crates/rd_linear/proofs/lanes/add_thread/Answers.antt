@@ -1,5 +1,5 @@
 use Rattle.std.proofs.Common.{◌↔◌, ◌≡◌, ◌⊎◌, sym, subst}
-use Rattle.rd_linear.specs.Lanes.{IsRising}
+use Rattle.rd_linear.specs.Lanes.{AreThreadsRising}
 use Rattle.rd_linear.specs.Linear.{Stands}
 use Rattle.rd_linear.proofs.ThreadLemmas.{found_has, gap_found, hit_found, inserted_has, rising_inserted}
 use Rattle.rd_linear.proofs.lanes.add_thread.Goals as goal
@@ -8,7 +8,7 @@ pub returns-in_ok-insert-clause-rising : goal.returns-in_ok-insert-clause-rising
 returns-in_ok-insert-clause-rising c =
     let xs = c.args.threads.now.items in
     let gap = gap_found xs c.as_slice.result.now c.args.thread c.in-Err.at c.as_slice.ensures.value c.requires.rising c.in-Err.ensures.position in
-    subst IsRising (sym c.in_ok-insert.ensures.items) (rising_inserted xs c.args.thread c.in-Err.at c.requires.rising gap)
+    subst AreThreadsRising (sym c.in_ok-insert.ensures.items) (rising_inserted xs c.args.thread c.in-Err.at c.requires.rising gap)
 
 pub returns-in_ok-insert-clause-has : goal.returns-in_ok-insert-clause-has
 returns-in_ok-insert-clause-has c =

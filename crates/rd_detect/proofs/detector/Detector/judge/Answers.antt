@@ -5,7 +5,7 @@ use Rattle.std.proofs.lemmas.Grind.{elements}
 use Rattle.rd_clock.specs.Stamps.{lent_stamp}
 use Rattle.rd_event.specs.declared.events.Event.TheVariants as event
 use Rattle.rd_store.specs.Lent.{lent_witness}
-use Rattle.rd_detect.specs.Detect.{Detecting, IsAnswer, IsLatestOf, IsTaken, asked_points, tables_of, touched_points}
+use Rattle.rd_detect.specs.Detect.{Detecting, IsAnswer, IsLatestOf, IsCallKept, asked_points, tables_of, touched_points}
 use Rattle.rd_detect.specs.Seats.{AreSeats}
 use Rattle.rd_detect.proofs.CallLemmas.{asked_bound, below, own_below, taken_after, tried_bound}
 use Rattle.rd_detect.proofs.CellLemmas.{is_answer}
@@ -77,7 +77,7 @@ returns-clause-answer g c = IfOk-weaker c.keep_new.result _ _
 pub returns-clause-taken : goal.returns-clause-taken
 returns-clause-taken g c = on_ok_weaker c.keep_new.result
     (λ taken. taken_after c.args.tracker.now.threads c.args.self.now c.look.new.self c.keep_new.new.self c.args.seen.now.call.now _ c.look.ensures.same
-    (subst (λ (d : Detecting). IsTaken c.args.tracker.now.threads d c.keep_new.new.self c.args.seen.now.call.now (lent_witness c.args.seen.now)) (c.in_ok-keep_over.ensures.kept c.if-branch.false) taken))
+    (subst (λ (d : Detecting). IsCallKept c.args.tracker.now.threads d c.keep_new.new.self c.args.seen.now.call.now (lent_witness c.args.seen.now)) (c.in_ok-keep_over.ensures.kept c.if-branch.false) taken))
     c.keep_new.ensures.taken
 
 pub returns-clause-stands : goal.returns-clause-stands
@@ -85,7 +85,7 @@ returns-clause-stands g c = on_ok_weaker c.keep_new.result
     (λ taken kinds roots lines es next.
     stands_taken kinds c.args.self.now c.keep_new.new.self c.args.tracker.now roots lines es c.args.seen.now.place c.args.seen.now.call.now (lent_stamp c.args.seen.now.stamp) c.args.seen.now.line c.law_of_merging.ensures.tells next
     (taken_after c.args.tracker.now.threads c.args.self.now c.look.new.self c.keep_new.new.self c.args.seen.now.call.now _ c.look.ensures.same
-    (subst (λ (d : Detecting). IsTaken c.args.tracker.now.threads d c.keep_new.new.self c.args.seen.now.call.now (lent_witness c.args.seen.now)) (c.in_ok-keep_over.ensures.kept c.if-branch.false) taken)))
+    (subst (λ (d : Detecting). IsCallKept c.args.tracker.now.threads d c.keep_new.new.self c.args.seen.now.call.now (lent_witness c.args.seen.now)) (c.in_ok-keep_over.ensures.kept c.if-branch.false) taken)))
     c.keep_new.ensures.taken
 
 pub returns-clause-cost : goal.returns-clause-cost

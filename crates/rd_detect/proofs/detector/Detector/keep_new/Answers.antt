@@ -1,7 +1,7 @@
 use Rattle.std.proofs.Common.{sym, subst, ◌∙◌}
 use Rattle.std.specs.Prelude.{option_map}
 use Rattle.rd_store.specs.declared.Witness.{Witness}
-use Rattle.rd_detect.specs.Detect.{Answers, IsTaken, touched_points}
+use Rattle.rd_detect.specs.Detect.{Answers, IsCallKept, touched_points}
 use Rattle.rd_detect.specs.Seats.{AreSeats}
 use Rattle.rd_detect.proofs.detector.Detector.keep_new.Goals as goal
 
@@ -16,4 +16,4 @@ returns-clause-answer g c =
 
 pub returns-clause-taken : goal.returns-clause-taken
 returns-clause-taken g c =
-    subst (λ (seen : Witness). IsTaken c.args.tracker.now.threads c.args.self.now c.keep.new.self seen.call seen) (c.in_ok-witness.ensures.ok ∙ c.in_ok-copy.ensures) c.in_ok-keep.ensures.taken
+    subst (λ (seen : Witness). IsCallKept c.args.tracker.now.threads c.args.self.now c.keep.new.self seen.call seen) (c.in_ok-witness.ensures.ok ∙ c.in_ok-copy.ensures) c.in_ok-keep.ensures.taken

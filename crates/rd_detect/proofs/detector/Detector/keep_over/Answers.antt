@@ -1,7 +1,7 @@
 use Rattle.std.proofs.Common.{ap, sym, subst, ◌∙◌, arith}
 use Rattle.std.proofs.lemmas.Result.{IfOk-weaker}
 use Rattle.rd_store.specs.Lent.{lent_witness}
-use Rattle.rd_detect.specs.Detect.{Detecting, IsTaken, is_due, touched_points}
+use Rattle.rd_detect.specs.Detect.{Detecting, IsCallKept, is_due, touched_points}
 use Rattle.rd_detect.specs.Seats.{AreSeats}
 use Rattle.rd_detect.proofs.LookLemmas.{seat_of}
 use Rattle.rd_detect.proofs.OverLemmas.{only_one, taken_over}
@@ -21,7 +21,7 @@ returns-clause-taken g c =
     let only = only_one points seat.0 (omega (arith, c.requires.long, c.in-len1.len_at_least, c.in-len1.len_below)) seat.1 in
     IfOk-weaker c.touch_over.result _ _
     (λ done touched is threads.
-    subst (λ (d : Detecting). IsTaken threads d (record { tables = c.self.inside.tables.items; store = c.touch_over.new.self; kept = c.self.inside.kept }) c.args.seen.now.call.now (lent_witness c.args.seen.now)) c.self.view_is
+    subst (λ (d : Detecting). IsCallKept threads d (record { tables = c.self.inside.tables.items; store = c.touch_over.new.self; kept = c.self.inside.kept }) c.args.seen.now.call.now (lent_witness c.args.seen.now)) c.self.view_is
     (taken_over c.law_of_equal_points.ensures threads (record { tables = c.self.inside.tables.items; store = c.self.inside.store; kept = c.self.inside.kept }) c.touch_over.new.self
     c.args.seen.now.call.now (lent_witness c.args.seen.now) seat.0 (ap (λ (d : Detecting). touched_points d.tables c.args.seen.now.call.now) c.self.view_is ∙ only)
     (touched is seat.0 seat.2) c.touch_over.ensures.count (sym (c.is_due.ensures ∙ ap (λ n. is_due n c.self.inside.kept) c.cells.ensures) ∙ c.if-is_due.false)))

@@ -1,6 +1,6 @@
 use Rattle.std.proofs.Common.{◌≡◌, ◌<◌, ◌+◌, List, [], ◌∷◌, ◌++◌, length, false, arith, ap, subst, sym, ◌∙◌}
 use Rattle.rd_hb.specs.Tracker.{no_thread, tracked_thread}
-use Rattle.rd_hb.specs.TrackerParts.{AreKept, IsBegun}
+use Rattle.rd_hb.specs.TrackerParts.{AreKept, IsForked}
 use Rattle.rd_hb.specs.declared.tracker.Tracked.{Tracked}
 use Rattle.rd_hb.proofs.KeptLemmas.{kept_push}
 use Rattle.rd_hb.proofs.TrackerLemmas.{begins_push}
@@ -31,7 +31,7 @@ returns-clause-ok g c =
     let ticks : IsTick (tracked_thread c.args.self.now.threads c.args.thread).clock c.in_ok-clock.clock c.args.thread = c.in_ok-clock.ensures.ticked in
     let pushed : c.push.new.self.items ≡ c.args.self.now.threads ++ child ∷ [] =
     subst (λ v. c.push.new.self.items ≡ v.threads ++ child ∷ []) c.self.view_is c.in_ok-push.ensures.items in
-    subst (IsBegun c.args.thread c.args.child c.args.self.now.threads) (sym pushed)
+    subst (IsForked c.args.thread c.args.child c.args.self.now.threads) (sym pushed)
     (begins_push c.args.self.now.threads c.args.thread c.args.child c.in_ok-clock.clock c.requires.numbered ticks)
 
 pub returns-clause-room : goal.returns-clause-room

@@ -1,5 +1,6 @@
 use Rattle.std.proofs.Common.{◌++◌, ◌∙◌}
-use Rattle.rd_print.specs.Text.{IsFront, words_text}
+use Rattle.rd_base.specs.Bytes.{IsFront}
+use Rattle.rd_print.specs.Text.{words_text}
 use Rattle.rd_print.proofs.TextJoinLemmas.{front_of_text, on_err}
 use Rattle.rd_print.proofs.texts.text.append_text.Goals as goal
 

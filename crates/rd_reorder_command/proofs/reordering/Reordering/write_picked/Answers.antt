@@ -1,6 +1,7 @@
 use Rattle.std.proofs.Common.{◌<◌, ◌∙◌, List, [], length, sym, ap, subst}
 use Rattle.std.specs.Prelude.{All}
 use Rattle.std.proofs.lemmas.Result.{on_err_weaker, on_ok_weaker}
+use Rattle.rd_event.specs.Items.{lines_text}
 use Rattle.rd_ecl.specs.Kinds.{Kind}
 use Rattle.rd_event.specs.declared.items.Line.{Line}
 use Rattle.rd_io.specs.Sinks.{Appends}
@@ -8,7 +9,7 @@ use Rattle.rd_order.specs.EventLists.{WellFormed}
 use Rattle.rd_reorder_command.proofs.OrderLemmas.{linear_counted, linear_inside, picked_places}
 use Rattle.rd_rewriting.proofs.KeepingLemmas.{follow_told}
 use Rattle.rd_rewriting.specs.Keeping.{ArePlaces, KeepsNamed}
-use Rattle.rd_rewriting.specs.Reordered.{lines_text, reordered}
+use Rattle.rd_rewriting.specs.Reordered.{reordered}
 use Rattle.rd_walk.specs.Analysis.{WritesFront}
 use Rattle.rd_rules.specs.Events.{roots_of}
 use Rattle.rd_reorder_command.proofs.reordering.Reordering.write_picked.Goals as goal

@@ -5,7 +5,7 @@ use Rattle.rd_event.specs.Items.{event_spelling, line_spelling}
 use Rattle.rd_event.specs.declared.items.Line.{Line}
 use Rattle.rd_event.specs.declared.items.Line.TheVariants.{Event, Header, Object, Thread}
 use Rattle.rd_rewriting.proofs.LineLemmas.{counted, event_at, event_known, header_at, kind_known, object_at, objects_kept, root_at, root_known, same_line}
-use Rattle.rd_rewriting.specs.Naming.{kind_name, named_event, object_name, thread_name}
+use Rattle.rd_rewriting.specs.Naming.{name_of_kind, named_event, object_name, thread_name}
 use Rattle.rd_rewriting.specs.Reordered.{reordered}
 use Rattle.rd_rules.specs.MayFollow.{version_of}
 use Rattle.rd_wf.specs.Roster.{RosterStandsFor}
@@ -55,8 +55,8 @@ returns-then-behind_roots-objects c =
     let kind = c.index-kind.result.now in
     on_ok_weaker c.append_object.result
     (λ (all : (kinds : List Kind) (lines : List Line) → RosterStandsFor kinds c.args.names.now lines
-    → c.append_object.new.text ≡ c.args.text.now ++ line_spelling (Object (object_name lines i) (kind_name (kinds_of c.args.self.now.spec.now) kind))) kinds lines line kept at.
-    same_line c.append_object.new.text c.args.text.now (Object (object_name lines i) (kind_name (kinds_of c.args.self.now.spec.now) kind)) line _
+    → c.append_object.new.text ≡ c.args.text.now ++ line_spelling (Object (object_name lines i) (name_of_kind (kinds_of c.args.self.now.spec.now) kind))) kinds lines line kept at.
+    same_line c.append_object.new.text c.args.text.now (Object (object_name lines i) (name_of_kind (kinds_of c.args.self.now.spec.now) kind)) line _
     (object_at kinds c.args.self.now c.args.names.now lines kept c.args.places.now c.requires.places c.args.index i kind (omega arith) (omega (arith, c.objects-objects.ensures.count)) c.index-kind.ensures)
     at (all kinds lines kept.stands))
     c.append_object.ensures

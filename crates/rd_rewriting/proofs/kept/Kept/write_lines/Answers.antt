@@ -1,10 +1,11 @@
 use Rattle.std.proofs.Common.{◌≡◌, ◌+◌, ◌++◌, Some, drop, get_or, slice_get, take, refl, sym, ◌∙◌, subst, arith}
 use Rattle.std.proofs.lemmas.Option.{slice_get-get_or}
+use Rattle.rd_event.specs.Items.{line_text, lines_text}
 use Rattle.rd_event.specs.declared.items.Line.TheVariants.{Skip}
 use Rattle.rd_io.proofs.SinkLemmas.{appends_none, appends_on}
 use Rattle.rd_io.specs.Sinks.{Appends}
 use Rattle.rd_rewriting.proofs.TextLemmas.{text_all, text_front, text_more}
-use Rattle.rd_rewriting.specs.Reordered.{line_text, lines_text, reordered}
+use Rattle.rd_rewriting.specs.Reordered.{reordered}
 use Rattle.rd_walk.proofs.OutputLemmas.{always_err}
 use Rattle.rd_rewriting.proofs.kept.Kept.write_lines.Goals as goal
 

@@ -1,9 +1,10 @@
 use Rattle.std.proofs.Common.{◌≡◌, ◌≤◌, List, take}
+use Rattle.rd_event.specs.Items.{lines_text}
 use Rattle.rd_ecl.specs.Kinds.{Kind}
 use Rattle.rd_event.specs.declared.items.Line.{Line}
 use Rattle.rd_io.specs.Sinks.{Appends}
 use Rattle.rd_rewriting.specs.Keeping.{KeepsNamed}
-use Rattle.rd_rewriting.specs.Reordered.{lines_text, reordered}
+use Rattle.rd_rewriting.specs.Reordered.{reordered}
 use Rattle.rd_rewriting.proofs.kept.Kept.write_lines.Given as goal
 
 abbrev pub invariant-loop-index : goal.invariant-loop-index

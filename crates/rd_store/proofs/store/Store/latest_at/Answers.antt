@@ -5,7 +5,7 @@ use Rattle.std.specs.Map.Iter.{deref_pair}
 use Rattle.std.proofs.lemmas.List.{length-map}
 use Rattle.rd_points.specs.PointLists.{same_point}
 use Rattle.rd_store.specs.Stores.{HasOneEach, cells_at}
-use Rattle.rd_store.specs.StoreParts.{cell, cells_of, latest_of}
+use Rattle.rd_store.specs.StoreParts.{cell, cells_of, latest_in_cells}
 use Rattle.rd_store.proofs.CellLemmas.{latest_is}
 use Rattle.rd_store.proofs.EntryLemmas.{found_cells, one_each_at, one_each_found}
 use Rattle.rd_store.proofs.IndexLemmas.{entry_found}
@@ -21,7 +21,7 @@ returns-clause-latest g c = λ point at.
     let is : cells_at c.args.self.now point ≡ cells_of u.1.now =
     ap (λ store. cells_at store point) (sym c.self.view_is) ∙ found_cells c.self.inside.points.entries point u.1.now found in
     latest_is c.args.clock.now c.args.self.now point (cells_of u.1.now) _ is (one_each_found c.self.inside.points.entries (same_point point) u.1.now c.self.invariant.one_each found)
-    (c.latest_of.ensures.value ∙ ap (λ items. latest_of c.args.clock.now (map cell items)) c.as_slice.ensures.value)
+    (c.latest_of.ensures.value ∙ ap (λ items. latest_in_cells c.args.clock.now (map cell items)) c.as_slice.ensures.value)
 
 pub returns-clause-one_each : goal.returns-clause-one_each
 returns-clause-one_each g c = λ point at.
