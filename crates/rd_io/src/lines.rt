@@ -253,6 +253,7 @@ impl LineReader {
         self.held
     }
 
+    #[inline(always)]
     fn advance<I: Inputs>(&mut self, inputs: &mut I) -> Found
         requires { self.old.ended ≡ None }
         ensures finds { (bytes : List ℕ) × Finds (with_more self.old bytes) self.new result
