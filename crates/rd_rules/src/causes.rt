@@ -108,3 +108,36 @@ impl<T: Drop> From<AllocFailed<T>> for WfRefused {
         WfRefused::NoMemory
     }
 }
+
+/// Why a line is not accepted by its bytes.
+#[derive(Clone, Copy, PartialEq, Eq)]
+pub enum BytesRefused {
+    /// the bytes say no item
+    BadLine,
+    /// the item may not follow the accepted lines
+    Cause(WfCause),
+    /// memory ran out
+    NoMemory,
+}
+
+impl From<NoMemory> for BytesRefused {
+    ghost use Rattle.std.specs.Prelude.{◌≡◌};
+    ghost use Rattle.rd_rules.specs.declared.causes.BytesRefused.TheVariants.{NoMemory as MemoryRanOut};
+
+    ghost from_gives = { λ _ refused. refused ≡ MemoryRanOut };
+
+    fn from(_error: NoMemory) -> BytesRefused {
+        BytesRefused::NoMemory
+    }
+}
+
+impl<T: Drop> From<AllocFailed<T>> for BytesRefused {
+    ghost use Rattle.std.specs.Prelude.{◌≡◌};
+    ghost use Rattle.rd_rules.specs.declared.causes.BytesRefused.TheVariants.{NoMemory as MemoryRanOut};
+
+    ghost from_gives = { λ _ refused. refused ≡ MemoryRanOut };
+
+    fn from(_error: AllocFailed<T>) -> BytesRefused {
+        BytesRefused::NoMemory
+    }
+}

@@ -6,5 +6,5 @@ mod causes;
 mod laws;
 
 pub use broken::{Broken, UNBROKEN};
-pub use causes::{Accepted, TraceCause, WfCause, WfRefused};
+pub use causes::{Accepted, BytesRefused, TraceCause, WfCause, WfRefused};
 pub use laws::{law_of_events, law_of_following};

@@ -1,5 +1,5 @@
 -- What look-ups in a table find.
-use Rattle.std.proofs.Common.{◌≡◌, ℕ, suc, ◌+◌, ◌<◌, ◌≤◌, Bool, true, false, not, cond, ◌||◌, ltb, List, [], ◌∷◌, map, Option, Some, None, is_some, length, position, slice_get, option_map, unwrap_or, refl, sym, ap, subst, ◌∙◌, arith, true≢false}
+use Rattle.std.proofs.Common.{◌≡◌, ℕ, suc, ◌+◌, ◌<◌, ◌≤◌, Bool, true, false, not, cond, ◌||◌, ltb, List, [], ◌∷◌, map, Option, Some, None, is_some, length, position, slice_get, option_map, unwrap_or, refl, sym, ap, subst, ◌∙◌, arith, ltb-true, true≢false}
 use Rattle.std.specs.List.{IsDistinct, list_any, position_or_len}
 use Rattle.std.specs.Map.{lookup, keys_of}
 use Rattle.std.proofs.lemmas.Bool.{lt-ltb, ltb-false}
@@ -9,6 +9,7 @@ use Rattle.std.proofs.lemmas.Option.{slice_get-map, slice_get_within, get_or_fro
 use Rattle.indexmap.specs.IndexMap.{get_by, index_map_len, index_of_by}
 use Rattle.rd_ecl.specs.Kinds.{KindMethod, method_names, kind_slots_at}
 use Rattle.rd_rules.specs.MayFollow.{same_name, is_among, place}
+use Rattle.rd_rules.proofs.PlaceLemmas.{not_known, place_new}
 use Rattle.rd_tables.specs.declared.methods.Methods.{Methods}
 use Rattle.rd_tables.specs.Tables.{method_entry, methods_in, found_method}
 use Rattle.rd_tables.proofs.NameLemmas.{place_at}
@@ -117,3 +118,17 @@ method_found methods name index slots at value =
       unknown = unknown_in entries names keys name slots value i;
       slots = (method_slots entries (place names name) ∙ ap (λ o. unwrap_or o 0) (entry_in entries names keys name slots value)) i;
     }
+
+-- what is found where no method has the name
+no_place : (names : List (List ℕ)) (name : List ℕ) → is_among names name ≡ false → position (same_name name) names ≡ None
+no_place names name fresh = by (ltb (place names name) (length names)) refl
+  where
+    by : (b : Bool) → ltb (place names name) (length names) ≡ b → cond b (Some (place names name)) None ≡ None
+    by true e = let at : place names name ≡ length names = place_new names name (not_known names name fresh) in let less = ltb-true _ _ e in absurd (omega (arith, at, less))
+    by false e = refl
+
+pub method_unknown : (methods : Methods) (name : List ℕ) → is_among (keys_of methods.slots.entries) name ≡ false
+    → found_method (methods_in methods) name ≡ record { number = index_map_len methods.slots; unknown = true; slots = 0 }
+method_unknown methods name fresh =
+    let entries = methods.slots.entries in
+    method_found methods name None None (no_place (keys_of entries) name fresh) (none_is _ (is_some-lookup (same_name name) entries ∙ fresh))

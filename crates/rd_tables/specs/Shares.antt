@@ -13,10 +13,6 @@ depth_at (Some sharers) thread = depth_among sharers.sharers.items thread
 abbrev pub share_depth : Shares → ℕ → ℕ → ℕ
 share_depth shares lock thread = depth_at (slice_get shares.locks.items lock) thread
 
--- there is room for one more thread that shares the lock with this number
-abbrev pub HasSharerRoom : Shares → ℕ → Type 0
-HasSharerRoom shares lock = (sharers : Sharers) × (slice_get shares.locks.items lock ≡ Some sharers) × (vec_len sharers.sharers < vec_capacity sharers.sharers)
-
 -- a second thread shares this lock, and it is another one than the first
 abbrev pub is_other_sharer : Shares → ℕ → ℕ → ℕ → Bool
 is_other_sharer shares lock thread other = not (thread == other) && not (share_depth shares lock other == 0)

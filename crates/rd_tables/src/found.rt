@@ -41,10 +41,3 @@ pub struct Pair {
     pub thread: u32,
     pub child: u32,
 }
-
-/// The numbers of a thread and of the lock that its line names.
-#[derive(Clone, Copy)]
-pub struct LockUse {
-    pub thread: u32,
-    pub lock: u32,
-}

@@ -8,9 +8,9 @@ mod near;
 mod sharers;
 mod shares;
 
-pub use found::{Declared, FoundLock, FoundObject, FoundThread, LockUse, Pair};
+pub use found::{Declared, FoundLock, FoundObject, FoundThread, Pair};
 pub use locks::{FREE, Lock};
 pub use methods::{FoundMethod, Methods};
-pub use near::{NEAR_LENGTH, cut_at_space, near_bytes, near_place};
+pub use near::{NEAR_LENGTH, cut_at_space, near_bytes};
 pub use sharers::lesser;
 pub use shares::Shares;

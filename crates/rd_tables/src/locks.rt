@@ -21,18 +21,23 @@ pub const FREE: Lock = Lock {
 impl Lock {
     ghost use Rattle.std.specs.Prelude.{◌≡◌, ◌≤◌, ◌+◌, OnOk, OnErr};
     ghost use Rattle.indexmap.specs.IndexMap.{index_map_len, insert_entry, IsUnchanged};
+    ghost use Rattle.rd_base.specs.Names.{IsName};
     ghost use Rattle.rd_rules.specs.MayFollow.{same_name};
     ghost use Rattle.rd_tables.specs.Tables.{depth_of, other_holder};
 
     /// Keeps the lock under this name, which comes last if it is new.
     #[inline(never)]
-    pub fn put_last(self, name: &Name, locks: &mut IndexMap<Name, Lock>) -> Result<(), NoMemory>
+    pub fn put_last(self, name: &[u8], locks: &mut IndexMap<Name, Lock>) -> Result<(), NoMemory>
+        requires { IsName name.now }
         ensures entries { OnOk result
             (locks.new.entries ≡ insert_entry same_name locks.old.entries name.now self) }
         ensures len { OnOk result (index_map_len locks.new ≤ index_map_len locks.old + 1) }
         ensures err { OnErr result (IsUnchanged locks.old locks.new) }
     {
-        locks.insert(name.copy(), self)?;
+        let Ok(name) = Name::from_bytes(name) else {
+            unreachable!();
+        };
+        locks.insert(name, self)?;
         Ok(())
     }
 

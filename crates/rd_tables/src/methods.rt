@@ -25,7 +25,7 @@ pub struct FoundMethod {
 }
 
 impl Methods {
-    ghost use Rattle.std.specs.Prelude.{◌≡◌, map, IfOk, IfSome, IsSome};
+    ghost use Rattle.std.specs.Prelude.{◌≡◌, map, false, IfOk};
     ghost use Rattle.rd_base.specs.Names.{IsName};
     ghost use Rattle.rd_ecl.specs.Kinds.{method_of};
     ghost use Rattle.rd_tables.specs.Tables.{found_method, methods_in};
@@ -41,14 +41,14 @@ impl Methods {
         Ok(Methods { slots })
     }
 
-    /// The method of that name. A kind has few, so they are compared one after another before the name is hashed.
-    pub fn find(&self, name: &Name) -> FoundMethod
-        ensures { result ≡ found_method (methods_in self.now) name.now }
+    /// The method whose name has these bytes. A kind has few, so they are compared one after another.
+    pub fn find(&self, name: &[u8]) -> FoundMethod
+        ensures found { result ≡ found_method (methods_in self.now) name.now }
+        ensures named { result.unknown ≡ false → IsName name.now }
     {
         for number in 0..self.slots.len() {
-            if let Some((known, slots)) = self.slots.get_index(number)
-                && known == name
-            {
+            let (known, slots) = self.slots.get_index(number).unwrap();
+            if known.items() == name {
                 return FoundMethod {
                     number: number as u8,
                     unknown: false,
@@ -56,43 +56,10 @@ impl Methods {
                 };
             }
         }
-        self.look_up(name)
-    }
-
-    /// The method whose name has these bytes, if there is one.
-    pub fn find_by_bytes(&self, name: &[u8]) -> Option<FoundMethod>
-        ensures found { IfSome result (λ found. found ≡ found_method (methods_in self.now) name.now) }
-        ensures named { IsSome result → IsName name.now }
-    {
-        for number in 0..self.slots.len() {
-            if let Some((known, slots)) = self.slots.get_index(number)
-                && known.items() == name
-            {
-                return Some(FoundMethod {
-                    number: number as u8,
-                    unknown: false,
-                    slots: *slots,
-                });
-            }
-        }
-        None
-    }
-
-    #[inline(never)]
-    fn look_up(&self, name: &Name) -> FoundMethod
-        ensures { result ≡ found_method (methods_in self.now) name.now }
-    {
-        match self.slots.get_full(name) {
-            None => FoundMethod {
-                number: self.slots.len() as u8,
-                unknown: true,
-                slots: 0,
-            },
-            Some((number, _, slots)) => FoundMethod {
-                number: number as u8,
-                unknown: false,
-                slots: *slots,
-            },
+        FoundMethod {
+            number: self.slots.len() as u8,
+            unknown: true,
+            slots: 0,
         }
     }
 }

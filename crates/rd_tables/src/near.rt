@@ -1,7 +1,7 @@
 //! Where a name is looked for first, and the words of a line's bytes.
-ghost use Rattle.std.specs.Prelude.{◌≡◌, ◌++◌, ◌∷◌, IfSome};
-
-use rd_base::Name;
+ghost use Rattle.std.specs.Prelude.{◌≡◌, [], IfNone, IfSome};
+ghost use Rattle.std.specs.List.{before_first, after_first, position};
+ghost use Rattle.rd_base.specs.Bytes.{is_space};
 
 /// The length of a table of near numbers.
 pub const NEAR_LENGTH: usize = 1024;
@@ -18,17 +18,21 @@ pub fn near_bytes(bytes: &[u8]) -> usize {
     }
 }
 
-/// Where the name is looked for first.
+// Where the first space stands.
 #[inline(always)]
-pub fn near_place(name: &Name) -> usize {
-    near_bytes(name.items())
+fn first_space(bytes: &[u8]) -> Option<usize>
+    ensures { result ≡ position is_space bytes.now }
+{
+    bytes.iter().position(|byte| *byte == b' ')
 }
 
-/// What stands before the first space, and what stands after it.
+/// What stands before the first space, and what stands after it; nothing where there is no space.
 #[inline(always)]
 pub fn cut_at_space(bytes: &[u8]) -> Option<(&[u8], &[u8])>
-    ensures { IfSome result (λ parts. bytes.now ≡ parts.0.now ++ 32 ∷ parts.1.now) }
+    ensures before { IfSome result (λ parts. parts.0.now ≡ before_first is_space bytes.now) }
+    ensures after { IfSome result (λ parts. parts.1.now ≡ after_first is_space bytes.now) }
+    ensures none { IfNone result (after_first is_space bytes.now ≡ []) }
 {
-    let space = bytes.iter().position(|byte| *byte == b' ')?;
+    let space = first_space(bytes)?;
     Some((&bytes[..space], &bytes[space + 1..]))
 }

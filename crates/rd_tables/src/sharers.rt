@@ -84,21 +84,13 @@ impl Sharers {
         None
     }
 
-    /// Whether there is room for one more thread. It takes no memory.
-    pub(crate) fn has_room(&self) -> bool
-        ensures { result ≡ true → vec_len self.now.sharers < vec_capacity self.now.sharers }
-    {
-        self.sharers.len() < self.sharers.capacity()
-    }
-
-    /// The thread shares the lock once more. Where memory runs out, all share it as before. It doesn't where there is room.
+    /// The thread shares the lock once more. Where memory runs out, all share it as before.
     pub(crate) fn add(&mut self, thread: u32) -> Result<(), NoMemory>
         requires { depth_among self.old.sharers.items thread + 1 < 2 ^ 32 }
         ensures ok { OnOk result
             ((other : ℕ) → depth_among self.new.sharers.items other ≡ depth_among self.old.sharers.items other + (if other == thread then 1 else 0)) }
         ensures err { OnErr result
             ((other : ℕ) → depth_among self.new.sharers.items other ≡ depth_among self.old.sharers.items other) }
-        ensures room { OnErr result (vec_capacity self.old.sharers ≤ vec_len self.old.sharers) }
     {
         if let Some(at) = self.place_of(thread) {
             self.sharers[at].depth += 1;

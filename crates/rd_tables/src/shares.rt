@@ -1,7 +1,7 @@
 //! The threads that share locks.
 ghost use Rattle.std.specs.Prelude.{ℕ, ◌≡◌, ◌+◌, ◌<◌, ◌≤◌, ◌^◌, ◌==◌, ◌&&◌, true, if◌then◌else◌, OnOk, OnErr, vec_len};
 ghost use Rattle.rd_tables.specs.Sharers.{IsLeast};
-ghost use Rattle.rd_tables.specs.Shares.{HasSharerRoom, is_other_sharer, share_depth};
+ghost use Rattle.rd_tables.specs.Shares.{is_other_sharer, share_depth};
 
 use crate::sharers::Sharers;
 use rd_base::NoMemory;
@@ -46,21 +46,9 @@ impl Shares {
         }
     }
 
-    /// Whether there is room for one more thread that shares the lock. It takes no memory.
-    pub fn has_room(&self, lock: u32) -> bool
-        ensures { result ≡ true → HasSharerRoom self.now lock }
-    {
-        match self.locks.get(lock as usize) {
-            None => false,
-            Some(sharers) => sharers.has_room(),
-        }
-    }
-
     // Holds sharers for each lock up to this number.
     fn grow(&mut self, lock: u32) -> Result<(), NoMemory>
         ensures room { OnOk result (lock < vec_len self.new.locks) }
-        ensures err { OnErr result (vec_len self.old.locks ≤ lock) }
-        ensures held { lock < vec_len self.old.locks → self.new ≡ self.old }
         ensures same { (other thread : ℕ) → share_depth self.new other thread ≡ share_depth self.old other thread }
     {
         if (lock as usize) < self.locks.len() {
@@ -72,14 +60,13 @@ impl Shares {
         Ok(())
     }
 
-    /// The thread shares the lock once more. Where memory runs out, all are shared as before. It doesn't where there is room.
+    /// The thread shares the lock once more. Where memory runs out, all are shared as before.
     pub fn add(&mut self, lock: u32, thread: u32) -> Result<(), NoMemory>
         requires { share_depth self.old lock thread + 1 < 2 ^ 32 }
         ensures ok { OnOk result
             ((other sharer : ℕ) → share_depth self.new other sharer ≡ share_depth self.old other sharer + (if (sharer == thread) && (other == lock) then 1 else 0)) }
         ensures err { OnErr result
             ((other sharer : ℕ) → share_depth self.new other sharer ≡ share_depth self.old other sharer) }
-        ensures room { OnErr result (¬ (HasSharerRoom self.old lock)) }
     {
         self.grow(lock)?;
         self.locks[lock as usize].add(thread)

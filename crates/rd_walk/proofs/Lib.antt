@@ -6,6 +6,7 @@ pub mod OutputLemmas
 pub mod ProgressLemmas
 pub mod RanLemmas
 pub mod StatusLemmas
+pub mod TakingLemmas
 pub mod TraceLemmas
 pub mod WalkLemmas
 pub mod WholeLemmas

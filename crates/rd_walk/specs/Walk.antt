@@ -1,13 +1,11 @@
 -- The walk over the lines of a trace: which are accepted, and how they end. This project's profile.
-use Rattle.std.specs.Prelude.{ℕ, ◌+◌, ◌*◌, ◌==◌, List, [], ◌∷◌, ◌++◌, map, length, Option, Some, None, option_map, Result, Ok, Err, IsTrue, if◌then◌else◌}
-use Rattle.rd_base.specs.Bytes.{is_space}
+use Rattle.std.specs.Prelude.{ℕ, ◌+◌, ◌*◌, ◌==◌, List, [], ◌∷◌, ◌++◌, map, length, Option, Some, None, option_map, Result, Ok, Err, if◌then◌else◌}
 use Rattle.rd_io.specs.Lines.{Stop, Reading, reading, LinesEnding}
 use Rattle.rd_io.specs.Lines.LinesEnding.{at_end, no_final_newline, line_too_long, bytes_limit, faulted}
 use Rattle.rd_io.specs.Lines.Reading.{stops, line}
 use Rattle.rd_base.specs.declared.limits.Limits.{Limits}
 use Rattle.rd_base.specs.declared.limits.LimitName.TheVariants.{Bytes, Line as LineBytes}
-use Rattle.std.specs.List.{before_first}
-use Rattle.rd_event.specs.Reading.{is_call_keyword, item_of}
+use Rattle.rd_event.specs.Reading.{item_of}
 use Rattle.rd_event.specs.declared.items.Line.{Line}
 use Rattle.rd_ecl.specs.Kinds.{Kind}
 use Rattle.rd_rules.specs.MayFollow.{first_broken, is_call, headers, is_event, threads_of, version_of}
@@ -47,10 +45,6 @@ accepted_or item (Some cause) = Err (Wf cause)
 abbrev pub judgement_of_item : List Kind → Limits → List Line → Option Line → Result Line TraceCause
 judgement_of_item kinds limits before None = Err BadLine
 judgement_of_item kinds limits before (Some item) = accepted_or item (first_broken kinds limits before item)
-
--- the bytes of a line begin as a call
-abbrev pub IsCallLine : List ℕ → Type 0
-IsCallLine bytes = IsTrue (is_call_keyword (before_first is_space bytes))
 
 -- what the bytes of a line behind the accepted ones say in the version of these, or the first cause to refuse it: it says no item, or
 -- its item may not follow

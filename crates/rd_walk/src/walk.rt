@@ -2,28 +2,28 @@
 ghost use Rattle.std.specs.Prelude.{◌≡◌, ◌≢◌, ◌⊎◌, ℕ, ◌+◌, ◌-◌, ◌<◌, ◌≤◌, ◌^◌, true, false, List, [], Ok, Err, None, Some, IsSome, length, IfOk, IfErr, OnErr};
 ghost use Rattle.rd_base.specs.Bytes.{IsFront};
 ghost use Rattle.rd_base.specs.Limits.{AreUsable};
-ghost use Rattle.rd_event.specs.Reading.{item_of};
 ghost use Rattle.rd_event.specs.declared.items.Line.{Line as Item};
 ghost use Rattle.rd_io.specs.Inputs.{Goes, Takes, Rose};
 ghost use Rattle.rd_io.specs.LineReader.{fresh};
 ghost use Rattle.rd_io.specs.Lines.LinesEnding.{at_end};
 ghost use Rattle.rd_io.specs.Sinks.{Appends};
 ghost use Rattle.rd_walk.specs.Analysis.{IsCutIn, IsHandedOn, TellsFault};
+ghost use Rattle.rd_walk.specs.Taking.{TakesTraceLine};
 ghost use Rattle.rd_walk.specs.Progress.{IsBegun, IsTakenOfTrace, WalksOn, WalksTo, ending_for};
-ghost use Rattle.rd_rules.specs.MayFollow.{MayFollow, first_broken, version_of};
+ghost use Rattle.rd_rules.specs.MayFollow.{MayFollow, first_broken};
 ghost use Rattle.rd_rules.specs.declared.causes.WfCause.{WfCause};
-ghost use Rattle.rd_walk.specs.Walk.{Entry, IsCallLine, trace_end_of, items, judgement_of, step_bound};
+ghost use Rattle.rd_walk.specs.Walk.{Entry, trace_end_of, items, step_bound};
 ghost use Rattle.rd_ecl.specs.Kinds.{Kind};
 ghost use Rattle.rd_wf.specs.Roster.{RosterStandsFor, kinds_in};
 
 use crate::analysis::{Analysis, Halt};
 use rd_base::{LimitName, Limits, NoMemory, Steps};
 use rd_ecl::Spec;
-use rd_event::{Line, LineRefused, is_skipped, read_into};
+use rd_event::{Line, is_skipped};
 use rd_io::{Inputs, LineReader, Next, ReadEnd, Sink};
 use rd_wf::{
-    AcquireLine, CallLine, JoinLine, KnownLine, ReleaseLine, Roster, ShareLine, TraceCause,
-    UnshareLine, WfRefused,
+    AcquireLine, BytesRefused, CallLine, JoinLine, Keyword, Near, ReleaseLine, Roster, ShareLine,
+    TraceCause, UnshareLine, WfRefused,
 };
 use std::alloc::Global;
 use std::sync::ledger::Ledger;
@@ -192,111 +192,78 @@ pub fn take<A: Analysis, S: Sink, L: Ledger>(
     }
 }
 
-/// Takes a line of this sort that the roster accepts by its bytes alone: it is handed on. The answer tells whether it is one. This doesn't
-/// stand in `take_found`: each other line would make room for what it holds.
+/// Takes a line of this sort, whose names are looked for near first. This doesn't stand in `take_line`: each other line would make room for
+/// what it holds.
 #[inline(never)]
-fn take_known<K: KnownLine, A: Analysis, S: Sink, L: Ledger>(
+fn take_keyword<K: Keyword, A: Analysis, S: Sink, L: Ledger>(
     walker: &mut Walker<A>,
     number: u64,
     bytes: &[u8],
     out: &mut S,
     steps: &mut Steps<L>,
-) -> Result<bool, Halt>
+) -> Result<Taken, Halt>
     requires usable { AreUsable walker.old.limits }
     requires stands { (kinds : List Kind) × (start : A) × (before : List Entry)
         × RosterStandsFor kinds walker.old.roster (items before)
         × A.leads kinds start before walker.old.analysis }
     ensures limits { walker.new.limits ≡ walker.old.limits }
-
-    // the line is accepted and handed on; or it isn't, and all is as before
-    ensures taken { IfOk result
-        (λ taken. taken ≡ true → (kinds : List Kind) (start : A) (before : List Entry) →
-        RosterStandsFor kinds walker.old.roster (items before) →
-        A.leads kinds start before walker.old.analysis →
-        (item : Item) × (judgement_of kinds walker.old.limits (items before) bytes.now ≡ Ok item)
-        × IsHandedOn (A.leads kinds start) (A.text kinds start) (A.bound kinds start) kinds
-        walker.new.roster walker.new.analysis (S.written out.old) (S.written out.new)
-        steps.old steps.new before (record { number = number; item = item })) }
-    ensures same { IfOk result (λ taken. taken ≡ false →
-        (walker.new ≡ walker.old) × (out.new ≡ out.old) × (steps.new ≡ steps.old)) }
-
-    // or memory runs out in what is done with it, or a write fails; its item may follow
-    ensures memory { OnErr result
-        ((kinds : List Kind) (before : List Item) → RosterStandsFor kinds walker.old.roster before →
-        (item : Item) × (item_of (version_of before) bytes.now ≡ Some item)
-        × MayFollow kinds walker.old.limits before item) }
-    ensures halted { OnErr result
-        ((kinds : List Kind) (start : A) (before : List Entry) →
-        RosterStandsFor kinds walker.old.roster (items before) →
-        A.leads kinds start before walker.old.analysis →
-        (item : Item) × (judgement_of kinds walker.old.limits (items before) bytes.now ≡ Ok item)
-        × IsCutIn (A.text kinds start) (A.bound kinds start) (S.written out.old) (S.written out.new)
-        steps.old steps.new before (record { number = number; item = item })) }
+    ensures line { TakesTraceLine A.leads A.text A.bound number bytes.now walker.old walker.new
+        (S.written out.old) (S.written out.new) steps.old steps.new result }
+    ensures silent { result ≡ Ok Taken.Refused → out.new ≡ out.old }
     ensures fault { TellsFault (S.faults out.old) (S.faults out.new) (S.at_fault out.new)
         (S.written out.new) result }
 {
-    let Some(accepted) = K::accept_bytes(&mut walker.roster, bytes, &walker.limits) else {
-        return Ok(false);
+    let Ok(accepted) = K::accept_bytes::<Near>(&mut walker.roster, bytes, &walker.limits) else {
+        return take_anywhere(walker, number, bytes, out, steps);
     };
     match walker
         .analysis
         .accept(number, &accepted, &walker.roster, out, steps)
     {
-        Ok(()) => Ok(true),
+        Ok(()) => Ok(Taken::Accepted),
         Err(halt) => Err(halt),
     }
 }
 
-/// Takes a line that the roster accepts by its bytes alone: it is handed on. The answer tells whether it is one.
-#[inline(always)]
-fn take_found<A: Analysis, S: Sink, L: Ledger>(
+/// Takes a line, each of whose names is found.
+#[inline(never)]
+fn take_anywhere<A: Analysis, S: Sink, L: Ledger>(
     walker: &mut Walker<A>,
     number: u64,
     bytes: &[u8],
     out: &mut S,
     steps: &mut Steps<L>,
-) -> Result<bool, Halt>
+) -> Result<Taken, Halt>
     requires usable { AreUsable walker.old.limits }
     requires stands { (kinds : List Kind) × (start : A) × (before : List Entry)
         × RosterStandsFor kinds walker.old.roster (items before)
         × A.leads kinds start before walker.old.analysis }
     ensures limits { walker.new.limits ≡ walker.old.limits }
-
-    // the line is accepted and handed on; or it isn't, and all is as before
-    ensures taken { IfOk result
-        (λ taken. taken ≡ true → (kinds : List Kind) (start : A) (before : List Entry) →
-        RosterStandsFor kinds walker.old.roster (items before) →
-        A.leads kinds start before walker.old.analysis →
-        (item : Item) × (judgement_of kinds walker.old.limits (items before) bytes.now ≡ Ok item)
-        × IsHandedOn (A.leads kinds start) (A.text kinds start) (A.bound kinds start) kinds
-        walker.new.roster walker.new.analysis (S.written out.old) (S.written out.new)
-        steps.old steps.new before (record { number = number; item = item })) }
-    ensures same { IfOk result (λ taken. taken ≡ false →
-        (walker.new ≡ walker.old) × (out.new ≡ out.old) × (steps.new ≡ steps.old)) }
-
-    // or memory runs out in what is done with it, or a write fails; its item may follow
-    ensures memory { OnErr result
-        ((kinds : List Kind) (before : List Item) → RosterStandsFor kinds walker.old.roster before →
-        (item : Item) × (item_of (version_of before) bytes.now ≡ Some item)
-        × MayFollow kinds walker.old.limits before item) }
-    ensures halted { OnErr result
-        ((kinds : List Kind) (start : A) (before : List Entry) →
-        RosterStandsFor kinds walker.old.roster (items before) →
-        A.leads kinds start before walker.old.analysis →
-        (item : Item) × (judgement_of kinds walker.old.limits (items before) bytes.now ≡ Ok item)
-        × IsCutIn (A.text kinds start) (A.bound kinds start) (S.written out.old) (S.written out.new)
-        steps.old steps.new before (record { number = number; item = item })) }
+    ensures line { TakesTraceLine A.leads A.text A.bound number bytes.now walker.old walker.new
+        (S.written out.old) (S.written out.new) steps.old steps.new result }
+    ensures silent { result ≡ Ok Taken.Refused → out.new ≡ out.old }
     ensures fault { TellsFault (S.faults out.old) (S.faults out.new) (S.at_fault out.new)
         (S.written out.new) result }
 {
-    match bytes.first() {
-        Some(b'c') => take_known::<CallLine, A, S, L>(walker, number, bytes, out, steps),
-        Some(b'a') => take_known::<AcquireLine, A, S, L>(walker, number, bytes, out, steps),
-        Some(b'r') => take_known::<ReleaseLine, A, S, L>(walker, number, bytes, out, steps),
-        Some(b'j') => take_known::<JoinLine, A, S, L>(walker, number, bytes, out, steps),
-        Some(b's') => take_known::<ShareLine, A, S, L>(walker, number, bytes, out, steps),
-        Some(b'u') => take_known::<UnshareLine, A, S, L>(walker, number, bytes, out, steps),
-        _ => Ok(false),
+    match walker.roster.accept_bytes(bytes, &walker.limits) {
+        Ok(accepted) => {
+            let Err(halt) = walker
+                .analysis
+                .accept(number, &accepted, &walker.roster, out, steps)
+            else {
+                return Ok(Taken::Accepted);
+            };
+            Err(halt)
+        }
+        Err(BytesRefused::BadLine) => {
+            walker.refused = Some(TraceCause::BadLine);
+            Ok(Taken::Refused)
+        }
+        Err(BytesRefused::Cause(cause)) => {
+            walker.refused = Some(TraceCause::Wf(cause));
+            Ok(Taken::Refused)
+        }
+        Err(BytesRefused::NoMemory) => Err(Halt::NoMemory),
     }
 }
 
@@ -313,64 +280,20 @@ fn take_line<A: Analysis, S: Sink, L: Ledger>(
         × RosterStandsFor kinds walker.old.roster (items before)
         × A.leads kinds start before walker.old.analysis }
     ensures limits { walker.new.limits ≡ walker.old.limits }
-
-    // a line is accepted and handed on
-    ensures taken { IfOk result
-        (λ taken. taken ≡ Taken.Accepted → (kinds : List Kind) (start : A) (before : List Entry) →
-        RosterStandsFor kinds walker.old.roster (items before) →
-        A.leads kinds start before walker.old.analysis →
-        (item : Item) × (judgement_of kinds walker.old.limits (items before) bytes.now ≡ Ok item)
-        × IsHandedOn (A.leads kinds start) (A.text kinds start) (A.bound kinds start) kinds
-        walker.new.roster walker.new.analysis (S.written out.old) (S.written out.new)
-        steps.old steps.new before (record { number = number; item = item })) }
-
-    // or refused, and all else is as before
-    ensures cause { IfOk result (λ taken. taken ≡ Taken.Refused → IsSome walker.new.refused) }
-    ensures refused { IfOk result
-        (λ taken. taken ≡ Taken.Refused → (cause : TraceCause) → walker.new.refused ≡ Some cause →
-        (kinds : List Kind) (before : List Entry) →
-        RosterStandsFor kinds walker.old.roster (items before) →
-        (judgement_of kinds walker.old.limits (items before) bytes.now ≡ Err cause)
-        × RosterStandsFor kinds walker.new.roster (items before)) }
-    ensures silent { IfOk result (λ taken. taken ≡ Taken.Refused →
-        (out.new ≡ out.old) × (walker.new.analysis ≡ walker.old.analysis)
-        × (steps.new ≡ steps.old)) }
-
-    // or memory runs out in reading it, or in what is done with it, or a write fails; memory runs out only where the bytes say an item,
-    // and begin as a call or their item may follow
-    ensures memory { IfErr result
-        (λ halt. halt ≡ Halt.NoMemory → (kinds : List Kind) (before : List Item) →
-        RosterStandsFor kinds walker.old.roster before →
-        (item : Item) × (item_of (version_of before) bytes.now ≡ Some item)
-        × (IsCallLine bytes.now ⊎ MayFollow kinds walker.old.limits before item)) }
-    ensures halted { OnErr result
-        ((kinds : List Kind) (start : A) (before : List Entry) →
-        RosterStandsFor kinds walker.old.roster (items before) →
-        A.leads kinds start before walker.old.analysis →
-        ((S.written out.new ≡ S.written out.old) × (steps.new ≡ steps.old))
-        ⊎ ((item : Item) × (judgement_of kinds walker.old.limits (items before) bytes.now ≡ Ok item)
-        × IsCutIn (A.text kinds start) (A.bound kinds start) (S.written out.old) (S.written out.new)
-        steps.old steps.new before (record { number = number; item = item }))) }
+    ensures line { TakesTraceLine A.leads A.text A.bound number bytes.now walker.old walker.new
+        (S.written out.old) (S.written out.new) steps.old steps.new result }
+    ensures silent { result ≡ Ok Taken.Refused → out.new ≡ out.old }
     ensures fault { TellsFault (S.faults out.old) (S.faults out.new) (S.at_fault out.new)
         (S.written out.new) result }
 {
-    match take_found(walker, number, bytes, out, steps) {
-        Ok(true) => return Ok(Taken::Accepted),
-        Ok(false) => {}
-        Err(halt) => return Err(halt),
-    }
-    match read_into(
-        walker.alloc,
-        bytes,
-        walker.roster.version(),
-        &mut walker.line,
-    ) {
-        Ok(()) => take(walker, number, out, steps),
-        Err(LineRefused::BadLine) => {
-            walker.refused = Some(TraceCause::BadLine);
-            Ok(Taken::Refused)
-        }
-        Err(LineRefused::NoMemory) => Err(Halt::NoMemory),
+    match bytes.first() {
+        Some(b'c') => take_keyword::<CallLine, A, S, L>(walker, number, bytes, out, steps),
+        Some(b'a') => take_keyword::<AcquireLine, A, S, L>(walker, number, bytes, out, steps),
+        Some(b'r') => take_keyword::<ReleaseLine, A, S, L>(walker, number, bytes, out, steps),
+        Some(b'j') => take_keyword::<JoinLine, A, S, L>(walker, number, bytes, out, steps),
+        Some(b's') => take_keyword::<ShareLine, A, S, L>(walker, number, bytes, out, steps),
+        Some(b'u') => take_keyword::<UnshareLine, A, S, L>(walker, number, bytes, out, steps),
+        _ => take_anywhere(walker, number, bytes, out, steps),
     }
 }
 

@@ -40,17 +40,6 @@ module _ (kinds : List Kind) (limits : Limits) (old new : Roster) (lines : List 
       subst (IsWritten kinds old lines stands lock held) (sym (e ∙ ap (λ i. set_value_at old.locks.entries i held) number))
       (written_known kinds old lines stands lock held (lock_below kinds old lines stands lock held found.number number below))
 
-  pub acquired_known : IsTold (Acquire thread lock) (numbered.Acquire actor found.number)
-      → new.locks.entries ≡ set_value_at old.locks.entries found.number (record { holder = actor; depth = depth + 1 })
-      → RosterStandsFor kinds new (lines ++ Event (Acquire thread lock) ∷ [])
-  unfolding accepted_of
-  acquired_known told e =
-      let held : Lock = record { holder = actor; depth = depth + 1 } in
-      let at : actor ≡ place (threads_of lines) thread = cc told.1 in
-      let put = written held e in
-      after_acquire kinds old new lines stands same_kinds same_shares thread lock held header events threads objects (known_thread kinds limits lines (Acquire thread lock) told.0) at
-      (held_alone at) put.0 put.1 (ap (λ n. n + 1) held_before)
-
   pub released_known : IsTold (Release thread lock) (numbered.Release actor found.number)
       → new.locks.entries ≡ set_value_at old.locks.entries found.number (record { holder = actor; depth = depth - 1 }) → 0 < depth
       → RosterStandsFor kinds new (lines ++ Event (Release thread lock) ∷ [])

@@ -1,16 +1,20 @@
 -- What a roster holds of the accepted lines of a trace: this project's profile.
-use Rattle.std.specs.Prelude.{◌≡◌, ℕ, ◌+◌, ◌<◌, Bool, ◌≤◌, not, List, [], ◌∷◌, ◌++◌, map, length, Contains, filter_map, Option, Some, None, unwrap_or}
-use Rattle.std.specs.List.{IsDistinct}
+use Rattle.std.specs.Prelude.{◌≡◌, ◌⊎◌, ℕ, ◌+◌, ◌<◌, Bool, true, ◌≤◌, not, List, [], ◌∷◌, ◌++◌, map, length, Contains, filter_map, Option, Some, None, unwrap_or, Result, Ok, Err, IsTrue}
+use Rattle.std.specs.List.{IsDistinct, before_first}
 use Rattle.indexmap.specs.IndexMap.{get_by, index_map_len}
 use Rattle.rd_base.specs.declared.limits.Limits.{Limits}
-use Rattle.rd_event.specs.Reading.{item_of}
+use Rattle.rd_base.specs.Bytes.{is_space}
+use Rattle.rd_event.specs.Reading.{call_read, is_call_keyword, item_of}
 use Rattle.rd_event.specs.declared.items.Line.{Line}
-use Rattle.rd_event.specs.declared.items.Line.TheVariants.{Object}
+use Rattle.rd_event.specs.declared.items.Line.TheVariants.{Event, Object}
+use Rattle.rd_event.specs.declared.items.LineEvent.{LineEvent}
 use Rattle.rd_rules.specs.declared.causes.Accepted.{Accepted}
 use Rattle.rd_rules.specs.declared.causes.WfCause.{WfCause}
 use Rattle.rd_rules.specs.declared.causes.WfRefused.{WfRefused}
 use Rattle.rd_rules.specs.declared.causes.WfRefused.TheVariants.{Cause, NoMemory}
 use Rattle.rd_wf.specs.declared.roster.Roster.{Roster}
+use Rattle.rd_rules.specs.declared.causes.BytesRefused.{BytesRefused}
+use Rattle.rd_rules.specs.declared.causes.BytesRefused.TheVariants as refused
 use Rattle.rd_tables.specs.declared.locks.Lock.{Lock}
 use Rattle.rd_tables.specs.declared.found.FoundLock.{FoundLock}
 use Rattle.rd_tables.specs.declared.found.FoundObject.{FoundObject}
@@ -159,3 +163,39 @@ abbrev pub Refuses : Roster → Roster → Limits → Line → WfRefused → Typ
 Refuses old new limits line (Cause cause) = Forbids old limits line cause × (new ≡ old)
 Refuses old new limits line NoMemory = (kinds : List Kind) (lines : List Line) → RosterStandsFor kinds old lines →
     (first_broken kinds limits lines line ≡ None) × TakesMemory lines line × RosterStandsFor kinds new lines
+
+-- ---- what becomes of a line's bytes
+
+-- the bytes begin with this one
+abbrev pub BeginsWith : ℕ → List ℕ → Type 0
+BeginsWith first bytes = (rest : List ℕ) × (bytes ≡ first ∷ rest)
+
+-- the bytes begin as a call
+abbrev pub IsCallLine : List ℕ → Type 0
+IsCallLine bytes = IsTrue (is_call_keyword (before_first is_space bytes))
+
+-- The line is accepted, whose words are names; or not, since they aren't, which an answer says where it is complete, or by a cause, and nothing
+-- changes; or memory runs out.
+abbrev pub TakesNames : Bool → Type 0 → Roster → Roster → Limits → Line → Result Accepted BytesRefused → Type 0
+TakesNames complete named old new limits line (Ok accepted) = named × Accepts old new limits line accepted
+TakesNames complete named old new limits line (Err refused.BadLine) = (complete ≡ true → ¬ named) × (new ≡ old)
+TakesNames complete named old new limits line (Err (refused.Cause cause)) = named × Refuses old new limits line (Cause cause)
+TakesNames complete named old new limits line (Err refused.NoMemory) = named × Refuses old new limits line NoMemory
+
+-- the same of the call with these words behind its keyword, whose values are read before it is judged
+abbrev pub TakesCall : Bool → List ℕ → Roster → Roster → Limits → Result Accepted BytesRefused → Type 0
+TakesCall complete words old new limits (Ok accepted) = (event : LineEvent) × (call_read words ≡ Some event) × Accepts old new limits (Event event) accepted
+TakesCall complete words old new limits (Err refused.BadLine) = (complete ≡ true → call_read words ≡ None) × (new ≡ old)
+TakesCall complete words old new limits (Err (refused.Cause cause)) =
+    (event : LineEvent) × (call_read words ≡ Some event) × Refuses old new limits (Event event) (Cause cause)
+TakesCall complete words old new limits (Err refused.NoMemory) = (event : LineEvent) × (call_read words ≡ Some event) × (new ≡ old)
+
+-- Behind the lines the bytes say, in the version of these, an item that may follow and is accepted; or none, which an answer says where it is
+-- complete; or one that breaks the rule of the cause, as the first; or memory runs out, for a call or for an item that may follow.
+abbrev pub TakesBytes : Type 0 → List Kind → Limits → List Line → List ℕ → Roster → Roster → Result Accepted BytesRefused → Type 0
+TakesBytes complete kinds limits lines bytes old new (Ok accepted) = (item : Line) × AcceptsAs kinds limits lines bytes item accepted new
+TakesBytes complete kinds limits lines bytes old new (Err refused.BadLine) = (complete → item_of (version_of lines) bytes ≡ None) × (new ≡ old)
+TakesBytes complete kinds limits lines bytes old new (Err (refused.Cause cause)) =
+    (item : Line) × (item_of (version_of lines) bytes ≡ Some item) × (first_broken kinds limits lines item ≡ Some cause) × (new ≡ old)
+TakesBytes complete kinds limits lines bytes old new (Err refused.NoMemory) =
+    (item : Line) × (item_of (version_of lines) bytes ≡ Some item) × (IsCallLine bytes ⊎ MayFollow kinds limits lines item) × RosterStandsFor kinds new lines

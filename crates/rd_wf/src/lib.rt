@@ -3,7 +3,10 @@
 
 mod roster;
 
-pub use rd_rules::{Accepted, TraceCause, WfCause, WfRefused, law_of_events, law_of_following};
+pub use rd_rules::{
+    Accepted, BytesRefused, TraceCause, WfCause, WfRefused, law_of_events, law_of_following,
+};
 pub use roster::{
-    AcquireLine, CallLine, JoinLine, KnownLine, ReleaseLine, Roster, ShareLine, UnshareLine,
+    AcquireLine, Anywhere, CallLine, Finder, ForkLine, JoinLine, Judged, Keyword, Near, ObjectLine,
+    ReleaseLine, Roster, ShareLine, ThreadLine, UnshareLine,
 };

@@ -2,17 +2,23 @@
 ghost use Rattle.std.specs.Prelude.{◌<◌, ◌^◌};
 ghost use Rattle.indexmap.specs.IndexMap.{index_map_len};
 
+mod finding;
 mod judge;
-mod known;
-mod near;
+mod keywords;
+mod lines;
 
+pub use finding::{Anywhere, Finder, Near};
 use indexmap::IndexMap;
-pub use known::{AcquireLine, CallLine, JoinLine, KnownLine, ReleaseLine, ShareLine, UnshareLine};
-use rd_base::{Limits, Name, NoMemory, Slots};
+pub use keywords::{
+    AcquireLine, CallLine, ForkLine, JoinLine, Keyword, ObjectLine, ReleaseLine, ShareLine,
+    ThreadLine, UnshareLine,
+};
+pub use lines::Judged;
+use rd_base::{Limits, Name, NoMemory};
 use rd_ecl::Spec;
-use rd_event::{Call, Event, Line, LineEvent};
-use rd_rules::{Accepted, WfCause, WfRefused};
-use rd_tables::{Declared, FREE, Lock, Methods, NEAR_LENGTH, Shares, near_place};
+use rd_event::{Line, LineEvent};
+use rd_rules::{Accepted, BytesRefused, WfCause, WfRefused};
+use rd_tables::{Lock, Methods, NEAR_LENGTH, Shares};
 use std::alloc::Global;
 
 /// The accepted lines of a trace, as names with numbers, flags and counts. It says of the next line
@@ -31,7 +37,7 @@ pub struct Roster {
     shares: Shares,
     /// each with the number of its kind
     objects: IndexMap<Name, u32>,
-    /// numbers of threads, locks and objects, each where `near_place` puts its name, which is looked for there first
+    /// numbers of threads, locks and objects, each where `near_bytes` puts its name, which is looked for there first
     near_threads: [u32; NEAR_LENGTH],
     /// those of threads that joins wait for, which else would stand where the joining ones do
     near_awaited: [u32; NEAR_LENGTH],
@@ -44,7 +50,7 @@ pub struct Roster {
 }
 
 impl Roster {
-    ghost use Rattle.std.specs.Prelude.{◌≡◌, ◌≢◌, ◌<◌, ◌≤◌, List, [], ◌∷◌, ◌++◌, IfOk, IfErr, OnOk, OnErr, length, slice_get};
+    ghost use Rattle.std.specs.Prelude.{◌≡◌, ◌≢◌, ◌<◌, ◌≤◌, List, [], ◌∷◌, ◌++◌, ⊤, true, IfOk, IfErr, OnOk, OnErr, length, slice_get};
     ghost use Rattle.rd_base.specs.Limits.{AreUsable};
     ghost use Rattle.rd_event.specs.Items.{LineInRange};
     ghost use Rattle.rd_event.specs.declared.items.Line.{Line as LineOf};
@@ -52,7 +58,7 @@ impl Roster {
     ghost use Rattle.rd_rules.specs.MayFollow.{IsBrokenFirst, MayFollow, first_broken, accepted_of, threads_of, locks_of, objects_of, headers, events, version_of, TakesMemory};
     ghost use Rattle.std.specs.List.{AllPairs};
     ghost use Rattle.rd_ecl.specs.Kinds.{Kind, kind_names, kinds_of};
-    ghost use Rattle.rd_wf.specs.Roster.{RosterStandsFor, Accepts, Refuses, names_in, object_names_in, thread_count, lock_count, object_count};
+    ghost use Rattle.rd_wf.specs.Roster.{RosterStandsFor, TakesBytes, TakesNames, names_in, object_names_in, thread_count, lock_count, object_count};
 
     /// The roster of no lines. It keeps the names of the kinds, which differ, and of their methods, and how many slots each
     /// method has. A kind's number is its place in the specification.
@@ -81,324 +87,44 @@ impl Roster {
         })
     }
 
-    // None of these stands inside `take`: a line that is skipped would make room for what each of them holds.
-
-    #[inline(never)]
-    fn accept_header(&mut self, version: u8, limits: &Limits) -> Result<Accepted, WfRefused>
-        ensures ok { IfOk result (Accepts self.old self.new limits.now (Line.Header version)) }
-        ensures refused { IfErr result
-            (Refuses self.old self.new limits.now (Line.Header version)) }
-    {
-        if self.header.is_some() {
-            return Err(WfRefused::Cause(WfCause::HeaderFirst));
-        }
-        self.header = Some(version);
-        Ok(Accepted::Nothing)
-    }
-
-    #[inline(never)]
-    fn accept_root(&mut self, name: &Name, limits: &Limits) -> Result<Accepted, WfRefused>
-        ensures ok { IfOk result (Accepts self.old self.new limits.now (Line.Thread name.now)) }
-        ensures refused { IfErr result
-            (Refuses self.old self.new limits.now (Line.Thread name.now)) }
-    {
-        let thread = match self.judge_root(name, limits) {
-            Ok(thread) => thread,
-            Err(cause) => return Err(WfRefused::Cause(cause)),
-        };
-        self.threads.insert(name.copy(), false)?;
-        Ok(Accepted::Root(thread))
-    }
-
-    #[inline(never)]
-    fn accept_object(
-        &mut self,
-        name: &Name,
-        kind: &Name,
-        limits: &Limits,
-    ) -> Result<Accepted, WfRefused>
-        ensures ok { IfOk result
-            (Accepts self.old self.new limits.now (Line.Object name.now kind.now)) }
-        ensures refused { IfErr result
-            (Refuses self.old self.new limits.now (Line.Object name.now kind.now)) }
-    {
-        let Declared { object, kind } = match self.judge_object(name, kind, limits) {
-            Ok(new) => new,
-            Err(cause) => return Err(WfRefused::Cause(cause)),
-        };
-        self.objects.insert(name.copy(), kind)?;
-        Ok(Accepted::Object { object, kind })
-    }
-
-    #[inline(never)]
-    fn accept_fork(
-        &mut self,
-        thread: &Name,
-        child: &Name,
-        limits: &Limits,
-    ) -> Result<Accepted, WfRefused>
-        ensures ok { IfOk result
-            (Accepts self.old self.new limits.now
-            (Line.Event (LineEvent.Fork thread.now child.now))) }
-        ensures refused { IfErr result
-            (Refuses self.old self.new limits.now
-            (Line.Event (LineEvent.Fork thread.now child.now))) }
-    {
-        let near = near_place(thread);
-        let pair = match self.judge_fork(thread, near, child, limits) {
-            Ok(pair) => pair,
-            Err(cause) => return Err(WfRefused::Cause(cause)),
-        };
-        self.threads.insert(child.copy(), false)?;
-        self.events += 1;
-        self.near_threads[near % NEAR_LENGTH] = pair.thread;
-        Ok(Accepted::Event(Event::Fork {
-            thread: pair.thread,
-            child: pair.child,
-        }))
-    }
-
-    #[inline(never)]
-    fn accept_join(
-        &mut self,
-        thread: &Name,
-        child: &Name,
-        limits: &Limits,
-    ) -> Result<Accepted, WfRefused>
-        ensures ok { IfOk result
-            (Accepts self.old self.new limits.now
-            (Line.Event (LineEvent.Join thread.now child.now))) }
-        ensures refused { IfErr result
-            (Refuses self.old self.new limits.now
-            (Line.Event (LineEvent.Join thread.now child.now))) }
-    {
-        let near = near_place(thread);
-        let child_near = near_place(child);
-        let actor = self.find_thread(thread, near);
-        let awaited = self.find_thread(child, child_near);
-        if let Err(cause) = self.judge_join(actor, awaited, limits) {
-            return Err(WfRefused::Cause(cause));
-        }
-        *self.threads.get_index_mut(awaited.number as usize).unwrap() = true;
-        self.events += 1;
-        self.near_awaited[child_near % NEAR_LENGTH] = awaited.number;
-        self.near_threads[near % NEAR_LENGTH] = actor.number;
-        Ok(Accepted::Event(Event::Join {
-            thread: actor.number,
-            child: awaited.number,
-        }))
-    }
-
-    #[inline(never)]
-    fn accept_acquire(
-        &mut self,
-        thread: &Name,
-        lock: &Name,
-        limits: &Limits,
-    ) -> Result<Accepted, WfRefused>
-        ensures ok { IfOk result
-            (Accepts self.old self.new limits.now
-            (Line.Event (LineEvent.Acquire thread.now lock.now))) }
-        ensures refused { IfErr result
-            (Refuses self.old self.new limits.now
-            (Line.Event (LineEvent.Acquire thread.now lock.now))) }
-    {
-        let near = near_place(thread);
-        let lock_near = near_place(lock);
-        let actor = self.find_thread(thread, near);
-        let found = self.find_lock(lock, lock_near);
-        let depth = match self.judge_acquire(actor, found, limits) {
-            Ok(depth) => depth,
-            Err(cause) => return Err(WfRefused::Cause(cause)),
-        };
-        let held = Lock {
-            holder: actor.number,
-            depth: depth + 1,
-        };
-        if found.unknown {
-            held.put_last(lock, &mut self.locks)?;
-        } else {
-            *self.locks.get_index_mut(found.number as usize).unwrap() = held;
-        }
-        self.events += 1;
-        self.near_threads[near % NEAR_LENGTH] = actor.number;
-        self.near_locks[lock_near % NEAR_LENGTH] = found.number;
-        Ok(Accepted::Event(Event::Acquire {
-            thread: actor.number,
-            lock: found.number,
-        }))
-    }
-
-    #[inline(never)]
-    fn accept_release(
-        &mut self,
-        thread: &Name,
-        lock: &Name,
-        limits: &Limits,
-    ) -> Result<Accepted, WfRefused>
-        ensures ok { IfOk result
-            (Accepts self.old self.new limits.now
-            (Line.Event (LineEvent.Release thread.now lock.now))) }
-        ensures refused { IfErr result
-            (Refuses self.old self.new limits.now
-            (Line.Event (LineEvent.Release thread.now lock.now))) }
-    {
-        let near = near_place(thread);
-        let lock_near = near_place(lock);
-        let actor = self.find_thread(thread, near);
-        let found = self.find_lock(lock, lock_near);
-        let depth = match self.judge_release(actor, found, limits) {
-            Ok(depth) => depth,
-            Err(cause) => return Err(WfRefused::Cause(cause)),
-        };
-        *self.locks.get_index_mut(found.number as usize).unwrap() = Lock {
-            holder: actor.number,
-            depth: depth - 1,
-        };
-        self.events += 1;
-        self.near_threads[near % NEAR_LENGTH] = actor.number;
-        self.near_locks[lock_near % NEAR_LENGTH] = found.number;
-        Ok(Accepted::Event(Event::Release {
-            thread: actor.number,
-            lock: found.number,
-        }))
-    }
-
-    #[inline(never)]
-    fn accept_share(
-        &mut self,
-        thread: &Name,
-        lock: &Name,
-        limits: &Limits,
-    ) -> Result<Accepted, WfRefused>
-        ensures ok { IfOk result
-            (Accepts self.old self.new limits.now
-            (Line.Event (LineEvent.Share thread.now lock.now))) }
-        ensures refused { IfErr result
-            (Refuses self.old self.new limits.now
-            (Line.Event (LineEvent.Share thread.now lock.now))) }
-    {
-        let near = near_place(thread);
-        let lock_near = near_place(lock);
-        let actor = self.find_thread(thread, near);
-        let found = self.find_lock(lock, lock_near);
-        if let Err(cause) = self.judge_share(actor, found, limits) {
-            return Err(WfRefused::Cause(cause));
-        }
-        self.shares.add(found.number, actor.number)?;
-        if found.unknown {
-            match FREE.put_last(lock, &mut self.locks) {
-                Ok(()) => {}
-                Err(error) => {
-                    self.shares.remove(found.number, actor.number);
-                    return Err(error.into());
-                }
-            }
-        }
-        self.events += 1;
-        self.near_threads[near % NEAR_LENGTH] = actor.number;
-        self.near_locks[lock_near % NEAR_LENGTH] = found.number;
-        Ok(Accepted::Event(Event::Share {
-            thread: actor.number,
-            lock: found.number,
-        }))
-    }
-
-    #[inline(never)]
-    fn accept_unshare(
-        &mut self,
-        thread: &Name,
-        lock: &Name,
-        limits: &Limits,
-    ) -> Result<Accepted, WfRefused>
-        ensures ok { IfOk result
-            (Accepts self.old self.new limits.now
-            (Line.Event (LineEvent.Unshare thread.now lock.now))) }
-        ensures refused { IfErr result
-            (Refuses self.old self.new limits.now
-            (Line.Event (LineEvent.Unshare thread.now lock.now))) }
-    {
-        let near = near_place(thread);
-        let lock_near = near_place(lock);
-        let actor = self.find_thread(thread, near);
-        let found = self.find_lock(lock, lock_near);
-        if let Err(cause) = self.judge_unshare(actor, found, limits) {
-            return Err(WfRefused::Cause(cause));
-        }
-        self.shares.remove(found.number, actor.number);
-        self.events += 1;
-        self.near_threads[near % NEAR_LENGTH] = actor.number;
-        self.near_locks[lock_near % NEAR_LENGTH] = found.number;
-        Ok(Accepted::Event(Event::Unshare {
-            thread: actor.number,
-            lock: found.number,
-        }))
-    }
-
-    #[inline(never)]
-    fn accept_call(
-        &mut self,
-        thread: &Name,
-        object: &Name,
-        method: &Name,
-        slots: &Slots,
-        limits: &Limits,
-    ) -> Result<Accepted, WfRefused>
-        ensures ok { IfOk result
-            (Accepts self.old self.new limits.now
-            (Line.Event (LineEvent.Call thread.now object.now method.now slots.now))) }
-        ensures refused { IfErr result
-            (Refuses self.old self.new limits.now
-            (Line.Event (LineEvent.Call thread.now object.now method.now slots.now))) }
-    {
-        let near = near_place(thread);
-        let object_near = near_place(object);
-        let actor = self.find_thread(thread, near);
-        let object = self.find_object(object, object_near);
-        let method = self.find_method(object.kind, method);
-        if let Err(cause) = self.judge_call(actor, object, method, slots.items().len(), limits) {
-            return Err(WfRefused::Cause(cause));
-        }
-        let slots = slots.copy(self.alloc)?;
-        self.events += 1;
-        self.near_threads[near % NEAR_LENGTH] = actor.number;
-        self.near_objects[object_near % NEAR_LENGTH] = object.number;
-        Ok(Accepted::Event(Event::Call(Call {
-            thread: actor.number,
-            object: object.number,
-            kind: object.kind,
-            method: method.number,
-            slots,
-        })))
-    }
-
     #[inline(always)]
-    fn take(&mut self, line: &Line, limits: &Limits) -> Result<Accepted, WfRefused>
-        ensures ok { IfOk result (Accepts self.old self.new limits.now line.now) }
-        ensures refused { IfErr result (Refuses self.old self.new limits.now line.now) }
+    fn take(&mut self, line: &Line, limits: &Limits) -> Judged
+        ensures { TakesNames true ⊤ self.old self.new limits.now line.now result }
     {
         match line {
             Line::Skip => Ok(Accepted::Nothing),
-            Line::Header { version } => self.accept_header(*version, limits),
-            Line::Thread(name) => self.accept_root(name, limits),
-            Line::Object { name, kind } => self.accept_object(name, kind, limits),
-            Line::Event(LineEvent::Fork { thread, child }) => self.accept_fork(
-                thread, child, limits,
+            Line::Header { version } => self.header(*version, limits),
+            Line::Thread(name) => self.root(name.items(), limits),
+            Line::Object { name, kind } => self.object(name.items(), kind.items(), limits),
+            Line::Event(LineEvent::Fork { thread, child }) => self.fork(
+                thread.items(),
+                child.items(),
+                limits,
             ),
-            Line::Event(LineEvent::Join { thread, child }) => self.accept_join(
-                thread, child, limits,
+            Line::Event(LineEvent::Join { thread, child }) => self.join::<Anywhere>(
+                thread.items(),
+                child.items(),
+                limits,
             ),
-            Line::Event(LineEvent::Acquire { thread, lock }) => self.accept_acquire(
-                thread, lock, limits,
+            Line::Event(LineEvent::Acquire { thread, lock }) => self.acquire::<Anywhere>(
+                thread.items(),
+                lock.items(),
+                limits,
             ),
-            Line::Event(LineEvent::Release { thread, lock }) => self.accept_release(
-                thread, lock, limits,
+            Line::Event(LineEvent::Release { thread, lock }) => self.release::<Anywhere>(
+                thread.items(),
+                lock.items(),
+                limits,
             ),
-            Line::Event(LineEvent::Share { thread, lock }) => self.accept_share(
-                thread, lock, limits,
+            Line::Event(LineEvent::Share { thread, lock }) => self.share::<Anywhere>(
+                thread.items(),
+                lock.items(),
+                limits,
             ),
-            Line::Event(LineEvent::Unshare { thread, lock }) => self.accept_unshare(
-                thread, lock, limits,
+            Line::Event(LineEvent::Unshare { thread, lock }) => self.unshare::<Anywhere>(
+                thread.items(),
+                lock.items(),
+                limits,
             ),
             Line::Event(
                 LineEvent::Call {
@@ -407,7 +133,7 @@ impl Roster {
                     method,
                     slots,
                 },
-            ) => self.accept_call(thread, object, method, slots, limits),
+            ) => self.call_apart(thread, object, method, slots, limits),
         }
     }
 
@@ -454,7 +180,12 @@ impl Roster {
             ((kinds : List Kind) (lines : List LineOf) → RosterStandsFor kinds self.old lines →
             RosterStandsFor kinds self.new lines) }
     {
-        self.take(line, limits)
+        match self.take(line, limits) {
+            Ok(accepted) => Ok(accepted),
+            Err(BytesRefused::BadLine) => unreachable!(),
+            Err(BytesRefused::Cause(cause)) => Err(WfRefused::Cause(cause)),
+            Err(BytesRefused::NoMemory) => Err(WfRefused::NoMemory),
+        }
     }
 
     /// The law of skipped lines: each may follow, and a roster stands for one more of them as it is.

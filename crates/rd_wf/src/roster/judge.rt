@@ -4,9 +4,7 @@ use super::Roster;
 use rd_base::{Limits, Name};
 use rd_event::{Event, Line, LineEvent};
 use rd_rules::{Accepted, Broken, UNBROKEN, WfCause};
-use rd_tables::{
-    Declared, FREE, FoundLock, FoundMethod, FoundObject, FoundThread, NEAR_LENGTH, Pair, lesser,
-};
+use rd_tables::{Declared, FoundLock, FoundMethod, FoundObject, FoundThread, Pair, lesser};
 
 impl Roster {
     ghost use Rattle.std.specs.Prelude.{◌≡◌, ◌<◌, ◌^◌, ◌+◌, ◌||◌, List, ℕ, None, IfNone, IfOk, IfErr, OnOk, false, true, is_some, length};
@@ -17,127 +15,6 @@ impl Roster {
     ghost use Rattle.rd_tables.specs.Shares.{is_other_sharer, share_depth};
     ghost use Rattle.rd_rules.specs.MayFollow.{same_name};
     ghost use Rattle.indexmap.specs.IndexMap.{get_by, index_of_by};
-
-    #[inline(always)]
-    pub(super) fn find_thread(&self, name: &Name, near: usize) -> FoundThread
-        ensures found { IsFoundThread self.now name.now result }
-        ensures within { result.unknown ≡ false → result.number < thread_count self.now }
-    {
-        let guess = self.near_threads[near % NEAR_LENGTH];
-        if let Some((known, ended)) = self.threads.get_index(guess as usize)
-            && known == name
-        {
-            return FoundThread {
-                number: guess,
-                unknown: false,
-                joined: *ended,
-            };
-        }
-        // Field by field, so that a number that is found near needs no place in memory.
-        let found = self.look_up_thread(name);
-        FoundThread {
-            number: found.number,
-            unknown: found.unknown,
-            joined: found.joined,
-        }
-    }
-
-    #[inline(never)]
-    fn look_up_thread(&self, name: &Name) -> FoundThread
-        ensures found { IsFoundThread self.now name.now result }
-        ensures within { result.unknown ≡ false → result.number < thread_count self.now }
-    {
-        match self.threads.get_full(name) {
-            None => FoundThread {
-                number: self.threads.len() as u32,
-                unknown: true,
-                joined: false,
-            },
-            Some((number, _, joined)) => FoundThread {
-                number: number as u32,
-                unknown: false,
-                joined: *joined,
-            },
-        }
-    }
-
-    #[inline(always)]
-    pub(super) fn find_lock(&self, name: &Name, near: usize) -> FoundLock
-        ensures found { IsFoundLock self.now name.now result }
-        ensures within { result.unknown ≡ false → result.number < lock_count self.now }
-        ensures new { result.unknown ≡ true → (result.number ≡ lock_count self.now)
-            × (result.lock.depth ≡ 0) }
-    {
-        let guess = self.near_locks[near % NEAR_LENGTH];
-        if let Some((near_name, lock)) = self.locks.get_index(guess as usize)
-            && near_name == name
-        {
-            return FoundLock {
-                number: guess,
-                unknown: false,
-                lock: *lock,
-            };
-        }
-        self.look_up_lock(name)
-    }
-
-    #[inline(never)]
-    fn look_up_lock(&self, name: &Name) -> FoundLock
-        ensures found { IsFoundLock self.now name.now result }
-        ensures within { result.unknown ≡ false → result.number < lock_count self.now }
-        ensures new { result.unknown ≡ true → (result.number ≡ lock_count self.now)
-            × (result.lock.depth ≡ 0) }
-    {
-        match self.locks.get_full(name) {
-            None => FoundLock {
-                number: self.locks.len() as u32,
-                unknown: true,
-                lock: FREE,
-            },
-            Some((number, _, lock)) => FoundLock {
-                number: number as u32,
-                unknown: false,
-                lock: *lock,
-            },
-        }
-    }
-
-    #[inline(always)]
-    pub(super) fn find_object(&self, name: &Name, near: usize) -> FoundObject
-        ensures { IsFoundObject self.now name.now result }
-    {
-        // `len` is called for its clause that no two objects have one name.
-        let _count = self.objects.len();
-        let guess = self.near_objects[near % NEAR_LENGTH];
-        if let Some((known, kind)) = self.objects.get_index(guess as usize)
-            && known == name
-        {
-            return FoundObject {
-                number: guess,
-                unknown: false,
-                kind: *kind,
-            };
-        }
-        self.look_up_object(name)
-    }
-
-    #[inline(never)]
-    fn look_up_object(&self, name: &Name) -> FoundObject
-        ensures { IsFoundObject self.now name.now result }
-    {
-        match self.objects.get_full(name) {
-            None => FoundObject {
-                number: self.objects.len() as u32,
-                unknown: true,
-                kind: self.kinds.len() as u32,
-            },
-            Some((number, _, kind)) => FoundObject {
-                number: number as u32,
-                unknown: false,
-                kind: *kind,
-            },
-        }
-    }
 
     // The least of the threads but this one that have the lock or a share of it.
     #[inline(always)]
@@ -151,19 +28,6 @@ impl Roster {
             found.lock.held_by_other(thread),
             self.shares.least_other(found.number, thread),
         )
-    }
-
-    pub(super) fn find_method(&self, kind: u32, name: &Name) -> FoundMethod
-        ensures { IsFoundMethod self.now kind name.now result }
-    {
-        match self.kinds.get_index(kind as usize) {
-            None => FoundMethod {
-                number: 0,
-                unknown: true,
-                slots: 0,
-            },
-            Some((_, methods)) => methods.find(name),
-        }
     }
 
     pub(super) fn judge_root(&self, name: &Name, limits: &Limits) -> Result<u32, WfCause>
@@ -233,22 +97,21 @@ impl Roster {
         })
     }
 
+    // By what was found of the name of the line's thread.
     pub(super) fn judge_fork(
         &self,
-        thread: &Name,
-        near: usize,
+        actor: FoundThread,
         child: &Name,
         limits: &Limits,
     ) -> Result<Pair, WfCause>
-        ensures ok { IfOk result
-            (λ pair. Permits self.now limits.now (Line.Event (LineEvent.Fork thread.now child.now))
+        ensures ok { IfOk result (λ pair. (thread : List ℕ) → IsFoundThread self.now thread actor →
+            Permits self.now limits.now (Line.Event (LineEvent.Fork thread child.now))
             (Accepted.Event (Event.Fork pair.thread pair.child))) }
         ensures room { OnOk result
             ((thread_count self.now + 1 < 2 ^ 32) × (self.now.events + 1 < 2 ^ 32)) }
-        ensures err { IfErr result
-            (Forbids self.now limits.now (Line.Event (LineEvent.Fork thread.now child.now))) }
+        ensures err { IfErr result (λ cause. (thread : List ℕ) → IsFoundThread self.now thread actor →
+            Forbids self.now limits.now (Line.Event (LineEvent.Fork thread child.now)) cause) }
     {
-        let actor = self.find_thread(thread, near);
         let new = self.threads.len() as u32;
         let broken = Broken {
             header_first: self.header.is_none(),

@@ -94,7 +94,7 @@ lines-preserved g c =
     let limits = c.args.walker.now.limits in
     let kinds = kinds_in c.args.walker.now.roster in
     let start = c.args.walker.now.analysis in
-    let taking = c.in-Ok-Accepted.ensures.taken c.in-Ok-Accepted.field-0-is kinds start entries stands leads in
+    let taking = c.in-Ok-Accepted.ensures.line.taken (ap Ok c.in-Ok-Accepted.field-0-is) kinds start entries stands leads in
     let (item, says, handed) = rw (c.number-number.ensures.value, c.line-in-lines.ensures, same) at taking in
     let writes = handed.written in
     let entry : Entry = record { number = c.next.new.self.number; item = item } in (
@@ -124,14 +124,15 @@ returns-in-Ok-Refused-clause-walked g c =
     let limits = c.args.walker.now.limits in
     let kinds = kinds_in c.args.walker.now.roster in
     let cause = c.unwrap.result in
-    let refusal = c.in-Ok-Refused.ensures.refused c.in-Ok-Refused.field-0-is cause c.unwrap.ensures kinds entries stands in
-    let silent = c.in-Ok-Refused.ensures.silent c.in-Ok-Refused.field-0-is in (
+    let refusal = c.in-Ok-Refused.ensures.line.refused (ap Ok c.in-Ok-Refused.field-0-is) cause c.unwrap.ensures kinds entries stands in
+    let quiet = c.in-Ok-Refused.ensures.silent (ap Ok c.in-Ok-Refused.field-0-is) in
+    let silent = c.in-Ok-Refused.ensures.line.silent (ap Ok c.in-Ok-Refused.field-0-is) in (
       entries,
       taken ++ bytes,
-      rw silent.1 leads,
+      rw silent.0 leads,
       refusal.1,
-      rw silent.0 text,
-      omega (arith, cost, silent.2),
+      rw quiet text,
+      omega (arith, cost, silent.1),
       read_so_far limits taken bytes c.lines.reader lines cut (length entries) (omega arith) answered.past answered.fits,
       takes_then _ _ _ taken bytes (λ (source : Source). ⊥ → source.held ≡ [])
           (λ (source : Source). WalksTo kinds limits (taken ++ bytes) source.held entries (Refused c.number-number.result cause))
@@ -152,7 +153,7 @@ returns-in-Err-take_line-clause-halted g c =
     let start = c.args.walker.now.analysis in
     let wrote = g.S.Sink.written c.args.out.now in
     let goes_now = takes_on _ _ _ taken bytes told (λ old is. let r = goes old is in (r.0, r.1, r.2.0)) in
-    elim (c.in-Err-take_line.ensures.halted kinds start entries stands leads) [
+    elim (c.in-Err-take_line.ensures.line.halted kinds start entries stands leads) [
       | inl (quiet, steps) ↦ (
         entries,
         taken ++ bytes,

@@ -6,12 +6,12 @@ use Rattle.rd_wf.proofs.RosterLemmas.{fork_judged}
 use Rattle.rd_wf.proofs.roster.Roster.judge_fork.Goals as goal
 
 pub returns-in-Some-clause-err : goal.returns-in-Some-clause-err
-returns-in-Some-clause-err c = λ kinds lines stands.
-    fork_judged kinds c.args.self.now lines stands _ c.is_none.ensures c.args.limits.now c.args.thread.now c.args.child.now _ _ _ (c.find_thread-actor.ensures.found kinds lines stands) c.contains_key.ensures c.len-new.ensures.len ∙ sym (c.in-Some.ensures.first lines tt)
+returns-in-Some-clause-err c = λ thread acts kinds lines stands.
+    fork_judged kinds c.args.self.now lines stands _ c.is_none.ensures c.args.limits.now thread c.args.child.now _ _ _ (acts kinds lines stands) c.contains_key.ensures c.len-new.ensures.len ∙ sym (c.in-Some.ensures.first lines tt)
 
 pub returns-clause-ok : goal.returns-clause-ok
 unfolding accepted_of
-returns-clause-ok c = λ kinds lines stands. (
-  fork_judged kinds c.args.self.now lines stands _ c.is_none.ensures c.args.limits.now c.args.thread.now c.args.child.now _ _ _ (c.find_thread-actor.ensures.found kinds lines stands) c.contains_key.ensures c.len-new.ensures.len ∙ sym (c.in_default.ensures.first lines tt),
-  λ i. accepted.Event (numbered.Fork (c.find_thread-actor.ensures.found kinds lines stands i).number ((c.len-new.ensures.len ∙ stands.thread_total) i)),
+returns-clause-ok c = λ thread acts kinds lines stands. (
+  fork_judged kinds c.args.self.now lines stands _ c.is_none.ensures c.args.limits.now thread c.args.child.now _ _ _ (acts kinds lines stands) c.contains_key.ensures c.len-new.ensures.len ∙ sym (c.in_default.ensures.first lines tt),
+  λ i. accepted.Event (numbered.Fork (acts kinds lines stands i).number ((c.len-new.ensures.len ∙ stands.thread_total) i)),
 )

@@ -1,0 +1,251 @@
+//! How the names of a line are found.
+
+use super::Roster;
+use rd_base::Name;
+use rd_tables::{FREE, FoundLock, FoundMethod, FoundObject, FoundThread, NEAR_LENGTH};
+
+/// A way to find names. There is no answer where the bytes are no name's, or where this way doesn't find them.
+pub trait Finder {
+    ghost use Rattle.std.specs.Prelude.{◌≡◌, ◌<◌, Bool, true, false, IfNone, IfSome, IsSome};
+    ghost use Rattle.rd_base.specs.Names.{IsName};
+    ghost use Rattle.rd_wf.specs.Roster.{IsFoundLock, IsFoundObject, IsFoundThread, lock_count, thread_count};
+
+    // Whether each name is found.
+    ghost complete: { Bool };
+
+    /// What a look-up of the thread with this name finds. The guess may be its number.
+    fn thread(roster: &Roster, guess: u32, name: &[u8]) -> Option<FoundThread>
+        ensures found { IfSome result (IsFoundThread roster.now name.now) }
+        ensures within { IfSome result
+            (λ found. found.unknown ≡ false → found.number < thread_count roster.now) }
+        ensures named { IsSome result → IsName name.now }
+        ensures none { IfNone result (complete ≡ true → ¬ (IsName name.now)) };
+
+    /// What a look-up of the lock with this name finds. The guess may be its number.
+    fn lock(roster: &Roster, guess: u32, name: &[u8]) -> Option<FoundLock>
+        ensures found { IfSome result (IsFoundLock roster.now name.now) }
+        ensures within { IfSome result
+            (λ found. found.unknown ≡ false → found.number < lock_count roster.now) }
+        ensures new { IfSome result (λ found. found.unknown ≡ true →
+            (found.number ≡ lock_count roster.now) × (found.lock.depth ≡ 0)) }
+        ensures named { IsSome result → IsName name.now }
+        ensures none { IfNone result (complete ≡ true → ¬ (IsName name.now)) };
+
+    /// What a look-up of the object with this name finds. The guess may be its number.
+    fn object(roster: &Roster, guess: u32, name: &[u8]) -> Option<FoundObject>
+        ensures found { IfSome result (IsFoundObject roster.now name.now) }
+        ensures named { IsSome result → IsName name.now }
+        ensures none { IfNone result (complete ≡ true → ¬ (IsName name.now)) };
+
+    /// Remembers a number that was found, as the guess for names that are looked for at this place.
+    fn remember(table: &mut [u32; NEAR_LENGTH], place: usize, number: u32);
+}
+
+/// A name is compared with that of the guess.
+pub struct Near;
+
+impl Finder for Near {
+    ghost use Rattle.std.specs.Prelude.{false};
+
+    ghost complete = { false };
+
+    #[inline(always)]
+    fn thread(roster: &Roster, guess: u32, name: &[u8]) -> Option<FoundThread> {
+        let (known, joined) = roster.threads.get_index(guess as usize)?;
+        if known.items() != name {
+            return None;
+        }
+        Some(FoundThread {
+            number: guess,
+            unknown: false,
+            joined: *joined,
+        })
+    }
+
+    #[inline(always)]
+    fn lock(roster: &Roster, guess: u32, name: &[u8]) -> Option<FoundLock> {
+        let (known, lock) = roster.locks.get_index(guess as usize)?;
+        if known.items() != name {
+            return None;
+        }
+        Some(FoundLock {
+            number: guess,
+            unknown: false,
+            lock: *lock,
+        })
+    }
+
+    #[inline(always)]
+    fn object(roster: &Roster, guess: u32, name: &[u8]) -> Option<FoundObject> {
+        // `len` is called for its clause that no two objects have one name.
+        let _count = roster.objects.len();
+        let (known, kind) = roster.objects.get_index(guess as usize)?;
+        if known.items() != name {
+            return None;
+        }
+        Some(FoundObject {
+            number: guess,
+            unknown: false,
+            kind: *kind,
+        })
+    }
+
+    // The number stands there already.
+    #[inline(always)]
+    fn remember(_table: &mut [u32; NEAR_LENGTH], _place: usize, _number: u32) {}
+}
+
+/// A name is compared in the same way, and else hashed.
+pub struct Anywhere;
+
+impl Finder for Anywhere {
+    ghost use Rattle.std.specs.Prelude.{true};
+
+    ghost complete = { true };
+
+    #[inline(always)]
+    fn thread(roster: &Roster, guess: u32, name: &[u8]) -> Option<FoundThread> {
+        if let Some(found) = Near::thread(roster, guess, name) {
+            return Some(found);
+        }
+        roster.look_up_thread(name)
+    }
+
+    #[inline(always)]
+    fn lock(roster: &Roster, guess: u32, name: &[u8]) -> Option<FoundLock> {
+        if let Some(found) = Near::lock(roster, guess, name) {
+            return Some(found);
+        }
+        roster.look_up_lock(name)
+    }
+
+    #[inline(always)]
+    fn object(roster: &Roster, guess: u32, name: &[u8]) -> Option<FoundObject> {
+        if let Some(found) = Near::object(roster, guess, name) {
+            return Some(found);
+        }
+        roster.look_up_object(name)
+    }
+
+    #[inline(always)]
+    fn remember(table: &mut [u32; NEAR_LENGTH], place: usize, number: u32) {
+        table[place % NEAR_LENGTH] = number;
+    }
+}
+
+impl Roster {
+    ghost use Rattle.std.specs.Prelude.{◌≡◌, ◌<◌, false, true, IfNone, IfSome, IsSome};
+    ghost use Rattle.rd_base.specs.Names.{IsName};
+    ghost use Rattle.rd_wf.specs.Roster.{IsFoundLock, IsFoundMethod, IsFoundObject, IsFoundThread, lock_count, thread_count};
+
+    #[inline(never)]
+    fn look_up_thread(&self, name: &[u8]) -> Option<FoundThread>
+        ensures found { IfSome result (IsFoundThread self.now name.now) }
+        ensures within { IfSome result
+            (λ found. found.unknown ≡ false → found.number < thread_count self.now) }
+        ensures named { IsSome result → IsName name.now }
+        ensures none { IfNone result (¬ (IsName name.now)) }
+    {
+        let Ok(name) = Name::from_bytes(name) else {
+            return None;
+        };
+        match self.threads.get_full(&name) {
+            None => Some(FoundThread {
+                number: self.threads.len() as u32,
+                unknown: true,
+                joined: false,
+            }),
+            Some((number, _, joined)) => Some(FoundThread {
+                number: number as u32,
+                unknown: false,
+                joined: *joined,
+            }),
+        }
+    }
+
+    #[inline(never)]
+    fn look_up_lock(&self, name: &[u8]) -> Option<FoundLock>
+        ensures found { IfSome result (IsFoundLock self.now name.now) }
+        ensures within { IfSome result
+            (λ found. found.unknown ≡ false → found.number < lock_count self.now) }
+        ensures new { IfSome result (λ found. found.unknown ≡ true →
+            (found.number ≡ lock_count self.now) × (found.lock.depth ≡ 0)) }
+        ensures named { IsSome result → IsName name.now }
+        ensures none { IfNone result (¬ (IsName name.now)) }
+    {
+        let Ok(name) = Name::from_bytes(name) else {
+            return None;
+        };
+        match self.locks.get_full(&name) {
+            None => Some(FoundLock {
+                number: self.locks.len() as u32,
+                unknown: true,
+                lock: FREE,
+            }),
+            Some((number, _, lock)) => Some(FoundLock {
+                number: number as u32,
+                unknown: false,
+                lock: *lock,
+            }),
+        }
+    }
+
+    #[inline(never)]
+    fn look_up_object(&self, name: &[u8]) -> Option<FoundObject>
+        ensures found { IfSome result (IsFoundObject self.now name.now) }
+        ensures named { IsSome result → IsName name.now }
+        ensures none { IfNone result (¬ (IsName name.now)) }
+    {
+        let Ok(name) = Name::from_bytes(name) else {
+            return None;
+        };
+        match self.objects.get_full(&name) {
+            None => Some(FoundObject {
+                number: self.objects.len() as u32,
+                unknown: true,
+                kind: self.kinds.len() as u32,
+            }),
+            Some((number, _, kind)) => Some(FoundObject {
+                number: number as u32,
+                unknown: false,
+                kind: *kind,
+            }),
+        }
+    }
+
+    /// What a look-up of the method of this kind with this name finds; nothing where the bytes are no name's.
+    #[inline(always)]
+    pub(super) fn find_method(&self, kind: u32, name: &[u8]) -> Option<FoundMethod>
+        ensures found { IfSome result (IsFoundMethod self.now kind name.now) }
+        ensures named { IsSome result → IsName name.now }
+        ensures none { IfNone result (¬ (IsName name.now)) }
+    {
+        if let Some((_, methods)) = self.kinds.get_index(kind as usize) {
+            let found = methods.find(name);
+            if !found.unknown {
+                return Some(found);
+            }
+        }
+        self.unknown_method(kind, name)
+    }
+
+    // The same where the kind has no such method.
+    #[inline(never)]
+    fn unknown_method(&self, kind: u32, name: &[u8]) -> Option<FoundMethod>
+        ensures found { IfSome result (IsFoundMethod self.now kind name.now) }
+        ensures named { IsSome result → IsName name.now }
+        ensures none { IfNone result (¬ (IsName name.now)) }
+    {
+        let Ok(_name) = Name::from_bytes(name) else {
+            return None;
+        };
+        match self.kinds.get_index(kind as usize) {
+            None => Some(FoundMethod {
+                number: 0,
+                unknown: true,
+                slots: 0,
+            }),
+            Some((_, methods)) => Some(methods.find(name)),
+        }
+    }
+}

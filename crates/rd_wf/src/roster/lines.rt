@@ -1,0 +1,389 @@
+//! What each sort of line does to a roster, by names that are lent.
+
+use super::Roster;
+use super::finding::{Anywhere, Finder};
+use rd_base::{Limits, Name, Slots};
+use rd_event::{Call, Event, Line, LineEvent, LineRefused, read_slots};
+use rd_rules::{Accepted, BytesRefused, WfCause};
+use rd_tables::{
+    Declared, FREE, FoundMethod, FoundObject, FoundThread, Lock, NEAR_LENGTH, cut_at_space,
+    near_bytes,
+};
+
+/// What becomes of a line by its bytes, or by names that are lent.
+pub type Judged = Result<Accepted, BytesRefused>;
+
+// What is found of the names of a call, and where the numbers of its thread and object are remembered.
+#[derive(Clone, Copy)]
+pub(super) struct Called {
+    near: usize,
+    object_near: usize,
+    actor: FoundThread,
+    object: FoundObject,
+    method: FoundMethod,
+}
+
+impl Roster {
+    ghost use Rattle.std.specs.Prelude.{◌≡◌, ◌+◌, ◌<◌, ◌^◌, ◌++◌, ◌∷◌, [], List, ℕ, ⊤, true, IfNone, IfSome, IsSome};
+    ghost use Rattle.rd_base.specs.Names.{IsName};
+    ghost use Rattle.rd_ecl.specs.Kinds.{Kind};
+    ghost use Rattle.rd_event.specs.declared.items.Line.{Line as LineOf};
+    ghost use Rattle.rd_wf.specs.Roster.{IsFoundMethod, IsFoundObject, IsFoundThread, RosterStandsFor, TakesCall, TakesNames};
+
+    #[inline(never)]
+    pub(super) fn header(&mut self, version: u8, limits: &Limits) -> Judged
+        ensures { TakesNames true ⊤ self.old self.new limits.now (Line.Header version) result }
+    {
+        if self.header.is_some() {
+            return Err(BytesRefused::Cause(WfCause::HeaderFirst));
+        }
+        self.header = Some(version);
+        Ok(Accepted::Nothing)
+    }
+
+    #[inline(never)]
+    pub(super) fn root(&mut self, name: &[u8], limits: &Limits) -> Judged
+        ensures { TakesNames true (IsName name.now) self.old self.new limits.now (Line.Thread name.now) result }
+    {
+        let Ok(name) = Name::from_bytes(name) else {
+            return Err(BytesRefused::BadLine);
+        };
+        let thread = match self.judge_root(&name, limits) {
+            Ok(thread) => thread,
+            Err(cause) => return Err(BytesRefused::Cause(cause)),
+        };
+        self.threads.insert(name, false)?;
+        Ok(Accepted::Root(thread))
+    }
+
+    #[inline(never)]
+    pub(super) fn object(&mut self, name: &[u8], kind: &[u8], limits: &Limits) -> Judged
+        ensures { TakesNames true (IsName name.now × IsName kind.now) self.old self.new limits.now
+            (Line.Object name.now kind.now) result }
+    {
+        let Ok(name) = Name::from_bytes(name) else {
+            return Err(BytesRefused::BadLine);
+        };
+        let Ok(kind) = Name::from_bytes(kind) else {
+            return Err(BytesRefused::BadLine);
+        };
+        let Declared { object, kind } = match self.judge_object(&name, &kind, limits) {
+            Ok(new) => new,
+            Err(cause) => return Err(BytesRefused::Cause(cause)),
+        };
+        self.objects.insert(name, kind)?;
+        Ok(Accepted::Object { object, kind })
+    }
+
+    #[inline(never)]
+    pub(super) fn fork(&mut self, thread: &[u8], child: &[u8], limits: &Limits) -> Judged
+        ensures { TakesNames true (IsName thread.now × IsName child.now) self.old self.new limits.now
+            (Line.Event (LineEvent.Fork thread.now child.now)) result }
+    {
+        let near = near_bytes(thread) % NEAR_LENGTH;
+        let Some(actor) = Anywhere::thread(self, self.near_threads[near], thread) else {
+            return Err(BytesRefused::BadLine);
+        };
+        let Ok(child) = Name::from_bytes(child) else {
+            return Err(BytesRefused::BadLine);
+        };
+        let pair = match self.judge_fork(actor, &child, limits) {
+            Ok(pair) => pair,
+            Err(cause) => return Err(BytesRefused::Cause(cause)),
+        };
+        self.threads.insert(child, false)?;
+        self.events += 1;
+        Anywhere::remember(&mut self.near_threads, near, pair.thread);
+        Ok(Accepted::Event(Event::Fork {
+            thread: pair.thread,
+            child: pair.child,
+        }))
+    }
+
+    #[inline(always)]
+    pub(super) fn join<F: Finder>(&mut self, thread: &[u8], child: &[u8], limits: &Limits) -> Judged
+        ensures { TakesNames F.complete (IsName thread.now × IsName child.now) self.old self.new limits.now
+            (Line.Event (LineEvent.Join thread.now child.now)) result }
+    {
+        let near = near_bytes(thread) % NEAR_LENGTH;
+        let child_near = near_bytes(child) % NEAR_LENGTH;
+        let Some(actor) = F::thread(self, self.near_threads[near], thread) else {
+            return Err(BytesRefused::BadLine);
+        };
+        let Some(awaited) = F::thread(self, self.near_awaited[child_near], child) else {
+            return Err(BytesRefused::BadLine);
+        };
+        if let Err(cause) = self.judge_join(actor, awaited, limits) {
+            return Err(BytesRefused::Cause(cause));
+        }
+        *self.threads.get_index_mut(awaited.number as usize).unwrap() = true;
+        self.events += 1;
+        F::remember(&mut self.near_awaited, child_near, awaited.number);
+        F::remember(&mut self.near_threads, near, actor.number);
+        Ok(Accepted::Event(Event::Join {
+            thread: actor.number,
+            child: awaited.number,
+        }))
+    }
+
+    #[inline(always)]
+    pub(super) fn acquire<F: Finder>(
+        &mut self,
+        thread: &[u8],
+        lock: &[u8],
+        limits: &Limits,
+    ) -> Judged
+        ensures { TakesNames F.complete (IsName thread.now × IsName lock.now) self.old self.new limits.now
+            (Line.Event (LineEvent.Acquire thread.now lock.now)) result }
+    {
+        let near = near_bytes(thread) % NEAR_LENGTH;
+        let lock_near = near_bytes(lock) % NEAR_LENGTH;
+        let Some(actor) = F::thread(self, self.near_threads[near], thread) else {
+            return Err(BytesRefused::BadLine);
+        };
+        let Some(found) = F::lock(self, self.near_locks[lock_near], lock) else {
+            return Err(BytesRefused::BadLine);
+        };
+        let depth = match self.judge_acquire(actor, found, limits) {
+            Ok(depth) => depth,
+            Err(cause) => return Err(BytesRefused::Cause(cause)),
+        };
+        let held = Lock {
+            holder: actor.number,
+            depth: depth + 1,
+        };
+        if found.unknown {
+            held.put_last(lock, &mut self.locks)?;
+        } else {
+            *self.locks.get_index_mut(found.number as usize).unwrap() = held;
+        }
+        self.events += 1;
+        F::remember(&mut self.near_threads, near, actor.number);
+        F::remember(&mut self.near_locks, lock_near, found.number);
+        Ok(Accepted::Event(Event::Acquire {
+            thread: actor.number,
+            lock: found.number,
+        }))
+    }
+
+    #[inline(always)]
+    pub(super) fn release<F: Finder>(
+        &mut self,
+        thread: &[u8],
+        lock: &[u8],
+        limits: &Limits,
+    ) -> Judged
+        ensures { TakesNames F.complete (IsName thread.now × IsName lock.now) self.old self.new limits.now
+            (Line.Event (LineEvent.Release thread.now lock.now)) result }
+    {
+        let near = near_bytes(thread) % NEAR_LENGTH;
+        let lock_near = near_bytes(lock) % NEAR_LENGTH;
+        let Some(actor) = F::thread(self, self.near_threads[near], thread) else {
+            return Err(BytesRefused::BadLine);
+        };
+        let Some(found) = F::lock(self, self.near_locks[lock_near], lock) else {
+            return Err(BytesRefused::BadLine);
+        };
+        let depth = match self.judge_release(actor, found, limits) {
+            Ok(depth) => depth,
+            Err(cause) => return Err(BytesRefused::Cause(cause)),
+        };
+        *self.locks.get_index_mut(found.number as usize).unwrap() = Lock {
+            holder: actor.number,
+            depth: depth - 1,
+        };
+        self.events += 1;
+        F::remember(&mut self.near_threads, near, actor.number);
+        F::remember(&mut self.near_locks, lock_near, found.number);
+        Ok(Accepted::Event(Event::Release {
+            thread: actor.number,
+            lock: found.number,
+        }))
+    }
+
+    #[inline(always)]
+    pub(super) fn share<F: Finder>(&mut self, thread: &[u8], lock: &[u8], limits: &Limits) -> Judged
+        ensures { TakesNames F.complete (IsName thread.now × IsName lock.now) self.old self.new limits.now
+            (Line.Event (LineEvent.Share thread.now lock.now)) result }
+    {
+        let near = near_bytes(thread) % NEAR_LENGTH;
+        let lock_near = near_bytes(lock) % NEAR_LENGTH;
+        let Some(actor) = F::thread(self, self.near_threads[near], thread) else {
+            return Err(BytesRefused::BadLine);
+        };
+        let Some(found) = F::lock(self, self.near_locks[lock_near], lock) else {
+            return Err(BytesRefused::BadLine);
+        };
+        if let Err(cause) = self.judge_share(actor, found, limits) {
+            return Err(BytesRefused::Cause(cause));
+        }
+        self.shares.add(found.number, actor.number)?;
+        if found.unknown {
+            match FREE.put_last(lock, &mut self.locks) {
+                Ok(()) => {}
+                Err(error) => {
+                    self.shares.remove(found.number, actor.number);
+                    return Err(error.into());
+                }
+            }
+        }
+        self.events += 1;
+        F::remember(&mut self.near_threads, near, actor.number);
+        F::remember(&mut self.near_locks, lock_near, found.number);
+        Ok(Accepted::Event(Event::Share {
+            thread: actor.number,
+            lock: found.number,
+        }))
+    }
+
+    #[inline(always)]
+    pub(super) fn unshare<F: Finder>(
+        &mut self,
+        thread: &[u8],
+        lock: &[u8],
+        limits: &Limits,
+    ) -> Judged
+        ensures { TakesNames F.complete (IsName thread.now × IsName lock.now) self.old self.new limits.now
+            (Line.Event (LineEvent.Unshare thread.now lock.now)) result }
+    {
+        let near = near_bytes(thread) % NEAR_LENGTH;
+        let lock_near = near_bytes(lock) % NEAR_LENGTH;
+        let Some(actor) = F::thread(self, self.near_threads[near], thread) else {
+            return Err(BytesRefused::BadLine);
+        };
+        let Some(found) = F::lock(self, self.near_locks[lock_near], lock) else {
+            return Err(BytesRefused::BadLine);
+        };
+        if let Err(cause) = self.judge_unshare(actor, found, limits) {
+            return Err(BytesRefused::Cause(cause));
+        }
+        self.shares.remove(found.number, actor.number);
+        self.events += 1;
+        F::remember(&mut self.near_threads, near, actor.number);
+        F::remember(&mut self.near_locks, lock_near, found.number);
+        Ok(Accepted::Event(Event::Unshare {
+            thread: actor.number,
+            lock: found.number,
+        }))
+    }
+
+    // What is found of the names of a call.
+    #[inline(always)]
+    fn find_called<F: Finder>(&self, thread: &[u8], object: &[u8], method: &[u8]) -> Option<Called>
+        ensures thread { IfSome result (λ called. IsFoundThread self.now thread.now called.actor) }
+        ensures object { IfSome result (λ called. IsFoundObject self.now object.now called.object) }
+        ensures method { IfSome result
+            (λ called. IsFoundMethod self.now called.object.kind method.now called.method) }
+        ensures named { IsSome result → IsName thread.now × IsName object.now × IsName method.now }
+        ensures none { IfNone result
+            (F.complete ≡ true → ¬ (IsName thread.now × IsName object.now × IsName method.now)) }
+    {
+        let near = near_bytes(thread) % NEAR_LENGTH;
+        let object_near = near_bytes(object) % NEAR_LENGTH;
+        let actor = F::thread(self, self.near_threads[near], thread)?;
+        let object = F::object(self, self.near_objects[object_near], object)?;
+        let method = self.find_method(object.kind, method)?;
+        Some(Called {
+            near,
+            object_near,
+            actor,
+            object,
+            method,
+        })
+    }
+
+    // Counts a call that may follow, with what was found of its names, and with these values.
+    #[inline(always)]
+    fn count_call<F: Finder>(&mut self, called: Called, slots: Slots) -> Accepted
+        requires { self.old.events + 1 < 2 ^ 32 }
+        ensures numbers { result ≡ Accepted.Event (Event.Call
+            (record { thread = called.actor.number; object = called.object.number; kind = called.object.kind; method = called.method.number; slots = slots })) }
+        ensures stands { (kinds : List Kind) (lines : List LineOf) (thread object method : List ℕ) →
+            RosterStandsFor kinds self.old lines → RosterStandsFor kinds self.new
+            (lines ++ LineOf.Event (LineEvent.Call thread object method slots) ∷ []) }
+    {
+        self.events += 1;
+        F::remember(&mut self.near_threads, called.near, called.actor.number);
+        F::remember(
+            &mut self.near_objects,
+            called.object_near,
+            called.object.number,
+        );
+        Accepted::Event(Event::Call(Call {
+            thread: called.actor.number,
+            object: called.object.number,
+            kind: called.object.kind,
+            method: called.method.number,
+            slots,
+        }))
+    }
+
+    // The call with these words behind its keyword. Its values are read before it is judged, which takes memory.
+    #[inline(always)]
+    pub(super) fn call<F: Finder>(&mut self, words: &[u8], limits: &Limits) -> Judged
+        ensures { TakesCall F.complete words.now self.old self.new limits.now result }
+    {
+        let Some((thread, names)) = cut_at_space(words) else {
+            return Err(BytesRefused::BadLine);
+        };
+        let Some((object, rest)) = cut_at_space(names) else {
+            return Err(BytesRefused::BadLine);
+        };
+        let Some((method, values)) = cut_at_space(rest) else {
+            return Err(BytesRefused::BadLine);
+        };
+        let Some(called) = self.find_called::<F>(thread, object, method) else {
+            return Err(BytesRefused::BadLine);
+        };
+        let slots = match read_slots(self.alloc, values) {
+            Ok(slots) => slots,
+            Err(LineRefused::BadLine) => return Err(BytesRefused::BadLine),
+            Err(LineRefused::NoMemory) => return Err(BytesRefused::NoMemory),
+        };
+        let count = slots.items().len();
+        if let Err(cause) = self.judge_call(
+            called.actor,
+            called.object,
+            called.method,
+            count,
+            limits,
+        ) {
+            return Err(BytesRefused::Cause(cause));
+        }
+        Ok(self.count_call::<F>(called, slots))
+    }
+
+    // The same of a call whose words are apart. Its values are copied last.
+    #[inline(never)]
+    pub(super) fn call_apart(
+        &mut self,
+        thread: &Name,
+        object: &Name,
+        method: &Name,
+        slots: &Slots,
+        limits: &Limits,
+    ) -> Judged
+        ensures { TakesNames true ⊤ self.old self.new limits.now
+            (Line.Event (LineEvent.Call thread.now object.now method.now slots.now)) result }
+    {
+        let Some(called) = self.find_called::<Anywhere>(
+            thread.items(),
+            object.items(),
+            method.items(),
+        ) else {
+            return Err(BytesRefused::BadLine);
+        };
+        let count = slots.items().len();
+        if let Err(cause) = self.judge_call(
+            called.actor,
+            called.object,
+            called.method,
+            count,
+            limits,
+        ) {
+            return Err(BytesRefused::Cause(cause));
+        }
+        let slots = slots.copy(self.alloc)?;
+        Ok(self.count_call::<Anywhere>(called, slots))
+    }
+}
