@@ -7,3 +7,4 @@ pub mod ValueLemmas
 pub mod OrderLemmas
 pub mod ByteOrderLemmas
 pub mod ListedLemmas
+pub mod HashingLemmas

@@ -1,4 +1,5 @@
 pub mod Bytes
+pub mod Hashing
 pub mod Limits
 pub mod Names
 pub mod Order

@@ -4,6 +4,7 @@
 mod byte_lists;
 mod byte_order;
 mod counter;
+mod hashing;
 mod limits;
 mod memory;
 mod names;

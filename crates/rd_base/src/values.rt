@@ -6,6 +6,7 @@ ghost use Rattle.rd_base.specs.Order.{bytes_cmp, value_cmp};
 ghost use Rattle.rd_base.specs.Spelling.{IsText};
 
 use crate::byte_order::order;
+use crate::hashing::hash_text;
 use crate::memory::{NoMemory, list_of_bytes};
 use crate::names::Name;
 use std::alloc::{AllocError, Global};
@@ -148,16 +149,16 @@ impl Ord for Text {
 }
 
 impl Hash for Text {
-    ghost use Rattle.std.specs.Prelude.{[], ◌∷◌};
     ghost use Rattle.std.specs.Cmp.Rules.{hashing};
     ghost use Rattle.std.proofs.Common.{rules};
+    ghost use Rattle.rd_base.specs.Hashing.{text_input};
 
-    ghost hash_input = { λ text. text ∷ [] };
+    ghost hash_input = { text_input };
 
     ghost respects_eq = { Prim.search (hashing, rules) };
 
     fn hash<H: Hasher>(&self, state: &mut H) {
-        state.write(self.bytes.as_slice())
+        hash_text(self.bytes.as_slice(), state)
     }
 }
 

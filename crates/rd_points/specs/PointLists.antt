@@ -1,6 +1,7 @@
 -- Access points by themselves: which are the same, and which conflict by a table. This project's profile.
 use Rattle.std.specs.Prelude.{◌≡◌, ℕ, ◌+◌, ◌*◌, Bool, Contains, List, [], ◌∷◌, ◌++◌, Option, Some}
 use Rattle.std.specs.Hash as fed
+use Rattle.rd_base.specs.Hashing.{text_input}
 use Rattle.rd_base.specs.declared.values.Value.{Value}
 use Rattle.rd_base.specs.declared.values.Value.TheVariants.{Int, Text}
 use Rattle.rd_points.specs.contracts.points.PointPartialEq.TheImpl as point_eq
@@ -14,7 +15,7 @@ same_point = (point_eq.ghosts).eq
 -- what a value adds to what a point is hashed by
 abbrev pub value_input : Option Value → List (List ℕ)
 value_input (Some (Int number)) = fed.i64 number
-value_input (Some (Text bytes)) = bytes ∷ []
+value_input (Some (Text bytes)) = text_input bytes
 value_input value = []
 
 -- what a point is hashed by: its object and class as one number, then its value

@@ -32,7 +32,7 @@ impl Point {
     }
 }
 
-/// Hashes a point by its parts, in at most two writes.
+/// Hashes a point by its parts: its object and class as one number, then its value if that is an integer or a text.
 pub fn hash_point<H: Hasher>(object: u32, class: u32, value: Option<&Value>, state: &mut H)
     ensures { state.new ≡ fold H.write state.old
         (point_input object class (option_map (λ value. value.now) value.entry)) }
@@ -40,7 +40,7 @@ pub fn hash_point<H: Hasher>(object: u32, class: u32, value: Option<&Value>, sta
     state.write_u64(u64::from(object) * 4294967296 + u64::from(class));
     match value {
         Some(Value::Int(number)) => state.write_i64(*number),
-        Some(Value::Text(text)) => state.write(text.items()),
+        Some(Value::Text(text)) => text.hash(state),
         _ => {}
     }
 }

@@ -6,6 +6,7 @@ use Rattle.std.specs.Option.{option_eq}
 use Rattle.std.specs.Cmp.Lexicographic.{bytes_decides}
 use Rattle.std.proofs.lemmas.Bool.{true≢false, and_parts, eqb-true}
 use Rattle.std.proofs.lemmas.Bool.Decides.{Decides-int_eq}
+use Rattle.rd_base.specs.Hashing.{text_input}
 use Rattle.rd_base.specs.declared.values.Value.{Value}
 use Rattle.rd_base.specs.declared.values.Value.TheVariants.{Nil, Bool as Truth, Int, Text}
 use Rattle.rd_base.specs.contracts.values.ValuePartialEq.TheImpl as value_eq
@@ -29,7 +30,7 @@ some_alike (Int a) (Text b) same = absurd (true≢false (sym same))
 some_alike (Text a) Nil same = absurd (true≢false (sym same))
 some_alike (Text a) (Truth b) same = absurd (true≢false (sym same))
 some_alike (Text a) (Int b) same = absurd (true≢false (sym same))
-some_alike (Text a) (Text b) same = ap (λ bytes. bytes ∷ []) ((bytes_decides a b).0 same)
+some_alike (Text a) (Text b) same = ap text_input ((bytes_decides a b).0 same)
 
 alike : (v w : Option Value) → option_eq value_eq.ghosts.eq v w ≡ true → value_input v ≡ value_input w
 alike None None same = refl
