@@ -1,10 +1,11 @@
 -- The parts of a call.
-use Rattle.std.proofs.Common.{◌≡◌, inl, inr, ℕ, ◌+◌, ◌*◌, ◌<◌, ◌≤◌, Bool, false, List, [], ◌∷◌, ◌++◌, length, Option, Some, None, sym, ap, subst, ◌∙◌, arith}
+use Rattle.std.proofs.Common.{◌≡◌, inl, inr, ℕ, ◌+◌, ◌*◌, ◌<◌, ◌≤◌, Bool, false, List, [], ◌∷◌, ◌++◌, length, Option, Some, None, Result, Ok, Err, sym, ap, subst, ◌∙◌, arith, true≢false}
 use Rattle.std.proofs.Math.Nat.{mul-le-mul_left}
-use Rattle.std.specs.Prelude.{Contains, IfNone, IfSome, MatchOption, slice_get, slice_index_or}
+use Rattle.std.specs.Prelude.{Contains, IfNone, IfSome, IsErr, MatchOption, slice_get, slice_index_or}
 use Rattle.std.specs.List.{sum_by}
 use Rattle.std.proofs.lemmas.List.{get_or_default}
 use Rattle.std.proofs.lemmas.Option.{slice_get_within}
+use Rattle.rd_base.specs.declared.memory.NoMemory.{NoMemory}
 use Rattle.rd_clock.specs.declared.clock.Stamp.{Stamp}
 use Rattle.rd_ecl.specs.Specified.{SpecifiedKind}
 use Rattle.rd_event.specs.declared.events.Call.{Call as CallOf}
@@ -20,9 +21,12 @@ use Rattle.rd_classes.specs.Merged.{merged}
 use Rattle.rd_points.specs.Compiled.{compiled}
 use Rattle.rd_points.specs.Tables.{PointTable}
 use Rattle.rd_store.specs.Stores.{cell_count}
+use Rattle.rd_store.specs.declared.Race.{Race}
 use Rattle.rd_store.specs.declared.Witness.{Witness}
-use Rattle.rd_detect.proofs.LookLemmas.{same_cell}
-use Rattle.rd_detect.specs.Detect.{AreBelow, Detecting, IsCell, IsNextCall, IsSweptWhere, IsCallKept, IsCallLeft, asking_bound, detection_bound, is_due, no_table, table_at, touched_points}
+use Rattle.rd_detect.proofs.LookLemmas.{same_cell, same_joined}
+use Rattle.rd_detect.proofs.NewCellLemmas.{new_same}
+use Rattle.rd_detect.specs.Detect.{AreBelow, Detecting, IsCell, IsNextCall, IsSweptWhere, IsCallKept, IsCallLeft, asking_bound, detection_bound, is_due, new_cells_at, no_table, table_at, touched_points}
+use Rattle.rd_detect.specs.Taking.{JudgesCall}
 
 -- ---- tables
 
@@ -63,6 +67,14 @@ pub floor_is : (floor : Option (List ℕ)) (threads : List Tracked) (P : Type 0)
 floor_is None threads P none = tt
 floor_is (Some floor) threads P is = is
 
+-- all stays, and stays again
+pub left_joined : (old middle new : Detecting) → IsCallLeft old middle → IsCallLeft middle new → IsCallLeft old new
+left_joined old middle new one other = record {
+  tables = other.tables ∙ one.tables;
+  store = same_joined old.store middle.store new.store one.store other.store;
+  kept = other.kept ∙ one.kept;
+}
+
 -- where room was made first, what a call leaves is as if it hadn't been
 pub taken_after : (threads : List Tracked) (old middle new : Detecting) (call : CallOf) (witness : Witness) → IsCallLeft old middle → IsCallKept threads middle new call witness → IsCallKept threads old new call witness
 taken_after threads old middle new call witness same taken = record {
@@ -75,10 +87,24 @@ taken_after threads old middle new call witness same taken = record {
       | inr kept ↦ inr (kept ∙ same_cell old.store middle.store same.store point call.thread)
     ];
     others = λ point other differ. taken.touched.others point other differ ∙ same_cell old.store middle.store same.store point other;
-    count = omega (arith, taken.touched.count, same.store.count, ap (λ t. length (touched_points t call)) same.tables);
+    count = omega (
+      arith,
+      taken.touched.count,
+      same.store.count,
+      new_same old.store middle.store (touched_points middle.tables call) call.thread (same_cell old.store middle.store same.store),
+      ap (λ t. new_cells_at old.store (touched_points t call) call.thread) same.tables,
+    );
   };
   swept = subst (λ kept. IsSweptWhere (is_due (cell_count taken.store) kept) threads kept taken.store new.store new.kept) same.kept taken.swept;
 }
+
+-- where memory ran out
+pub left_unjudged : (old new : Detecting) (tracking : Tracking) (line place : ℕ) (call : CallOf) (stamp : Stamp)
+    (result : Result (Option Race) NoMemory) (before after : ℕ) → IsErr result → IsCallLeft old new → after ≤ before + detection_bound old.tables (length tracking.threads) call
+    → JudgesCall old new tracking line place call stamp result before after
+left_unjudged old new tracking line place call stamp (Ok answer) before after none left cost = absurd (true≢false (sym none))
+left_unjudged old new tracking line place call stamp (Err e) before after none left cost =
+    record { answer = tt; stands = tt; taken = tt; err = left; cost = cost }
 
 -- ---- the steps
 

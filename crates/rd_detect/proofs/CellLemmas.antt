@@ -196,9 +196,9 @@ module _ (tell : MergedTell) (kinds : List SpecifiedKind) (detecting : Detecting
       | inl same ↦ elim (touched.rest point) [
         | inl touches ↦ fresh point thread seen (sym same) touches
             (same_Some seen (kept line) (sym cell ∙ ap (cell_at new.store point) same ∙ touched.own point touches))
-        | inr as_before ↦ older point thread seen (subst (λ t. cell_at detecting.store point t ≡ Some seen) (sym same) (sym as_before ∙ ap (cell_at new.store point) (sym same) ∙ cell))
+        | inr as_before ↦ older point thread seen cell (subst (λ t. cell_at detecting.store point t ≡ Some seen) (sym same) (sym as_before ∙ ap (cell_at new.store point) (sym same) ∙ cell))
       ]
-      | inr other ↦ older point thread seen (sym (touched.others point thread other) ∙ cell)
+      | inr other ↦ older point thread seen cell (sym (touched.others point thread other) ∙ cell)
     ];
     last = λ i other point at touches.
         let before : Contains (touched_points detecting.tables other) point = subst (λ t. Contains (touched_points t other) point) tables touches in
@@ -217,13 +217,27 @@ module _ (tell : MergedTell) (kinds : List SpecifiedKind) (detecting : Detecting
         ];
   }
     where
-      older : (point : Point) (thread : ℕ) (seen : Witness) → cell_at detecting.store point thread ≡ Some seen → IsCell new.tables (lines ++ line ∷ []) now point thread seen
-      older point thread seen cell =
+      -- where the call touches the point, it is that of its thread's cell there
+      older : (point : Point) (thread : ℕ) (seen : Witness) → cell_at new.store point thread ≡ Some seen → cell_at detecting.store point thread ≡ Some seen
+          → IsCell new.tables (lines ++ line ∷ []) now point thread seen
+      older point thread seen held cell =
           let was : IsCell detecting.tables lines es point thread seen = stands.cells point thread seen cell in
           record {
             is = witness_longer lines (line ∷ []) es (Call call ∷ []) seen stands.lengths was.is;
             of_thread = was.of_thread;
             touches = subst (λ t. Contains (touched_points t seen.call) point) (sym tables) was.touches;
+            last = λ i other at own touches.
+                let before : Contains (touched_points detecting.tables other) point = subst (λ t. Contains (touched_points t other) point) tables touches in
+                elim (at_more es (Call call) (Call other) i at) [
+                  | inl old ↦ was.last i other old.1 own before
+                  | inr new_one ↦
+                      let same : other ≡ call = same_Call other call new_one.1 in
+                      let here : Contains (touched_points detecting.tables call) point
+                      = subst (λ c. Contains (touched_points detecting.tables c) point) same before in
+                      let mine : call.thread ≡ thread = ap (λ (c : CallOf). c.thread) (sym same) ∙ own in
+                      let is : seen ≡ kept line = same_Some seen (kept line) (sym held ∙ ap (cell_at new.store point) (sym mine) ∙ touched.own point here) in
+                      omega (arith, new_one.0, next.at_end, ap (λ (w : Witness). w.place) is)
+                ];
           }
 
       fresh : (point : Point) (thread : ℕ) (seen : Witness) → call.thread ≡ thread → Contains (touched_points detecting.tables call) point → seen ≡ kept line
@@ -232,6 +246,7 @@ module _ (tell : MergedTell) (kinds : List SpecifiedKind) (detecting : Detecting
         is = newest_witness lines es call stamp line place stands.lengths next.at_end next.stamped;
         of_thread = same;
         touches = subst (λ t. Contains (touched_points t call) point) (sym tables) touches;
+        last = λ i other at own before. omega (arith, slice_get_within now i (Call other) at, length_more es (Call call), next.at_end);
       })
 
       held_then : (i : ℕ) (other : CallOf) (point : Point) → i < length es → IsInCell detecting.store point other i → IsInCell new.store point other i
@@ -260,6 +275,10 @@ stands_quiet kinds detecting roots lines es line e other formed stands = record 
         is = witness_longer lines (line ∷ []) es (e ∷ []) seen stands.lengths was.is;
         of_thread = was.of_thread;
         touches = was.touches;
+        last = λ i call at own touches. elim (at_more es e (Call call) i at) [
+          | inl old ↦ was.last i call old.1 own touches
+          | inr new ↦ absurd (other call (sym new.1))
+        ];
       };
   last = λ i call point at touches. elim (at_more es e (Call call) i at) [
     | inl old ↦ elim (stands.last i call point old.1 touches) [ inl held ↦ inl held | inr dead ↦ inr (dead_longer roots es e i formed.formed dead) ]

@@ -4,6 +4,7 @@ pub mod CallLemmas
 pub mod CellLemmas
 pub mod DeadLemmas
 pub mod LookLemmas
+pub mod NewCellLemmas
 pub mod OverLemmas
 pub mod OwnLemmas
 pub mod SweepLemmas

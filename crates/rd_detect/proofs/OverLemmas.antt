@@ -10,7 +10,8 @@ use Rattle.rd_store.specs.Stores.{IsTouched, PointCells, cell_count}
 use Rattle.rd_store.specs.declared.Witness.{Witness}
 use Rattle.rd_detect.specs.Detect.{AreTouched, Detecting, IsSweptWhere, IsCallKept, is_due, touched_points}
 use Rattle.rd_detect.proofs.TouchLemmas.{none_in}
-use Rattle.rd_detect.proofs.TouchingLemmas.{PointsTold, touched_more}
+use Rattle.rd_detect.proofs.NewCellLemmas.{PointsTold}
+use Rattle.rd_detect.proofs.TouchingLemmas.{touched_more}
 
 -- the only one
 pub only_one : {X : Type 0} (xs : List X) (x : X) → length xs ≡ 1 → slice_get xs 0 ≡ Some x → xs ≡ x ∷ []

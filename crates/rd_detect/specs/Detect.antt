@@ -1,6 +1,6 @@
 -- What a detector holds of a list of events: this project's profile.
 use Rattle.std.specs.Prelude.{◌≡◌, ◌⊎◌, ℕ, ◌+◌, ◌*◌, ◌<◌, ◌≤◌, nat_le, nat_lt, Bool, true, false, ◌&&◌, if◌then◌else◌, List, [], ◌∷◌, ◌++◌, All, Contains, length, map, flat_map, max, min, Option, None, Some, slice_get, slice_index_or}
-use Rattle.std.specs.List.{sum_by}
+use Rattle.std.specs.List.{list_any, sum_by}
 use Rattle.rd_event.specs.declared.events.Call.{Call as CallOf}
 use Rattle.rd_event.specs.declared.events.Event.{Event}
 use Rattle.rd_event.specs.declared.events.Event.TheVariants.{Call}
@@ -13,11 +13,12 @@ use Rattle.rd_hb.specs.Tracker.{IsFloor, IsStamp, TrackerStandsFor, Tracking}
 use Rattle.rd_hb.specs.declared.tracker.Tracked.{Tracked}
 use Rattle.rd_order.specs.EventLists.{IsKnownThread, WellFormedWith, joins}
 use Rattle.rd_points.specs.Compiled.{compiled}
+use Rattle.rd_points.specs.PointLists.{same_point}
 use Rattle.rd_points.specs.Points.{value_of_slot}
 use Rattle.rd_points.specs.Tables.{PointTable, conflicts_at, touched}
 use Rattle.rd_points.specs.declared.points.Point.{Point}
 use Rattle.rd_points.specs.declared.touches.Touch.{Touch}
-use Rattle.rd_store.specs.Stores.{IsCovered, IsSameStore, IsSwept, PointCells, cell_at, cell_count}
+use Rattle.rd_store.specs.Stores.{IsCovered, IsSameStore, IsSwept, PointCells, cell_at, cell_count, new_cells}
 use Rattle.rd_store.specs.declared.Race.{Race}
 use Rattle.rd_store.specs.declared.Witness.{Witness}
 use Rattle.rd_races.specs.Commuting.{Commute}
@@ -77,11 +78,13 @@ pub record IsWitness (lines : List ℕ) (es : List Event) (witness : Witness) : 
   pub line : slice_get lines witness.place ≡ Some witness.line
   pub stamp : IsStamp es witness.place witness.stamp
 
--- a cell has a call of the thread that touches the point
+-- a cell has the last call of the thread that touches the point
 pub record IsCell (tables : List PointTable) (lines : List ℕ) (es : List Event) (point : Point) (thread : ℕ) (witness : Witness) : Type 0 where
   pub is : IsWitness lines es witness
   pub of_thread : witness.call.thread ≡ thread
   pub touches : Contains (touched_points tables witness.call) point
+  pub last : (i : ℕ) (call : CallOf) → slice_get es i ≡ Some (Call call) → call.thread ≡ thread
+      → Contains (touched_points tables call) point → i ≤ witness.place
 
 -- each thread that may still act knows the event at this place
 abbrev pub IsDead : (ℕ → Bool) → List Event → ℕ → Type 0
@@ -165,12 +168,18 @@ later_of (Some one) (Some other) = if nat_lt one.place other.place then Some oth
 
 -- ---- what a call leaves
 
--- the cells of a thread at these points are this one, and all others are as before
+-- at how many of these points the thread has no cell, a point that stands there more than once counted once
+abbrev pub new_cells_at : List PointCells → List Point → ℕ → ℕ
+new_cells_at store [] thread = 0
+new_cells_at store (point ∷ points) thread =
+    (if list_any (same_point point) points then 0 else new_cells store point thread) + new_cells_at store points thread
+
+-- the cells of a thread at these points are this one, and all others are as before; each point where it had none has one more
 pub record AreTouched (old new : List PointCells) (points : List Point) (thread : ℕ) (witness : Witness) : Type 0 where
   pub own : (point : Point) → Contains points point → cell_at new point thread ≡ Some witness
   pub rest : (point : Point) → Contains points point ⊎ (cell_at new point thread ≡ cell_at old point thread)
   pub others : (point : Point) (other : ℕ) → ¬ (other ≡ thread) → cell_at new point other ≡ cell_at old point other
-  pub count : cell_count new ≤ cell_count old + length points
+  pub count : cell_count new ≡ cell_count old + new_cells_at old points thread
 
 -- a sweep is due where there are so many cells, and so many were left by the last one
 abbrev pub is_due : ℕ → ℕ → Bool

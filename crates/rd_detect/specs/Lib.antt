@@ -1,2 +1,3 @@
 pub mod Detect
 pub mod Seats
+pub mod Taking

@@ -1,19 +1,19 @@
 //! The detector.
-ghost use Rattle.std.specs.Prelude.{◌≡◌, ℕ, ◌+◌, ◌*◌, ◌<◌, ◌≤◌, Bool, List, [], ◌∷◌, ◌++◌, flat_map, length, IfOk, OnOk, OnErr, IfNone, IfSome, MatchOption, IsTrue, false, option_map};
+ghost use Rattle.std.specs.Prelude.{◌≡◌, ℕ, ◌+◌, ◌*◌, ◌<◌, ◌≤◌, Bool, List, [], flat_map, length, IfOk, OnOk, OnErr, IfNone, IfSome, MatchOption, IsTrue, false, option_map};
 ghost use Rattle.std.specs.List.{sum_by};
 ghost use Rattle.rd_classes.specs.Merged.{merged};
-ghost use Rattle.rd_detect.specs.Detect.{Answers, AreBelow, IsAnswer, IsLatestOf, IsNextCall, IsRaceOf, IsSweptWhere, IsCallKept, IsCallLeft, DetectorStandsFor, asking_bound, conflicting_points, detection_bound, is_due, table_at, tables_of, touched_points};
+ghost use Rattle.rd_detect.specs.Detect.{Answers, AreBelow, IsLatestOf, IsNextCall, IsRaceOf, IsSweptWhere, IsCallKept, IsCallLeft, DetectorStandsFor, asking_bound, conflicting_points, is_due, table_at, tables_of, touched_points};
 ghost use Rattle.rd_detect.specs.Seats.{AreSeats};
+ghost use Rattle.rd_detect.specs.Taking.{JudgesCall};
 ghost use Rattle.rd_clock.specs.Stamps.{lent_stamp};
 ghost use Rattle.rd_ecl.specs.Kinds.{kinds_of};
 ghost use Rattle.rd_ecl.specs.Specified.{SpecifiedKind};
 ghost use Rattle.rd_event.specs.declared.events.Event.{Event as EventOf};
-ghost use Rattle.rd_event.specs.declared.events.Event.TheVariants as event;
 ghost use Rattle.rd_hb.specs.Tracker.{IsFloor, last_stamp};
 ghost use Rattle.rd_hb.specs.declared.tracker.Tracked.{Tracked as TrackedOf};
 ghost use Rattle.rd_order.specs.EventLists.{WellFormedWith};
 ghost use Rattle.rd_store.specs.Lent.{lent_witness};
-ghost use Rattle.rd_store.specs.Stores.{cell_count};
+ghost use Rattle.rd_store.specs.Stores.{IsOneEach, cell_count};
 
 #[cfg(test)]
 mod tests;
@@ -225,19 +225,8 @@ impl Detector {
     ) -> Result<Option<Race>, NoMemory>
         requires next { (kinds : List SpecifiedKind) × (roots : ℕ → Bool) × (lines : List ℕ) × (es : List EventOf)
             × IsNextCall kinds self.old tracker.now roots lines es seen.now.place seen.now.call.now (lent_stamp seen.now.stamp) }
-
-        // the call is judged and kept
-        ensures answer { IfOk result (λ answer. (kinds : List SpecifiedKind) (roots : ℕ → Bool) (lines : List ℕ) (es : List EventOf)
-            → IsNextCall kinds self.old tracker.now roots lines es seen.now.place seen.now.call.now (lent_stamp seen.now.stamp)
-            → IsAnswer kinds (lines ++ seen.now.line ∷ []) (es ++ event.Call seen.now.call.now ∷ []) seen.now.place answer) }
-        ensures stands { OnOk result ((kinds : List SpecifiedKind) (roots : ℕ → Bool) (lines : List ℕ) (es : List EventOf)
-            → IsNextCall kinds self.old tracker.now roots lines es seen.now.place seen.now.call.now (lent_stamp seen.now.stamp)
-            → DetectorStandsFor kinds self.new roots (lines ++ seen.now.line ∷ []) (es ++ event.Call seen.now.call.now ∷ [])) }
-
-        // what it leaves, and a bound of the steps
-        ensures taken { OnOk result (IsCallKept tracker.now.threads self.old self.new seen.now.call.now (lent_witness seen.now)) }
-        ensures err { OnErr result (IsCallLeft self.old self.new) }
-        ensures cost { steps.new ≤ steps.old + detection_bound self.old.tables (length tracker.now.threads) seen.now.call.now }
+        ensures { JudgesCall self.old self.new tracker.now seen.now.line seen.now.place seen.now.call.now (lent_stamp seen.now.stamp)
+            result steps.old steps.new }
     {
         law_of_merging();
         let mut seats = ArrayVec::new();
@@ -264,20 +253,7 @@ impl Detector {
     ) -> Result<Option<Race>, NoMemory>
         requires next { (kinds : List SpecifiedKind) × (roots : ℕ → Bool) × (lines : List ℕ) × (es : List EventOf)
             × IsNextCall kinds self.old tracker.now roots lines es place call.now stamp.now }
-
-        // the call is judged and kept
-        ensures answer { IfOk result (λ answer. (kinds : List SpecifiedKind) (roots : ℕ → Bool) (lines : List ℕ) (es : List EventOf)
-            → IsNextCall kinds self.old tracker.now roots lines es place call.now stamp.now
-            → IsAnswer kinds (lines ++ line ∷ []) (es ++ event.Call call.now ∷ []) place answer) }
-        ensures stands { OnOk result ((kinds : List SpecifiedKind) (roots : ℕ → Bool) (lines : List ℕ) (es : List EventOf)
-            → IsNextCall kinds self.old tracker.now roots lines es place call.now stamp.now
-            → DetectorStandsFor kinds self.new roots (lines ++ line ∷ []) (es ++ event.Call call.now ∷ [])) }
-
-        // what it leaves, and a bound of the steps
-        ensures taken { OnOk result (IsCallKept tracker.now.threads self.old self.new call.now
-            (record { line = line; place = place; call = call.now; stamp = stamp.now })) }
-        ensures err { OnErr result (IsCallLeft self.old self.new) }
-        ensures cost { steps.new ≤ steps.old + detection_bound self.old.tables (length tracker.now.threads) call.now }
+        ensures { JudgesCall self.old self.new tracker.now line place call.now stamp.now result steps.old steps.new }
     {
         let seen = WitnessRef {
             line,
@@ -299,20 +275,7 @@ impl Detector {
     ) -> Result<Option<Race>, NoMemory>
         requires next { (kinds : List SpecifiedKind) × (roots : ℕ → Bool) × (lines : List ℕ) × (es : List EventOf)
             × IsNextCall kinds self.old tracker.now roots lines es place call.now (last_stamp tracker.now.threads call.now.thread) }
-
-        // the call is judged and kept
-        ensures answer { IfOk result (λ answer. (kinds : List SpecifiedKind) (roots : ℕ → Bool) (lines : List ℕ) (es : List EventOf)
-            → IsNextCall kinds self.old tracker.now roots lines es place call.now (last_stamp tracker.now.threads call.now.thread)
-            → IsAnswer kinds (lines ++ line ∷ []) (es ++ event.Call call.now ∷ []) place answer) }
-        ensures stands { OnOk result ((kinds : List SpecifiedKind) (roots : ℕ → Bool) (lines : List ℕ) (es : List EventOf)
-            → IsNextCall kinds self.old tracker.now roots lines es place call.now (last_stamp tracker.now.threads call.now.thread)
-            → DetectorStandsFor kinds self.new roots (lines ++ line ∷ []) (es ++ event.Call call.now ∷ [])) }
-
-        // what it leaves, and a bound of the steps
-        ensures taken { OnOk result (IsCallKept tracker.now.threads self.old self.new call.now
-            (record { line = line; place = place; call = call.now; stamp = last_stamp tracker.now.threads call.now.thread })) }
-        ensures err { OnErr result (IsCallLeft self.old self.new) }
-        ensures cost { steps.new ≤ steps.old + detection_bound self.old.tables (length tracker.now.threads) call.now }
+        ensures { JudgesCall self.old self.new tracker.now line place call.now (last_stamp tracker.now.threads call.now.thread) result steps.old steps.new }
     {
         let seen = WitnessRef {
             line,
@@ -325,7 +288,8 @@ impl Detector {
 
     /// How many cells there are: one for each point and each thread that touched it, but for those that were swept. It takes no memory.
     pub fn cells(&self) -> u128
-        ensures { result ≡ cell_count self.now.store }
+        ensures count { result ≡ cell_count self.now.store }
+        ensures one_each { IsOneEach self.now.store }
     {
         self.store.cells()
     }

@@ -61,6 +61,11 @@ abbrev pub HasOneEach : List Cell → Type 0
 HasOneEach [] = Unit {0}
 HasOneEach (cell ∷ cells) = (cell_of cells cell.thread ≡ None) × HasOneEach cells
 
+-- each point is entered once, and has at most one cell of each thread
+pub record IsOneEach (store : List PointCells) : Type 0 where
+  pub once : (i j : ℕ) (point : Point) → point_at store i ≡ Some point → point_at store j ≡ Some point → i ≡ j
+  pub each : (point : Point) → HasOneEach (cells_at store point)
+
 -- how many cells are of other threads
 abbrev pub others_of : List Cell → ℕ → ℕ
 others_of cells thread = count_by (λ cell. not (cell.thread == thread)) cells

@@ -1,9 +1,9 @@
 //! The cells of access points.
-ghost use Rattle.std.specs.Prelude.{◌≡◌, ℕ, Some, false, ◌+◌, ◌*◌, ◌<◌, ◌≤◌, ◌⊎◌, not, [], Contains, length, map, option_map, is_some, OnOk, OnErr, IfOk, IsSome, IsTrue, if◌then◌else◌};
+ghost use Rattle.std.specs.Prelude.{◌≡◌, false, ◌+◌, ◌*◌, ◌<◌, ◌≤◌, ◌⊎◌, not, [], Contains, length, map, option_map, is_some, OnOk, OnErr, IfOk, IsSome, IsTrue, if◌then◌else◌};
 ghost use Rattle.rd_points.specs.declared.points.Point.{Point as PointOf};
 ghost use Rattle.rd_store.specs.StoreParts.{cell, cells_of, room_of, later_found, latest_in_cells, live, swept_at, with_cell};
 ghost use Rattle.rd_store.specs.Lent.{lent_witness};
-ghost use Rattle.rd_store.specs.Stores.{HasOneEach, HasRoom, IsLatestUncovered, IsSameStore, IsSwept, IsTouched, cell_count, cell_of, cells_at, is_covered, others_of, place_of, point_at};
+ghost use Rattle.rd_store.specs.Stores.{HasOneEach, HasRoom, IsLatestUncovered, IsOneEach, IsSameStore, IsSwept, IsTouched, cell_count, cell_of, cells_at, is_covered, others_of, place_of};
 
 mod indexed;
 
@@ -273,12 +273,10 @@ impl Store {
         self.touch_at(seat, thread, witness, steps);
     }
 
-    /// How many points are entered, none of them twice. It takes no memory.
+    /// How many points are entered, none of them twice, each with at most one cell for each thread. It takes no memory.
     pub fn entered(&self) -> usize
         ensures len { result ≡ length self.now }
-        ensures once { (i j : ℕ) (point : PointOf) → point_at self.now i ≡ Some point
-            → point_at self.now j ≡ Some point → i ≡ j }
-        ensures one_each { (point : PointOf) → HasOneEach (cells_at self.now point) }
+        ensures one_each { IsOneEach self.now }
     {
         law_of_equal_points();
         self.points.len()
@@ -322,10 +320,13 @@ impl Store {
         }
     }
 
-    /// How many cells there are. It takes no memory.
+    /// How many cells there are, at most one for each thread at a point that is entered. It takes no memory.
     pub fn cells(&self) -> u128
-        ensures { result ≡ cell_count self.now }
+        ensures count { result ≡ cell_count self.now }
+        ensures one_each { IsOneEach self.now }
     {
+        // `entered` is called for its clause that no point stands there twice.
+        let _entered = self.entered();
         self.count
     }
 }

@@ -1,61 +1,62 @@
 use Rattle.std.proofs.Common.{◌≡◌, ◌∷◌, [], ◌++◌, None, length, refl, ap, sym, subst, ◌∙◌, arith}
 use Rattle.std.specs.Prelude.{option_map}
-use Rattle.std.proofs.lemmas.Result.{IfOk-weaker, on_ok_weaker}
+use Rattle.std.proofs.lemmas.Result.{IfOk-weaker, on_err_weaker, on_ok_weaker}
 use Rattle.std.proofs.lemmas.Grind.{elements}
 use Rattle.rd_clock.specs.Stamps.{lent_stamp}
 use Rattle.rd_event.specs.declared.events.Event.TheVariants as event
 use Rattle.rd_store.specs.Lent.{lent_witness}
-use Rattle.rd_detect.specs.Detect.{Detecting, IsAnswer, IsLatestOf, IsCallKept, asked_points, tables_of, touched_points}
+use Rattle.rd_detect.specs.Detect.{Detecting, IsAnswer, IsLatestOf, IsCallKept, IsCallLeft, asked_points, tables_of, touched_points}
 use Rattle.rd_detect.specs.Seats.{AreSeats}
-use Rattle.rd_detect.proofs.CallLemmas.{asked_bound, below, own_below, taken_after, tried_bound}
+use Rattle.rd_detect.proofs.CallLemmas.{asked_bound, below, left_joined, left_unjudged, own_below, taken_after, tried_bound}
 use Rattle.rd_detect.proofs.CellLemmas.{is_answer}
 use Rattle.rd_detect.proofs.OverLemmas.{none_found}
 use Rattle.rd_detect.proofs.SweepLemmas.{stands_taken}
 use Rattle.rd_detect.proofs.detector.Detector.judge.Goals as goal
 
-pub returns-in_err-latest-clause-cost : goal.returns-in_err-latest-clause-cost
-returns-in_err-latest-clause-cost g c = asked_bound c.args.self.now.tables (length c.args.tracker.now.threads) c.args.seen.now.call.now c.args.steps.now c.look.new.steps
-    (c.look.ensures.cost (length c.args.tracker.now.threads) (below c.requires.next.0 c.args.self.now c.args.tracker.now c.requires.next.1 c.requires.next.2 c.requires.next.3 c.args.seen.now.place c.args.seen.now.call.now (lent_stamp c.args.seen.now.stamp) c.requires.next.4))
+pub returns-in_err-latest : goal.returns-in_err-latest
+returns-in_err-latest g c = left_unjudged c.args.self.now c.look.new.self c.args.tracker.now _ _ _ _ _ _ _ c.from_residual.ensures.0
+    c.look.ensures.same
+    (asked_bound c.args.self.now.tables (length c.args.tracker.now.threads) c.args.seen.now.call.now c.args.steps.now c.look.new.steps
+    (c.look.ensures.cost (length c.args.tracker.now.threads) (below c.requires.next.0 c.args.self.now c.args.tracker.now c.requires.next.1 c.requires.next.2 c.requires.next.3 c.args.seen.now.place c.args.seen.now.call.now (lent_stamp c.args.seen.now.stamp) c.requires.next.4)))
 
 pub keep_over-requires : goal.keep_over-requires
 keep_over-requires g c =
     subst (AreSeats c.look.new.self.store c.args.seen.now.call.now.thread (touched_points c.look.new.self.tables c.args.seen.now.call.now)) (sym c.as_slice.ensures.value)
     (subst (λ tables. AreSeats c.look.new.self.store c.args.seen.now.call.now.thread (touched_points tables c.args.seen.now.call.now) c.look.new.seats.items) (sym c.look.ensures.same.tables) c.in_ok-latest.ensures.seats)
 
-pub returns-in_err-keep_over-clause-cost : goal.returns-in_err-keep_over-clause-cost
-returns-in_err-keep_over-clause-cost g c = tried_bound c.args.self.now.tables (length c.args.tracker.now.threads) c.args.seen.now.call.now c.args.steps.now c.look.new.steps
+pub returns-in_err-keep_over : goal.returns-in_err-keep_over
+returns-in_err-keep_over g c = left_unjudged c.args.self.now c.keep_over.new.self c.args.tracker.now _ _ _ _ _ _ _ c.from_residual-in_err-keep_over.ensures.0
+    (subst (IsCallLeft c.args.self.now) (sym c.in_err-keep_over.ensures.err) c.look.ensures.same)
+    (tried_bound c.args.self.now.tables (length c.args.tracker.now.threads) c.args.seen.now.call.now c.args.steps.now c.look.new.steps
     (c.look.ensures.cost (length c.args.tracker.now.threads) (below c.requires.next.0 c.args.self.now c.args.tracker.now c.requires.next.1 c.requires.next.2 c.requires.next.3 c.args.seen.now.place c.args.seen.now.call.now (lent_stamp c.args.seen.now.stamp) c.requires.next.4))
     (length c.as_slice.result.now) c.keep_over.new.steps (omega (arith, own_below c.requires.next.0 c.args.self.now c.args.tracker.now c.requires.next.1 c.requires.next.2 c.requires.next.3 c.args.seen.now.place c.args.seen.now.call.now (lent_stamp c.args.seen.now.stamp) c.requires.next.4))
-    (ap length c.as_slice.ensures.value ∙ c.in_ok-latest.ensures.seats.long) (omega (arith, c.keep_over.ensures.cost))
+    (ap length c.as_slice.ensures.value ∙ c.in_ok-latest.ensures.seats.long) (omega (arith, c.keep_over.ensures.cost)))
 
-pub returns-then-branch-clause-answer : goal.returns-then-branch-clause-answer
-returns-then-branch-clause-answer g c = λ kinds roots lines es next.
-    subst (λ place. IsAnswer kinds (lines ++ c.args.seen.now.line ∷ []) (es ++ event.Call c.args.seen.now.call.now ∷ []) place None) (sym next.at_end)
-    (is_answer c.law_of_merging.ensures.tells kinds c.args.self.now c.args.tracker.now roots lines es c.args.seen.now.place c.args.seen.now.call.now (lent_stamp c.args.seen.now.stamp) next c.args.seen.now.line
-    None
-    (subst (λ latest. IsLatestOf c.args.self.now.store (asked_points (tables_of kinds) c.args.seen.now.call.now) c.args.seen.now.stamp.clock.now latest) nothing
-    (subst (λ tables. IsLatestOf c.args.self.now.store (asked_points tables c.args.seen.now.call.now) c.args.seen.now.stamp.clock.now (option_map (λ held. held.value) c.in_ok-latest.latest))
-    next.stands.tables_are c.in_ok-latest.ensures.latest))
-    None refl)
+pub returns-then-branch : goal.returns-then-branch
+returns-then-branch g c = record {
+  answer = λ kinds roots lines es next.
+      subst (λ place. IsAnswer kinds (lines ++ c.args.seen.now.line ∷ []) (es ++ event.Call c.args.seen.now.call.now ∷ []) place None) (sym next.at_end)
+      (is_answer c.law_of_merging.ensures.tells kinds c.args.self.now c.args.tracker.now roots lines es c.args.seen.now.place c.args.seen.now.call.now (lent_stamp c.args.seen.now.stamp) next c.args.seen.now.line
+      None
+      (subst (λ latest. IsLatestOf c.args.self.now.store (asked_points (tables_of kinds) c.args.seen.now.call.now) c.args.seen.now.stamp.clock.now latest) nothing
+      (subst (λ tables. IsLatestOf c.args.self.now.store (asked_points tables c.args.seen.now.call.now) c.args.seen.now.stamp.clock.now (option_map (λ held. held.value) c.in_ok-latest.latest))
+      next.stands.tables_are c.in_ok-latest.ensures.latest))
+      None refl);
+  stands = λ kinds roots lines es next.
+      stands_taken kinds c.args.self.now c.keep_over.new.self c.args.tracker.now roots lines es c.args.seen.now.place c.args.seen.now.call.now (lent_stamp c.args.seen.now.stamp) c.args.seen.now.line c.law_of_merging.ensures.tells next
+      (taken_after c.args.tracker.now.threads c.args.self.now c.look.new.self c.keep_over.new.self c.args.seen.now.call.now _ c.look.ensures.same
+      (c.in_ok-keep_over.ensures.taken c.if-branch.true c.args.tracker.now.threads));
+  taken = taken_after c.args.tracker.now.threads c.args.self.now c.look.new.self c.keep_over.new.self c.args.seen.now.call.now _ c.look.ensures.same
+      (c.in_ok-keep_over.ensures.taken c.if-branch.true c.args.tracker.now.threads);
+  err = tt;
+  cost = tried_bound c.args.self.now.tables (length c.args.tracker.now.threads) c.args.seen.now.call.now c.args.steps.now c.look.new.steps
+      (c.look.ensures.cost (length c.args.tracker.now.threads) (below c.requires.next.0 c.args.self.now c.args.tracker.now c.requires.next.1 c.requires.next.2 c.requires.next.3 c.args.seen.now.place c.args.seen.now.call.now (lent_stamp c.args.seen.now.stamp) c.requires.next.4))
+      (length c.as_slice.result.now) c.keep_over.new.steps (omega (arith, own_below c.requires.next.0 c.args.self.now c.args.tracker.now c.requires.next.1 c.requires.next.2 c.requires.next.3 c.args.seen.now.place c.args.seen.now.call.now (lent_stamp c.args.seen.now.stamp) c.requires.next.4))
+      (ap length c.as_slice.ensures.value ∙ c.in_ok-latest.ensures.seats.long) (omega (arith, c.keep_over.ensures.cost));
+}
   where
     nothing : option_map (λ held. held.value) c.in_ok-latest.latest ≡ None
     nothing = none_found c.in_ok-latest.latest (sym c.is_some.ensures ∙ c.in_ok-keep_over.ensures.none c.if-branch.true)
-
-pub returns-then-branch-clause-taken : goal.returns-then-branch-clause-taken
-returns-then-branch-clause-taken g c = taken_after c.args.tracker.now.threads c.args.self.now c.look.new.self c.keep_over.new.self c.args.seen.now.call.now _ c.look.ensures.same
-    (c.in_ok-keep_over.ensures.taken c.if-branch.true c.args.tracker.now.threads)
-
-pub returns-then-branch-clause-stands : goal.returns-then-branch-clause-stands
-returns-then-branch-clause-stands g c = λ kinds roots lines es next.
-    stands_taken kinds c.args.self.now c.keep_over.new.self c.args.tracker.now roots lines es c.args.seen.now.place c.args.seen.now.call.now (lent_stamp c.args.seen.now.stamp) c.args.seen.now.line c.law_of_merging.ensures.tells next
-    (taken_after c.args.tracker.now.threads c.args.self.now c.look.new.self c.keep_over.new.self c.args.seen.now.call.now _ c.look.ensures.same
-    (c.in_ok-keep_over.ensures.taken c.if-branch.true c.args.tracker.now.threads))
-
-pub returns-then-branch-clause-cost : goal.returns-then-branch-clause-cost
-returns-then-branch-clause-cost g c = tried_bound c.args.self.now.tables (length c.args.tracker.now.threads) c.args.seen.now.call.now c.args.steps.now c.look.new.steps
-    (c.look.ensures.cost (length c.args.tracker.now.threads) (below c.requires.next.0 c.args.self.now c.args.tracker.now c.requires.next.1 c.requires.next.2 c.requires.next.3 c.args.seen.now.place c.args.seen.now.call.now (lent_stamp c.args.seen.now.stamp) c.requires.next.4))
-    (length c.as_slice.result.now) c.keep_over.new.steps (omega (arith, own_below c.requires.next.0 c.args.self.now c.args.tracker.now c.requires.next.1 c.requires.next.2 c.requires.next.3 c.args.seen.now.place c.args.seen.now.call.now (lent_stamp c.args.seen.now.stamp) c.requires.next.4))
-    (ap length c.as_slice.ensures.value ∙ c.in_ok-latest.ensures.seats.long) (omega (arith, c.keep_over.ensures.cost))
 
 pub keep_new-requires : goal.keep_new-requires
 keep_new-requires g c =
@@ -63,36 +64,36 @@ keep_new-requires g c =
     (subst (AreSeats c.look.new.self.store c.args.seen.now.call.now.thread (touched_points c.look.new.self.tables c.args.seen.now.call.now)) (sym c.as_slice-2.ensures.value)
     (subst (λ tables. AreSeats c.look.new.self.store c.args.seen.now.call.now.thread (touched_points tables c.args.seen.now.call.now) c.look.new.seats.items) (sym c.look.ensures.same.tables) c.in_ok-latest.ensures.seats))
 
-pub returns-clause-answer : goal.returns-clause-answer
-returns-clause-answer g c = IfOk-weaker c.keep_new.result _ _
-    (λ answer is kinds roots lines es next.
-    subst (λ place. IsAnswer kinds (lines ++ c.args.seen.now.line ∷ []) (es ++ event.Call c.args.seen.now.call.now ∷ []) place answer) (sym next.at_end)
-    (is_answer c.law_of_merging.ensures.tells kinds c.args.self.now c.args.tracker.now roots lines es c.args.seen.now.place c.args.seen.now.call.now (lent_stamp c.args.seen.now.stamp) next c.args.seen.now.line
-    (option_map (λ held. held.value) c.in_ok-latest.latest)
-    (subst (λ tables. IsLatestOf c.args.self.now.store (asked_points tables c.args.seen.now.call.now) c.args.seen.now.stamp.clock.now (option_map (λ held. held.value) c.in_ok-latest.latest))
-    next.stands.tables_are c.in_ok-latest.ensures.latest)
-    answer is))
-    c.keep_new.ensures.answer
-
-pub returns-clause-taken : goal.returns-clause-taken
-returns-clause-taken g c = on_ok_weaker c.keep_new.result
-    (λ taken. taken_after c.args.tracker.now.threads c.args.self.now c.look.new.self c.keep_new.new.self c.args.seen.now.call.now _ c.look.ensures.same
-    (subst (λ (d : Detecting). IsCallKept c.args.tracker.now.threads d c.keep_new.new.self c.args.seen.now.call.now (lent_witness c.args.seen.now)) (c.in_ok-keep_over.ensures.kept c.if-branch.false) taken))
-    c.keep_new.ensures.taken
-
-pub returns-clause-stands : goal.returns-clause-stands
-returns-clause-stands g c = on_ok_weaker c.keep_new.result
-    (λ taken kinds roots lines es next.
-    stands_taken kinds c.args.self.now c.keep_new.new.self c.args.tracker.now roots lines es c.args.seen.now.place c.args.seen.now.call.now (lent_stamp c.args.seen.now.stamp) c.args.seen.now.line c.law_of_merging.ensures.tells next
-    (taken_after c.args.tracker.now.threads c.args.self.now c.look.new.self c.keep_new.new.self c.args.seen.now.call.now _ c.look.ensures.same
-    (subst (λ (d : Detecting). IsCallKept c.args.tracker.now.threads d c.keep_new.new.self c.args.seen.now.call.now (lent_witness c.args.seen.now)) (c.in_ok-keep_over.ensures.kept c.if-branch.false) taken)))
-    c.keep_new.ensures.taken
-
-pub returns-clause-cost : goal.returns-clause-cost
-returns-clause-cost g c = tried_bound c.args.self.now.tables (length c.args.tracker.now.threads) c.args.seen.now.call.now c.args.steps.now c.look.new.steps
-    (c.look.ensures.cost (length c.args.tracker.now.threads) (below c.requires.next.0 c.args.self.now c.args.tracker.now c.requires.next.1 c.requires.next.2 c.requires.next.3 c.args.seen.now.place c.args.seen.now.call.now (lent_stamp c.args.seen.now.stamp) c.requires.next.4))
-    (length c.as_slice.result.now) c.keep_new.new.steps (omega (arith, own_below c.requires.next.0 c.args.self.now c.args.tracker.now c.requires.next.1 c.requires.next.2 c.requires.next.3 c.args.seen.now.place c.args.seen.now.call.now (lent_stamp c.args.seen.now.stamp) c.requires.next.4))
-    (ap length c.as_slice.ensures.value ∙ c.in_ok-latest.ensures.seats.long) (omega (arith, c.keep_over.ensures.cost, c.keep_new.ensures.cost, ap length c.as_slice.ensures.value, ap length c.as_slice-2.ensures.value))
+pub returns : goal.returns
+returns g c = record {
+  answer = IfOk-weaker c.keep_new.result _ _
+      (λ answer is kinds roots lines es next.
+      subst (λ place. IsAnswer kinds (lines ++ c.args.seen.now.line ∷ []) (es ++ event.Call c.args.seen.now.call.now ∷ []) place answer) (sym next.at_end)
+      (is_answer c.law_of_merging.ensures.tells kinds c.args.self.now c.args.tracker.now roots lines es c.args.seen.now.place c.args.seen.now.call.now (lent_stamp c.args.seen.now.stamp) next c.args.seen.now.line
+      (option_map (λ held. held.value) c.in_ok-latest.latest)
+      (subst (λ tables. IsLatestOf c.args.self.now.store (asked_points tables c.args.seen.now.call.now) c.args.seen.now.stamp.clock.now (option_map (λ held. held.value) c.in_ok-latest.latest))
+      next.stands.tables_are c.in_ok-latest.ensures.latest)
+      answer is))
+      c.keep_new.ensures.answer;
+  stands = on_ok_weaker c.keep_new.result
+      (λ taken kinds roots lines es next.
+      stands_taken kinds c.args.self.now c.keep_new.new.self c.args.tracker.now roots lines es c.args.seen.now.place c.args.seen.now.call.now (lent_stamp c.args.seen.now.stamp) c.args.seen.now.line c.law_of_merging.ensures.tells next
+      (taken_after c.args.tracker.now.threads c.args.self.now c.look.new.self c.keep_new.new.self c.args.seen.now.call.now _ c.look.ensures.same
+      (subst (λ (d : Detecting). IsCallKept c.args.tracker.now.threads d c.keep_new.new.self c.args.seen.now.call.now (lent_witness c.args.seen.now)) (c.in_ok-keep_over.ensures.kept c.if-branch.false) taken)))
+      c.keep_new.ensures.taken;
+  taken = on_ok_weaker c.keep_new.result
+      (λ taken. taken_after c.args.tracker.now.threads c.args.self.now c.look.new.self c.keep_new.new.self c.args.seen.now.call.now _ c.look.ensures.same
+      (subst (λ (d : Detecting). IsCallKept c.args.tracker.now.threads d c.keep_new.new.self c.args.seen.now.call.now (lent_witness c.args.seen.now)) (c.in_ok-keep_over.ensures.kept c.if-branch.false) taken))
+      c.keep_new.ensures.taken;
+  err = on_err_weaker c.keep_new.result
+      (λ left. left_joined c.args.self.now c.look.new.self c.keep_new.new.self c.look.ensures.same
+      (subst (λ (d : Detecting). IsCallLeft d c.keep_new.new.self) (c.in_ok-keep_over.ensures.kept c.if-branch.false) left))
+      c.keep_new.ensures.err;
+  cost = tried_bound c.args.self.now.tables (length c.args.tracker.now.threads) c.args.seen.now.call.now c.args.steps.now c.look.new.steps
+      (c.look.ensures.cost (length c.args.tracker.now.threads) (below c.requires.next.0 c.args.self.now c.args.tracker.now c.requires.next.1 c.requires.next.2 c.requires.next.3 c.args.seen.now.place c.args.seen.now.call.now (lent_stamp c.args.seen.now.stamp) c.requires.next.4))
+      (length c.as_slice.result.now) c.keep_new.new.steps (omega (arith, own_below c.requires.next.0 c.args.self.now c.args.tracker.now c.requires.next.1 c.requires.next.2 c.requires.next.3 c.args.seen.now.place c.args.seen.now.call.now (lent_stamp c.args.seen.now.stamp) c.requires.next.4))
+      (ap length c.as_slice.ensures.value ∙ c.in_ok-latest.ensures.seats.long) (omega (arith, c.keep_over.ensures.cost, c.keep_new.ensures.cost, ap length c.as_slice.ensures.value, ap length c.as_slice-2.ensures.value));
+}
 
 pub look-requires-clause-kind : goal.look-requires-clause-kind
 look-requires-clause-kind g c = grind (arith, elements)

@@ -24,5 +24,5 @@ returns-clause-taken g c =
     subst (λ (d : Detecting). IsCallKept threads d (record { tables = c.self.inside.tables.items; store = c.touch_over.new.self; kept = c.self.inside.kept }) c.args.seen.now.call.now (lent_witness c.args.seen.now)) c.self.view_is
     (taken_over c.law_of_equal_points.ensures threads (record { tables = c.self.inside.tables.items; store = c.self.inside.store; kept = c.self.inside.kept }) c.touch_over.new.self
     c.args.seen.now.call.now (lent_witness c.args.seen.now) seat.0 (ap (λ (d : Detecting). touched_points d.tables c.args.seen.now.call.now) c.self.view_is ∙ only)
-    (touched is seat.0 seat.2) c.touch_over.ensures.count (sym (c.is_due.ensures ∙ ap (λ n. is_due n c.self.inside.kept) c.cells.ensures) ∙ c.if-is_due.false)))
+    (touched is seat.0 seat.2) c.touch_over.ensures.count (sym (c.is_due.ensures ∙ ap (λ n. is_due n c.self.inside.kept) c.cells.ensures.count) ∙ c.if-is_due.false)))
     c.touch_over.ensures.touched

@@ -5,11 +5,11 @@ use Rattle.rd_store.proofs.EntryLemmas.{one_each_at}
 use Rattle.rd_store.proofs.IndexLemmas.{entered_once}
 use Rattle.rd_store.proofs.store.Store.entered.Goals as goal
 
-pub returns-clause-once : goal.returns-clause-once
-unfolding same_point
-returns-clause-once c = λ i j point at also.
-    entered_once c.law_of_equal_points.ensures c.self.inside.points.entries c.len.ensures.unique i j point (ap (λ store. point_at store i) c.self.view_is ∙ at) (ap (λ store. point_at store j) c.self.view_is ∙ also)
-
 pub returns-clause-one_each : goal.returns-clause-one_each
-returns-clause-one_each c = λ point.
-    subst (λ store. HasOneEach (cells_at store point)) c.self.view_is (one_each_at c.self.inside.points.entries point c.self.invariant.one_each)
+unfolding same_point
+returns-clause-one_each c = record {
+  once = λ i j point at also.
+      entered_once c.law_of_equal_points.ensures c.self.inside.points.entries c.len.ensures.unique i j point (ap (λ store. point_at store i) c.self.view_is ∙ at)
+      (ap (λ store. point_at store j) c.self.view_is ∙ also);
+  each = λ point. subst (λ store. HasOneEach (cells_at store point)) c.self.view_is (one_each_at c.self.inside.points.entries point c.self.invariant.one_each);
+}

@@ -21,13 +21,13 @@ returns-then-many-clause-swept c =
     let all : c.loop-place.place ≡ length c.args.self.now = omega (arith, c.entered-place-end.ensures.len) in
     let is = c.loop-place.invariant ∙ ap (swept_below c.args.floor.now c.args.self.now) all in
     swept_same c.args.floor.now c.args.self.now c.loop-place.self c.drop_bare_points.new.self
-    (swept_all c.args.floor.now c.args.self.now c.loop-place.self c.entered-place-end.ensures.one_each is) c.drop_bare_points.ensures.cells
+    (swept_all c.args.floor.now c.args.self.now c.loop-place.self c.entered-place-end.ensures.one_each.each is) c.drop_bare_points.ensures.cells
 
 pub returns-else-many-clause-swept : goal.returns-else-many-clause-swept
 returns-else-many-clause-swept c =
     let all : c.loop-place.place ≡ length c.args.self.now = omega (arith, c.entered-place-end.ensures.len) in
     let is = c.loop-place.invariant ∙ ap (swept_below c.args.floor.now c.args.self.now) all in
-    swept_all c.args.floor.now c.args.self.now c.loop-place.self c.entered-place-end.ensures.one_each is
+    swept_all c.args.floor.now c.args.self.now c.loop-place.self c.entered-place-end.ensures.one_each.each is
 
 pub returns-else-many-clause-few : goal.returns-else-many-clause-few
 returns-else-many-clause-few c =
