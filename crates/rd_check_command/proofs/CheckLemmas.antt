@@ -26,7 +26,7 @@ use Rattle.rd_check_command.specs.Checking.{AreNamed, Checks, IsNextEventLine, I
 use Rattle.std.specs.Prelude.{max, min}
 use Rattle.rd_races.specs.Commuting.{Commute, calls_commute}
 use Rattle.rd_detect.specs.Detect.{IsAnswer, IsNextCall, DetectorStandsFor, detection_bound, tables_of}
-use Rattle.rd_report.specs.Races.{IsKnownRace, IsNamed}
+use Rattle.rd_report.specs.Races.{IsFailedRace, IsNamed}
 use Rattle.rd_report.specs.Texts.{Naming, naming}
 use Rattle.rd_store.specs.declared.Race.{Race}
 use Rattle.rd_check_command.proofs.NamingLemmas.{all_named}
@@ -440,11 +440,11 @@ module _ (start now : Check) (before : List Entry) (entry : Entry) (e : Numbered
   call_races = let few = checks.tracks.told.told.formed.bounded.few_events in omega (arith, checks.races, races_within asked before)
 
   -- a race that the detector answers may be told of
-  pub race_known : (race : Race) → IsAnswer asked (event_numbers before ++ entry.number ∷ []) (es ++ numbered.Call call ∷ []) place (Some race)
-      → IsKnownRace asked names race
-  race_known race (i, latest, is) =
+  pub race_failed : (race : Race) → IsAnswer asked (event_numbers before ++ entry.number ∷ []) (es ++ numbered.Call call ∷ []) place (Some race)
+      → IsFailedRace asked names race
+  race_failed race (i, latest, is) =
       let named = subst (AreNamed asked (naming (items before ++ entry.item ∷ []))) events_now (all_named asked (items before ++ entry.item ∷ []) told_now) in
-      subst (λ n. IsKnownRace asked n race) (sym ready.naming_is)
+      subst (λ n. IsFailedRace asked n race) (sym ready.naming_is)
       (record {
         later = subst (λ w. IsNamed asked (naming (items before ++ entry.item ∷ [])) w.call) (sym is.is.later_is) (named is.later.place is.later.call is.at_j.call);
         earlier = subst (λ w. IsNamed asked (naming (items before ++ entry.item ∷ [])) w.call) (sym is.is.earlier_is) (named is.earlier.place is.earlier.call is.at_i.call);
@@ -496,10 +496,11 @@ module _ (start now : Check) (before : List Entry) (entry : Entry) (e : Numbered
   abbrev Answered : Option Race → Type 0
   Answered answer = IsAnswer asked (event_numbers before ++ entry.number ∷ []) (es ++ numbered.Call call ∷ []) place answer
 
-  pub known_race : (answer : Option Race) (race : Race) → Answered answer → answer ≡ Some race → (those : List SpecifiedKind) → those ≡ now.spec.now → IsKnownRace those names race
-  known_race answer race is some those same =
-      subst (λ these. IsKnownRace these names race) (sym (same ∙ checks.spec))
-      (race_known race (subst (IsAnswer asked (event_numbers before ++ entry.number ∷ []) (es ++ numbered.Call call ∷ []) place) some is))
+  pub failed_race : (answer : Option Race) (race : Race) → Answered answer → answer ≡ Some race
+      → (those : List SpecifiedKind) → those ≡ now.spec.now → IsFailedRace those names race
+  failed_race answer race is some those same =
+      subst (λ these. IsFailedRace these names race) (sym (same ∙ checks.spec))
+      (race_failed race (subst (IsAnswer asked (event_numbers before ++ entry.number ∷ []) (es ++ numbered.Call call ∷ []) place) some is))
 
   pub races_call : (answer : Option Race) → Answered answer → (races : ℕ) → races ≡ now.races + cond (is_some answer) 1 0
       → races ≡ now.races + next_races asked es (numbered.Call call)

@@ -40,7 +40,7 @@ impl<'a> Check<'a> {
     ghost use Rattle.rd_event.specs.declared.items.Line.{Line as LineOf};
     ghost use Rattle.rd_detect.specs.Detect.{IsAnswer, IsNextCall, DetectorStandsFor, detection_bound};
     ghost use Rattle.rd_hb.specs.Tracker.{last_stamp};
-    ghost use Rattle.rd_report.specs.Races.{IsKnownRace, told_by};
+    ghost use Rattle.rd_report.specs.Races.{IsFailedRace, told_by};
     ghost use Rattle.rd_json.specs.Forms.{EndLinesIn, race_in};
     ghost use Rattle.rd_report.specs.Texts.{naming_in};
     ghost use Rattle.rd_walk.specs.Analysis.{TellsFault, WritesBetween, WritesFront};
@@ -110,9 +110,10 @@ impl<'a> Check<'a> {
         Ok(answer)
     }
 
-    /// Makes the text that of a race, in the form of the report. The numbers in it are known to the specification and the roster.
+    /// Makes the text that of a race, in the form of the report. The numbers in it are known to the specification and the roster, and its kind
+    /// and its methods are those of its calls.
     fn set_text(&mut self, race: &Race, names: &Roster) -> Result<RaceEnds, NoMemory>
-        requires known { IsKnownRace self.old.spec.now (naming_in names.now) race.now }
+        requires failed { IsFailedRace self.old.spec.now (naming_in names.now) race.now }
         requires formulas { self.old.formulas ≡ self.old.spec.now }
         ensures same { (self.new.form ≡ self.old.form) × (self.new.spec.now ≡ self.old.spec.now)
             × (self.new.tracker ≡ self.old.tracker) × (self.new.detector ≡ self.old.detector)
@@ -153,9 +154,10 @@ impl<'a> Check<'a> {
         Ok(ends)
     }
 
-    /// Writes the text of a race, where the form has one. The numbers in it are known to the specification and the roster.
+    /// Writes the text of a race, where the form has one. The numbers in it are known to the specification and the roster, and its kind and
+    /// its methods are those of its calls.
     fn report<S: Sink>(&mut self, race: &Race, names: &Roster, out: &mut S) -> Result<(), Halt>
-        requires known { IsKnownRace self.old.spec.now (naming_in names.now) race.now }
+        requires failed { IsFailedRace self.old.spec.now (naming_in names.now) race.now }
         requires formulas { self.old.formulas ≡ self.old.spec.now }
         ensures same { (self.new.form ≡ self.old.form) × (self.new.spec.now ≡ self.old.spec.now)
             × (self.new.tracker ≡ self.old.tracker) × (self.new.detector ≡ self.old.detector)

@@ -1,3 +1,4 @@
+pub mod FailedLemmas
 pub mod ObjectLemmas
 pub mod PlainLemmas
 pub mod StringLemmas

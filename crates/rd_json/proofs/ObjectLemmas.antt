@@ -3,10 +3,11 @@ use Rattle.std.proofs.Common.{◌≡◌, ℕ, List, [], ◌∷◌, ◌++◌, cod
 use Rattle.json.specs.Print.{escape_byte}
 use Rattle.serde_json.specs.Written.{compact_text}
 use Rattle.rd_ecl.specs.Specified.{SpecifiedKind}
-use Rattle.rd_report.specs.Races.{Told, clock_text, named_call}
+use Rattle.rd_report.specs.Races.{Told, clock_text, named_call, told_by}
 use Rattle.rd_report.specs.Texts.{Naming}
 use Rattle.rd_report.specs.Writing.{ArePlain}
-use Rattle.rd_json.specs.Json.{alone_json, cut_json, end_json, failed_words, race_json, string_json, told_json}
+use Rattle.rd_store.specs.declared.Race.{Race}
+use Rattle.rd_json.specs.Json.{alone_json, cut_json, end_json, race_object, race_words, string_json, told_json}
 use Rattle.rd_json.specs.Values.{IsPlainCall, alone_value, cut_value, end_value, race_value, told_value}
 use Rattle.rd_json.proofs.PlainLemmas.{escapes}
 
@@ -35,12 +36,15 @@ module _ (kinds : List SpecifiedKind) (naming : Naming) where
       ∙ seven (codes "{\"call\":") (string_json (named_call kinds naming told.call)) (codes ",\"clock\":") (string_json (clock_text naming.threads told.clock))
       (codes ",\"line\":") (decimal told.line) (codes "}")
 
-  pub race_text : (later earlier : Told) → IsPlainCall kinds naming earlier → ArePlain (failed_words kinds later.call earlier.call) → IsPlainCall kinds naming later
-      → compact_text (race_value (told_value kinds naming earlier) (failed_words kinds later.call earlier.call) (told_value kinds naming later)) ++ codes "\n"
-      ≡ race_json kinds naming later earlier
-  unfolding escape_byte between_quotes race_json
-  race_text later earlier first plain last =
-      let formula = failed_words kinds later.call earlier.call in
+  pub object_text : (race : Race) → IsPlainCall kinds naming (told_by race.earlier.value) → ArePlain (race_words kinds race)
+      → IsPlainCall kinds naming (told_by race.later.value)
+      → compact_text (race_value (told_value kinds naming (told_by race.earlier.value)) (race_words kinds race)
+      (told_value kinds naming (told_by race.later.value))) ++ codes "\n" ≡ race_object kinds naming race
+  unfolding escape_byte between_quotes race_object
+  object_text race first plain last =
+      let later = told_by race.later.value in
+      let earlier = told_by race.earlier.value in
+      let formula = race_words kinds race in
       (λ i. codes "{\"earlier\":" ++ (told_text earlier first i ++ (codes ",\"formula\":" ++ (between_quotes (escapes formula plain i)
       ++ (codes ",\"later\":" ++ (told_text later last i ++ codes "}"))))) ++ codes "\n")
       ∙ seven_then (codes "{\"earlier\":") (told_json kinds naming earlier) (codes ",\"formula\":") (string_json formula) (codes ",\"later\":") (told_json kinds naming later) (codes "}") (codes "\n")

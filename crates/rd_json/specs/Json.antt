@@ -4,10 +4,11 @@ use Rattle.rd_ecl.specs.Specified.{SpecifiedKind, kind_at}
 use Rattle.rd_event.specs.declared.events.Call.{Call}
 use Rattle.rd_reading.specs.RefusedTexts.{spec_cause_text}
 use Rattle.rd_reading.specs.declared.parsing.SpecRefused.{SpecRefused as Refusal}
-use Rattle.rd_report.specs.Races.{Told, clock_text, formula_line_words, named_call}
+use Rattle.rd_report.specs.Races.{Told, clock_text, formula_line_words, named_call, told_by}
 use Rattle.rd_report.specs.Texts.{Naming, refused_words, replay_words, verdict_words}
 use Rattle.rd_report.specs.declared.endings.Ending.{Ending}
 use Rattle.rd_report.specs.declared.endings.Ending.TheVariants.{End, Refused, Fault}
+use Rattle.rd_store.specs.declared.Race.{Race}
 
 -- ---- strings
 
@@ -26,11 +27,21 @@ told_json kinds naming told =
     codes "{\"call\":" ++ string_json (named_call kinds naming told.call) ++ codes ",\"clock\":" ++ string_json (clock_text naming.threads told.clock)
     ++ codes ",\"line\":" ++ decimal told.line ++ codes "}"
 
+-- the formula of a race, by its kind and its two methods
+abbrev pub race_words : List SpecifiedKind → Race → List ℕ
+race_words kinds race = formula_line_words (kind_at kinds race.kind) race.first race.second
+
+-- the line of a race: the earlier call, the formula of its two methods, and the later call
+unfoldable pub race_object : List SpecifiedKind → Naming → Race → List ℕ
+race_object kinds naming race =
+    codes "{\"earlier\":" ++ told_json kinds naming (told_by race.earlier.value) ++ codes ",\"formula\":" ++ string_json (race_words kinds race)
+    ++ codes ",\"later\":" ++ told_json kinds naming (told_by race.later.value) ++ codes "}\n"
+
 -- the formula that two calls fail
 abbrev pub failed_words : List SpecifiedKind → Call → Call → List ℕ
 failed_words kinds a b = formula_line_words (kind_at kinds a.kind) (min a.method b.method) (max a.method b.method)
 
--- the line of a race: the earlier call, the formula that the calls fail, and the later call
+-- the line of the race of two calls: the earlier call, the formula that they fail, and the later call
 unfoldable pub race_json : List SpecifiedKind → Naming → Told → Told → List ℕ
 race_json kinds naming later earlier =
     codes "{\"earlier\":" ++ told_json kinds naming earlier ++ codes ",\"formula\":" ++ string_json (failed_words kinds later.call earlier.call)

@@ -1,8 +1,7 @@
 //! The forms in which a report is written.
 ghost use Rattle.std.specs.Prelude.{◌≡◌, ◌≤◌, ◌++◌, IfOk, OnOk, length};
-ghost use Rattle.rd_ecl.specs.Specified.{kind_at};
 ghost use Rattle.rd_json.specs.Forms.{EndLinesIn, ending_in, fault_in, race_in, refused_in};
-ghost use Rattle.rd_report.specs.Races.{IsKnownRace, formula_line, told_by};
+ghost use Rattle.rd_report.specs.Races.{IsFailedRace, race_formula, told_by};
 ghost use Rattle.rd_report.specs.Texts.{naming_in};
 ghost use Rattle.rd_wf.specs.Roster.{names_in};
 
@@ -40,7 +39,8 @@ fn all_of(text: &Bytes) -> RaceEnds
 }
 
 /// Puts a race behind the text in this form. The line of the formula is handed in. The numbers in the race are known to the specification
-/// and the roster. After want of memory the text may have a front of it.
+/// and the roster, and its kind and its methods are those of its calls. After want of memory the text may have a front of it.
+#[tactic(auto, using(rd_report::proofs::FailedLemmas::failed_is_known, rd_report::proofs::FailedLemmas::failed_lines, crate::proofs::FailedLemmas::failed_object))]
 pub fn append_race(
     text: &mut Bytes,
     form: Form,
@@ -50,9 +50,8 @@ pub fn append_race(
     spec: &Spec,
     names: &Roster,
 ) -> Result<RaceEnds, NoMemory>
-    requires known { IsKnownRace spec.now (naming_in names.now) race.now }
-    requires formula { formula.now ≡ formula_line
-        (kind_at spec.now race.now.kind) race.now.first race.now.second }
+    requires failed { IsFailedRace spec.now (naming_in names.now) race.now }
+    requires formula { formula.now ≡ race_formula spec.now race.now }
     ensures text { OnOk result
         (text.new ≡ text.old ++ race_in form spec.now (naming_in names.now)
         (told_by race.now.later.value) (told_by race.now.earlier.value)) }

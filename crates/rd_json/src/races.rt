@@ -1,10 +1,9 @@
 //! A race as JSON: as a value, or straight behind a text.
 ghost use Rattle.std.specs.Prelude.{◌≡◌, ◌≤◌, ◌<◌, ◌++◌, length, IfOk, OnOk};
 ghost use Rattle.serde_json.specs.View.{view};
-ghost use Rattle.rd_ecl.specs.Specified.{kind_at};
-ghost use Rattle.rd_json.specs.Json.{failed_words, race_json, told_json};
+ghost use Rattle.rd_json.specs.Json.{race_object, race_words, told_json};
 ghost use Rattle.rd_json.specs.Values.{IsPlainCall, told_value};
-ghost use Rattle.rd_report.specs.Races.{IsKnownRace, IsNamed, formula_line, formula_line_words, told_by};
+ghost use Rattle.rd_report.specs.Races.{IsKnownRace, IsNamed, formula_line, formula_line_words, race_formula, told_by};
 ghost use Rattle.rd_report.specs.Texts.{Naming, naming_in};
 ghost use Rattle.rd_report.specs.Writing.{ArePlain};
 
@@ -67,23 +66,20 @@ fn formula_inside<'a>(kind: &KindSpec, first: u8, second: u8, line: &'a [u8]) ->
     inside(line, b"formula ".len())
 }
 
-// The formula that the calls of a race fail, by its line.
-fn failed_formula<'a>(race: &Race, line: &'a [u8], spec: &Spec) -> &'a [u8]
+// The formula of a race, by its line.
+fn formula_of<'a>(race: &Race, line: &'a [u8], spec: &Spec) -> &'a [u8]
     requires known { (naming : Naming) × IsKnownRace spec.now naming race.now }
-    requires line { line.now ≡ formula_line
-        (kind_at spec.now race.now.kind) race.now.first race.now.second }
-    ensures words { result.now ≡ failed_words
-        spec.now race.now.later.value.call race.now.earlier.value.call }
-    ensures plain { ArePlain (failed_words
-        spec.now race.now.later.value.call race.now.earlier.value.call) }
+    requires line { line.now ≡ race_formula spec.now race.now }
+    ensures words { result.now ≡ race_words spec.now race.now }
+    ensures plain { ArePlain (race_words spec.now race.now) }
 {
     let kind = &spec.kinds()[race.kind as usize];
     formula_inside(kind, race.first, race.second, line)
 }
 
 /// Puts a race behind the text as a line with one JSON object: `{"earlier":{"call":CALL,"clock":CLOCK,"line":N},"formula":FORMULA,
-/// "later":..}`. The line of the formula is handed in. The numbers in the race are known to the specification and the roster. After want
-/// of memory the text may have a front of it.
+/// "later":..}`. The line of the formula of its two methods is handed in. The numbers in the race are known to the specification and the
+/// roster, and its first method is not declared behind its second. After want of memory the text may have a front of it.
 pub fn append_race_json(
     text: &mut Bytes,
     alloc: Global,
@@ -93,13 +89,11 @@ pub fn append_race_json(
     names: &Roster,
 ) -> Result<(), NoMemory>
     requires known { IsKnownRace spec.now (naming_in names.now) race.now }
-    requires formula { formula.now ≡ formula_line
-        (kind_at spec.now race.now.kind) race.now.first race.now.second }
+    requires formula { formula.now ≡ race_formula spec.now race.now }
     ensures { OnOk result
-        (text.new ≡ text.old ++ race_json spec.now (naming_in names.now)
-        (told_by race.now.later.value) (told_by race.now.earlier.value)) }
+        (text.new ≡ text.old ++ race_object spec.now (naming_in names.now) race.now) }
 {
-    let words = failed_formula(race, formula, spec);
+    let words = formula_of(race, formula, spec);
     text.append(b"{\"earlier\":")?;
     append_told(text, alloc, &race.earlier, spec, names)?;
     text.append(b",\"formula\":")?;
@@ -109,16 +103,15 @@ pub fn append_race_json(
     text.append(b"}\n")
 }
 
-/// A race as a line with one JSON object. The numbers in it are known to the specification and the roster.
+/// A race as a line with one JSON object. The formula is that of the race's kind and its two methods. The numbers in the race are known to
+/// the specification and the roster, and its first method is not declared behind its second.
 pub fn race_json(alloc: Global, race: &Race, spec: &Spec, names: &Roster) -> Result<Bytes, NoMemory>
     requires { IsKnownRace spec.now (naming_in names.now) race.now }
-    ensures { IfOk result
-        (λ text. text ≡ race_json spec.now (naming_in names.now) (told_by race.now.later.value)
-        (told_by race.now.earlier.value)) }
+    ensures { IfOk result (λ text. text ≡ race_object spec.now (naming_in names.now) race.now) }
 {
     let kind = &spec.kinds()[race.kind as usize];
     let line = formula_line(alloc, kind, race.first, race.second)?;
-    let formula = failed_formula(race, line.items(), spec);
+    let formula = formula_of(race, line.items(), spec);
     let earlier = told_value(alloc, &race.earlier, spec, names)?;
     let later = told_value(alloc, &race.later, spec, names)?;
     let object = race_value(alloc, earlier, formula, later)?;

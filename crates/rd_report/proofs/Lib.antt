@@ -1,3 +1,4 @@
 pub mod ClockLemmas
 pub mod EndingLemmas
+pub mod FailedLemmas
 pub mod PlainLemmas

@@ -1,6 +1,6 @@
 -- The text of a race: this project's profile. A clock counts for each thread its events that are this call or reach it (Fidge 1988,
 -- Mattern 1989).
-use Rattle.std.specs.Prelude.{◌≡◌, ◌<◌, ℕ, suc, ◌==◌, if◌then◌else◌, List, [], ◌∷◌, ◌++◌, length, codes, decimal, max, min}
+use Rattle.std.specs.Prelude.{◌≡◌, ◌<◌, ◌≤◌, ℕ, suc, ◌==◌, if◌then◌else◌, List, [], ◌∷◌, ◌++◌, length, codes, decimal, max, min}
 use Rattle.rd_clock.specs.Clock.{component}
 use Rattle.rd_ecl.specs.Specified.{SpecifiedKind, kind_at}
 use Rattle.rd_event.specs.Items.{call_text}
@@ -75,7 +75,16 @@ later_line kinds naming later = codes "race line " ++ told_text kinds naming lat
 abbrev pub earlier_line : List SpecifiedKind → Naming → Told → List ℕ
 earlier_line kinds naming earlier = codes "with line " ++ told_text kinds naming earlier
 
--- the text of a race: the later call, the earlier one, and the formula that they fail
+-- the line of the formula of a race, by its kind and its two methods
+abbrev pub race_formula : List SpecifiedKind → Race → List ℕ
+race_formula kinds race = formula_line (kind_at kinds race.kind) race.first race.second
+
+-- the lines of a race: the later call, the earlier one, and the formula of its two methods
+unfoldable pub race_lines : List SpecifiedKind → Naming → Race → List ℕ
+race_lines kinds naming race =
+    later_line kinds naming (told_by race.later.value) ++ earlier_line kinds naming (told_by race.earlier.value) ++ race_formula kinds race
+
+-- the text of the race of two calls: the later call, the earlier one, and the formula that they fail
 unfoldable pub race_text : List SpecifiedKind → Naming → Told → Told → List ℕ
 race_text kinds naming later earlier =
     later_line kinds naming later ++ earlier_line kinds naming earlier ++ failed_line kinds later.call earlier.call
@@ -95,8 +104,16 @@ pub record IsNamed (kinds : List SpecifiedKind) (naming : Naming) (call : Call) 
   pub kind : call.kind < length kinds
   pub method : call.method < length (kind_at kinds call.kind).methods
 
--- both calls of a race have names, and are of its kind and its methods
+-- both calls of a race have names, and it has a kind and two methods of that kind, the first not declared behind the second
 pub record IsKnownRace (kinds : List SpecifiedKind) (naming : Naming) (race : Race) : Type 0 where
+  pub later : IsNamed kinds naming race.later.value.call
+  pub earlier : IsNamed kinds naming race.earlier.value.call
+  pub kind : race.kind < length kinds
+  pub ordered : race.first ≤ race.second
+  pub methods : race.second < length (kind_at kinds race.kind).methods
+
+-- both calls of a race have names, and are of its kind and its methods, so that its formula is that of these calls
+pub record IsFailedRace (kinds : List SpecifiedKind) (naming : Naming) (race : Race) : Type 0 where
   pub later : IsNamed kinds naming race.later.value.call
   pub earlier : IsNamed kinds naming race.earlier.value.call
   pub kind : race.kind ≡ race.later.value.call.kind

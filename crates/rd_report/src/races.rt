@@ -3,7 +3,7 @@ ghost use Rattle.std.specs.Prelude.{◌≡◌, ◌≤◌, ◌<◌, ◌++◌, len
 ghost use Rattle.rd_clock.specs.Clock.{component};
 ghost use Rattle.rd_ecl.specs.Specified.{kind_at};
 ghost use Rattle.rd_print.specs.Printed.{name_at};
-ghost use Rattle.rd_report.specs.Races.{EndLines, IsKnownRace, IsNamed, formula_line, named_call, race_text, told_by, told_text};
+ghost use Rattle.rd_report.specs.Races.{EndLines, IsKnownRace, IsNamed, formula_line, named_call, race_formula, race_lines, told_by, told_text};
 ghost use Rattle.rd_report.specs.Texts.{naming_in};
 ghost use Rattle.rd_report.specs.Writing.{ArePlain};
 
@@ -127,10 +127,10 @@ pub struct RaceEnds {
     pub earlier: usize,
 }
 
-/// Puts the text of a race behind the text: the later call, the earlier one, and the line of the formula that they fail, which is
+/// Puts the text of a race behind the text: the later call, the earlier one, and the line of the formula of its two methods, which is
 /// handed in. The answer says where the first two lines end in the whole text. The numbers in the race are known to the specification and
-/// the roster. After want of memory the text may have a front of it.
-#[tactic(auto, unfolding(crate::specs::Races::race_text))]
+/// the roster, and its first method is not declared behind its second. After want of memory the text may have a front of it.
+#[tactic(auto, unfolding(crate::specs::Races::race_lines))]
 pub fn append_race(
     text: &mut Bytes,
     race: &Race,
@@ -139,11 +139,8 @@ pub fn append_race(
     names: &Roster,
 ) -> Result<RaceEnds, NoMemory>
     requires known { IsKnownRace spec.now (naming_in names.now) race.now }
-    requires formula { formula.now ≡ formula_line
-        (kind_at spec.now race.now.kind) race.now.first race.now.second }
-    ensures text { OnOk result
-        (text.new ≡ text.old ++ race_text spec.now (naming_in names.now)
-        (told_by race.now.later.value) (told_by race.now.earlier.value)) }
+    requires formula { formula.now ≡ race_formula spec.now race.now }
+    ensures text { OnOk result (text.new ≡ text.old ++ race_lines spec.now (naming_in names.now) race.now) }
     ensures ends { IfOk result (λ ends. (ends.later ≤ ends.earlier) × (ends.earlier ≤ length text.new)) }
     ensures lines { IfOk result (EndLines text.old spec.now (naming_in names.now)
         (told_by race.now.later.value) (told_by race.now.earlier.value)) }
@@ -163,12 +160,11 @@ pub fn append_race(
 
 /// The text of a race, three lines: `race line N CALL clock CLOCK`, `with line N CALL clock CLOCK` and `formula KIND FIRST SECOND when
 /// FORMULA`. Calls stand as in their lines, and a clock has `THREAD:N` for each thread of which it counts events, in the order of their
-/// numbers. The numbers in the race are known to the specification and the roster.
+/// numbers. The formula is that of the race's kind and its two methods. The numbers in the race are known to the specification and the
+/// roster, and its first method is not declared behind its second.
 pub fn race_text(alloc: Global, race: &Race, spec: &Spec, names: &Roster) -> Result<Bytes, NoMemory>
     requires { IsKnownRace spec.now (naming_in names.now) race.now }
-    ensures { IfOk result
-        (λ text. text ≡ race_text spec.now (naming_in names.now) (told_by race.now.later.value)
-        (told_by race.now.earlier.value)) }
+    ensures { IfOk result (λ text. text ≡ race_lines spec.now (naming_in names.now) race.now) }
 {
     let kind = &spec.kinds()[race.kind as usize];
     let formula = formula_line(alloc, kind, race.first, race.second)?;

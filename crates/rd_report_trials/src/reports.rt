@@ -1,8 +1,7 @@
 //! Texts of reports, written by hand.
 ghost use Rattle.std.specs.Prelude.{◌≡◌, ◌<◌, IfOk, length};
-ghost use Rattle.rd_report.specs.Races.{IsKnownRace};
+ghost use Rattle.rd_report.specs.Races.{IsKnownRace, IsNamed};
 ghost use Rattle.rd_report.specs.Texts.{naming_in};
-ghost use Rattle.rd_report_trials.specs.Reports.{HasOneMethod, IsOfOne};
 
 use crate::samples::{built_in, is_so, is_text, name, opens, roster_over, slots, spec_of, value};
 use rd_base::{Bytes, LimitName, Limits, Slots, Steps, Value};
@@ -24,8 +23,9 @@ use std::process::Abort;
 use std::rc::Rc;
 use std::sync::ledger::{Blank, Ledger};
 
-// Flags: two calls of `set` commute where both are done.
-const FLAGS: &str = "rdspec 1\nkind flag\nmethod set -> done\ncommute set set when done@1 = true\n";
+// Flags: two calls of `set` commute where both are done, and one of `set` with one of `see` where the one of `set` is not.
+const FLAGS: &str =
+    "rdspec 1\nkind flag\nmethod set -> done\nmethod see -> done\ncommute set set when done@1 = true\ncommute set see when done@1 = false\ncommute see see when true\n";
 
 // The roster of these lines, with a semicolon between two.
 fn roster_of(rt: &impl Abort, alloc: Global, lines: &str) -> Box<Roster> {
@@ -59,9 +59,7 @@ fn call_of<L: Ledger>(
     alloc: Global,
     told: Told<'_>,
     steps: &mut Steps<L>,
-) -> Rc<Witness>
-    ensures { IsOfOne result.value.call }
-{
+) -> Rc<Witness> {
     let (line, thread, done, counts) = told;
     let call = Call {
         thread,
@@ -84,37 +82,27 @@ fn call_of<L: Ledger>(
     Rc::new(alloc, witness).expect(rt, "memory")
 }
 
-// The specification has one kind with one method.
-fn has_one_method(rt: &impl Abort, spec: &Spec)
-    ensures { HasOneMethod spec.now }
+// The numbers in a call have names.
+fn is_named(rt: &impl Abort, spec: &Spec, names: &Roster, call: &Call)
+    ensures { IsNamed spec.now (naming_in names.now) call.now }
 {
-    assert!(rt; spec.kinds().len() == 1);
-    assert!(rt; spec.kinds()[0].methods().len() == 1);
+    assert!(rt; call.thread < names.threads());
+    assert!(rt; call.object < names.objects());
+    let kind = call.kind as usize;
+    assert!(rt; kind < spec.kinds().len());
+    assert!(rt; usize::from(call.method) < spec.kinds()[kind].methods().len());
 }
 
-// The race of two calls of the first flag.
-fn race_of(
-    rt: &impl Abort,
-    spec: &Spec,
-    names: &Roster,
-    later: Rc<Witness>,
-    earlier: Rc<Witness>,
-) -> Race
-    requires spec { HasOneMethod spec.now }
-    requires later { IsOfOne later.value.call }
-    requires earlier { IsOfOne earlier.value.call }
-    ensures { IsKnownRace spec.now (naming_in names.now) result }
+// The numbers in a race are known.
+fn is_known(rt: &impl Abort, spec: &Spec, names: &Roster, race: &Race)
+    ensures { IsKnownRace spec.now (naming_in names.now) race.now }
 {
-    assert!(rt; later.call.thread < names.threads());
-    assert!(rt; earlier.call.thread < names.threads());
-    assert!(rt; 0 < names.objects());
-    Race {
-        later,
-        earlier,
-        kind: 0,
-        first: 0,
-        second: 0,
-    }
+    is_named(rt, spec, names, &race.later.call);
+    is_named(rt, spec, names, &race.earlier.call);
+    let kind = race.kind as usize;
+    assert!(rt; kind < spec.kinds().len());
+    assert!(rt; race.first <= race.second);
+    assert!(rt; usize::from(race.second) < spec.kinds()[kind].methods().len());
 }
 
 // A text, and the same as JSON.
@@ -138,8 +126,7 @@ fn is_appended(
     race: &Race,
     wanted: Wanted<'_>,
 )
-    requires spec { HasOneMethod spec.now }
-    requires race { IsKnownRace spec.now (naming_in names.now) race.now }
+    requires { IsKnownRace spec.now (naming_in names.now) race.now }
 {
     let kind = &spec.kinds()[race.kind as usize];
     let formula = formula_line(alloc, kind, race.first, race.second).expect(rt, "memory");
@@ -170,25 +157,6 @@ fn is_written(
     is_text(rt, text.items(), wanted.1);
 }
 
-// The race of the two calls is told so.
-fn is_told(
-    rt: &impl Abort,
-    alloc: Global,
-    spec: &Spec,
-    names: &Roster,
-    later: Rc<Witness>,
-    earlier: Rc<Witness>,
-    wanted: Wanted<'_>,
-)
-    requires spec { HasOneMethod spec.now }
-    requires later { IsOfOne later.value.call }
-    requires earlier { IsOfOne earlier.value.call }
-{
-    let race = race_of(rt, spec, names, later, earlier);
-    is_written(rt, alloc, spec, names, &race, wanted);
-    is_appended(rt, alloc, spec, names, &race, wanted);
-}
-
 // Two calls of the first flag, with one counter for their clocks.
 fn both_calls<L: Ledger>(
     rt: &impl Abort,
@@ -200,25 +168,31 @@ fn both_calls<L: Ledger>(
     requires name { blank.name ≡ L.name }
     requires parts { blank.parts ≡ L.parts }
     requires some { 0 < blank.parts }
-    ensures first { IsOfOne result.0.value.call }
-    ensures second { IsOfOne result.1.value.call }
 {
     let mut steps = Steps::<L>::new(blank);
     let first = call_of(rt, alloc, first, &mut steps);
     (first, call_of(rt, alloc, second, &mut steps))
 }
 
-// The lines of a trace, the later and the earlier of two calls, and how their race is told.
-type RaceRow<'a> = (&'a str, (Told<'a>, Told<'a>), Wanted<'a>);
+// The lines of a trace, the later and the earlier of two calls, the numbers of two methods, and how the race is told.
+type RaceRow<'a> = (&'a str, (Told<'a>, Told<'a>), (u8, u8), Wanted<'a>);
 
-// Two threads set a flag, on these lines of a trace. The race is told so.
+// Two threads set a flag, on these lines of a trace. The race with these methods is told so.
 fn is_race(rt: &impl Abort, alloc: Global, row: &RaceRow<'_>) {
-    let (lines, (later, earlier), wanted) = row;
+    let (lines, (later, earlier), (first, second), wanted) = row;
     let (later, earlier) = both_calls::<Brand>(rt, alloc, Blank::new(1), *later, *earlier);
     let spec = spec_of(rt, alloc, FLAGS);
-    has_one_method(rt, &spec);
     let names = roster_of(rt, alloc, lines);
-    is_told(rt, alloc, &spec, &names, later, earlier, *wanted);
+    let race = Race {
+        later,
+        earlier,
+        kind: 0,
+        first: *first,
+        second: *second,
+    };
+    is_known(rt, &spec, &names, &race);
+    is_written(rt, alloc, &spec, &names, &race, *wanted);
+    is_appended(rt, alloc, &spec, &names, &race, *wanted);
 }
 
 fn are_races(rt: &impl Abort, alloc: Global, rows: &[RaceRow<'_>]) {
@@ -227,10 +201,11 @@ fn are_races(rt: &impl Abort, alloc: Global, rows: &[RaceRow<'_>]) {
     }
 }
 
-const RACES: [RaceRow<'static>; 3] = [
+const RACES: [RaceRow<'static>; 4] = [
     (
         "rdtrace 1;thread p;thread q;object f flag",
         ((6, 1, "false", (0, 1, 0)), (5, 0, "true", (1, 0, 0))),
+        (0, 0),
         (
             "race line 6 q f set -> false clock q:1\nwith line 5 p f set -> true clock p:1\nformula flag set set when done@1 = true\n",
             "{\"earlier\":{\"call\":\"p f set -> true\",\"clock\":\"p:1\",\"line\":5},\"formula\":\"flag set set when done@1 = true\",\"later\":{\"call\":\"q f set -> false\",\"clock\":\"q:1\",\"line\":6}}\n",
@@ -243,6 +218,7 @@ const RACES: [RaceRow<'static>; 3] = [
             (4294967296, 2, "true", (2, 0, 1)),
             (40, 0, "true", (12, 7, 0)),
         ),
+        (0, 0),
         (
             "race line 4294967296 b g.1 set -> true clock main:2,b:1\nwith line 40 main g.1 set -> true clock main:12,a:7\nformula flag set set when done@1 = true\n",
             "{\"earlier\":{\"call\":\"main g.1 set -> true\",\"clock\":\"main:12,a:7\",\"line\":40},\"formula\":\"flag set set when done@1 = true\",\"later\":{\"call\":\"b g.1 set -> true\",\"clock\":\"main:2,b:1\",\"line\":4294967296}}\n",
@@ -255,9 +231,20 @@ const RACES: [RaceRow<'static>; 3] = [
             (6, 1, "\"\\\"\"", (0, 1, 0)),
             (5, 0, "\"a\\\\b\\xff\"", (1, 0, 0)),
         ),
+        (0, 0),
         (
             "race line 6 q f set -> \"\\\"\" clock q:1\nwith line 5 p f set -> \"a\\\\b\\xff\" clock p:1\nformula flag set set when done@1 = true\n",
             "{\"earlier\":{\"call\":\"p f set -> \\\"a\\\\\\\\b\\\\xff\\\"\",\"clock\":\"p:1\",\"line\":5},\"formula\":\"flag set set when done@1 = true\",\"later\":{\"call\":\"q f set -> \\\"\\\\\\\"\\\"\",\"clock\":\"q:1\",\"line\":6}}\n",
+        ),
+    ),
+    // the formula of other methods than the calls have
+    (
+        "rdtrace 1;thread p;thread q;object f flag",
+        ((6, 1, "false", (0, 1, 0)), (5, 0, "true", (1, 0, 0))),
+        (0, 1),
+        (
+            "race line 6 q f set -> false clock q:1\nwith line 5 p f set -> true clock p:1\nformula flag set see when done@1 = false\n",
+            "{\"earlier\":{\"call\":\"p f set -> true\",\"clock\":\"p:1\",\"line\":5},\"formula\":\"flag set see when done@1 = false\",\"later\":{\"call\":\"q f set -> false\",\"clock\":\"q:1\",\"line\":6}}\n",
         ),
     ),
 ];

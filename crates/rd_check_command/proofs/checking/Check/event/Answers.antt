@@ -16,7 +16,7 @@ use Rattle.rd_check_command.specs.Checked.{entry_events, event_numbers, race_tex
 use Rattle.rd_rules.specs.Events.{roots_of}
 use Rattle.rd_walk.specs.Walk.{Entry, items}
 use Rattle.rd_walk.proofs.OutputLemmas.{always_ok}
-use Rattle.rd_check_command.proofs.CheckLemmas.{call_cost, call_next, call_races, checks_call, checks_quiet, event_cost, event_next, event_tracks, known_race, races_call, text_call, texts_quiet}
+use Rattle.rd_check_command.proofs.CheckLemmas.{call_cost, call_next, call_races, checks_call, checks_quiet, event_cost, event_next, event_tracks, failed_race, races_call, text_call, texts_quiet}
 use Rattle.rd_check_command.proofs.ReportLemmas.{answer_text, texts_grow}
 use Rattle.rd_check_command.proofs.checking.Check.event.Goals as goal
 
@@ -108,8 +108,8 @@ returns-in-Ok-None-clause-cost g c = λ start before item ready.
     call_cost start c.args.self.now before entry c.args.event.now c.in-Call.call c.in-Call.is (naming_in c.args.names.now) c.args.place ready c.pass.new.self c.in-Ok.ensures.count c.args.steps.now
     c.pass.new.steps c.detect.new.steps c.pass.ensures.cost c.in-Ok-None.ensures.cost
 
-pub report-requires-clause-known : goal.report-requires-clause-known
-report-requires-clause-known g c =
+pub report-requires-clause-failed : goal.report-requires-clause-failed
+report-requires-clause-failed g c =
     let (start, before, item, ready) = c.requires in
     let entry : Entry = record { number = c.args.number; item = item } in
     let names = naming_in c.args.names.now in
@@ -117,7 +117,7 @@ report-requires-clause-known g c =
     let es = entry_events start.spec.now before in
     let next = call_next start c.args.self.now before entry c.args.event.now c.in-Call.call c.in-Call.is names c.args.place ready c.pass.new.self c.in-Ok.ensures.stamp c.in-Ok.ensures.stands in
     let said = c.in-Ok-Some.ensures in
-    known_race start c.args.self.now before entry c.args.event.now c.in-Call.call c.in-Call.is names c.args.place ready c.in-Ok-Some.field-0 c.in-Ok-Some.race
+    failed_race start c.args.self.now before entry c.args.event.now c.in-Call.call c.in-Call.is names c.args.place ready c.in-Ok-Some.field-0 c.in-Ok-Some.race
     (said.answer start.spec.now (roots_of (items before)) numbers es next) c.in-Ok-Some.field-0-is c.detect.new.self.spec.now said.same.1
 
 pub returns-in-Ok-Some-clause-checks : goal.returns-in-Ok-Some-clause-checks

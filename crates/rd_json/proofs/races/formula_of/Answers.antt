@@ -1,19 +1,18 @@
-use Rattle.std.proofs.Common.{◌≡◌, ◌<◌, ◌∙◌, List, ap, get_or, length, subst, sym}
+use Rattle.std.proofs.Common.{◌≡◌, ◌∙◌, List, ap, get_or, subst}
 use Rattle.std.proofs.lemmas.List.{get_or_default}
 use Rattle.rd_ecl.specs.Specified.{SpecifiedKind, kind_at, no_kind}
 use Rattle.rd_report.specs.Races.{IsKnownRace, formula_line_words}
 use Rattle.rd_report.specs.Texts.{Naming}
 use Rattle.rd_report.specs.Writing.{ArePlain}
 use Rattle.rd_store.specs.declared.Race.{Race}
-use Rattle.rd_json.specs.Json.{failed_words}
-use Rattle.rd_json.proofs.races.failed_formula.Goals as goal
+use Rattle.rd_json.specs.Json.{race_words}
+use Rattle.rd_json.proofs.races.formula_of.Goals as goal
 
-words_are : (kinds : List SpecifiedKind) (naming : Naming) (race : Race) (kind : SpecifiedKind) → IsKnownRace kinds naming race → kind ≡ get_or kinds race.kind kind
-    → formula_line_words kind race.first race.second ≡ failed_words kinds race.later.value.call race.earlier.value.call
+words_are : (kinds : List SpecifiedKind) (naming : Naming) (race : Race) (kind : SpecifiedKind) → IsKnownRace kinds naming race
+    → kind ≡ get_or kinds race.kind kind → formula_line_words kind race.first race.second ≡ race_words kinds race
 words_are kinds naming race kind known is =
-    let within : race.kind < length kinds = subst (λ k. k < length kinds) (sym known.kind) known.later.kind in
-    let at : kind ≡ kind_at kinds race.kind = is ∙ get_or_default kinds race.kind kind no_kind within in
-    λ i. formula_line_words ((at ∙ ap (kind_at kinds) known.kind) i) (known.first i) (known.second i)
+    let at : kind ≡ kind_at kinds race.kind = is ∙ get_or_default kinds race.kind kind no_kind known.kind in
+    ap (λ k. formula_line_words k race.first race.second) at
 
 pub returns-clause-words : goal.returns-clause-words
 returns-clause-words c =
