@@ -35,14 +35,15 @@ module _ (limits : Limits) (taken bytes : List ℕ) (old : Reader) (lines : List
   }
 
   -- and no more was taken than may be
-  pub read_so_far : (accepted : ℕ) → length lines ≤ accepted → length (old.pending ++ bytes) ≤ old.room + 1 → length (old.pending ++ bytes) ≤ old.limit
-      → IsTakenOfTrace limits (taken ++ bytes) accepted
-  read_so_far accepted few past fits = record {
+  pub read_so_far : (begun : ℕ) → length lines ≤ begun → begun ≤ length lines + 1 → length (old.pending ++ bytes) ≤ old.room + 1
+      → length (old.pending ++ bytes) ≤ old.limit → IsTakenOfTrace limits (taken ++ bytes) begun
+  read_so_far begun few most past fits = record {
     lines = lines;
     rest = old.pending ++ bytes;
     cut = all_taken;
     clean = so_far.clean;
     few = few;
+    most = most;
     short = omega (arith, fits, so_far.limit);
     bound = omega (arith, ap length all_taken, length-append (flat_map with_feed lines) (old.pending ++ bytes), past, so_far.room);
   }
@@ -50,14 +51,3 @@ module _ (limits : Limits) (taken bytes : List ℕ) (old : Reader) (lines : List
 -- all texts of the lines were written, and perhaps more behind them
 pub all_begun : (text : List Entry → List ℕ) (more part : List ℕ) (entries : List Entry) → part ≡ text entries ++ more → IsBegun text part entries
 all_begun text more part entries is = record { told = entries; last = []; is = sym (append-nil entries); one = omega arith; written = (more, is) }
-
-pub read_more : (limits : Limits) (taken now : List ℕ) (accepted more : ℕ) → now ≡ taken → accepted ≤ more → IsTakenOfTrace limits taken accepted → IsTakenOfTrace limits now more
-read_more limits taken now accepted more same further read = record {
-  lines = read.lines;
-  rest = read.rest;
-  cut = same ∙ read.cut;
-  clean = read.clean;
-  few = omega (arith, read.few);
-  short = read.short;
-  bound = omega (arith, ap length same, read.bound);
-}

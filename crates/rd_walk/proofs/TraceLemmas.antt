@@ -25,7 +25,6 @@ use Rattle.rd_walk.specs.declared.status.Status.{Status}
 use Rattle.rd_walk.specs.declared.status.Status.TheVariants.{NoMemory}
 use Rattle.rd_walk.proofs.AcceptedLemmas.{trace_accepted}
 use Rattle.rd_walk.proofs.OutputLemmas.{fault_no_well, front_only, halted_no_well, has_outcome, report_without, well_written}
-use Rattle.rd_walk.proofs.ProgressLemmas.{read_more}
 use Rattle.rd_walk.proofs.WalkLemmas.{entries_after}
 use Rattle.rd_walk.proofs.FileLemmas.{ending_at, file_is, opens_none, opens_once, opens_only, rest_is, taken_is}
 
@@ -83,7 +82,7 @@ module _ (texts : ReportTexts) (kinds : List Kind) (name : List ℕ) (limits : L
                 begun = entries;
                 first = (entries_of walked, ap entries_of walk_is ∙ entries_after entries walked);
                 is_begun = begun;
-                read = read_more limits taken new.taken (length entries) (length entries) (taken_is name old mid new taken few_opens opened takes) (omega arith) read;
+                read = subst (λ bytes. IsTakenOfTrace limits bytes (length entries)) (sym (taken_is name old mid new taken few_opens opened takes)) read;
                 cost = cost;
               },
               λ same. absurd (omega (arith, same, opens_once name old mid new taken few_opens opened takes)),

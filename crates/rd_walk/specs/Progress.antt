@@ -61,13 +61,15 @@ pub record IsBegun (text : List Entry → List ℕ) (part : List ℕ) (begun : L
   pub one : length last ≤ 1
   pub written : IsFront (text told) part
 
--- What was taken of a trace of which so many lines are accepted: some or all of these lines, and behind them no more bytes than a line
--- may have, which hold whatever line was refused; and all in all at most one byte past the limit on bytes.
-pub record IsTakenOfTrace (limits : Limits) (taken : List ℕ) (accepted : ℕ) : Type 0 where
+-- What was taken of a trace of which so many accepted lines were begun: all of these lines, or all but the last of them, and behind these no more
+-- bytes than a line may have, which hold that last one, or whatever line was refused; and all in all at most one byte past the limit on bytes.
+pub record IsTakenOfTrace (limits : Limits) (taken : List ℕ) (begun : ℕ) : Type 0 where
   pub lines : List (List ℕ)
   pub rest : List ℕ
   pub cut : taken ≡ flat_map with_feed lines ++ rest
   pub clean : All HasNoFeed lines
-  pub few : length lines ≤ accepted
+  pub few : length lines ≤ begun
+  -- no line was begun behind one that wasn't done with
+  pub most : begun ≤ length lines + 1
   pub short : length rest ≤ limits.line
   pub bound : length taken ≤ limits.bytes + 1

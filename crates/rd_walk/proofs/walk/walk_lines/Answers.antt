@@ -55,7 +55,7 @@ returns-in-Ok-End-clause-walked g c =
       stands,
       text,
       cost,
-      read_so_far limits taken bytes c.lines.reader lines cut (length entries) (omega arith) answered.past answered.fits,
+      read_so_far limits taken bytes c.lines.reader lines cut (length entries) (omega arith) (omega arith) answered.past answered.fits,
       takes_then _ _ _ taken bytes (λ (source : Source). Unit {0} → source.held ≡ [])
           (λ (source : Source). WalksTo kinds limits (taken ++ bytes) source.held entries c.at_end.result)
           (λ source none. subst (WalksTo kinds limits (taken ++ bytes) source.held entries) (sym ending)
@@ -77,7 +77,7 @@ returns-in-Err-clause-walked g c =
       stands,
       text,
       cost,
-      read_so_far limits taken bytes c.lines.reader lines cut (length entries) (omega arith) answered.past answered.fits,
+      read_so_far limits taken bytes c.lines.reader lines cut (length entries) (omega arith) (omega arith) answered.past answered.fits,
       takes_then _ _ _ taken bytes (λ (source : Source). IsAtEnd (Err refused) → source.held ≡ [])
           (λ (source : Source). WalksTo kinds limits (taken ++ bytes) source.held entries c.at_refusal.result)
           (λ source none. subst (WalksTo kinds limits (taken ++ bytes) source.held entries) (sym ending)
@@ -133,7 +133,7 @@ returns-in-Ok-Refused-clause-walked g c =
       refusal.1,
       rw quiet text,
       omega (arith, cost, silent.1),
-      read_so_far limits taken bytes c.lines.reader lines cut (length entries) (omega arith) answered.past answered.fits,
+      read_so_far limits taken bytes c.lines.reader lines cut (length entries) (omega arith) (omega arith) answered.past answered.fits,
       takes_then _ _ _ taken bytes (λ (source : Source). ⊥ → source.held ≡ [])
           (λ (source : Source). WalksTo kinds limits (taken ++ bytes) source.held entries (Refused c.number-number.result cause))
           (λ source none. subst (λ n. WalksTo kinds limits (taken ++ bytes) source.held entries (Refused n cause)) (sym c.number-number.ensures.value)
@@ -162,7 +162,7 @@ returns-in-Err-take_line-clause-halted g c =
         ([], sym (append-nil (g.A.Analysis.text kinds start entries))),
         all_begun (g.A.Analysis.text kinds start) [] (g.A.Analysis.text kinds start entries) entries (sym (append-nil (g.A.Analysis.text kinds start entries))),
         omega (arith, cost, steps),
-        read_so_far limits taken bytes c.lines.reader lines cut (length entries) (omega arith) answered.past answered.fits,
+        read_so_far limits taken bytes c.lines.reader lines cut (length entries) (omega arith) (omega arith) answered.past answered.fits,
         walks_further kinds limits taken bytes c.lines.reader entries so_far,
         goes_now,
       )
@@ -177,7 +177,8 @@ returns-in-Err-take_line-clause-halted g c =
             (rest, is ∙ sym (append_assoc (g.A.Analysis.text kinds start entries) part rest)),
             record { told = entries; last = entry ∷ []; is = refl; one = omega arith; written = (part, refl) },
             omega (arith, cost, cut_in.cost, bound_more (g.A.Analysis.bound kinds start) [] entries entry),
-            read_so_far limits taken bytes c.lines.reader lines cut (length (entries ++ entry ∷ [])) (omega (arith, counted, length-append entries (entry ∷ []))) answered.past answered.fits,
+            read_so_far limits taken bytes c.lines.reader lines cut (length (entries ++ entry ∷ [])) (omega (arith, counted, length-append entries (entry ∷ [])))
+                (omega (arith, counted, length-append entries (entry ∷ []))) answered.past answered.fits,
             walks_on kinds limits (taken ++ bytes) c.next.new.self (entries ++ entry ∷ [])
                 (continues_line kinds limits taken bytes c.lines.reader c.next.new.self entries so_far answered.tells moves.number item says),
             goes_now,
