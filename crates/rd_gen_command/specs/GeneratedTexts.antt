@@ -1,7 +1,6 @@
 -- What `gen-text` writes, and what it means: this project's profile.
-use Rattle.std.specs.Prelude.{ℕ, List, ◌++◌, codes, flat_map}
-use Rattle.rd_event.specs.Items.{line_spelling, line_text, lines_text}
-use Rattle.rd_event.specs.declared.items.Line.{Line}
+use Rattle.std.specs.Prelude.{ℕ}
+use Rattle.rd_event.specs.Items.{lines_text}
 use Rattle.rd_gen.specs.Generated.{generated}
 use Rattle.rd_walk.specs.Meanings.{Meaning, text_meaning}
 use Rattle.rd_walk.specs.Output.{IsTextStatus, Outcome}

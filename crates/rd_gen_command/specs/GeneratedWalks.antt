@@ -8,7 +8,9 @@ use Rattle.rd_gen.specs.Generated.{generated}
 use Rattle.rd_io.specs.Lines.LinesEnding.{at_end}
 use Rattle.rd_walk.specs.Meanings.{Meaning}
 use Rattle.rd_walk.specs.Output.{EndsAs, IsTraceEnd, Outcome}
-use Rattle.rd_walk.specs.Walk.{Walked, ending_of, ends, entries_of, items_go, step_bound, trace_end_of}
+use Rattle.rd_walk.specs.Progress.{IsBegun}
+use Rattle.rd_walk.specs.Traces.{ReportTexts}
+use Rattle.rd_walk.specs.Walk.{Entry, Walked, ending_of, ends, entries_of, items_go, step_bound, trace_end_of}
 use Rattle.rd_walk.specs.declared.status.Status.TheVariants.{NoMemory}
 use Rattle.rd_walk.specs.declared.walk.WalkEnd.TheVariants.{End}
 
@@ -35,16 +37,29 @@ gen_outcome report kinds limits number count = record {
   status = (report (generated_walk kinds limits number count)).status;
 }
 
--- `gen NUMBER COUNT`, with a report that has this outcome of a walk and this bound on the steps of a line behind others, of a trace whose objects are
--- of these kinds: no file is named. The steps are those of the accepted lines.
-abbrev pub gen_meaning : (Walked → Outcome) → (List Line → Line → ℕ) → List Kind → ℕ → ℕ → Meaning
-gen_meaning report bound kinds number count = record {
+-- what is written for lines that are done with, where a report writes this text for them: the counts stand in front of it
+abbrev pub behind_counts : (List Entry → List ℕ) → ℕ → ℕ → List Entry → List ℕ
+behind_counts text number count entries = trace_counts_text number count ++ text entries
+
+-- The steps that were counted in a walk, where `part` was written, and this text is written for lines: the accepted lines that were begun are the
+-- first of the walk, and the text of all of them but the last was written whole, or none was begun; and the steps are those of these lines.
+pub record CountsGenerated (text : List Entry → List ℕ) (bound : List Line → Line → ℕ) (walked : Walked) (part : List ℕ) (before after : ℕ) : Type 0 where
+  pub begun : List Entry
+  pub first : (rest : List Entry) × (entries_of walked ≡ begun ++ rest)
+  pub is_begun : (begun ≡ []) ⊎ IsBegun text part begun
+  pub cost : after ≤ before + step_bound bound begun
+
+-- `gen NUMBER COUNT`, with a report that writes these texts, of a trace whose objects are of these kinds: no file is named. The steps are those of
+-- the accepted lines that were begun: of all of them, or where a write failed or memory ran out of those up to there.
+abbrev pub gen_meaning : ReportTexts → List Kind → ℕ → ℕ → Meaning
+gen_meaning texts kinds number count = record {
   files = [];
   counts = true;
   statuses = EndsAs IsTraceEnd;
-  outcome = λ limits rose old new outcome. outcome ≡ gen_outcome report kinds limits number count;
-  takes = λ limits rose old new part before after. (new ≡ old) × (after ≤ before + step_bound bound (entries_of (generated_walk kinds limits number count)));
+  outcome = λ limits rose old new outcome. outcome ≡ gen_outcome texts.outcome kinds limits number count;
+  takes = λ limits rose old new part before after. (new ≡ old)
+      × CountsGenerated (behind_counts texts.lines number count) texts.bound (generated_walk kinds limits number count) part before after;
   reads = λ limits old new. ending_of (generated_walk kinds limits number count) ≡ End;
   writes = λ limits old part status. (status ≡ NoMemory)
-      ⊎ ((part ≡ (gen_outcome report kinds limits number count).text) × (status ≡ (gen_outcome report kinds limits number count).status));
+      ⊎ ((part ≡ (gen_outcome texts.outcome kinds limits number count).text) × (status ≡ (gen_outcome texts.outcome kinds limits number count).status));
 }

@@ -1,12 +1,12 @@
 //! A report on a generated trace.
-ghost use Rattle.std.specs.Prelude.{◌≡◌, ◌≢◌, ◌+◌, ◌≤◌, ℕ, List, [], Ok, IfOk, OnOk, OnErr};
+ghost use Rattle.std.specs.Prelude.{◌≡◌, ◌≢◌, ◌≤◌, ℕ, List, [], Ok, IfOk, OnOk, OnErr};
 ghost use Rattle.rd_base.specs.Limits.{AreUsable};
 ghost use Rattle.rd_gen.specs.declared.counts.TheConstants.{MOST_CALLS};
-ghost use Rattle.rd_gen_command.specs.GeneratedWalks.{trace_counts_text, gen_outcome, generated_walk};
+ghost use Rattle.rd_gen_command.specs.GeneratedWalks.{CountsGenerated, trace_counts_text, gen_outcome, behind_counts, generated_walk};
 ghost use Rattle.rd_io.specs.Sinks.{Appends};
 ghost use Rattle.rd_walk.specs.Analysis.{TellsFault, WritesFront};
 ghost use Rattle.rd_walk.specs.Output.{IsOutput, IsTraceEnd, IsWell, ended_status};
-ghost use Rattle.rd_walk.specs.Walk.{ending_of, entries_of, step_bound};
+ghost use Rattle.rd_walk.specs.Walk.{ending_of};
 ghost use Rattle.rd_wf.specs.Roster.{RosterStandsFor, kinds_in};
 
 use crate::walk::walk_generated;
@@ -59,9 +59,10 @@ fn report_generated<A: Report, S: Sink, L: Ledger>(
     requires begins { A.begins (kinds_in walker.old.roster) walker.old.analysis }
     ensures output { (part : List ℕ) × Appends (S.written out.old) (S.written out.new) part
         × IsOutput (ended_status result) part (A.outcome (kinds_in walker.old.roster) walker.old.analysis
-        (generated_walk (kinds_in walker.old.roster) walker.old.limits number count)) }
-    ensures cost { steps.new ≤ steps.old + step_bound (A.bound (kinds_in walker.old.roster) walker.old.analysis)
-        (entries_of (generated_walk (kinds_in walker.old.roster) walker.old.limits number count)) }
+        (generated_walk (kinds_in walker.old.roster) walker.old.limits number count))
+        × CountsGenerated (A.text (kinds_in walker.old.roster) walker.old.analysis) (A.bound (kinds_in walker.old.roster) walker.old.analysis)
+        (generated_walk (kinds_in walker.old.roster) walker.old.limits number count)
+        part steps.old steps.new }
     ensures ends { IfOk result IsTraceEnd }
     ensures input { result ≢ Ok Ended.InputFault }
     ensures fault { TellsFault (S.faults out.old) (S.faults out.new) (S.at_fault out.new)
@@ -94,13 +95,15 @@ pub(crate) fn gen_check<A: Report, S: Sink, L: Ledger>(
     requires none { RosterStandsFor (kinds_in walker.old.roster) walker.old.roster [] }
     requires begins { A.begins (kinds_in walker.old.roster) walker.old.analysis }
 
-    // what is written and the status are the defined ones, the steps are those of the accepted lines, and the trace was walked over to its
-    // end where the status says so
+    // what is written and the status are the defined ones, the steps are those of the accepted lines that were begun, and the trace was walked
+    // over to its end where the status says so
     ensures output { (part : List ℕ) × Appends (S.written out.old) (S.written out.new) part
         × IsOutput (ended_status result) part (gen_outcome
-        (A.outcome (kinds_in walker.old.roster) walker.old.analysis) (kinds_in walker.old.roster) walker.old.limits number count) }
-    ensures cost { steps.new ≤ steps.old + step_bound (A.bound (kinds_in walker.old.roster) walker.old.analysis)
-        (entries_of (generated_walk (kinds_in walker.old.roster) walker.old.limits number count)) }
+        (A.outcome (kinds_in walker.old.roster) walker.old.analysis) (kinds_in walker.old.roster) walker.old.limits number count)
+        × CountsGenerated (behind_counts (A.text (kinds_in walker.old.roster) walker.old.analysis) number count)
+        (A.bound (kinds_in walker.old.roster) walker.old.analysis)
+        (generated_walk (kinds_in walker.old.roster) walker.old.limits number count)
+        part steps.old steps.new }
     ensures read { IsWell (ended_status result) →
         ending_of (generated_walk (kinds_in walker.old.roster) walker.old.limits number count) ≡ WalkEnd.End }
 

@@ -1,11 +1,11 @@
 //! The commands `gen` and `gen-text`.
-ghost use Rattle.std.specs.Prelude.{◌≡◌, ◌≢◌, ◌+◌, ◌≤◌, ℕ, List, Ok, Option, IfOk};
+ghost use Rattle.std.specs.Prelude.{◌≡◌, ◌≢◌, ◌≤◌, ℕ, List, Ok, Option, IfOk};
 ghost use Rattle.rd_base.specs.Limits.{AreUsable};
 ghost use Rattle.rd_base.specs.declared.limits.Limits.{Limits as LimitsOf};
-ghost use Rattle.rd_check_command.specs.Checked.{check_bound, check_outcome};
+ghost use Rattle.rd_check_command.specs.Checked.{check_bound, check_outcome, race_texts};
 ghost use Rattle.rd_gen.specs.declared.counts.TheConstants.{MOST_CALLS};
 ghost use Rattle.rd_gen_command.specs.GeneratedTexts.{gen_text_meaning};
-ghost use Rattle.rd_gen_command.specs.GeneratedWalks.{gen_outcome, generated_walk};
+ghost use Rattle.rd_gen_command.specs.GeneratedWalks.{CountsGenerated, gen_outcome, behind_counts, generated_walk};
 ghost use Rattle.rd_gen_command.specs.Meanings.{gen_check_meaning};
 ghost use Rattle.rd_io.specs.Inputs.{Source};
 ghost use Rattle.rd_io.specs.Sinks.{Appends};
@@ -14,7 +14,7 @@ ghost use Rattle.rd_replay_command.specs.States.{built_in_kinds};
 ghost use Rattle.rd_walk.specs.Analysis.{TellsFault};
 ghost use Rattle.rd_walk.specs.Meanings.{Ran, seen_alone};
 ghost use Rattle.rd_walk.specs.Output.{IsOutput, IsTraceEnd, IsWell, ended_status};
-ghost use Rattle.rd_walk.specs.Walk.{ending_of, entries_of, step_bound};
+ghost use Rattle.rd_walk.specs.Walk.{ending_of};
 
 use crate::checks::gen_check;
 use crate::texts::write_text;
@@ -43,9 +43,10 @@ fn check_generated<S: Sink, L: Ledger>(
 
     // what is written and the status, the steps, and that the trace was walked to its end where the status says so
     ensures output { (part : List ℕ) × Appends (S.written out.old) (S.written out.new) part
-        × IsOutput (ended_status result) part (gen_outcome (check_outcome Form.EndingOnly shipped_kinds) built_in_kinds limits.now number count) }
-    ensures cost { steps.new ≤ steps.old + step_bound (check_bound shipped_kinds)
-        (entries_of (generated_walk built_in_kinds limits.now number count)) }
+        × IsOutput (ended_status result) part (gen_outcome (check_outcome Form.EndingOnly shipped_kinds) built_in_kinds limits.now number count)
+        × CountsGenerated (behind_counts (race_texts Form.EndingOnly shipped_kinds) number count) (check_bound shipped_kinds)
+        (generated_walk built_in_kinds limits.now number count)
+        part steps.old steps.new }
     ensures read { IsWell (ended_status result) →
         ending_of (generated_walk built_in_kinds limits.now number count) ≡ WalkEnd.End }
 

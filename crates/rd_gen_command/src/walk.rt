@@ -1,7 +1,7 @@
 //! The walk over the lines of a generated trace.
 ghost use Rattle.std.specs.Prelude.{◌≡◌, ◌≢◌, ℕ, ◌+◌, ◌<◌, ◌≤◌, ◌^◌, List, [], ◌++◌, Ok, length, IfOk, OnErr};
 ghost use Rattle.rd_base.specs.Limits.{AreUsable};
-ghost use Rattle.rd_gen_command.specs.GeneratedWalks.{walk_items};
+ghost use Rattle.rd_gen_command.specs.GeneratedWalks.{CountsGenerated, walk_items};
 ghost use Rattle.rd_io.specs.Sinks.{Appends};
 ghost use Rattle.rd_walk.specs.Analysis.{TellsFault};
 ghost use Rattle.rd_walk.specs.Walk.{Entry, Walked, after, ends, items, step_bound};
@@ -49,7 +49,9 @@ pub(crate) fn walk_generated<A: Analysis, S: Sink, L: Ledger>(
     ensures halted { OnErr result ((entries : List Entry) × (part : List ℕ) × (rest : List ℕ)
         × Appends (S.written out.old) (S.written out.new) part
         × (A.text (kinds_in walker.old.roster) walker.old.analysis entries ≡ part ++ rest)
-        × (steps.new ≤ steps.old + step_bound (A.bound (kinds_in walker.old.roster) walker.old.analysis) entries)
+        × CountsGenerated (A.text (kinds_in walker.old.roster) walker.old.analysis) (A.bound (kinds_in walker.old.roster) walker.old.analysis)
+        (walk_items (kinds_in walker.old.roster) walker.old.limits [] 1 generator.old.lines)
+        part steps.old steps.new
         × (walked : Walked)
         × (walk_items (kinds_in walker.old.roster) walker.old.limits [] 1 generator.old.lines
         ≡ after entries walked)) }

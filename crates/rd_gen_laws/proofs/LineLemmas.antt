@@ -54,7 +54,7 @@ right_count (suc zero) count is = ap (λ n. not (n == 2)) is
 right_count (suc (suc method)) count is = ap (λ n. not (n == 1)) is
 
 module _ (limits : Limits) (before : List Line) (joined : List (List ℕ)) (ahead : List ℕ → ℕ) (k : Knows before joined ahead) where
-  methods_are : methods_of kinds before (codes "d") ≡ methods_at kinds 3
+  pub methods_are : methods_of kinds before (codes "d") ≡ methods_at kinds 3
   methods_are =
       ap (λ os. methods_at kinds (unwrap_or (slice_get (object_kinds kinds before) (place os (codes "d"))) (length kinds))) k.objects_are
       ∙ ap (λ ks. methods_at kinds (unwrap_or (slice_get ks 0) (length kinds))) k.kinds_are

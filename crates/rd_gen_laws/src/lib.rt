@@ -3,4 +3,4 @@
 
 mod laws;
 
-pub use laws::{law_of_generated_lines, law_of_generated_verdicts};
+pub use laws::{law_of_generated_lines, law_of_generated_replays, law_of_generated_verdicts};

@@ -1,9 +1,10 @@
-use Rattle.std.proofs.Common.{◌≡◌, [], ◌++◌, ap, sym, ◌∙◌, subst, arith}
+use Rattle.std.proofs.Common.{◌≡◌, [], ◌++◌, refl, ap, sym, ◌∙◌, subst, arith}
 use Rattle.rd_gen.specs.Generated.{generated}
-use Rattle.rd_gen_command.proofs.ReportLemmas.{cost_of, front_of_front, items_accepted}
+use Rattle.rd_gen_command.proofs.ReportLemmas.{counts_begun, front_of_front, items_accepted}
 use Rattle.rd_gen_command.specs.GeneratedWalks.{generated_walk}
 use Rattle.rd_io.proofs.SinkLemmas.{appends_on}
 use Rattle.rd_walk.proofs.OutputLemmas.{report_cut}
+use Rattle.rd_walk.proofs.ProgressLemmas.{all_begun}
 use Rattle.rd_walk.specs.Output.{IsOutput, ended_status}
 use Rattle.rd_walk.specs.Walk.{entries_of, items}
 use Rattle.rd_rules.specs.Events.{AreAccepted}
@@ -18,7 +19,7 @@ walk_generated-requires-clause-few g c =
 pub returns-in_err-ending-clause-output : goal.returns-in_err-ending-clause-output
 returns-in_err-ending-clause-output g c =
     let lines : c.new-generator.result.lines ≡ generated c.args.number c.args.count = ap (λ v. v.lines) c.new-generator.ensures in
-    let (entries, part, rest, writes, is, cost, walked, so) = rw lines at c.in_err-ending.ensures.halted in
+    let (entries, part, rest, writes, is, counts, walked, so) = rw lines at c.in_err-ending.ensures.halted in
     let kinds = kinds_in c.args.walker.now.roster in
     let limits = c.args.walker.now.limits in
     let start = c.args.walker.now.analysis in
@@ -28,13 +29,8 @@ returns-in_err-ending-clause-output g c =
       writes,
       report_cut c.from_residual.result _ c.from_residual.ensures part behind (g.A.Report.outcome kinds start (generated_walk kinds limits c.args.number c.args.count))
           (ap (λ w. (g.A.Report.outcome kinds start w).text) so ∙ whole),
+      counts,
     )
-
-pub returns-in_err-ending-clause-cost : goal.returns-in_err-ending-clause-cost
-returns-in_err-ending-clause-cost g c =
-    let lines : c.new-generator.result.lines ≡ generated c.args.number c.args.count = ap (λ v. v.lines) c.new-generator.ensures in
-    let (entries, part, rest, writes, is, cost, walked, so) = rw lines at c.in_err-ending.ensures.halted in
-    cost_of _ _ walked entries _ _ so cost
 
 pub returns-clause-output : goal.returns-clause-output
 returns-clause-output g c =
@@ -47,10 +43,6 @@ returns-clause-output g c =
       front ++ part,
       appends_on _ _ _ front part text writes,
       subst (λ w. IsOutput (ended_status c.conclude.result) (front ++ part) (g.A.Report.outcome kinds start w)) (sym so) output,
+      counts_begun (g.A.Analysis.text kinds start) (g.A.Analysis.bound kinds start) _ _ entries (front ++ part) _ _ so
+          (all_begun (g.A.Analysis.text kinds start) part (front ++ part) entries refl) cost,
     )
-
-pub returns-clause-cost : goal.returns-clause-cost
-returns-clause-cost g c =
-    let lines : c.new-generator.result.lines ≡ generated c.args.number c.args.count = ap (λ v. v.lines) c.new-generator.ensures in
-    let (entries, leads, stands, text, cost, so) = rw lines at c.in_ok-ending.ensures.walked in
-    cost_of _ _ _ entries _ _ so cost

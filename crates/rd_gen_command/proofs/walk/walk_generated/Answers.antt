@@ -1,10 +1,12 @@
 use Rattle.std.proofs.Common.{◌+◌, [], ◌∷◌, ◌++◌, Ok, length, refl, sym, ap, ◌∙◌, subst, inl, inr, arith}
 use Rattle.std.proofs.lemmas.List.{append_assoc, append-nil}
+use Rattle.rd_gen_command.proofs.ReportLemmas.{counts_begun}
 use Rattle.rd_gen_command.proofs.TextLemmas.{split, split_none}
 use Rattle.rd_gen_command.proofs.WalkLemmas.{begun, walks_end, walks_on, walks_refused}
 use Rattle.rd_io.proofs.SinkLemmas.{appends_none, appends_on}
 use Rattle.rd_io.specs.Sinks.{Appends}
 use Rattle.rd_walk.proofs.OutputLemmas.{always_err}
+use Rattle.rd_walk.proofs.ProgressLemmas.{all_begun}
 use Rattle.rd_walk.proofs.WalkLemmas.{bound_more, items_more}
 use Rattle.rd_walk.specs.Walk.{Entry, after, bound_from, ends, items}
 use Rattle.rd_walk.specs.declared.walk.WalkEnd.TheVariants.{Refused}
@@ -30,8 +32,21 @@ lines-init g c =
 pub returns-in_err-line-clause-halted : goal.returns-in_err-line-clause-halted
 returns-in_err-line-clause-halted g c =
     let (entries, so_far, stands, leads, text, cost, calm, same, left) = c.lines.invariant in
-    let wrote = g.A.Analysis.text (kinds_in c.args.walker.now.roster) c.args.walker.now.analysis entries in
-    always_err _ c.from_residual.result (entries, wrote, [], text, sym (append-nil wrote), cost, _, so_far)
+    let kinds = kinds_in c.args.walker.now.roster in
+    let start = c.args.walker.now.analysis in
+    let wrote = g.A.Analysis.text kinds start entries in
+    let none = sym (append-nil wrote) in
+    always_err _ c.from_residual.result (
+      entries,
+      wrote,
+      [],
+      text,
+      none,
+      counts_begun (g.A.Analysis.text kinds start) (g.A.Analysis.bound kinds start) _ _ entries wrote _ _ so_far
+          (all_begun (g.A.Analysis.text kinds start) [] wrote entries none) cost,
+      _,
+      so_far,
+    )
 
 pub returns-in-Err-clause-halted : goal.returns-in-Err-clause-halted
 returns-in-Err-clause-halted g c =
@@ -51,21 +66,25 @@ returns-in-Err-clause-halted g c =
         [],
         subst (λ now. Appends (g.S.Sink.written c.args.out.now) now wrote) (sym quiet) text,
         sym (append-nil wrote),
-        omega (arith, cost, steps),
+        counts_begun (g.A.Analysis.text kinds start) (g.A.Analysis.bound kinds start) _ _ entries wrote _ _ so_far
+            (all_begun (g.A.Analysis.text kinds start) [] wrote entries (sym (append-nil wrote))) (omega (arith, cost, steps)),
         _,
         so_far,
       )
       | inr (accepted, cut) ↦
           let (part, behind, is, writes) = cut.written in
-          let entry : Entry = record { number = c.lines.number + 1; item = line } in (
+          let entry : Entry = record { number = c.lines.number + 1; item = line } in
+          let on = walks_on kinds limits _ entries (c.lines.number + 1) c.lines.generator.lines so_far line rest lines (rw same at accepted) in (
             entries ++ entry ∷ [],
             wrote ++ part,
             behind,
             appends_on _ _ _ wrote part text writes,
             is ∙ sym (append_assoc wrote part behind),
-            omega (arith, cost, cut.cost, bound_more (g.A.Analysis.bound kinds start) [] entries entry),
+            counts_begun (g.A.Analysis.text kinds start) (g.A.Analysis.bound kinds start) _ _ (entries ++ entry ∷ []) (wrote ++ part) _ _ on
+                (record { told = entries; last = entry ∷ []; is = refl; one = omega arith; written = (part, refl) })
+                (omega (arith, cost, cut.cost, bound_more (g.A.Analysis.bound kinds start) [] entries entry)),
             _,
-            walks_on kinds limits _ entries (c.lines.number + 1) c.lines.generator.lines so_far line rest lines (rw same at accepted),
+            on,
           )
     ]
 
