@@ -1,13 +1,14 @@
 -- The threads that share a lock.
-use Rattle.std.proofs.Common.{◌≡◌, ℕ, ◌+◌, ◌-◌, ◌<◌, ◌≤◌, ◌==◌, ◌||◌, Bool, true, false, cond, ltb, List, length, get_or, Option, Some, None, IfSome, refl, sym, ap, subst, ◌∙◌, arith, true≢false, inl, inr}
+use Rattle.std.proofs.Common.{◌≡◌, ℕ, ◌+◌, ◌-◌, ◌<◌, ◌≤◌, ◌==◌, ◌||◌, Bool, true, false, cond, ltb, List, length, set, get_or, Option, Some, None, IfSome, refl, sym, ap, subst, ◌∙◌, arith, true≢false, inl, inr}
 use Rattle.std.proofs.lemmas.Bool.{cases_eq, ne_eqb}
 use Rattle.std.proofs.lemmas.Bool.Decides.{nat_tests, Decides-eqb, Decides-ltb}
 use Rattle.std.specs.Prelude.{slice_get, slice_set}
 use Rattle.std.specs.List.{swap_remove}
+use Rattle.std.proofs.lemmas.List.Elements.{All-get_or, All-set, All-take}
 use Rattle.std.proofs.lemmas.List.Sums.{sum_by-set, sum_by-swap_remove}
 use Rattle.std.proofs.lemmas.Option.{same_Some, slice_get-get_or}
 use Rattle.rd_tables.specs.declared.sharers.Sharer.{Sharer}
-use Rattle.rd_tables.specs.Sharers.{depth_by, depth_among, lesser, IsLeast}
+use Rattle.rd_tables.specs.Sharers.{AreDeep, depth_by, depth_among, lesser, IsLeast}
 
 -- ---- the least number that passes a test
 
@@ -93,6 +94,13 @@ module _ (sharers : List Sharer) (at : ℕ) (sharer : Sharer) (thread : ℕ) (be
       let gone : depth_among (swap_remove sharers at sharer) thread + depth_by thread (get_or sharers at sharer) ≡ depth_among sharers thread = sum_by-swap_remove (depth_by thread) sharers at sharer below in
       let here : depth_by thread (get_or sharers at sharer) ≡ sharer.depth = ap (depth_by thread) (sym is) ∙ ap (λ b. cond b sharer.depth 0) ((Decides-eqb thread sharer.thread).1 (sym own)) in
       omega arith
+
+-- no entry without depth is left where one goes
+pub deep_gone : (sharers : List Sharer) (at : ℕ) (sharer : Sharer) → at < length sharers → AreDeep sharers → AreDeep (swap_remove sharers at sharer)
+deep_gone sharers at sharer below deep =
+    let last : Sharer = get_or sharers (length sharers - 1) sharer in
+    let own : 1 ≤ last.depth = All-get_or (λ (s : Sharer). 1 ≤ s.depth) sharers (length sharers - 1) sharer (omega (arith, below)) deep in
+    All-take (λ (s : Sharer). 1 ≤ s.depth) (length sharers - 1) (set sharers at last) (All-set (λ (s : Sharer). 1 ≤ s.depth) sharers at last own deep)
 
 -- what holds of the sharer at a place
 pub at_place : (sharers : List Sharer) (at : ℕ) (sharer : Sharer) (P : Sharer → Type 0) → at < length sharers → sharer ≡ get_or sharers at sharer → IfSome (slice_get sharers at) P → P sharer

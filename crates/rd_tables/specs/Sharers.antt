@@ -1,5 +1,5 @@
 -- The threads that share locks: this project's profile.
-use Rattle.std.specs.Prelude.{◌≡◌, ℕ, ◌<◌, ◌==◌, nat_lt, Bool, true, false, not, ◌&&◌, if◌then◌else◌, List, Option, Some, None}
+use Rattle.std.specs.Prelude.{◌≡◌, ℕ, ◌<◌, ◌≤◌, ◌==◌, nat_lt, Bool, true, false, not, ◌&&◌, if◌then◌else◌, All, List, Option, Some, None}
 use Rattle.std.specs.List.{sum_by}
 use Rattle.rd_tables.specs.declared.sharers.Sharer.{Sharer}
 
@@ -10,6 +10,10 @@ depth_by thread sharer = if thread == sharer.thread then sharer.depth else 0
 -- so by all of them
 abbrev pub depth_among : List Sharer → ℕ → ℕ
 depth_among sharers thread = sum_by (depth_by thread) sharers
+
+-- no entry without depth is kept
+abbrev pub AreDeep : List Sharer → Type 0
+AreDeep sharers = All (λ sharer. 1 ≤ sharer.depth) sharers
 
 -- a second thread shares the lock, and it is another one than the first
 abbrev pub is_other_among : List Sharer → ℕ → ℕ → Bool

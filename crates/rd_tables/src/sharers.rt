@@ -1,6 +1,6 @@
 //! The threads that share a lock.
 ghost use Rattle.std.specs.Prelude.{ℕ, ◌≡◌, ◌+◌, ◌<◌, ◌≤◌, ◌^◌, ◌==◌, true, if◌then◌else◌, IfNone, IfSome, OnOk, OnErr, length, slice_get, vec_len, vec_capacity};
-ghost use Rattle.rd_tables.specs.Sharers.{depth_among, is_other_among, lesser, IsLeast};
+ghost use Rattle.rd_tables.specs.Sharers.{AreDeep, depth_among, is_other_among, lesser, IsLeast};
 
 use rd_base::NoMemory;
 use std::alloc::Global;
@@ -17,6 +17,7 @@ struct Sharer {
 pub(crate) struct Sharers {
     sharers: Vec<Sharer>,
     ghost few: { (thread : ℕ) → depth_among sharers.items thread < 2 ^ 32 },
+    ghost deep: { AreDeep sharers.items },
 }
 
 /// The lesser of two numbers, where both are there, and else the one that is.

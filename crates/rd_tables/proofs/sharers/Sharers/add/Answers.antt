@@ -1,6 +1,8 @@
 use Rattle.std.proofs.lemmas.Grind.{common_steps}
-use Rattle.std.proofs.Common.{◌≡◌, ◌+◌, ◌<◌, arith}
+use Rattle.std.proofs.Common.{◌≡◌, ◌+◌, ◌<◌, ◌≤◌, arith}
+use Rattle.std.proofs.lemmas.List.Elements.{All-set}
 use Rattle.std.specs.Prelude.{slice_set}
+use Rattle.rd_tables.specs.declared.sharers.Sharer.{Sharer}
 use Rattle.rd_tables.specs.Sharers.{depth_among}
 use Rattle.rd_tables.proofs.ShareLemmas.{at_place, one_more, own_within, still_few}
 use Rattle.rd_tables.proofs.sharers.Sharers.add.Goals as goal
@@ -22,6 +24,7 @@ invariant_of-self c =
     record {
       few = still_few (depth_among sharers) (depth_among (slice_set sharers c.in-Some.at (record { thread = sharer.thread; depth = sharer.depth + 1 }))) c.args.thread c.requires c.args.self.now.few
           (one_more sharers c.in-Some.at sharer c.args.thread found.0 c.index_mut.ensures.value own.0);
+      deep = All-set (λ (s : Sharer). 1 ≤ s.depth) sharers c.in-Some.at (record { thread = sharer.thread; depth = sharer.depth + 1 }) (omega arith) c.args.self.now.deep;
     }
 
 pub returns-in-Some-clause-ok : goal.returns-in-Some-clause-ok

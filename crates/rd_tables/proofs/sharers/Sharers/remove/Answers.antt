@@ -1,8 +1,9 @@
 use Rattle.std.proofs.lemmas.Grind.{common_steps}
-use Rattle.std.proofs.Common.{◌≡◌, ◌+◌, ◌<◌, ◌≤◌, ◌==◌, if◌then◌else◌, subst, arith, ◌∙◌, ap, sym}
+use Rattle.std.proofs.Common.{◌≡◌, ◌+◌, ◌-◌, ◌<◌, ◌≤◌, ◌==◌, if◌then◌else◌, subst, arith, ◌∙◌, ap, sym}
+use Rattle.std.proofs.lemmas.List.Elements.{All-set}
 use Rattle.rd_tables.specs.declared.sharers.Sharer.{Sharer}
-use Rattle.rd_tables.specs.Sharers.{depth_among}
-use Rattle.rd_tables.proofs.ShareLemmas.{at_place, one_less, one_gone, same_at}
+use Rattle.rd_tables.specs.Sharers.{AreDeep, depth_among}
+use Rattle.rd_tables.proofs.ShareLemmas.{at_place, deep_gone, one_less, one_gone, same_at}
 use Rattle.rd_tables.proofs.sharers.Sharers.remove.Goals as goal
 
 pub returns-then-index-gt1 : goal.returns-then-index-gt1
@@ -32,10 +33,22 @@ pub overflow_sub-index_mut : goal.overflow_sub-index_mut
 overflow_sub-index_mut c = grind (arith, common_steps)
 
 pub invariant_of-self : goal.invariant_of-self
-invariant_of-self c = grind (arith, common_steps)
+invariant_of-self c =
+    let sharers = c.args.self.now.sharers.items in
+    let sharer = c.index_mut.result.now in
+    let found = c.in-Some.ensures.some in
+    let same : sharer ≡ c.index.result.now = same_at sharers c.in-Some.at sharer c.index.result.now found.0 c.index_mut.ensures.value c.index.ensures in
+    let more : 1 < sharer.depth = subst (λ (s : Sharer). 1 < s.depth) (sym same) c.if-index-gt1.true in
+    record {
+      few = grind (arith, common_steps);
+      deep = All-set (λ (s : Sharer). 1 ≤ s.depth) sharers c.in-Some.at (record { thread = sharer.thread; depth = sharer.depth - 1 }) (omega (arith, more)) c.args.self.now.deep;
+    }
 
 pub swap_remove-requires : goal.swap_remove-requires
 swap_remove-requires c = grind (arith, common_steps)
 
 pub invariant_of-self-else-index-gt1 : goal.invariant_of-self-else-index-gt1
-invariant_of-self-else-index-gt1 c = grind (arith, common_steps)
+invariant_of-self-else-index-gt1 c = record {
+  few = grind (arith, common_steps);
+  deep = subst AreDeep (sym c.swap_remove.ensures.items) (deep_gone c.args.self.now.sharers.items c.in-Some.at c.swap_remove.result c.in-Some.ensures.some.0 c.args.self.now.deep);
+}
