@@ -1,5 +1,6 @@
 //! Real files as inputs.
 ghost use Rattle.std.specs.Prelude.{None, ◌≤◌, length, IfOk};
+ghost use Rattle.std.specs.Io.KnownBytes.{ReadConsumes};
 ghost use Rattle.rd_io.specs.Inputs.{HasCause};
 
 use rd_base::Word;
@@ -58,6 +59,7 @@ pub fn read_counted<F: Read>(
     faults: &mut u64,
 ) -> Result<usize, Failed>
     ensures bound { IfOk result (λ count. count ≤ length buffer.new) }
+    ensures bytes { ReadConsumes (F.remaining file.old) (F.remaining file.new) result buffer.new }
     ensures cause { HasCause faults.old faults.new result }
 {
     if let Ok(count) = file.read(buffer) {

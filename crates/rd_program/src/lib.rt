@@ -10,4 +10,4 @@ mod tests;
 
 pub use files::FileInputs;
 pub use output::OutputSink;
-pub use program::run_program;
+pub use program::{run_program, run_words};

@@ -1,10 +1,12 @@
-//! The adapters over what they stand on: short writes, writes that take nothing, and errors.
+//! The adapters over what they stand on: short writes, writes that take nothing, and errors; and the words of a command line.
 
+use crate::arguments::{WordsRefused, words};
 use crate::files::read_counted;
 use crate::output::OutputSink;
 use rd_io::{Sink, write_all};
 use rd_run::Status;
 use std::cell::{Cell, RefCell};
+use std::env::{Env, FillError};
 use std::fmt::Display;
 use std::io;
 use std::io::Read;
@@ -174,4 +176,85 @@ fn the_numbers_of_statuses(rt: HostRuntime) {
     for (number, status) in statuses.iter().enumerate() {
         assert!(rt; usize::from(status.code()) == number, "{number}");
     }
+}
+
+/// A command line of words of one byte each, so many times as is said, behind the program's name, if that is given.
+#[derive(Drop)]
+struct Line<'a> {
+    named: bool,
+    byte: u8,
+    lengths: &'a [usize],
+}
+
+/// Fills the front of the buffer with a byte, if it is long enough.
+fn fill(buf: &mut [u8], count: usize, byte: u8) -> Result<usize, FillError> {
+    if count > buf.len() {
+        return Err(FillError::TooLong);
+    }
+    buf[..count].fill(byte);
+    Ok(count)
+}
+
+impl<'a> Env for Line<'a> {
+    fn arg(&self, i: usize, buf: &mut [u8]) -> Result<usize, FillError> {
+        if i == 0 && self.named {
+            return fill(buf, 3, b'r');
+        }
+        match self.lengths.get(i.wrapping_sub(1)) {
+            Some(count) => fill(buf, *count, self.byte),
+            None => Err(FillError::NotPresent),
+        }
+    }
+
+    fn var(&self, _name: &str, _buf: &mut [u8]) -> Result<usize, FillError> {
+        Err(FillError::NotPresent)
+    }
+
+    fn var_at(&self, _i: usize, _buf: &mut [u8]) -> Result<usize, FillError> {
+        Err(FillError::NotPresent)
+    }
+}
+
+#[test]
+fn words_of_each_length(rt: HostRuntime) {
+    let lengths = [0, 1, 255, 256, 257, 511, 512, 513, 65_535, 65_536, 0];
+    // no text in UTF-8 has this byte
+    let line = Line {
+        named: true,
+        byte: 0xFF,
+        lengths: &lengths,
+    };
+    let Ok(given) = words(&line, rt.alloc()) else {
+        panic!(rt; "the words are given");
+    };
+    assert!(rt; given.len() == lengths.len());
+    for (word, count) in given.iter().zip(lengths) {
+        let bytes = word.items();
+        assert!(rt;
+            bytes.len() == count && bytes.iter().all(|byte| *byte == 0xFF),
+            "{count}"
+        );
+    }
+}
+
+#[test]
+fn a_line_without_words(rt: HostRuntime) {
+    let line = Line {
+        named: true,
+        byte: b'w',
+        lengths: &[],
+    };
+    let none = words(&line, rt.alloc()).is_ok_and(|given| given.is_empty());
+    assert!(rt; none);
+}
+
+#[test]
+fn a_line_that_is_not_given(rt: HostRuntime) {
+    let line = Line {
+        named: false,
+        byte: b'w',
+        lengths: &[],
+    };
+    let refused = words(&line, rt.alloc()).err() == Some(WordsRefused::NotGiven);
+    assert!(rt; refused);
 }
