@@ -5,6 +5,8 @@
 #[cfg(test)]
 mod calls;
 #[cfg(test)]
+mod hashing;
+#[cfg(test)]
 mod merging;
 #[cfg(test)]
 mod random_kinds;
