@@ -8,7 +8,8 @@ The traces and specifications are made here; `--keep` leaves them in the folder.
 import argparse, multiprocessing, os, pathlib, subprocess, tempfile
 
 THREADS, LOCKS, OBJECTS = 4096, 65536, 65536
-KINDS, METHODS, MOST_BYTES = 32, 16, 1048576
+KINDS, METHODS, MOST_BYTES = 17, 16, 1048576
+NAMES, SLOTS = 'abcdefghijklmnop', 'abcdef'
 
 
 def threads():
@@ -60,18 +61,19 @@ def long_lines_kinds():
 
 
 def formula(method, other):
-    """A formula with five predicates a side, and as many nodes as fit."""
-    def side(letter, number):
-        return ' and '.join(f'{letter}{i}@{number} = {i}' for i in range(5))
-    return f'a0@1 != a0@2 or {side("a", 1)}' if method == other else f'a0@1 != a0@2 or {side("a", 1)} or {side("a", 2)}'
+    """A formula with twenty relations of the first call's arguments with the second's, five relations a side, and as many nodes as may be."""
+    crossing = ' and '.join(f'{SLOTS[k // 6]}@1 != {SLOTS[(k + k // 6) % 6]}@2' for k in range(20))
+    sides = (1,) if method == other else (1, 2)
+    return f'({crossing})' + ''.join(' or (' + ' and '.join(f'{SLOTS[i]}@{side} = {i}' for i in range(5)) + ')' for side in sides)
 
 
 def largest_kinds(kinds=KINDS):
-    """So many kinds of sixteen methods with six arguments, each with five predicates."""
+    """So many kinds of sixteen methods with six arguments, each with five relations of its own: with fewer nodes in a formula, more kinds would fit and
+    take no longer in all."""
     out = ['rdspec 1']
     for k in range(kinds):
-        out += [f'kind k{k}', *[f'method m{i} a0 a1 a2 a3 a4 a5 -> r' for i in range(METHODS)]]
-        out += [f'commute m{i} m{j} when {formula(i, j)}' for i in range(METHODS) for j in range(i, METHODS)]
+        out += [f'kind k{k}', *[f'method {m} {" ".join(SLOTS)} -> r' for m in NAMES]]
+        out += [f'commute {NAMES[i]} {NAMES[j]} when {formula(i, j)}' for i in range(METHODS) for j in range(i, METHODS)]
     return out
 
 
@@ -92,7 +94,7 @@ def empty():
 def one_call_each():
     """A call of each method of each of the largest kinds."""
     out = ['rdtrace 1', 'thread main', *[f'object o{k} k{k}' for k in range(KINDS)]]
-    return out + [f'call main o{k} m{i} 0 1 2 3 4 5 -> 6' for k in range(KINDS) for i in range(METHODS)]
+    return out + [f'call main o{k} {m} 0 1 2 3 4 5 -> 6' for k in range(KINDS) for m in NAMES]
 
 
 # what is measured: a name, the command, and its files

@@ -439,7 +439,7 @@ def check_counts(trials, proved):
     examples = sum(line.endswith(', as wanted') for line in wanted)
     lines = list(trials.prose.values())
     begin = next((number for number, line in enumerate(lines) if line.startswith('The examples, ')), len(lines))
-    told = sum(int(number) for line in lines[begin:begin + 5] if line.startswith('- ') for number in re.findall(r'\b\d+\b', line))
+    told = sum(int(number) for line in lines[begin:begin + 6] if line.startswith('- ') for number in re.findall(r'\b\d+\b', line))
     if told != examples:
         fault(trials, 1, f'the list has {told} examples, and stdout {examples}')
     runs = (trials.path.parent / 'stdout').read_text().split()[0]

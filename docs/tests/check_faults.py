@@ -12,9 +12,9 @@ command below, over files of its own:
 - each write fails: the status is 7, and the output the lines in front of it;
 - reads and writes of one byte change nothing.
 
-Beside these: a file that isn't there, a folder as a file, a full device and a closed output. Ends with 1 where something differs.
+Beside these: a file that isn't there, a folder as a file, a full device, a closed output, and no words at all. Ends with 1 where something differs.
 """
-import argparse, os, pathlib, subprocess, sys, tempfile
+import argparse, ctypes, os, pathlib, subprocess, sys, tempfile
 
 LIBRARY = r'''
 #define _GNU_SOURCE
@@ -249,6 +249,23 @@ def check_system(program):
         ask(closed.returncode == 7, words, 'closed output', closed.returncode)
 
 
+def check_no_words(program):
+    """A system that gives no words, not even the program's name: status 20. Linux puts an empty one there from 5.18 on, and no word behind it matches no command."""
+    output, told = os.pipe()
+    child = os.fork()
+    if child == 0:
+        os.dup2(told, 1)
+        system = ctypes.CDLL(None)
+        system.execve(program.path.encode(), (ctypes.c_char_p * 1)(None), (ctypes.c_char_p * 1)(None))
+        os._exit(127)
+    os.close(told)
+    with os.fdopen(output, 'rb') as pipe:
+        written = pipe.read()
+    status = os.waitstatus_to_exitcode(os.waitpid(child, 0)[1])
+    ask((status, written) in ((20, b''), (2, b'refused usage\n')), 'no words', status, written)
+    print(f'no words: status {status}')
+
+
 def main():
     options = argparse.ArgumentParser(usage=__doc__)
     options.add_argument('--rd2', required=True)
@@ -263,6 +280,7 @@ def main():
             if given.only in (None, words[0]):
                 check_command(program, words)
         check_system(program)
+        check_no_words(program)
     print(f'{asked} asked, {len(differing)} differ')
     sys.exit(1 if differing else 0)
 
