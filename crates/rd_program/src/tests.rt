@@ -1,4 +1,5 @@
 //! The adapters over what they stand on: short writes, writes that take nothing, and errors; and the words of a command line.
+ghost use Rattle.std.specs.Prelude.{◌≤◌, length, IfOk};
 
 use crate::arguments::{WordsRefused, words};
 use crate::files::read_counted;
@@ -187,7 +188,9 @@ struct Line<'a> {
 }
 
 /// Fills the front of the buffer with a byte, if it is long enough.
-fn fill(buf: &mut [u8], count: usize, byte: u8) -> Result<usize, FillError> {
+fn fill(buf: &mut [u8], count: usize, byte: u8) -> Result<usize, FillError>
+    ensures { IfOk result (λ n. n ≤ length buf.new) }
+{
     if count > buf.len() {
         return Err(FillError::TooLong);
     }
