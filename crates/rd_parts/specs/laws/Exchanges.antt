@@ -1,7 +1,7 @@
 -- Machines whose calls are listed, each with what it does to what the object holds: they are sound where any two calls that commute may be
 -- exchanged.
 use Rattle.std.specs.Prelude.{◌≡◌, ◌⊎◌, ℕ, true, nat_le, List, [], ◌∷◌, ◌++◌}
-use Rattle.std.proofs.Common.{sym, ap, ◌∙◌, subst, ⊎_elim}
+use Rattle.std.proofs.Common.{refl, sym, ap, ◌∙◌, subst, ⊎_elim}
 use Rattle.rd_base.specs.declared.values.Value.{Value}
 use Rattle.rd_ecl.specs.Specified.{SpecifiedKind, commutes, pair_holds}
 use Rattle.rd_object.specs.Machines.{IsShape, IsSound, KeepsShapes, Machine, Next}
@@ -57,6 +57,11 @@ exchange_still calls first second state still still' = record {
   first_result = ap (calls.result first) still';
   same = ap (calls.after first) still' ∙ still ∙ sym (ap (calls.after second) still ∙ still');
 }
+
+-- a call and itself, where both have one result
+pub exchange_itself : {S C : Type 0} (calls : Calls S C) (call : C) (state : S) → calls.result call (calls.after call state) ≡ calls.result call state
+    → Exchange calls call call state
+exchange_itself calls call state same = record { second_result = same; first_result = same; same = refl }
 
 pub turn : {S C : Type 0} (calls : Calls S C) (first second : C) (state : S) → Exchange calls first second state → Exchange calls second first state
 turn calls first second state x = record { second_result = x.first_result; first_result = x.second_result; same = sym x.same }

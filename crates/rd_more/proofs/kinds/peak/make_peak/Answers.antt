@@ -1,0 +1,9 @@
+use Rattle.std.proofs.Common.{refl, subst, sym}
+use Rattle.rd_ecl.specs.Specified.{IsWhole}
+use Rattle.rd_parts.proofs.KindLemmas.{whole_by}
+use Rattle.rd_more.specs.MoreKinds.{peak_kind}
+use Rattle.rd_more.proofs.kinds.peak.make_peak.Goals as goal
+
+pub finish-requires : goal.finish-requires
+unfolding peak_kind
+finish-requires c = subst IsWhole (sym c.in_ok-set_pairs.ensures) (whole_by peak_kind refl)
