@@ -12,6 +12,7 @@ use Rattle.rd_object.specs.Machines.Step.{goes, refuses, unknown}
 use Rattle.rd_object.specs.declared.shapes.Shape.{Shape}
 use Rattle.rd_object.specs.declared.shapes.Shape.TheVariants.{One, Number, Items, Map}
 use Rattle.rd_parts.specs.Items.{has, with_item, without_item}
+use Rattle.rd_more.specs.Machines.{bag_machine, peak_machine, queue_machine, tally_machine}
 use Rattle.rd_kinds.specs.Shipped.{counter_kind, dictionary_kind, register_kind, set_kind}
 
 -- ---- a register holds a value
@@ -103,7 +104,8 @@ dictionary_machine = record { kind = dictionary_kind; first = Map []; step = dic
 -- ---- the kinds, by their numbers from 0
 
 abbrev pub shipped_machines : List Machine
-shipped_machines = register_machine ∷ counter_machine ∷ set_machine ∷ dictionary_machine ∷ []
+shipped_machines =
+    register_machine ∷ counter_machine ∷ set_machine ∷ dictionary_machine ∷ bag_machine ∷ peak_machine ∷ queue_machine ∷ tally_machine ∷ []
 
 -- the machine of the kind with this number, where it is built in
 abbrev pub machine_of : ℕ → Option Machine

@@ -8,6 +8,7 @@ use Rattle.rd_ecl.specs.declared.kinds.Method.{Method}
 use Rattle.rd_ecl.specs.Formulas.{Tree, truth, negation, both, either}
 use Rattle.rd_ecl.specs.Specified.{SpecifiedKind}
 use Rattle.rd_parts.specs.Parts.{Pair, equals, firsts_differ, method, no_pairs, with_pairs}
+use Rattle.rd_more.specs.MoreKinds.{bag_kind, peak_kind, queue_kind, tally_kind}
 
 -- ---- a register holds a value
 
@@ -148,7 +149,7 @@ dictionary_kind = with_pairs (no_pairs (codes "dictionary") dictionary_methods) 
 -- ---- the kinds, by their numbers from 0
 
 abbrev pub shipped_kinds : List SpecifiedKind
-shipped_kinds = register_kind ∷ counter_kind ∷ set_kind ∷ dictionary_kind ∷ []
+shipped_kinds = register_kind ∷ counter_kind ∷ set_kind ∷ dictionary_kind ∷ bag_kind ∷ peak_kind ∷ queue_kind ∷ tally_kind ∷ []
 
 -- the names of kinds that are taken, whichever of them are built in
 abbrev pub reserved_names : List (List ℕ)

@@ -1,4 +1,4 @@
-//! The kinds of objects that are built in: `register`, `counter`, `set` and `dictionary`.
+//! The kinds of objects that are built in: `register`, `counter`, `set` and `dictionary`, and the four of rd_more.
 #![tactic(auto)]
 
 // What is said of each kind that is built in, by the names of the kinds in the order of their numbers.
@@ -38,4 +38,7 @@ pub use laws::{law_of_machines, law_of_shipped_kinds};
 pub use names::reserved;
 pub use objects::{Counter, Dictionary, Object, Register, Set};
 pub use shipping::{shipped, shipped_count};
-pub use tables::{KindTable, counter_table, dictionary_table, register_table, set_table};
+pub use tables::{
+    KindTable, bag_table, counter_table, dictionary_table, peak_table, queue_table, register_table,
+    set_table, tally_table,
+};

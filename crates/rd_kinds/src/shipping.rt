@@ -8,6 +8,7 @@ use crate::register::register;
 use crate::set::set;
 use rd_base::NoMemory;
 use rd_ecl::{KindSpec, Spec};
+use rd_more::{make_bag, make_peak, make_queue, make_tally};
 use std::alloc::Global;
 
 // Puts a kind last.
@@ -25,11 +26,12 @@ fn push_all(alloc: Global, spec: &mut Spec) -> Result<(), NoMemory>
     requires { spec.old ≡ [] }
     ensures { OnOk result (spec.new ≡ shipped_kinds) }
 {
-    dispatch!(push spec, alloc; register, counter, set, dictionary);
+    dispatch!(push spec, alloc; register, counter, set, dictionary, make_bag, make_peak, make_queue, make_tally);
     Ok(())
 }
 
-/// The kinds that are built in, by their numbers: `register` is 0, `counter` 1, `set` 2 and `dictionary` 3.
+/// The kinds that are built in, by their numbers: `register` is 0, `counter` 1, `set` 2, `dictionary` 3, `bag` 4, `peak` 5, `queue` 6 and
+/// `tally` 7.
 pub fn shipped(alloc: Global) -> Result<Spec, NoMemory>
     ensures { IfOk result (λ spec. spec ≡ shipped_kinds) }
 {
@@ -42,5 +44,5 @@ pub fn shipped(alloc: Global) -> Result<Spec, NoMemory>
 pub fn shipped_count() -> u32
     ensures { result ≡ length shipped_kinds }
 {
-    4
+    8
 }

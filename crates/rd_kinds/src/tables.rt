@@ -2,6 +2,7 @@
 ghost use Rattle.std.specs.Prelude.{◌≡◌};
 ghost use Rattle.rd_kinds.specs.Shipped.{counter_methods, dictionary_methods, register_methods, set_methods};
 ghost use Rattle.rd_kinds.specs.Tables.{table_of};
+ghost use Rattle.rd_more.specs.MoreKinds.{bag_methods, peak_methods, queue_methods, tally_methods};
 
 use rd_base::Name;
 use rd_parts::name;
@@ -95,5 +96,49 @@ pub fn dictionary_table() -> KindTable<3>
     KindTable {
         names: [name(b"put"), name(b"get"), name(b"size")],
         args: [2, 1, 0],
+    }
+}
+
+/// The methods of a bag.
+#[tactic(auto, unfolding(rd_base::specs::Names::is_name))]
+pub fn bag_table() -> KindTable<3>
+    ensures { result ≡ table_of bag_methods }
+{
+    KindTable {
+        names: [name(b"add"), name(b"remove"), name(b"count")],
+        args: [1, 1, 1],
+    }
+}
+
+/// The methods of a peak.
+#[tactic(auto, unfolding(rd_base::specs::Names::is_name))]
+pub fn peak_table() -> KindTable<2>
+    ensures { result ≡ table_of peak_methods }
+{
+    KindTable {
+        names: [name(b"raise"), name(b"get")],
+        args: [1, 0],
+    }
+}
+
+/// The methods of a queue.
+#[tactic(auto, unfolding(rd_base::specs::Names::is_name))]
+pub fn queue_table() -> KindTable<3>
+    ensures { result ≡ table_of queue_methods }
+{
+    KindTable {
+        names: [name(b"enqueue"), name(b"dequeue"), name(b"size")],
+        args: [1, 0, 0],
+    }
+}
+
+/// The methods of a tally.
+#[tactic(auto, unfolding(rd_base::specs::Names::is_name))]
+pub fn tally_table() -> KindTable<3>
+    ensures { result ≡ table_of tally_methods }
+{
+    KindTable {
+        names: [name(b"hit"), name(b"count"), name(b"total")],
+        args: [1, 1, 0],
     }
 }

@@ -1,13 +1,13 @@
 -- What the end of a replay says of each object.
-use Rattle.std.proofs.Common.{◌≡◌, ◌↔◌, inl, inr, ℕ, zero, suc, ◌<◌, Bool, true, false, cond, ltb, List, [], ◌∷◌, ◌++◌, length, Option, Some, None, refl, sym, ap, ◌∙◌, subst, arith}
+use Rattle.std.proofs.Common.{◌≡◌, ◌↔◌, inl, inr, ℕ, zero, suc, ◌<◌, Bool, true, false, cond, ltb, List, [], ◌∷◌, ◌++◌, length, get_or, Option, Some, None, refl, sym, ap, ◌∙◌, subst, arith}
 use Rattle.std.specs.Option.{option_and_then, option_or}
 use Rattle.std.proofs.lemmas.Bool.{and_parts, cases_eq, ltb-true}
 use Rattle.std.proofs.lemmas.List.{append_assoc, append-nil}
 use Rattle.std.proofs.lemmas.List.Elements.{All-head, All-tail}
-use Rattle.std.proofs.lemmas.Option.{none-some, same_Some}
+use Rattle.std.proofs.lemmas.Option.{none-some, same_Some, slice_get-get_or}
 use Rattle.rd_base.specs.declared.values.Value.{Value as Result}
 use Rattle.rd_ecl.specs.Formulas.{same_value}
-use Rattle.rd_kinds.specs.Machines.{counter_machine, dictionary_machine, machine_of, register_machine, set_machine, shipped_machines}
+use Rattle.rd_kinds.specs.Machines.{machine_of, register_machine, shipped_machines}
 use Rattle.rd_object.specs.Machines.{Machine, Step}
 use Rattle.rd_object.specs.Machines.Step.{goes, refuses, unknown}
 use Rattle.rd_object.specs.declared.shapes.Expected.{Expected}
@@ -44,11 +44,7 @@ none_behind unknown recorded expected other = refl
 
 -- a kind that is built in has a machine
 some_machine : (kind : ℕ) → kind < length shipped_machines → (machine : Machine) × (machine_of kind ≡ Some machine)
-some_machine zero below = (register_machine, refl)
-some_machine (suc zero) below = (counter_machine, refl)
-some_machine (suc (suc zero)) below = (set_machine, refl)
-some_machine (suc (suc (suc zero))) below = (dictionary_machine, refl)
-some_machine (suc (suc (suc (suc kind)))) below = absurd (omega arith)
+some_machine kind below = (get_or shipped_machines kind register_machine, slice_get-get_or shipped_machines kind register_machine below)
 
 machine_at : (kinds : List ℕ) (object : ℕ) → all_shipped kinds ≡ true → object < length kinds → (machine : Machine) × (object_machine kinds object ≡ Some machine)
 machine_at [] object shipped inside = absurd (omega arith)

@@ -1,3 +1,4 @@
+pub mod CompareLemmas
 pub mod EndLemmas
 pub mod LawLemmas
 pub mod ReplayLemmas

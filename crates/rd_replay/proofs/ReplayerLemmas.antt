@@ -7,10 +7,10 @@ use Rattle.std.proofs.lemmas.List.{length-set, length-take}
 use Rattle.std.proofs.lemmas.List.Elements.{All-append, All-cons, All-nil, All-weaker}
 use Rattle.std.proofs.lemmas.Option.{none-some, same_Some, slice_get-get_or, slice_get_within}
 use Rattle.rd_event.specs.declared.events.Call.{Call}
+use Rattle.rd_kinds.proofs.ObjectKinds.{machine_of_kind}
 use Rattle.rd_kinds.specs.Machines.{machine_of, shipped_machines}
 use Rattle.rd_kinds.specs.Objects.{object_kind, machine_for, shape_of}
 use Rattle.rd_kinds.specs.declared.objects.Object.{Object}
-use Rattle.rd_kinds.specs.declared.objects.Object.TheVariants.{Register, Counter, Set, Dictionary}
 use Rattle.rd_object.specs.Machines.{IsTaken}
 use Rattle.rd_object.specs.declared.shapes.Expected.{Expected}
 use Rattle.rd_object.specs.declared.shapes.ReplayEnd.TheVariants.{Exact, Differs, NotShipped}
@@ -36,13 +36,6 @@ set_there (x ∷ xs) (suc k) zero y other = refl
 set_there (x ∷ xs) (suc k) (suc n) y other = set_there xs k n y (λ e. other (ap suc e))
 
 -- ---- objects
-
--- the machine of an object is that of its kind
-pub machine_is : (object : Object) → machine_of (object_kind object) ≡ Some (machine_for object)
-machine_is (Register held) = refl
-machine_is (Counter number) = refl
-machine_is (Set items) = refl
-machine_is (Dictionary entries) = refl
 
 none_held : AreObjectsHeld [] [] []
 none_held = record { count = refl; each = λ number kind object at. absurd (none-some kind at) }
@@ -222,7 +215,7 @@ pub fits_here : (kinds : List ℕ) (calls : List Recorded) (objects : List Objec
     → IsRecordable kinds call → slice_get objects call.object ≡ Some object → (0 < length call.slots) × IsTaken (machine_for object) call.method (arguments_of call.slots)
 fits_here kinds calls objects call object kept may at =
     let here = kept.each call.object call.kind object may.declared at in
-    let (some, known, slots) = may.fits (machine_for object) (ap machine_of (sym here.kind_is) ∙ machine_is object) in
+    let (some, known, slots) = may.fits (machine_for object) (ap machine_of (sym here.kind_is) ∙ machine_of_kind object) in
     let count = length-take (length call.slots - 1) call.slots in
     (some, (known, slots ∙ omega (arith, some, count)))
 
@@ -243,24 +236,24 @@ module _ (kinds : List ℕ) (calls : List Recorded) (old now : Replayer) (last :
       → now.end ≡ old.end → now.objects.items ≡ set old.objects.items last.1.object next → ReplayerStandsFor now kinds (calls ++ last ∷ [])
   same_stands same goes end items = record {
     end = end ∙ (exact ∙ sym (end_same kinds calls last was_exact
-        (unlike_here kinds calls old.objects.items last object next (stands.objects exact) may at (machine_is object) kind ∙ same)));
+        (unlike_here kinds calls old.objects.items last object next (stands.objects exact) may at (machine_of_kind object) kind ∙ same)));
     declared = push_declared kinds calls last last.1.kind stands.declared may.declared;
     objects = λ _. subst (AreObjectsHeld kinds (calls ++ last ∷ [])) (sym items)
-        (held_run kinds calls old.objects.items last object next (stands.objects exact) may at (machine_is object) kind goes);
+        (held_run kinds calls old.objects.items last object next (stands.objects exact) may at (machine_of_kind object) kind goes);
   }
 
   pub same_answer : step_difference (step_at (machine_for object) (shape_of object) last.1) (result_of last.1.slots) ≡ None
       → match.Same ≡ match_of (replay_end kinds calls) (replay_end kinds (calls ++ last ∷ []))
   same_answer same =
       sym (λ i. match_of (was_exact i) (end_same kinds calls last was_exact
-      (unlike_here kinds calls old.objects.items last object next (stands.objects exact) may at (machine_is object) kind ∙ same) i))
+      (unlike_here kinds calls old.objects.items last object next (stands.objects exact) may at (machine_of_kind object) kind ∙ same) i))
 
   -- it gave something else
   pub differs_stands : (expected : Expected) → step_difference (step_at (machine_for object) (shape_of object) last.1) (result_of last.1.slots) ≡ Some expected
       → now.end ≡ Differs last.0 expected → ReplayerStandsFor now kinds (calls ++ last ∷ [])
   differs_stands expected other end = record {
     end = end ∙ sym (end_differs kinds calls last expected was_exact
-        (unlike_here kinds calls old.objects.items last object next (stands.objects exact) may at (machine_is object) kind ∙ other));
+        (unlike_here kinds calls old.objects.items last object next (stands.objects exact) may at (machine_of_kind object) kind ∙ other));
     declared = push_declared kinds calls last last.1.kind stands.declared may.declared;
     objects = λ is_exact. let apart : Differs last.0 expected ≡ Exact = sym end ∙ is_exact in cc;
   }
@@ -269,7 +262,7 @@ module _ (kinds : List ℕ) (calls : List Recorded) (old now : Replayer) (last :
       → match.Differs ≡ match_of (replay_end kinds calls) (replay_end kinds (calls ++ last ∷ []))
   differs_answer expected other =
       sym (λ i. match_of (was_exact i) (end_differs kinds calls last expected was_exact
-      (unlike_here kinds calls old.objects.items last object next (stands.objects exact) may at (machine_is object) kind ∙ other) i))
+      (unlike_here kinds calls old.objects.items last object next (stands.objects exact) may at (machine_of_kind object) kind ∙ other) i))
 
   -- it was refused for want of memory
   pub still_stands : shape_of next ≡ shape_of object → now.end ≡ old.end → now.objects.items ≡ set old.objects.items last.1.object next
@@ -278,7 +271,7 @@ module _ (kinds : List ℕ) (calls : List Recorded) (old now : Replayer) (last :
     end = end ∙ stands.end;
     declared = stands.declared;
     objects = λ _. subst (AreObjectsHeld kinds calls) (sym items)
-        (held_still kinds calls old.objects.items last object next (stands.objects exact) may at (machine_is object) kind still);
+        (held_still kinds calls old.objects.items last object next (stands.objects exact) may at (machine_of_kind object) kind still);
   }
 
 -- a call behind one that differed, and where a kind isn't built in

@@ -4,8 +4,8 @@ use Rattle.std.specs.Prelude.{All, Contains, IfSome, map, option_map, slice_get,
 use Rattle.std.specs.List.{cons_option}
 use Rattle.std.specs.Option.{option_and_then}
 use Rattle.std.proofs.lemmas.List.{append-nil, append_assoc, length-map}
-use Rattle.std.proofs.lemmas.List.Elements.{All-head, All-tail, filter_map-append}
-use Rattle.std.proofs.lemmas.Option.{none-some, same_Some, slice_get-map}
+use Rattle.std.proofs.lemmas.List.Elements.{All-get_or, All-head, All-tail, filter_map-append}
+use Rattle.std.proofs.lemmas.Option.{get_or_from_slice_get, none-some, slice_get-map, slice_get_within}
 use Rattle.rd_ecl.specs.Kinds.{Kind, kind_names, kind_of, method_of, methods_at, kind_slots_at}
 use Rattle.rd_ecl.specs.Specified as specified
 use Rattle.rd_ecl.specs.Specified.{IsKind, SpecifiedKind}
@@ -16,10 +16,11 @@ use Rattle.rd_event.specs.declared.events.Event.TheVariants as numbered
 use Rattle.rd_event.specs.declared.items.Line.{Line}
 use Rattle.rd_event.specs.declared.items.Line.TheVariants.{Skip, Header, Thread, Object, Event}
 use Rattle.rd_event.specs.declared.items.LineEvent.TheVariants.{Fork, Join, Acquire, Release, Share, Unshare, Call}
-use Rattle.rd_kinds.specs.Machines.{counter_machine, dictionary_machine, machine_of, register_machine, set_machine}
+use Rattle.rd_kinds.specs.Machines.{machine_of, shipped_machines}
 use Rattle.rd_kinds.specs.Shipped.{shipped_kinds}
-use Rattle.rd_kinds.proofs.ShippedLemmas.{counter_is, dictionary_is, register_is, set_is}
+use Rattle.rd_kinds.proofs.ShippedLemmas.{shipped_are}
 use Rattle.rd_object.specs.Machines.{Machine}
+use Rattle.rd_order.proofs.OrderLemmas.{at_front}
 use Rattle.rd_order.specs.EventLists.{IsCallOf}
 use Rattle.rd_order.specs.Order.{call_in}
 use Rattle.rd_replay.specs.Replays.{Recorded}
@@ -49,15 +50,13 @@ got_or (x ∷ xs) (suc k) d inside = got_or xs k d (omega arith)
 -- a machine's kind has the machine's number
 kind_at_machine : (more : List SpecifiedKind) (number : ℕ) (machine : Machine) → machine_of number ≡ Some machine
     → (slice_get (shipped_kinds ++ more) number ≡ Some machine.kind) × IsKind machine.kind
-kind_at_machine more zero machine is = let same = same_Some register_machine machine is in
-    (ap (λ m. Some m.kind) same, subst (λ m. IsKind m.kind) same register_is)
-kind_at_machine more (suc zero) machine is = let same = same_Some counter_machine machine is in
-    (ap (λ m. Some m.kind) same, subst (λ m. IsKind m.kind) same counter_is)
-kind_at_machine more (suc (suc zero)) machine is = let same = same_Some set_machine machine is in
-    (ap (λ m. Some m.kind) same, subst (λ m. IsKind m.kind) same set_is)
-kind_at_machine more (suc (suc (suc zero))) machine is = let same = same_Some dictionary_machine machine is in
-    (ap (λ m. Some m.kind) same, subst (λ m. IsKind m.kind) same dictionary_is)
-kind_at_machine more (suc (suc (suc (suc number)))) machine is = absurd (none-some machine is)
+kind_at_machine more number machine is =
+    let at : slice_get shipped_kinds number ≡ Some machine.kind =
+    slice_get-map (λ (m : Machine). m.kind) shipped_machines number ∙ ap (option_map (λ (m : Machine). m.kind)) is in
+    let inside = slice_get_within shipped_kinds number machine.kind at in (
+      at_front shipped_kinds more number inside ∙ at,
+      subst IsKind (get_or_from_slice_get shipped_kinds number machine.kind machine.kind at) (All-get_or IsKind shipped_kinds number machine.kind inside shipped_are),
+    )
 
 -- a method that is specified has as many slots as it has in a trace, and at least one
 slots_same : (methods : List Method) (number : ℕ) → kind_slots_at (map method_of methods) number ≡ specified.slots_at methods number

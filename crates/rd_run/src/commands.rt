@@ -1,13 +1,15 @@
 //! What the words of the command line ask for.
-ghost use Rattle.std.specs.Prelude.{◌≡◌, ◌<◌, ◌≤◌, [], ◌∷◌, length, option_map, slice_get, IfSome};
+ghost use Rattle.std.specs.Prelude.{◌≡◌, ◌<◌, ◌≤◌, [], ◌∷◌, length, option_map, position, slice_get, IfSome};
 ghost use Rattle.rd_gen.specs.declared.counts.TheConstants.{MOST_CALLS};
 ghost use Rattle.rd_kinds.specs.Shipped.{shipped_kinds};
+ghost use Rattle.rd_rules.specs.MayFollow.{same_name};
 ghost use Rattle.rd_run.specs.Commands.{IsWithinBounds, command_of, named_number, numbers_read, nth_word};
 
-use rd_base::Word;
+use rd_base::{Name, Word};
 use rd_decimals::read_number;
 use rd_gen::MOST_CALLS;
 use rd_json::Form;
+use rd_kinds::reserved;
 
 /// What the words of the command line ask for. A file that a command names is one of its words: the trace or the specification is the
 /// second, and what stands behind a trace is the third.
@@ -31,24 +33,24 @@ pub enum Command {
     GenText(u64, u32),
 }
 
+// The place of the first of the names that has these bytes.
+fn place_of(names: &[Name], name: &[u8]) -> Option<usize>
+    ensures place { result ≡ position (same_name name.now) names.now }
+    ensures within { IfSome result (λ place. place < length names.now) }
+{
+    names.iter().position(|taken| name == taken.items())
+}
+
 /// The number of the kind that is built in with this name.
 fn shipped_number(name: &Word) -> Option<u32>
     ensures named { result ≡ named_number name.now }
     ensures known { IfSome result (λ number. number < length shipped_kinds) }
 {
-    if name.items() == b"register".as_slice() {
-        return Some(0);
+    // the names that are taken are those of the kinds that are built in, by their numbers
+    match place_of(&reserved(), name.items()) {
+        Some(number) => Some(number as u32),
+        None => None,
     }
-    if name.items() == b"counter".as_slice() {
-        return Some(1);
-    }
-    if name.items() == b"set".as_slice() {
-        return Some(2);
-    }
-    if name.items() == b"dictionary".as_slice() {
-        return Some(3);
-    }
-    None
 }
 
 /// The number of a generated trace, and how many calls it has, if the words spell these.

@@ -1,5 +1,5 @@
 //! The command `kind`.
-ghost use Rattle.std.specs.Prelude.{◌≡◌, ℕ, ◌<◌, List, Option, Some, slice_get, IfOk};
+ghost use Rattle.std.specs.Prelude.{◌≡◌, ℕ, ◌<◌, List, Option, Some, length, slice_get, IfOk};
 ghost use Rattle.rd_base.specs.declared.limits.Limits.{Limits};
 ghost use Rattle.rd_ecl.specs.Specified.{SpecifiedKind};
 ghost use Rattle.rd_io.specs.Inputs.{Source};
@@ -18,7 +18,7 @@ use std::alloc::Global;
 
 /// Writes the canonical text of a kind that is built in, by its number.
 fn write_kind<S: Sink>(alloc: Global, number: u32, out: &mut S) -> Result<Ended, Halt>
-    requires { number < 4 }
+    requires { number < length shipped_kinds }
     ensures output { (built_in : SpecifiedKind) → slice_get shipped_kinds number ≡ Some built_in →
         (part : List ℕ)
         × Appends (S.written out.old) (S.written out.new) part
@@ -35,7 +35,7 @@ fn write_kind<S: Sink>(alloc: Global, number: u32, out: &mut S) -> Result<Ended,
 
 /// `kind NAME`, by the number of a kind that is built in: writes its canonical text.
 pub fn kind<S: Sink>(alloc: Global, number: u32, out: &mut S) -> Result<Ended, Halt>
-    requires { number < 4 }
+    requires { number < length shipped_kinds }
     ensures { (built_in : SpecifiedKind) → slice_get shipped_kinds number ≡ Some built_in →
         (limits : Limits) (told : Option Source) (faults steps : ℕ) → Ran (kind_meaning built_in) limits
         (seen_alone told faults S.written S.faults S.at_fault out.old steps)

@@ -1,18 +1,14 @@
-use Rattle.std.proofs.Common.{◌≡◌, rules, Some, None, ◌∙◌}
-use Rattle.rd_run.proofs.RunLemmas.{number_by_names, numbered}
+use Rattle.std.proofs.Common.{◌≡◌, sym, ◌∙◌, position}
+use Rattle.rd_rules.specs.MayFollow.{same_name}
+use Rattle.rd_run.proofs.RunLemmas.{numbered}
 use Rattle.rd_run.proofs.commands.shipped_number.Goals as goal
 
-pub returns-then-eq-clause-named : goal.returns-then-eq-clause-named
-returns-then-eq-clause-named c = let found : Some 0 ≡ number_by_names c.args.name.now = search rules in found ∙ numbered c.args.name.now
+pub returns-in-Some-clause-named : goal.returns-in-Some-clause-named
+returns-in-Some-clause-named c =
+    sym c.in-Some.is
+    ∙ (c.place_of.ensures.place ∙ ((λ i. position (same_name (c.items.ensures i)) (c.reserved.ensures i)) ∙ numbered c.args.name.now))
 
-pub returns-then-eq-2-clause-named : goal.returns-then-eq-2-clause-named
-returns-then-eq-2-clause-named c = let found : Some 1 ≡ number_by_names c.args.name.now = search rules in found ∙ numbered c.args.name.now
-
-pub returns-then-eq-3-clause-named : goal.returns-then-eq-3-clause-named
-returns-then-eq-3-clause-named c = let found : Some 2 ≡ number_by_names c.args.name.now = search rules in found ∙ numbered c.args.name.now
-
-pub returns-then-eq-4-clause-named : goal.returns-then-eq-4-clause-named
-returns-then-eq-4-clause-named c = let found : Some 3 ≡ number_by_names c.args.name.now = search rules in found ∙ numbered c.args.name.now
-
-pub returns-clause-named : goal.returns-clause-named
-returns-clause-named c = let found : None ≡ number_by_names c.args.name.now = search rules in found ∙ numbered c.args.name.now
+pub returns-in-None-clause-named : goal.returns-in-None-clause-named
+returns-in-None-clause-named c =
+    sym c.in-None.is
+    ∙ (c.place_of.ensures.place ∙ ((λ i. position (same_name (c.items.ensures i)) (c.reserved.ensures i)) ∙ numbered c.args.name.now))
