@@ -26,7 +26,11 @@ const BUILT_IN: &str = "\
     register; read value; write value done; swap value prev\n\
     counter; add amount done; get total\n\
     set; add item done; remove item done; contains item found; size n\n\
-    dictionary; put key value prev; get key value; size n\n";
+    dictionary; put key value prev; get key value; size n\n\
+    bag; add item done; remove item done; count item n\n\
+    peak; raise amount prev; get peak\n\
+    queue; enqueue item done; dequeue got; size n\n\
+    tally; hit item done; count item n; total n\n";
 
 const SAID: &str = "\
     cell; put value prev; get value\n\
@@ -40,6 +44,10 @@ const FLAG_BEHIND: &str = "\
     counter; add amount done; get total\n\
     set; add item done; remove item done; contains item found; size n\n\
     dictionary; put key value prev; get key value; size n\n\
+    bag; add item done; remove item done; count item n\n\
+    peak; raise amount prev; get peak\n\
+    queue; enqueue item done; dequeue got; size n\n\
+    tally; hit item done; count item n; total n\n\
     flag; set done\n";
 
 // The kinds that are built in, and these behind them.
@@ -50,7 +58,7 @@ fn behind(rt: &impl Abort, alloc: Global, kinds: Spec) -> Spec {
 #[test]
 fn kinds_by_number(rt: HostRuntime) {
     law_of_shipped_kinds();
-    assert!(rt; shipped_count() == 4);
+    assert!(rt; shipped_count() == 8);
     has_kinds(&rt, rt.alloc(), built_in(&rt, rt.alloc()), BUILT_IN);
     has_kinds(
         &rt,
@@ -137,6 +145,62 @@ const BUILT_IN_PAIRS: [Pair<'static>; 33] = [
 fn calls_of_kinds_that_are_built_in(rt: HostRuntime) {
     let spec = built_in(&rt, rt.alloc());
     answer_pairs(&rt, rt.alloc(), spec, &BUILT_IN_PAIRS);
+}
+
+const BAG_AND_PEAK_PAIRS: [Pair<'static>; 22] = [
+    (4, 0, "1 nil", 0, "1 nil", true),
+    (4, 0, "1 nil", 1, "1 true", false),
+    (4, 0, "1 nil", 1, "1 false", false),
+    (4, 1, "2 true", 0, "1 nil", true),
+    (4, 0, "1 nil", 2, "1 1", false),
+    (4, 2, "1 1", 0, "2 nil", true),
+    (4, 1, "1 true", 1, "1 true", true),
+    (4, 1, "1 false", 1, "1 false", true),
+    (4, 1, "1 true", 1, "1 false", false),
+    (4, 1, "1 false", 1, "1 true", false),
+    (4, 1, "1 true", 1, "2 false", true),
+    (4, 1, "1 true", 2, "1 0", false),
+    (4, 2, "1 0", 1, "1 false", true),
+    (4, 1, "1 true", 2, "2 0", true),
+    (4, 2, "1 0", 2, "1 0", true),
+    // a `raise` that is at or below what was there, and one above it
+    (5, 0, "3 5", 0, "5 5", true),
+    (5, 0, "6 5", 0, "4 6", false),
+    (5, 0, "4 5", 0, "6 5", false),
+    (5, 0, "3 5", 1, "5", true),
+    (5, 1, "5", 0, "6 5", false),
+    (5, 0, "3 nil", 1, "3", false),
+    (5, 1, "nil", 1, "nil", true),
+];
+
+const QUEUE_AND_TALLY_PAIRS: [Pair<'static>; 19] = [
+    (6, 0, "1 nil", 0, "2 nil", false),
+    (6, 0, "2 nil", 1, "1", true),
+    (6, 1, "1", 0, "2 nil", true),
+    (6, 0, "1 nil", 1, "1", false),
+    (6, 1, "nil", 0, "1 nil", false),
+    (6, 0, "1 nil", 2, "1", false),
+    (6, 1, "nil", 1, "nil", true),
+    (6, 1, "1", 1, "nil", false),
+    (6, 1, "nil", 1, "1", false),
+    (6, 1, "nil", 2, "0", true),
+    (6, 2, "1", 1, "1", false),
+    (6, 2, "1", 2, "1", true),
+    (7, 0, "1 nil", 0, "1 nil", true),
+    (7, 0, "1 nil", 1, "1 1", false),
+    (7, 1, "2 0", 0, "1 nil", true),
+    (7, 0, "1 nil", 2, "1", false),
+    (7, 1, "1 0", 1, "1 0", true),
+    (7, 2, "0", 1, "1 0", true),
+    (7, 2, "0", 2, "0", true),
+];
+
+#[test]
+fn calls_of_bags_peaks_queues_and_tallies(rt: HostRuntime) {
+    let spec = built_in(&rt, rt.alloc());
+    answer_pairs(&rt, rt.alloc(), spec, &BAG_AND_PEAK_PAIRS);
+    let spec = built_in(&rt, rt.alloc());
+    answer_pairs(&rt, rt.alloc(), spec, &QUEUE_AND_TALLY_PAIRS);
 }
 
 // How many nodes the formula of two methods has.

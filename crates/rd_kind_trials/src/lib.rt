@@ -8,6 +8,8 @@ mod kind_formulas;
 #[cfg(test)]
 mod kinds;
 #[cfg(test)]
+mod more_objects;
+#[cfg(test)]
 mod objects;
 #[cfg(test)]
 mod reductions;

@@ -7,13 +7,13 @@ ghost use Rattle.rd_kinds.specs.Shipped.{shipped_kinds};
 use crate::samples::{append_held, built_in, commute, has_slots, is_so, is_text, kind_at, slots};
 use rd_base::{Bytes, Value, append_value, spell_value};
 use rd_ecl::{KindSpec, Spec};
-use rd_kinds::{Counter, Dictionary, Object, Register, Set};
+use rd_kinds::{Counter, Dictionary, Object, Register, Set, shipped_count};
 use rd_object::{ApplyRefused, RefObject};
 use std::alloc::Global;
 use std::process::Abort;
 
-// The number of a method, its arguments, what the call gives, and the line of the state behind it, or nothing where that isn't asked.
-type Step<'a> = (u8, &'a str, &'a str, &'a str);
+/// The number of a method, its arguments, what the call gives, and the line of the state behind it, or nothing where that isn't asked.
+pub type Step<'a> = (u8, &'a str, &'a str, &'a str);
 
 // Is this the spelling of the value?
 fn is_spelled(rt: &impl Abort, alloc: Global, value: Value, spelling: &str) -> bool {
@@ -59,8 +59,13 @@ fn has_state<O: RefObject>(rt: &impl Abort, alloc: Global, object: &O, wanted: &
     is_text(rt, text.items(), wanted);
 }
 
-// A new object of the kind runs these calls one after another.
-fn runs<O: RefObject + Drop>(rt: &impl Abort, alloc: Global, kind: &KindSpec, steps: &[Step<'_>])
+/// A new object of the kind runs these calls one after another.
+pub fn runs<O: RefObject + Drop>(
+    rt: &impl Abort,
+    alloc: Global,
+    kind: &KindSpec,
+    steps: &[Step<'_>],
+)
     requires { kind.now ≡ O.machine.kind }
 {
     let mut object = O::start(alloc);
@@ -213,7 +218,7 @@ fn run_both(
     alloc: Global,
     kinds: &Spec,
     kind: u32,
-    before: Call<'_>,
+    before: &[Call<'_>],
     first: Call<'_>,
     second: Call<'_>,
 ) -> Outcome
@@ -221,7 +226,9 @@ fn run_both(
     requires known { kind < length shipped_machines }
 {
     let mut object = Object::start(alloc, kind);
-    let _before = run(rt, alloc, kinds, &mut object, kind, before);
+    for call in before {
+        let _said = run(rt, alloc, kinds, &mut object, kind, *call);
+    }
     let first = run(rt, alloc, kinds, &mut object, kind, first);
     let second = run(rt, alloc, kinds, &mut object, kind, second);
     let mut state = Bytes::new(alloc);
@@ -233,11 +240,11 @@ fn run_both(
     }
 }
 
-// Two calls of an object of a kind, behind another one.
+// Two calls of an object of a kind, behind others.
 #[derive(Clone, Copy)]
 struct Trial<'a> {
     kind: u32,
-    before: Call<'a>,
+    before: &'a [Call<'a>],
     first: Call<'a>,
     second: Call<'a>,
 }
@@ -287,7 +294,7 @@ fn show(rt: &impl Abort, alloc: Global, kinds: &Spec, trial: &Trial<'_>) -> Show
         first,
         second,
     } = *trial;
-    assert!(rt; kind < 4);
+    assert!(rt; kind < shipped_count());
     let straight = run_both(rt, alloc, kinds, kind, before, first, second);
     let turned = run_both(rt, alloc, kinds, kind, before, second, first);
     Shown {
@@ -329,7 +336,7 @@ fn is_in_both_orders(rt: &impl Abort, alloc: Global, kinds: &Spec, row: &Row<'_>
 {
     let trial = Trial {
         kind: row.0,
-        before: (row.1, row.2),
+        before: &[(row.1, row.2)],
         first: (row.3, row.4),
         second: (row.5, row.6),
     };
@@ -347,84 +354,81 @@ fn calls_in_both_orders(rt: HostRuntime) {
     }
 }
 
-// A kind, the number of a method, and its arguments.
-type Small<'a> = (u32, u8, &'a str);
+// A kind, and small calls of it.
+type Small<'a> = (u32, &'a [Call<'a>]);
 
-// Each is a call before two others, too, so that objects hold many shapes.
-const SMALL: [Small<'static>; 24] = [
-    (0, 0, ""),
-    (0, 1, "nil"),
-    (0, 1, "1"),
-    (0, 2, "1"),
-    (0, 2, "2"),
-    (1, 0, "0"),
-    (1, 0, "1"),
-    (1, 0, "-1"),
-    (1, 1, ""),
-    (2, 0, "1"),
-    (2, 0, "2"),
-    (2, 1, "1"),
-    (2, 1, "2"),
-    (2, 2, "1"),
-    (2, 2, "2"),
-    (2, 3, ""),
-    (3, 0, "1 1"),
-    (3, 0, "1 2"),
-    (3, 0, "1 nil"),
-    (3, 0, "2 1"),
-    (3, 0, "2 nil"),
-    (3, 1, "1"),
-    (3, 1, "2"),
-    (3, 2, ""),
+const SMALL: [Small<'static>; 8] = [
+    (0, &[(0, ""), (1, "nil"), (1, "1"), (2, "1"), (2, "2")]),
+    (1, &[(0, "0"), (0, "1"), (0, "-1"), (1, "")]),
+    (
+        2,
+        &[
+            (0, "1"),
+            (0, "2"),
+            (1, "1"),
+            (1, "2"),
+            (2, "1"),
+            (2, "2"),
+            (3, ""),
+        ],
+    ),
+    (
+        3,
+        &[
+            (0, "1 1"),
+            (0, "1 2"),
+            (0, "1 nil"),
+            (0, "2 1"),
+            (0, "2 nil"),
+            (1, "1"),
+            (1, "2"),
+            (2, ""),
+        ],
+    ),
+    (
+        4,
+        &[(0, "1"), (0, "2"), (1, "1"), (1, "2"), (2, "1"), (2, "2")],
+    ),
+    (5, &[(0, "-1"), (0, "0"), (0, "1"), (0, "2"), (1, "")]),
+    (6, &[(0, "1"), (0, "2"), (1, ""), (2, "")]),
+    (7, &[(0, "1"), (0, "2"), (1, "1"), (1, "2"), (2, "")]),
 ];
 
-// May these calls be exchanged behind the one before, where they commute? Of other kinds they aren't asked.
-fn may_be_exchanged(
-    rt: &impl Abort,
-    alloc: Global,
-    kinds: &Spec,
-    before: &Small<'_>,
-    first: &Small<'_>,
-    second: &Small<'_>,
-) -> bool
-    requires { kinds.now ≡ shipped_kinds }
-{
-    if first.0 != before.0 || second.0 != before.0 {
-        return true;
-    }
-    let trial = Trial {
-        kind: before.0,
-        before: (before.1, before.2),
-        first: (first.1, first.2),
-        second: (second.1, second.2),
-    };
-    let shown = show(rt, alloc, kinds, &trial);
-    !shown.commute || shown.alike
-}
-
-// All pairs of calls behind this one.
+// May all pairs of these calls be exchanged behind the calls before, where they commute?
 fn pairs_behind(
     rt: &impl Abort,
     alloc: Global,
     kinds: &Spec,
-    before: &Small<'_>,
-    calls: &[Small<'_>],
+    kind: u32,
+    before: &[Call<'_>],
+    calls: &[Call<'_>],
 )
     requires { kinds.now ≡ shipped_kinds }
 {
     for first in calls {
         for second in calls {
-            let holds = may_be_exchanged(rt, alloc, kinds, before, first, second);
-            is_so(rt, holds, first.2);
+            let trial = Trial {
+                kind,
+                before,
+                first: *first,
+                second: *second,
+            };
+            let shown = show(rt, alloc, kinds, &trial);
+            is_so(rt, !shown.commute || shown.alike, first.1);
         }
     }
 }
 
-// The law of kinds once more, by what objects do: each pair of small calls that commute, behind each small call.
+// The law of kinds once more, by what objects do: each pair of small calls that commute, behind each two small calls, so that objects hold
+// many shapes.
 #[test]
 fn pairs_of_small_calls(rt: HostRuntime) {
     let spec = built_in(&rt, rt.alloc());
-    for before in &SMALL {
-        pairs_behind(&rt, rt.alloc(), &spec, before, &SMALL);
+    for (kind, calls) in &SMALL {
+        for first in *calls {
+            for second in *calls {
+                pairs_behind(&rt, rt.alloc(), &spec, *kind, &[*first, *second], calls);
+            }
+        }
     }
 }

@@ -531,11 +531,15 @@ impl Random {
     }
 
     fn kind(&mut self) -> Kind {
-        match self.below(5) {
+        match self.below(9) {
             0 => Kind::Register,
             1 => Kind::Counter,
             2 => Kind::Set,
             3 => Kind::Dictionary,
+            4 => Kind::Bag,
+            5 => Kind::Peak,
+            6 => Kind::Queue,
+            7 => Kind::Tally,
             _ => Kind::Gate,
         }
     }
@@ -582,6 +586,17 @@ impl Random {
             (Kind::Dictionary, 0 | 1) => Method::DictionaryPut,
             (Kind::Dictionary, 2) => Method::DictionaryGet,
             (Kind::Dictionary, _) => Method::DictionarySize,
+            (Kind::Bag, 0 | 1) => Method::BagAdd,
+            (Kind::Bag, 2) => Method::BagRemove,
+            (Kind::Bag, _) => Method::BagCount,
+            (Kind::Peak, 0 | 1 | 2) => Method::PeakRaise,
+            (Kind::Peak, _) => Method::PeakGet,
+            (Kind::Queue, 0 | 1) => Method::QueueEnqueue,
+            (Kind::Queue, 2) => Method::QueueDequeue,
+            (Kind::Queue, _) => Method::QueueSize,
+            (Kind::Tally, 0 | 1) => Method::TallyHit,
+            (Kind::Tally, 2) => Method::TallyCount,
+            (Kind::Tally, _) => Method::TallyTotal,
             (Kind::Gate, 0 | 1) => Method::GatePass,
             (Kind::Gate, _) => Method::GateLook,
         }
@@ -590,14 +605,25 @@ impl Random {
     /// An item, what is put under a key, and a result, each where the method has it.
     fn values(&mut self, method: Method) -> (Value, Value, Value) {
         match method {
-            Method::RegisterRead | Method::CounterGet | Method::SetSize | Method::DictionarySize =>
-                (Value::Nil, Value::Nil, self.number()),
+            Method::RegisterRead
+            | Method::CounterGet
+            | Method::SetSize
+            | Method::DictionarySize
+            | Method::QueueSize
+            | Method::TallyTotal => (Value::Nil, Value::Nil, self.number()),
+            Method::BagAdd | Method::TallyHit => (self.number(), Value::Nil, Value::Nil),
+            Method::BagCount | Method::TallyCount => (self.number(), Value::Nil, self.number()),
+            Method::PeakRaise => (self.amount(), Value::Nil, self.content()),
+            Method::PeakGet | Method::QueueDequeue => (Value::Nil, Value::Nil, self.content()),
+            Method::QueueEnqueue => (self.content(), Value::Nil, Value::Nil),
             Method::RegisterWrite => (self.number(), Value::Nil, Value::Nil),
             Method::RegisterSwap => (self.number(), Value::Nil, self.number()),
             Method::CounterAdd => (self.amount(), Value::Nil, Value::Nil),
-            Method::SetAdd | Method::SetRemove | Method::SetContains | Method::GatePass => {
-                (self.number(), Value::Nil, self.truth())
-            }
+            Method::SetAdd
+            | Method::SetRemove
+            | Method::SetContains
+            | Method::BagRemove
+            | Method::GatePass => { (self.number(), Value::Nil, self.truth()) }
             Method::DictionaryPut => (self.number(), self.content(), self.content()),
             Method::DictionaryGet => (self.number(), Value::Nil, self.content()),
             Method::GateLook => (Value::Nil, Value::Nil, self.truth()),
@@ -799,7 +825,7 @@ fn random_traces(rt: HostRuntime) {
         exact: 0,
         differing: 0,
     };
-    for _ in 0..800u32 {
+    for _ in 0..1_200u32 {
         tries(&rt, rt.alloc(), &mut random, &mut tally);
     }
     // Each comes often.

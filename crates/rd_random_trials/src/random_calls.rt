@@ -9,6 +9,10 @@ pub enum Kind {
     Counter,
     Set,
     Dictionary,
+    Bag,
+    Peak,
+    Queue,
+    Tally,
     Gate,
 }
 
@@ -19,6 +23,10 @@ impl Kind {
             Kind::Counter => "counter",
             Kind::Set => "set",
             Kind::Dictionary => "dictionary",
+            Kind::Bag => "bag",
+            Kind::Peak => "peak",
+            Kind::Queue => "queue",
+            Kind::Tally => "tally",
             Kind::Gate => "gate",
         }
     }
@@ -59,6 +67,17 @@ pub enum Method {
     DictionaryPut,
     DictionaryGet,
     DictionarySize,
+    BagAdd,
+    BagRemove,
+    BagCount,
+    PeakRaise,
+    PeakGet,
+    QueueEnqueue,
+    QueueDequeue,
+    QueueSize,
+    TallyHit,
+    TallyCount,
+    TallyTotal,
     GatePass,
     GateLook,
 }
@@ -70,13 +89,19 @@ impl Method {
             Method::RegisterRead => ("read", 0),
             Method::RegisterWrite => ("write", 1),
             Method::RegisterSwap => ("swap", 1),
-            Method::CounterAdd | Method::SetAdd => ("add", 1),
-            Method::CounterGet => ("get", 0),
-            Method::SetRemove => ("remove", 1),
+            Method::CounterAdd | Method::SetAdd | Method::BagAdd => ("add", 1),
+            Method::CounterGet | Method::PeakGet => ("get", 0),
+            Method::SetRemove | Method::BagRemove => ("remove", 1),
             Method::SetContains => ("contains", 1),
-            Method::SetSize | Method::DictionarySize => ("size", 0),
+            Method::SetSize | Method::DictionarySize | Method::QueueSize => ("size", 0),
             Method::DictionaryPut => ("put", 2),
             Method::DictionaryGet => ("get", 1),
+            Method::BagCount | Method::TallyCount => ("count", 1),
+            Method::PeakRaise => ("raise", 1),
+            Method::QueueEnqueue => ("enqueue", 1),
+            Method::QueueDequeue => ("dequeue", 0),
+            Method::TallyHit => ("hit", 1),
+            Method::TallyTotal => ("total", 0),
             Method::GatePass => ("pass", 1),
             Method::GateLook => ("look", 0),
         }
@@ -84,7 +109,7 @@ impl Method {
 }
 
 /// A call with its values: an item, a key, or what is written, added or passed by; what is put under a key; and the result. A value that
-/// the method doesn't have is nil. A write and an addition have the result nil.
+/// the method doesn't have is nil. A write, an addition, an enqueue and a hit have the result nil.
 #[derive(Clone, Copy)]
 pub struct Call {
     pub method: Method,
@@ -121,6 +146,10 @@ pub fn pair(first: &Call, second: &Call) -> Option<(&'static str, bool)> {
         Method::DictionaryPut | Method::DictionaryGet | Method::DictionarySize => {
             dictionary(first, second)
         }
+        Method::BagAdd | Method::BagRemove | Method::BagCount => bag(first, second),
+        Method::PeakRaise | Method::PeakGet => peak(first, second),
+        Method::QueueEnqueue | Method::QueueDequeue | Method::QueueSize => queue(first, second),
+        Method::TallyHit | Method::TallyCount | Method::TallyTotal => tally(first, second),
         Method::GatePass | Method::GateLook => gate(first, second),
     }
 }
@@ -234,6 +263,93 @@ fn dictionary(first: &Call, second: &Call) -> Option<(&'static str, bool)> {
         (Method::DictionarySize, Method::DictionarySize) => {
             ("dictionary size size when true", true)
         }
+        _ => return None,
+    })
+}
+
+/// Calls with different items commute, and so do additions, and removals that both found their item or both missed it. A count commutes
+/// with a removal that missed.
+fn bag(first: &Call, second: &Call) -> Option<(&'static str, bool)> {
+    let others = first.item != second.item;
+    let is_found = first.result == Value::Bool(true);
+    let is_missed = first.result == Value::Bool(false);
+    let are_found = is_found && second.result == Value::Bool(true);
+    let are_missed = is_missed && second.result == Value::Bool(false);
+    Some(match (first.method, second.method) {
+        (Method::BagAdd, Method::BagAdd) => ("bag add add when true", true),
+        (Method::BagAdd, Method::BagRemove) => ("bag add remove when item@1 != item@2", others),
+        (Method::BagAdd, Method::BagCount) => ("bag add count when item@1 != item@2", others),
+        (Method::BagRemove, Method::BagRemove) => (
+            "bag remove remove when item@1 != item@2 or done@1 = true and done@2 = true or done@1 = false and done@2 = false",
+            others || are_found || are_missed,
+        ),
+        (Method::BagRemove, Method::BagCount) => (
+            "bag remove count when item@1 != item@2 or done@1 = false",
+            others || is_missed,
+        ),
+        (Method::BagCount, Method::BagCount) => ("bag count count when true", true),
+        _ => return None,
+    })
+}
+
+/// Is the number that was raised at or below the one that was there?
+fn is_below(call: &Call) -> bool {
+    match (call.item, call.result) {
+        (Value::Int(amount), Value::Int(before)) => amount <= before,
+        _ => false,
+    }
+}
+
+/// A raise that changes nothing is a get.
+fn peak(first: &Call, second: &Call) -> Option<(&'static str, bool)> {
+    Some(match (first.method, second.method) {
+        (Method::PeakRaise, Method::PeakRaise) => (
+            "peak raise raise when amount@1 <= prev@1 and amount@2 <= prev@2",
+            is_below(first) && is_below(second),
+        ),
+        (Method::PeakRaise, Method::PeakGet) => {
+            ("peak raise get when amount@1 <= prev@1", is_below(first))
+        }
+        (Method::PeakGet, Method::PeakGet) => ("peak get get when true", true),
+        _ => return None,
+    })
+}
+
+/// What finds nothing changes nothing. An item that is put commutes with one that is taken, if it is another one.
+fn queue(first: &Call, second: &Call) -> Option<(&'static str, bool)> {
+    let first_empty = first.result == Value::Nil;
+    let second_empty = second.result == Value::Nil;
+    Some(match (first.method, second.method) {
+        (Method::QueueEnqueue, Method::QueueEnqueue) => {
+            ("queue enqueue enqueue when false", false)
+        }
+        (Method::QueueEnqueue, Method::QueueDequeue) => (
+            "queue enqueue dequeue when got@2 != nil and item@1 != got@2",
+            !second_empty && first.item != second.result,
+        ),
+        (Method::QueueEnqueue, Method::QueueSize) => ("queue enqueue size when false", false),
+        (Method::QueueDequeue, Method::QueueDequeue) => (
+            "queue dequeue dequeue when got@1 = nil and got@2 = nil",
+            first_empty && second_empty,
+        ),
+        (Method::QueueDequeue, Method::QueueSize) => {
+            ("queue dequeue size when got@1 = nil", first_empty)
+        }
+        (Method::QueueSize, Method::QueueSize) => ("queue size size when true", true),
+        _ => return None,
+    })
+}
+
+/// Hits have no order, and a count commutes with the hit of another item.
+fn tally(first: &Call, second: &Call) -> Option<(&'static str, bool)> {
+    let others = first.item != second.item;
+    Some(match (first.method, second.method) {
+        (Method::TallyHit, Method::TallyHit) => ("tally hit hit when true", true),
+        (Method::TallyHit, Method::TallyCount) => ("tally hit count when item@1 != item@2", others),
+        (Method::TallyHit, Method::TallyTotal) => ("tally hit total when false", false),
+        (Method::TallyCount, Method::TallyCount) => ("tally count count when true", true),
+        (Method::TallyCount, Method::TallyTotal) => ("tally count total when true", true),
+        (Method::TallyTotal, Method::TallyTotal) => ("tally total total when true", true),
         _ => return None,
     })
 }

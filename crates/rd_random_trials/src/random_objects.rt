@@ -5,7 +5,8 @@ use std::alloc::Global;
 use std::process::Abort;
 
 /// An object of any kind that is built in, as values by keys, none of which is nil: a register has its value under the key nil, a
-/// counter its total, and a set has true under each of its items.
+/// counter its total, a peak its number; a set has true under each of its items, a bag and a tally have a number; and a queue has its items,
+/// all under nil, the first in front.
 #[derive(Drop)]
 struct Object {
     alloc: Global,
@@ -53,6 +54,80 @@ impl Object {
         size
     }
 
+    /// How often the item is there.
+    fn count(&self, item: Value) -> i64 {
+        match self.get(item) {
+            Value::Int(count) => count,
+            _ => 0,
+        }
+    }
+
+    /// The sum of all counts.
+    fn sum(&self) -> i64 {
+        let mut sum = 0i64;
+        for (_, count) in &self.pairs {
+            if let Value::Int(count) = count {
+                sum = sum.wrapping_add(*count);
+            }
+        }
+        sum
+    }
+
+    /// Lets the item be there once more, and gives nil.
+    fn gain(&mut self, rt: &impl Abort, item: Value) -> Value {
+        let count = self.count(item).wrapping_add(1);
+        self.put(rt, item, Value::Int(count));
+        Value::Nil
+    }
+
+    /// Lets the item be there once less, and says whether it was there.
+    fn lose(&mut self, rt: &impl Abort, item: Value) -> Value {
+        match self.count(item) {
+            0 => return Value::Bool(false),
+            1 => self.put(rt, item, Value::Nil),
+            count => self.put(rt, item, Value::Int(count.wrapping_sub(1))),
+        };
+        Value::Bool(true)
+    }
+
+    /// Raises the peak, where the amount is a number above it, and gives what it was.
+    fn raise(&mut self, rt: &impl Abort, amount: Value) -> Option<Value> {
+        let Value::Int(number) = amount else {
+            return None;
+        };
+        Some(match self.get(Value::Nil) {
+            Value::Int(peak) if number <= peak => Value::Int(peak),
+            before => {
+                self.put(rt, Value::Nil, amount);
+                before
+            }
+        })
+    }
+
+    /// Puts an item last, unless it is nil.
+    fn enqueue(&mut self, rt: &impl Abort, item: Value) -> Option<Value> {
+        if item == Value::Nil {
+            return None;
+        }
+        self.pairs.push((Value::Nil, item)).expect(rt, "memory");
+        Some(Value::Nil)
+    }
+
+    /// Takes the first item, nil where there is none.
+    fn dequeue(&mut self, rt: &impl Abort) -> Value {
+        let mut first = None;
+        let mut pairs = Vec::new(self.alloc);
+        for pair in &self.pairs {
+            if first.is_none() {
+                first = Some(pair.1);
+            } else {
+                pairs.push(*pair).expect(rt, "memory");
+            }
+        }
+        self.pairs = pairs;
+        first.unwrap_or(Value::Nil)
+    }
+
     fn total(&self) -> i64 {
         match self.get(Value::Nil) {
             Value::Int(total) => total,
@@ -87,7 +162,17 @@ impl Object {
             Method::SetContains => Value::Bool(self.get(item) != Value::Nil),
             Method::DictionaryPut => self.put(rt, item, call.put),
             Method::DictionaryGet => self.get(item),
-            Method::SetSize | Method::DictionarySize => Value::Int(self.size()),
+            Method::SetSize | Method::DictionarySize | Method::QueueSize => {
+                Value::Int(self.size())
+            }
+            Method::BagAdd | Method::TallyHit => self.gain(rt, item),
+            Method::BagRemove => self.lose(rt, item),
+            Method::BagCount | Method::TallyCount => Value::Int(self.count(item)),
+            Method::TallyTotal => Value::Int(self.sum()),
+            Method::PeakRaise => return self.raise(rt, item),
+            Method::PeakGet => self.get(Value::Nil),
+            Method::QueueEnqueue => return self.enqueue(rt, item),
+            Method::QueueDequeue => self.dequeue(rt),
             Method::GatePass | Method::GateLook => return None,
         })
     }

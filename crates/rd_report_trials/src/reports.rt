@@ -524,7 +524,43 @@ const BUILT_IN: &str = "\
     commute put size when value@1 = nil and prev@1 = nil or value@1 != nil and prev@1 != nil\n\
     commute get get when true\n\
     commute get size when true\n\
-    commute size size when true\n";
+    commute size size when true\n\
+    kind bag\n\
+    method add item -> done\n\
+    method remove item -> done\n\
+    method count item -> n\n\
+    commute add add when true\n\
+    commute add remove when item@1 != item@2\n\
+    commute add count when item@1 != item@2\n\
+    commute remove remove when item@1 != item@2 or done@1 = true and done@2 = true or done@1 = false and done@2 = false\n\
+    commute remove count when item@1 != item@2 or done@1 = false\n\
+    commute count count when true\n\
+    kind peak\n\
+    method raise amount -> prev\n\
+    method get -> peak\n\
+    commute raise raise when amount@1 <= prev@1 and amount@2 <= prev@2\n\
+    commute raise get when amount@1 <= prev@1\n\
+    commute get get when true\n\
+    kind queue\n\
+    method enqueue item -> done\n\
+    method dequeue -> got\n\
+    method size -> n\n\
+    commute enqueue enqueue when false\n\
+    commute enqueue dequeue when got@2 != nil and item@1 != got@2\n\
+    commute enqueue size when false\n\
+    commute dequeue dequeue when got@1 = nil and got@2 = nil\n\
+    commute dequeue size when got@1 = nil\n\
+    commute size size when true\n\
+    kind tally\n\
+    method hit item -> done\n\
+    method count item -> n\n\
+    method total -> n\n\
+    commute hit hit when true\n\
+    commute hit count when item@1 != item@2\n\
+    commute hit total when false\n\
+    commute count count when true\n\
+    commute count total when true\n\
+    commute total total when true\n";
 
 fn is_printed(rt: &impl Abort, alloc: Global, kinds: &Spec, wanted: &str) {
     let text = print(alloc, kinds).expect(rt, "memory");
@@ -539,7 +575,7 @@ fn the_text_of_all(rt: HostRuntime) {
 #[test]
 fn the_printed_text_is_read_again(rt: HostRuntime) {
     let again = spec_of(&rt, rt.alloc(), BUILT_IN);
-    is_so(&rt, again.kinds().len() == 4, "four kinds");
+    is_so(&rt, again.kinds().len() == 8, "eight kinds");
     is_printed(&rt, rt.alloc(), &again, BUILT_IN);
 }
 

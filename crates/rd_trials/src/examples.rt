@@ -21,11 +21,14 @@ const EXAMPLES: &str = "\
     check four_writes.trace four_writes.out\n\
     check guarded.trace guarded.out\n\
     check guarded_counter.trace guarded_counter.out\n\
+    check high_water.trace high_water.out\n\
+    check job_queue.trace job_queue.out\n\
     check joins_itself.trace joins_itself.out\n\
     check lost_update.trace lost_update.out\n\
     check message.trace message.out\n\
     check message_by_a_lock.trace message_by_a_lock.out\n\
     check name_twice.trace name_twice.out\n\
+    check parts_bag.trace parts_bag.out\n\
     check put_under_a_share.trace put_under_a_share.out\n\
     check read_after_join.trace read_after_join.out\n\
     check readers_and_a_writer.trace readers_and_a_writer.out\n\
@@ -50,10 +53,12 @@ const EXAMPLES: &str = "\
     check two_puts.trace two_puts.out\n\
     check unwritten_lock.trace unwritten_lock.out\n\
     check updates_in_turn.trace updates_in_turn.out\n\
+    check word_count.trace word_count.out\n\
     check-json dictionary_update.trace dictionary_update.json.out\n\
     replay check_then_act.trace check_then_act.replay.out\n\
     replay dictionary_update.trace dictionary_update.replay.out\n\
     replay guarded_counter.trace guarded_counter.replay.out\n\
+    replay parts_bag.trace parts_bag.replay.out\n\
     replay refused_bad_line.trace refused_bad_line.replay.out\n\
     replay replay_differs.trace replay_differs.replay.out\n\
     replay updates_in_turn.trace updates_in_turn.replay.out\n\
