@@ -1,5 +1,7 @@
+import java.util.HashSet;
 import java.util.List;
 import java.util.Map;
+import java.util.Set;
 import java.util.TreeMap;
 import java.util.concurrent.TimeUnit;
 import java.util.concurrent.locks.Condition;
@@ -42,6 +44,33 @@ class Constructs {
         lock.unlock();
     }
 
+    private static void more(RdRecord r) throws InterruptedException {
+        var parts = r.bag("parts", List.of("nut", "nut"));
+        var high = r.peak("high", 3L);
+        var jobs = r.itemQueue("jobs", List.of("a", "b"));
+        var words = r.<String>tally("words");
+        var guard = r.lock("guard");
+        var got = new HashSet<String>();
+        Runnable work = () -> {
+            guard.lock();
+            got.add(jobs.dequeue());
+            guard.unlock();
+            parts.add("bolt");
+            words.hit("x");
+            high.raise(2);
+        };
+        var first = r.thread("work", work);
+        var second = r.thread("work", work);
+        first.start();
+        second.start();
+        first.join();
+        second.join();
+        want(got.equals(Set.of("a", "b")) && jobs.dequeue() == null && jobs.size() == 0);
+        want(parts.remove("nut") && parts.remove("nut") && !parts.remove("nut") && parts.count("bolt") == 2);
+        want(high.raise(7) == 3 && high.get() == 7 && r.peak("none", null).get() == null);
+        want(words.count("x") == 2 && words.count("y") == 0 && words.total() == 2);
+    }
+
     private static void tasks(RdRecord r, boolean race) throws InterruptedException {
         var shelf = r.dictionary("shelf", new TreeMap<>(Map.of("a", 1)));
         var items = r.set("items", List.of("i"));
@@ -72,6 +101,7 @@ class Constructs {
     public static void main(String[] words) throws Exception {
         try (RdRecord r = new RdRecord(words[1], "The constructs of the recorder.")) {
             threads(r);
+            more(r);
             tasks(r, words[0].equals("race"));
         }
     }

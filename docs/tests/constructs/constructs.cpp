@@ -19,6 +19,31 @@ static void objects() {
     want(shelf.put("b", 4) == 3 && shelf.size() == 1);
 }
 
+static void more() {
+    rd::Bag<std::string> parts({"nut", "nut"}, "parts");
+    rd::Peak high(3, "high"), none;
+    rd::ItemQueue<std::string> jobs({"a", "b"}, "jobs");
+    rd::Tally<std::string> words("words");
+    rd::Mutex guard("guard");
+    std::set<std::string> got;
+    auto work = [&] {
+        {
+            std::lock_guard held(guard);
+            got.insert(jobs.dequeue().value());
+        }
+        parts.insert("bolt");
+        words.hit("x");
+        high.raise(2);
+    };
+    rd::Thread first(work), second(work);
+    first.join();
+    second.join();
+    want(got.size() == 2 && !jobs.dequeue() && jobs.size() == 0);
+    want(parts.erase("nut") && parts.erase("nut") && !parts.erase("nut") && parts.count("bolt") == 2);
+    want(high.raise(7) == 3 && high.get() == 7 && !none.get());
+    want(words.count("x") == 2 && words.count("y") == 0 && words.total() == 2);
+}
+
 static void threads(bool race) {
     rd::Register<bool> box(false, "box");
     rd::Register<int> news(0, "news");
@@ -55,5 +80,6 @@ static void threads(bool race) {
 int main(int, char** words) {
     rd::Recorder recorder(words[2], "The constructs of the recorder.");
     objects();
+    more();
     threads(std::string(words[1]) == "race");
 }

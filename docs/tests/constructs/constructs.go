@@ -30,6 +30,36 @@ func objects(me *rdrecord.Me) {
 	want(!found && had == 0.5 && shelf.Size(me) == 1)
 }
 
+func more(me *rdrecord.Me) {
+	parts, high := rdrecord.NewBag[string](me, "parts"), rdrecord.NewPeak(me, "high")
+	jobs, words := rdrecord.NewItemQueue[string](me, "jobs"), rdrecord.NewTally[string](me, "words")
+	_, some := high.Get(me)
+	want(!some)
+	high.Raise(me, 3)
+	parts.Add(me, "nut")
+	jobs.Enqueue(me, "a")
+	jobs.Enqueue(me, "b")
+	guard := rdrecord.NewMutex(me, "guard")
+	work := func(me *rdrecord.Me) {
+		guard.Lock(me)
+		_, some := jobs.Dequeue(me)
+		guard.Unlock(me)
+		want(some)
+		parts.Add(me, "bolt")
+		words.Hit(me, "x")
+		high.Raise(me, 2)
+	}
+	first, second := me.Go("work", work), me.Go("work", work)
+	first(me)
+	second(me)
+	_, some = jobs.Dequeue(me)
+	want(!some && jobs.Size(me) == 0)
+	want(parts.Remove(me, "nut") && !parts.Remove(me, "nut") && parts.Count(me, "bolt") == 2)
+	old, _ := high.Raise(me, 7)
+	peak, _ := high.Get(me)
+	want(old == 3 && peak == 7 && words.Count(me, "x") == 2 && words.Count(me, "y") == 0 && words.Total(me) == 2)
+}
+
 func channels(me *rdrecord.Me, race bool) {
 	first, second := rdrecord.NewChan[int](me, "first", 0), rdrecord.NewChan[string](me, "second", 2)
 	quit, x := rdrecord.NewChan[error](me, "quit", 0), rdrecord.NewRegister(me, "x", 0)
@@ -95,6 +125,7 @@ func main() {
 		panic(err)
 	}
 	objects(me)
+	more(me)
 	channels(me, os.Args[1] == "race")
 	groups(me)
 	if err := me.Close(); err != nil {

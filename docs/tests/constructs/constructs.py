@@ -70,6 +70,28 @@ def collections(to):
     assert len(shelf) == 3
 
 
+def more(to):
+    parts, high = rd.Bag(to, ["nut", "nut"], "parts"), rd.Peak(to, 3, "high")
+    jobs, words = rd.ItemQueue(to, ["a", "b"], "jobs"), rd.Tally(to, ["x"], "words")
+    guard, got = rd.Lock(to, "guard"), []
+
+    def work():
+        with guard:
+            got.append(jobs.dequeue())
+        parts.add("bolt")
+        words.hit("x")
+        high.raise_to(2)
+    workers = [rd.Thread(to, work) for _ in range(2)]
+    for each in workers:
+        each.start()
+    for each in workers:
+        each.join()
+    assert sorted(got) == ["a", "b"] and jobs.dequeue() is None and len(jobs) == 0
+    assert parts.remove("nut") and parts.remove("nut") and not parts.remove("nut") and parts.count("bolt") == 2
+    assert high.raise_to(7) == 3 and high.get() == 7 and rd.Peak(to).get() is None
+    assert words.count("x") == 3 and words.count("y") == 0 and words.total() == 3
+
+
 async def tasks(to):
     rd.record_tasks(to)
     hits, guard = rd.Register(to, 0, "hits"), rd.AsyncLock(to)
@@ -96,4 +118,5 @@ async def tasks(to):
 with rd.Recorder(sys.argv[2]) as recorder:
     threads(recorder)
     collections(recorder)
+    more(recorder)
     asyncio.run(tasks(recorder))
