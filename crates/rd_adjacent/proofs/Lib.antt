@@ -1,0 +1,3 @@
+pub mod BesideLemmas
+pub mod RangeLemmas
+pub mod ReachLemmas

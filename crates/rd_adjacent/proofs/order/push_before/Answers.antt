@@ -1,0 +1,14 @@
+use Rattle.std.proofs.Common.{◌≡◌, ◌++◌, [], ◌∷◌, cond, ap, sym, ◌∙◌}
+use Rattle.std.proofs.lemmas.List.{append_assoc}
+use Rattle.rd_adjacent.specs.Beside.{places_before, reaches_either}
+use Rattle.rd_adjacent.proofs.RangeLemmas.{filter_next}
+use Rattle.rd_adjacent.proofs.order.push_before.Goals as goal
+
+pub loop-place-preserved : goal.loop-place-preserved
+loop-place-preserved c =
+    let es = c.args.events.now in let i = c.args.two.now.i in let j = c.args.two.now.j in let n = c.loop-place.place in
+    let old = c.args.places.now in
+    c.in_ok-push_if.ensures
+    ∙ (λ k. c.loop-place.invariant k ++ cond (c.reaches_either-wanted.ensures k) (n ∷ []) [])
+    ∙ append_assoc old (places_before es i j n) (cond (reaches_either es i j n) (n ∷ []) [])
+    ∙ ap (λ l. old ++ l) (sym (filter_next (reaches_either es i j) n))

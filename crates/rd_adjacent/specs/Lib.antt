@@ -1,0 +1,2 @@
+pub mod Adjacent
+pub mod Beside
