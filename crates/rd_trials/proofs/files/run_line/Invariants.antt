@@ -1,0 +1,4 @@
+use Rattle.rd_trials.proofs.files.run_line.Given as goal
+
+abbrev pub ghosts-run_words : goal.ghosts-run_words
+ghosts-run_words g a = record { name = a.blank.name; parts = a.blank.parts }
