@@ -1,6 +1,6 @@
 //! Lines that are drawn.
 
-use crate::kinds::SHIPPED;
+use crate::kinds::USED;
 use std::process::Abort;
 
 /// Of what the events of a trace are drawn: how many threads there may be, how many keys, how many kinds of objects from the first on, and one
@@ -132,7 +132,7 @@ fn append_shipped(rt: &impl Abort, text: &mut String, random: &mut Random, keys:
 
 // A call of one of the objects.
 fn append_call(rt: &impl Abort, text: &mut String, random: &mut Random, sizes: Sizes) {
-    if random.below(sizes.kinds) < SHIPPED {
+    if random.below(sizes.kinds) < USED {
         append_shipped(rt, text, random, sizes.keys);
     } else {
         append_specified(rt, text, random, sizes.keys);

@@ -11,9 +11,12 @@ use std::alloc::Global;
 use std::process::Abort;
 
 /// How many kinds are built in.
-pub const SHIPPED: u32 = 4;
+pub const SHIPPED: u32 = 8;
 
-/// How many kinds there are.
+/// Of how many of these there are objects: of the first.
+pub const USED: u32 = 4;
+
+/// Of how many kinds there are objects, with those of the specification.
 pub const ALL: u32 = 8;
 
 // The kinds of the specification. A move touches one class of points with two of its slots. The methods of a level have predicates that

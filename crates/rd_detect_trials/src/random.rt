@@ -2,7 +2,7 @@
 ghost use Rattle.std.specs.Prelude.{◌≡◌, ◌<◌};
 
 use crate::drawing::{HEAD, MORE_OBJECTS, Random, Sizes, append_events};
-use crate::kinds::{ALL, SHIPPED};
+use crate::kinds::{ALL, SHIPPED, USED};
 use crate::trial::{Taken, Trial};
 use rd_base::Steps;
 use std::alloc::Global;
@@ -35,7 +35,13 @@ struct Tally {
 impl Tally {
     // Counts a call of an object of this kind.
     fn add(&mut self, kind: u32, is_race: bool, before: u128, after: u128) {
-        if let Some(count) = self.kinds.get_mut(kind as usize) {
+        // there are no objects of the kinds between
+        let place = if kind < USED {
+            kind
+        } else {
+            kind.wrapping_sub(SHIPPED - USED)
+        };
+        if let Some(count) = self.kinds.get_mut(place as usize) {
             count.add(is_race);
         }
         self.sweeps = self.sweeps.wrapping_add(u32::from(after < before));
@@ -96,7 +102,7 @@ fn begins<L: Ledger>(
 ) {
     let mut lines = String::new(alloc);
     lines.push_str(HEAD).expect(rt, "memory");
-    if batch.kinds > SHIPPED {
+    if batch.kinds > USED {
         lines.push_str(MORE_OBJECTS).expect(rt, "memory");
     }
     for root in 0..batch.roots {
@@ -184,7 +190,7 @@ fn few_keys(rt: HostRuntime) {
         threads: 2,
         more: 4,
         keys: 3,
-        kinds: SHIPPED,
+        kinds: USED,
         joins: 16,
         lines: 100,
     };
@@ -198,7 +204,7 @@ fn many_keys(rt: HostRuntime) {
         threads: 2,
         more: 4,
         keys: 60,
-        kinds: SHIPPED,
+        kinds: USED,
         joins: 64,
         lines: 500,
     };
@@ -212,7 +218,7 @@ fn many_threads(rt: HostRuntime) {
         threads: 40,
         more: 0,
         keys: 30,
-        kinds: SHIPPED,
+        kinds: USED,
         joins: 16,
         lines: 1500,
     };

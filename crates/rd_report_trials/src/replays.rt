@@ -135,5 +135,5 @@ const NOT_BUILT_IN: [Row<'static>; 2] = [
 
 #[test]
 fn an_object_of_a_kind_that_is_not_built_in(rt: HostRuntime) {
-    ends_so(&rt, rt.alloc(), 4, &NOT_BUILT_IN, &ReplayEnd::NotShipped);
+    ends_so(&rt, rt.alloc(), 8, &NOT_BUILT_IN, &ReplayEnd::NotShipped);
 }
