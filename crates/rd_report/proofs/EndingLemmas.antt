@@ -15,15 +15,9 @@ well_end races replay walk.End well = refl
 well_end races replay (walk.Refused number cause) well = absurd (by (is_limit cause) well)
   where
     by : (b : Bool) → IsWell (cond b LimitReached TraceRefused) → ⊥
-    by true (inl e) = cc
-    by true (inr (inl e)) = cc
-    by true (inr (inr e)) = cc
-    by false (inl e) = cc
-    by false (inr (inl e)) = cc
-    by false (inr (inr e)) = cc
-well_end races replay walk.Fault (inl e) = cc
-well_end races replay walk.Fault (inr (inl e)) = cc
-well_end races replay walk.Fault (inr (inr e)) = cc
+    by true well = well
+    by false well = well
+well_end races replay walk.Fault well = absurd well
 
 -- what ends well says so
 ends_well : (races : ℕ) (ended : ReplayEnd) → IsWell (check_status races (ending_of_report races ended walk.End))
@@ -31,10 +25,10 @@ unfolding check_status
 ends_well races ended = by (eqb races 0) ended
   where
     by : (b : Bool) (ended : ReplayEnd) → IsWell (cond b (replay_status ended) Raced)
-    by true Exact = inl refl
-    by true (Differs line expected) = inr (inr refl)
-    by true NotShipped = inl refl
-    by false ended = inr (inl refl)
+    by true Exact = tt
+    by true (Differs line expected) = tt
+    by true NotShipped = tt
+    by false ended = tt
 
 -- so the status says that a trace was read to its end exactly where it was
 pub well_exactly : (races : ℕ) (replay : ReplayEnd) (ending : WalkEnd) → IsWell (check_status races (ending_of_report races replay ending)) ↔ (ending ≡ walk.End)

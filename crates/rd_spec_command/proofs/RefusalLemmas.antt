@@ -8,14 +8,10 @@ use Rattle.std.proofs.Common.{◌≡◌, ◌⊎◌, refl, subst, inl, inr}
 
 -- nor is a refusal of a specification
 spec_no_well : ¬ (IsWell SpecRefused)
-spec_no_well (inl e) = cc
-spec_no_well (inr (inl e)) = cc
-spec_no_well (inr (inr e)) = cc
+spec_no_well well = well
 
 limit_no_well : ¬ (IsWell LimitReached)
-limit_no_well (inl e) = cc
-limit_no_well (inr (inl e)) = cc
-limit_no_well (inr (inr e)) = cc
+limit_no_well well = well
 
 refusal_status : (cause : SpecCause) → (spec_status cause ≡ SpecRefused) ⊎ (spec_status cause ≡ LimitReached)
 refusal_status cause.Header = inl refl

@@ -2,7 +2,7 @@
 use Rattle.rd_walk.specs.Output.{halted_with, HasOutcome, IsOutput, IsWell, Outcome, ended_status}
 use Rattle.rd_walk.specs.declared.analysis.Halt.TheVariants as halt
 use Rattle.rd_walk.specs.declared.analysis.Halt.{Halt}
-use Rattle.rd_walk.specs.declared.status.Status.TheVariants.{Clean, Raced, Usage, SpecRefused, TraceRefused, ReplayDiffers, InputFault, OutputFault, NoMemory, LimitReached}
+use Rattle.rd_walk.specs.declared.status.Status.TheVariants.{Clean, Raced, Usage, SpecRefused, TraceRefused, ReplayDiffers, InputFault, OutputFault, NoMemory, LimitReached, NotACall}
 use Rattle.rd_walk.specs.declared.status.Status.{Status}
 use Rattle.rd_walk.specs.declared.status.Ended.{Ended}
 use Rattle.std.specs.Result.{IsErr, IsErrAnd}
@@ -21,6 +21,7 @@ whole InputFault text = (refl, refl)
 whole OutputFault text = ([], sym (append-nil text))
 whole NoMemory text = ([], sym (append-nil text))
 whole LimitReached text = (refl, refl)
+whole NotACall text = (refl, refl)
 
 -- a front was written, and then it was cut short
 pub front_only : (halt : Halt) (part rest : List ℕ) (outcome : Outcome) → outcome.text ≡ part ++ rest → IsOutput (halted_with halt) part outcome
@@ -40,6 +41,7 @@ has_outcome Is InputFault part outcome is output = (outcome, is, output)
 has_outcome Is OutputFault part outcome is output = (outcome, is, output)
 has_outcome Is NoMemory part outcome is output = inr (outcome, is, output)
 has_outcome Is LimitReached part outcome is output = (outcome, is, output)
+has_outcome Is NotACall part outcome is output = (outcome, is, output)
 
 -- what is written of one of these is written of one of those
 pub outcome_of : (Is Also : Outcome → Type 0) → ((outcome : Outcome) → Is outcome → Also outcome) → (status : Status) (part : List ℕ)
@@ -55,6 +57,7 @@ outcome_of Is Also all OutputFault part has = (has.0, all has.0 has.1, has.2)
 outcome_of Is Also all NoMemory part (inl none) = inl none
 outcome_of Is Also all NoMemory part (inr has) = inr (has.0, all has.0 has.1, has.2)
 outcome_of Is Also all LimitReached part has = (has.0, all has.0 has.1, has.2)
+outcome_of Is Also all NotACall part has = (has.0, all has.0 has.1, has.2)
 
 -- a text was written before
 pub behind : (status : Status) (front part text : List ℕ) (given : Status) → IsOutput status part (record { text = text; status = given })
@@ -69,25 +72,28 @@ behind InputFault front part text given is = (ap (λ t. front ++ t) is.0, is.1)
 behind OutputFault front part text given is = (is.0, ap (λ t. front ++ t) is.1 ∙ sym (append_assoc front part is.0))
 behind NoMemory front part text given is = (is.0, ap (λ t. front ++ t) is.1 ∙ sym (append_assoc front part is.0))
 behind LimitReached front part text given is = (ap (λ t. front ++ t) is.0, is.1)
+behind NotACall front part text given is = (ap (λ t. front ++ t) is.0, is.1)
 
 -- no fault is such a status, nor is want of memory
 pub well_written : (status : Status) (part : List ℕ) (outcome : Outcome) → IsWell status → IsOutput status part outcome → IsWell outcome.status
-well_written status part outcome (inl is) output = inl (sym (subst (λ s. IsOutput s part outcome) is output).1)
-well_written status part outcome (inr (inl is)) output = inr (inl (sym (subst (λ s. IsOutput s part outcome) is output).1))
-well_written status part outcome (inr (inr is)) output = inr (inr (sym (subst (λ s. IsOutput s part outcome) is output).1))
+well_written Clean part outcome well output = subst IsWell output.1 tt
+well_written Raced part outcome well output = subst IsWell output.1 tt
+well_written ReplayDiffers part outcome well output = subst IsWell output.1 tt
+well_written NotACall part outcome well output = subst IsWell output.1 tt
+well_written Usage part outcome well output = absurd well
+well_written SpecRefused part outcome well output = absurd well
+well_written TraceRefused part outcome well output = absurd well
+well_written InputFault part outcome well output = absurd well
+well_written OutputFault part outcome well output = absurd well
+well_written NoMemory part outcome well output = absurd well
+well_written LimitReached part outcome well output = absurd well
 
 pub halted_no_well : (halt : Halt) → ¬ (IsWell (halted_with halt))
-halted_no_well halt.OutputFault (inl e) = cc
-halted_no_well halt.OutputFault (inr (inl e)) = cc
-halted_no_well halt.OutputFault (inr (inr e)) = cc
-halted_no_well halt.NoMemory (inl e) = cc
-halted_no_well halt.NoMemory (inr (inl e)) = cc
-halted_no_well halt.NoMemory (inr (inr e)) = cc
+halted_no_well halt.OutputFault well = well
+halted_no_well halt.NoMemory well = well
 
 pub fault_no_well : ¬ (IsWell InputFault)
-fault_no_well (inl e) = cc
-fault_no_well (inr (inl e)) = cc
-fault_no_well (inr (inr e)) = cc
+fault_no_well well = well
 
 -- what holds whatever a function answers
 pub always_ok : {T E : Type 0} (P : Type 0) (r : Result T E) → P → OnOk r P

@@ -3,7 +3,7 @@ use Rattle.rd_base.specs.Bytes.{IsFront}
 use Rattle.rd_io.specs.Inputs.{Rose, fault_line}
 use Rattle.rd_walk.specs.declared.analysis.Halt.TheVariants as halt
 use Rattle.rd_walk.specs.declared.analysis.Halt.{Halt}
-use Rattle.rd_walk.specs.declared.status.Status.TheVariants.{Clean, Raced, Usage, SpecRefused, TraceRefused, ReplayDiffers, InputFault, OutputFault, NoMemory, LimitReached}
+use Rattle.rd_walk.specs.declared.status.Status.TheVariants.{Clean, Raced, Usage, SpecRefused, TraceRefused, ReplayDiffers, InputFault, OutputFault, NoMemory, LimitReached, NotACall}
 use Rattle.rd_walk.specs.declared.status.Status.{Status}
 use Rattle.rd_walk.specs.declared.status.Ended.TheVariants as ended
 use Rattle.rd_walk.specs.declared.status.Ended.{Ended}
@@ -21,6 +21,7 @@ code_of InputFault = 6
 code_of OutputFault = 7
 code_of NoMemory = 8
 code_of LimitReached = 9
+code_of NotACall = 10
 
 -- what is written, and the status
 pub record Outcome : Type 0 where
@@ -29,7 +30,11 @@ pub record Outcome : Type 0 where
 
 -- the status says that a trace was read to its end
 abbrev pub IsWell : Status → Type 0
-IsWell status = (status ≡ Clean) ⊎ ((status ≡ Raced) ⊎ (status ≡ ReplayDiffers))
+IsWell Clean = ⊤
+IsWell Raced = ⊤
+IsWell ReplayDiffers = ⊤
+IsWell NotACall = ⊤
+IsWell _ = ⊥
 
 -- a run that ends with this status and wrote these bytes has this outcome, or was cut short in it by a write fault or want of memory
 abbrev pub IsOutput : Status → List ℕ → Outcome → Type 0
@@ -64,6 +69,7 @@ ended_status (Ok ended.TraceRefused) = TraceRefused
 ended_status (Ok ended.ReplayDiffers) = ReplayDiffers
 ended_status (Ok ended.InputFault) = InputFault
 ended_status (Ok ended.LimitReached) = LimitReached
+ended_status (Ok ended.NotACall) = NotACall
 ended_status (Err halt) = halted_with halt
 
 -- which ends a command on a trace may have, and one that writes a text of a specification

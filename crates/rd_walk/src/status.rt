@@ -28,13 +28,15 @@ pub enum Status {
     NoMemory,
     /// 9: a limit was reached
     LimitReached,
+    /// 10: the trace was read to its end, and a line that `adjacent` was given isn't the line of a call
+    NotACall,
 }
 
 impl Status {
     ghost use Rattle.std.specs.Prelude.{◌≡◌};
     ghost use Rattle.rd_walk.specs.Output.{code_of};
 
-    /// The number of the status, from 0 to 9. It takes no memory.
+    /// The number of the status, from 0 to 10. It takes no memory.
     pub fn code(&self) -> u8
         ensures { result ≡ code_of self.now }
     {
@@ -61,6 +63,8 @@ pub enum Ended {
     InputFault,
     /// a limit was reached
     LimitReached,
+    /// the trace was read to its end, and a line that `adjacent` was given isn't the line of a call
+    NotACall,
 }
 
 /// The status of a command that ended so, or was cut short.
@@ -76,6 +80,7 @@ pub fn ended_status(ended: Result<Ended, Halt>) -> Status
         Ok(Ended::ReplayDiffers) => Status::ReplayDiffers,
         Ok(Ended::InputFault) => Status::InputFault,
         Ok(Ended::LimitReached) => Status::LimitReached,
+        Ok(Ended::NotACall) => Status::NotACall,
         Err(halt) => status_of(halt),
     }
 }
