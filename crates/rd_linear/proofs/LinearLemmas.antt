@@ -1,9 +1,9 @@
 -- What a linear order says of each of its places, and when places that come one behind another are one.
 use Rattle.std.proofs.Common.{◌≡◌, ◌≢◌, ◌<◌, ◌≤◌, ◌+◌, ◌⊎◌, ◌++◌, ℕ, zero, suc, Bool, true, false, List, [], ◌∷◌, Some, length, slice_get, take, replicate, arith, inl, inr, refl, sym, ◌∙◌, ap, subst, true≢false, length-append}
-use Rattle.std.specs.Prelude.{slice_index_or, slice_set}
+use Rattle.std.specs.Prelude.{All, slice_index_or, slice_set}
 use Rattle.std.specs.List.{range_with_len}
 use Rattle.std.proofs.lemmas.Bool.{cases_eq, cases_Bool}
-use Rattle.std.proofs.lemmas.Option.{none-some, same_Some}
+use Rattle.std.proofs.lemmas.Option.{none-some, same_Some, slice_get-get_or}
 use Rattle.rd_event.specs.declared.events.Event.{Event}
 use Rattle.rd_order.proofs.OrderLemmas.{edge_reaches, edge_rises}
 use Rattle.rd_linear.specs.Linear.{AreMarked, Below, Marks, MayCome, Once, Placed, Stands}
@@ -17,6 +17,9 @@ use Rattle.rd_linear.proofs.Placing.{placed_all, placed_more, ready_by_edges}
 pub linear_below : (es : List Event) (places : List ℕ) → IsLinear es places → Below (length es) places
 linear_below es places l = every_linear es (Below (length es))
     (λ xs ys p q loose g j a s. g (exchanged (length xs) j) a (got_exchanged xs q p ys j ∙ s)) (λ j p s. omega (arith, range_below 0 (length es) j p s)) places l
+
+pub linear_inside : (es : List Event) (places : List ℕ) → IsLinear es places → All (λ p. p < length es) places
+linear_inside es places l k d inside = linear_below es places l k (slice_index_or places k d) (slice_get-get_or places k d inside)
 
 linear_once : (es : List Event) (places : List ℕ) → IsLinear es places → Once places
 linear_once es places l = every_linear es Once

@@ -1,10 +1,7 @@
 -- The order that the number picks of the events of accepted lines.
 use Rattle.std.proofs.Common.{◌≡◌, ℕ, ◌<◌, List, [], length, Some, get_or, slice_get, sym, ap, subst, ◌∙◌, arith}
-use Rattle.std.specs.Prelude.{All}
 use Rattle.std.specs.List.{range_with_len}
 use Rattle.std.specs.Option.{option_map_or}
-use Rattle.std.proofs.lemmas.List.FromFn.{get_or-range_with_len, length-range_with_len}
-use Rattle.std.proofs.lemmas.List.Sorted.{All-permutation, length_permutation}
 use Rattle.std.proofs.lemmas.Option.{slice_get-get_or}
 use Rattle.rd_ecl.specs.Kinds.{Kind}
 use Rattle.rd_event.specs.declared.events.Event.{Event as Numbered}
@@ -29,16 +26,6 @@ thread_below kinds lines (numbered.Release thread lock) named = named.0
 thread_below kinds lines (numbered.Share thread lock) named = named.0
 thread_below kinds lines (numbered.Unshare thread lock) named = named.0
 thread_below kinds lines (numbered.Call call) named = named.0
-
--- places of a linear order are places of events, as many as there are
-module _ (es : List Numbered) (places : List ℕ) (linear : IsLinear es places) where
-  pub linear_inside : All (λ p. p < length es) places
-  linear_inside =
-      All-permutation (λ p. p < length es) (range_with_len 0 (length es)) places linear.all
-      (λ i d inside. let below : i < length es = omega (arith, inside, length-range_with_len 0 (length es)) in omega (arith, below, get_or-range_with_len 0 (length es) i d below))
-
-  pub linear_counted : length places ≡ length es
-  linear_counted = length_permutation (range_with_len 0 (length es)) places linear.all ∙ length-range_with_len 0 (length es)
 
 module _ (kinds : List Kind) (lines : List Line) (follow : FollowFrom kinds [] lines) where
   abbrev es : List Numbered

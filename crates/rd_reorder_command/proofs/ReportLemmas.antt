@@ -6,7 +6,8 @@ use Rattle.std.proofs.lemmas.List.{length-map}
 use Rattle.rd_base.specs.Limits.{AreUsable}
 use Rattle.rd_base.specs.declared.limits.Limits.{Limits}
 use Rattle.rd_io.specs.Lines.{Stop, reading}
-use Rattle.rd_reorder_command.proofs.OrderLemmas.{linear_inside, picked_linear}
+use Rattle.rd_linear.proofs.LinearLemmas.{linear_inside}
+use Rattle.rd_reorder_command.proofs.OrderLemmas.{picked_linear}
 use Rattle.rd_reorder_command.specs.Outcomes.{places_by, reorder_outcome}
 use Rattle.rd_reorder_command.specs.Reports.{IsReordered}
 use Rattle.rd_replay_command.specs.States.{built_in_kinds}

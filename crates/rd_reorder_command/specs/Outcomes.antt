@@ -6,16 +6,13 @@ use Rattle.rd_ecl.specs.Kinds.{Kind}
 use Rattle.rd_event.specs.declared.items.Line.{Line}
 use Rattle.rd_io.specs.Inputs.{fault_line}
 use Rattle.rd_linear.specs.Lanes.{order_by}
-use Rattle.rd_report.specs.Endings.{check_status, thread_names}
-use Rattle.rd_report.specs.Texts.{refused_line}
-use Rattle.rd_report.specs.declared.endings.Ending.TheVariants as report
+use Rattle.rd_report.specs.Endings.{thread_names}
+use Rattle.rd_rewriting.specs.Ended.{ended_as}
 use Rattle.rd_rewriting.specs.Reordered.{reordered}
-use Rattle.rd_walk.specs.Output.{Outcome, fault_outcome}
+use Rattle.rd_walk.specs.Output.{Outcome}
 use Rattle.rd_walk.specs.Traces.{ReportTexts}
 use Rattle.rd_walk.specs.Walk.{Walked, ending_of, entries_of, items}
 use Rattle.rd_walk.specs.declared.status.Status.TheVariants.{Clean}
-use Rattle.rd_walk.specs.declared.walk.WalkEnd.TheVariants.{End, Refused, Fault}
-use Rattle.rd_walk.specs.declared.walk.WalkEnd.{WalkEnd}
 use Rattle.rd_rules.specs.Events.{events_of}
 use Rattle.rd_rules.specs.MayFollow.{threads_of}
 
@@ -27,19 +24,15 @@ places_by kinds lines number = order_by (events_of kinds lines) (range_with_len 
 abbrev pub picked_text : List Kind → List Line → ℕ → List ℕ
 picked_text kinds lines number = lines_text (reordered lines (places_by kinds lines number))
 
--- where the lines of a trace end so: this text at its end, or the one line that says why a line was refused or that a read failed, as `replay`
--- writes it. The names are those of the threads.
-abbrev pub ended_outcome : List (List ℕ) → List ℕ → WalkEnd → Outcome
-ended_outcome names text End = record { text = text; status = Clean }
-ended_outcome names text (Refused number cause) =
-    record { text = refused_line names number cause; status = check_status 0 (report.Refused number cause) }
-ended_outcome names text Fault = fault_outcome
+-- this is written, and the trace was read to its end
+abbrev pub written_whole : List ℕ → Outcome
+written_whole text = record { text = text; status = Clean }
 
 -- `reorder` with this number on a trace with objects of these kinds
 abbrev pub reorder_outcome : ℕ → List Kind → Walked → Outcome
 reorder_outcome number kinds walked =
     let entries = entries_of walked in
-    ended_outcome (thread_names entries) (picked_text kinds (items entries) number) (ending_of walked)
+    ended_as (thread_names entries) (written_whole (picked_text kinds (items entries) number)) (ending_of walked)
 
 -- nothing is written for the lines, and no step is counted
 abbrev pub reorder_texts : ℕ → List Kind → ReportTexts

@@ -1,42 +1,19 @@
 //! What `reorder` writes behind the last line of a trace.
-ghost use Rattle.std.specs.Prelude.{◌≡◌, ℕ, List, [], IfOk, OnOk, OnErr};
+ghost use Rattle.std.specs.Prelude.{List, [], OnOk, OnErr};
 ghost use Rattle.rd_ecl.specs.Kinds.{Kind};
 ghost use Rattle.rd_event.specs.declared.items.Line.{Line as LineOf};
 ghost use Rattle.rd_io.specs.Sinks.{Appends};
-ghost use Rattle.rd_reorder_command.specs.Outcomes.{ended_outcome, picked_text};
+ghost use Rattle.rd_reorder_command.specs.Outcomes.{picked_text};
 ghost use Rattle.rd_rewriting.specs.Keeping.{KeepsNamed};
 ghost use Rattle.rd_walk.specs.Analysis.{TellsFault, WritesFront};
-ghost use Rattle.rd_walk.specs.Output.{IsOutput, IsTraceEnd, ended_status};
-ghost use Rattle.rd_wf.specs.Roster.{names_in};
 
 use crate::reordering::Reordering;
 use rd_io::Sink;
 use rd_linear::reorder;
-use rd_report::{Ending, TraceCause, check_status, refused_text};
+use rd_rewriting::write_refused;
 use rd_walk::{Ended, Halt, Report, WalkEnd, write_line};
 use rd_wf::Roster;
 use std::alloc::Global;
-
-/// Writes why a line of a trace was refused, and says how the report did. The roster has the names of the threads.
-fn write_refused<S: Sink>(
-    alloc: Global,
-    names: &Roster,
-    line: u64,
-    cause: TraceCause,
-    out: &mut S,
-) -> Result<Ended, Halt>
-    ensures output { (text : List ℕ) → (part : List ℕ) × Appends (S.written out.old) (S.written out.new) part
-        × IsOutput (ended_status result) part
-        (ended_outcome (names_in names.now) text (WalkEnd.Refused line cause)) }
-    ensures ends { IfOk result IsTraceEnd }
-    ensures input { IfOk result (λ end. ¬ (end ≡ Ended.InputFault)) }
-    ensures fault { TellsFault (S.faults out.old) (S.faults out.new) (S.at_fault out.new)
-        (S.written out.new) result }
-{
-    let text = refused_text(alloc, line, cause, names)?;
-    write_line(out, text.items())?;
-    Ok(check_status(0, &Ending::Refused { line, cause }))
-}
 
 impl<'a> Reordering<'a> {
     /// Writes the trace in the order that the number picks.

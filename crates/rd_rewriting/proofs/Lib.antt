@@ -1,3 +1,4 @@
+pub mod EndedLemmas
 pub mod KeepingLemmas
 pub mod KindLemmas
 pub mod LineLemmas

@@ -1,3 +1,4 @@
+pub mod Ended
 pub mod Keeping
 pub mod Naming
 pub mod Reordered

@@ -3,6 +3,8 @@
 
 mod kept;
 mod names;
+mod refusals;
 mod writing;
 
 pub use kept::Kept;
+pub use refusals::write_refused;

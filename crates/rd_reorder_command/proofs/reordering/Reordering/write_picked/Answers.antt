@@ -6,7 +6,8 @@ use Rattle.rd_ecl.specs.Kinds.{Kind}
 use Rattle.rd_event.specs.declared.items.Line.{Line}
 use Rattle.rd_io.specs.Sinks.{Appends}
 use Rattle.rd_order.specs.EventLists.{WellFormed}
-use Rattle.rd_reorder_command.proofs.OrderLemmas.{linear_counted, linear_inside, picked_places}
+use Rattle.rd_linear.proofs.LinearLemmas.{linear_inside, linear_length}
+use Rattle.rd_reorder_command.proofs.OrderLemmas.{picked_places}
 use Rattle.rd_rewriting.proofs.KeepingLemmas.{follow_told}
 use Rattle.rd_rewriting.specs.Keeping.{ArePlaces, KeepsNamed}
 use Rattle.rd_rewriting.specs.Reordered.{reordered}
@@ -27,7 +28,7 @@ write_lines-requires-clause-places g c =
 
 pub write_lines-requires-clause-all : goal.write_lines-requires-clause-all
 write_lines-requires-clause-all g c =
-    ap length c.items.ensures ∙ (linear_counted c.as_slice.result.now c.in_ok-places.places c.in_ok-places.ensures.linear ∙ ap length c.as_slice.ensures.value)
+    ap length c.items.ensures ∙ (linear_length c.as_slice.result.now c.in_ok-places.places c.in_ok-places.ensures.linear ∙ ap length c.as_slice.ensures.value)
 
 pub returns-clause-ok : goal.returns-clause-ok
 returns-clause-ok g c =

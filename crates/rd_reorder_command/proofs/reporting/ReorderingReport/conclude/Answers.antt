@@ -1,12 +1,12 @@
 use Rattle.std.proofs.Common.{refl, sym, ◌∙◌, subst}
 use Rattle.rd_reorder_command.proofs.OutcomeLemmas.{reorder_concluded}
-use Rattle.rd_reorder_command.specs.Outcomes.{ended_outcome, picked_text}
+use Rattle.rd_reorder_command.specs.Outcomes.{picked_text, written_whole}
+use Rattle.rd_rewriting.specs.Ended.{ended_as}
 use Rattle.rd_rewriting.specs.Keeping.{KeepsNamed}
 use Rattle.rd_walk.proofs.OutputLemmas.{report_cut}
 use Rattle.rd_walk.specs.Output.{IsOutput, fault_outcome, ended_status}
 use Rattle.rd_walk.specs.Walk.{items}
 use Rattle.rd_walk.specs.declared.status.Status.TheVariants.{Clean, InputFault}
-use Rattle.rd_walk.specs.declared.walk.WalkEnd.TheVariants.{End}
 use Rattle.rd_wf.proofs.RosterLemmas.{thread_keys}
 use Rattle.rd_wf.specs.Roster.{names_in}
 use Rattle.rd_reorder_command.proofs.reporting.ReorderingReport.conclude.Goals as goal
@@ -25,7 +25,7 @@ returns-in_ok-write_picked-in-End-clause-output g c = λ kinds start entries lea
       text,
       c.in_ok-write_picked-in-End.ensures.ok kinds (items entries) kept,
       reorder_concluded Clean text start.number kinds entries c.args.ending names number (thread_keys kinds c.args.names.now (items entries) stands) leads.number
-          (subst (λ e. IsOutput Clean text (ended_outcome names text e)) (sym c.in-End.is) (refl, refl)),
+          (subst (λ e. IsOutput Clean text (ended_as names (written_whole text) e)) (sym c.in-End.is) (refl, refl)),
     )
 
 pub returns-in_err-write_picked-in-End-clause-output : goal.returns-in_err-write_picked-in-End-clause-output
@@ -39,8 +39,8 @@ returns-in_err-write_picked-in-End-clause-output g c = λ kinds start entries le
       part,
       writes,
       reorder_concluded status part start.number kinds entries c.args.ending names number (thread_keys kinds c.args.names.now (items entries) stands) leads.number
-          (subst (λ e. IsOutput status part (ended_outcome names text e)) (sym c.in-End.is)
-          (report_cut c.from_residual.result _ c.from_residual.ensures part rest (ended_outcome names text End) is)),
+          (subst (λ e. IsOutput status part (ended_as names (written_whole text) e)) (sym c.in-End.is)
+          (report_cut c.from_residual.result _ c.from_residual.ensures part rest (written_whole text) is)),
     )
 
 pub returns-in-Refused-clause-output : goal.returns-in-Refused-clause-output
@@ -49,11 +49,11 @@ returns-in-Refused-clause-output g c = λ kinds start entries leads stands.
     let number = c.args.self.now.number in
     let text = picked_text kinds (items entries) number in
     let status = ended_status c.write_refused.result in
-    let (part, writes, output) = c.write_refused.ensures.output text in (
+    let (part, writes, output) = c.write_refused.ensures.output (written_whole text) in (
       part,
       writes,
       reorder_concluded status part start.number kinds entries c.args.ending names number (thread_keys kinds c.args.names.now (items entries) stands) leads.number
-          (subst (λ e. IsOutput status part (ended_outcome names text e)) (sym c.in-Refused.is) output),
+          (subst (λ e. IsOutput status part (ended_as names (written_whole text) e)) (sym c.in-Refused.is) output),
     )
 
 pub returns-in_ok-write_line-in-Fault-clause-output : goal.returns-in_ok-write_line-in-Fault-clause-output
@@ -65,7 +65,7 @@ returns-in_ok-write_line-in-Fault-clause-output g c = λ kinds start entries lea
       part,
       c.in_ok-write_line-in-Fault.ensures.ok,
       reorder_concluded InputFault part start.number kinds entries c.args.ending names number (thread_keys kinds c.args.names.now (items entries) stands) leads.number
-          (subst (λ e. IsOutput InputFault part (ended_outcome names text e)) (sym c.in-Fault.is) (c.unopened_text.ensures, refl)),
+          (subst (λ e. IsOutput InputFault part (ended_as names (written_whole text) e)) (sym c.in-Fault.is) (c.unopened_text.ensures, refl)),
     )
 
 pub returns-in_err-write_line-in-Fault-clause-output : goal.returns-in_err-write_line-in-Fault-clause-output
@@ -78,6 +78,6 @@ returns-in_err-write_line-in-Fault-clause-output g c = λ kinds start entries le
       part,
       writes,
       reorder_concluded status part start.number kinds entries c.args.ending names number (thread_keys kinds c.args.names.now (items entries) stands) leads.number
-          (subst (λ e. IsOutput status part (ended_outcome names text e)) (sym c.in-Fault.is)
+          (subst (λ e. IsOutput status part (ended_as names (written_whole text) e)) (sym c.in-Fault.is)
           (report_cut c.from_residual-in_err-write_line-in-Fault.result _ c.from_residual-in_err-write_line-in-Fault.ensures part rest fault_outcome (sym c.unopened_text.ensures ∙ is))),
     )
