@@ -173,6 +173,7 @@ fn the_numbers_of_statuses(rt: HostRuntime) {
         Status::OutputFault,
         Status::NoMemory,
         Status::LimitReached,
+        Status::NotACall,
     ];
     for (number, status) in statuses.iter().enumerate() {
         assert!(rt; usize::from(status.code()) == number, "{number}");

@@ -16,13 +16,23 @@ use Rattle.rd_walk.specs.declared.status.Ended.TheVariants as ended
 use Rattle.rd_walk.specs.declared.status.Ended.{Ended}
 use Rattle.rd_walk.specs.declared.status.Status.TheVariants.{OutputFault, Usage}
 use Rattle.rd_walk.specs.declared.status.Status.{Status}
-use Rattle.std.proofs.Common.{◌≡◌, ◌≢◌, ℕ, List, Option, Some, None, Result, Ok, Err, IfOk, IfErr, refl, ap, sym, subst}
+use Rattle.std.proofs.Common.{◌≡◌, ◌≢◌, ℕ, ◌<◌, ◌≤◌, List, [], ◌∷◌, length, get_or, Option, Some, None, Result, Ok, Err, IfOk, IfErr, refl, ap, sym, subst, arith}
 use Rattle.std.specs.Prelude.{codes, position}
 
 -- the kind with a name, and its number: the names that are taken are those of the kinds that are built in
 pub numbered : (name : List ℕ) → position (same_name name) reserved_names ≡ named_number name
 unfolding counter_kind dictionary_kind register_kind set_kind bag_kind peak_kind queue_kind tally_kind
 numbered name = refl
+
+-- four words are these, with one of them between
+pub four_words : {X : Type 0} (words : List X) (word first second : X) → 4 ≤ length words → length words < 5 → word ≡ get_or words 0 word
+    → first ≡ get_or words 2 first → second ≡ get_or words 3 second → (trace : X) × (words ≡ word ∷ trace ∷ first ∷ second ∷ [])
+four_words [] word first second least most one third fourth = absurd (omega arith)
+four_words (a ∷ []) word first second least most one third fourth = absurd (omega arith)
+four_words (a ∷ b ∷ []) word first second least most one third fourth = absurd (omega arith)
+four_words (a ∷ b ∷ c ∷ []) word first second least most one third fourth = absurd (omega arith)
+four_words (a ∷ b ∷ c ∷ d ∷ []) word first second least most one third fourth = (b, λ i. sym one i ∷ b ∷ sym third i ∷ sym fourth i ∷ [])
+four_words (a ∷ b ∷ c ∷ d ∷ e ∷ words) word first second least most one third fourth = absurd (omega arith)
 
 -- the words of `check` mean a check of that trace
 pub means_check : (words : List (List ℕ)) (form : Form) (trace : List ℕ) (file : Option (List ℕ)) → AskForCheck words form trace file

@@ -1,4 +1,5 @@
 -- What the words of the command line ask for.
+use Rattle.rd_adjacent_command.specs.Meanings.{adjacent_meaning}
 use Rattle.rd_walk.specs.Meanings.{Meaning, text_meaning}
 use Rattle.rd_check_command.specs.Meanings.{check_meaning}
 use Rattle.rd_decimals.specs.Decimals.{number_read}
@@ -17,11 +18,11 @@ use Rattle.rd_rules.specs.MayFollow.{same_name}
 use Rattle.rd_spec_command.specs.Meanings.{kind_meaning, said_meaning}
 use Rattle.rd_walk.specs.Output.{Outcome}
 use Rattle.rd_walk.specs.declared.status.Status.TheVariants.{Usage}
-use Rattle.rd_run.specs.declared.commands.Command.TheVariants.{Check, Replay, Reorder, Spec, Points, Kind, Gen, GenText}
+use Rattle.rd_run.specs.declared.commands.Command.TheVariants.{Adjacent, Check, Replay, Reorder, Spec, Points, Kind, Gen, GenText}
 use Rattle.rd_run.specs.declared.commands.Command.{Command}
 use Rattle.std.specs.List.{cons_option}
 use Rattle.std.specs.Option.{option_and_then}
-use Rattle.std.specs.Prelude.{◌≡◌, ◌<◌, ◌≤◌, ℕ, List, Option, Some, None, codes, length, option_map, position, slice_get, slice_index_or, if◌then◌else◌, [], ◌∷◌, ⊤}
+use Rattle.std.specs.Prelude.{◌≡◌, ◌<◌, ◌≤◌, ℕ, List, Option, Some, None, codes, length, nat_lt, option_map, position, slice_get, slice_index_or, if◌then◌else◌, [], ◌∷◌, ⊤}
 
 -- ---- the words
 
@@ -32,6 +33,14 @@ named_number name = position (λ kind. same_name name kind.name) shipped_kinds
 -- the number of a generated trace, and how many calls it has, where words spell these
 abbrev pub numbers_read : List ℕ → List ℕ → Option (ℕ × ℕ)
 numbers_read number count = option_and_then (λ n. option_map (λ c. (n, c)) (number_read MOST_CALLS count)) (number_read 18446744073709551615 number)
+
+-- the numbers of two lines, the lesser first, where words spell two different ones
+abbrev pub lesser_first : ℕ → ℕ → Option (ℕ × ℕ)
+lesser_first first second = if nat_lt first second then Some (first, second) else if nat_lt second first then Some (second, first) else None
+
+abbrev pub lines_read : List ℕ → List ℕ → Option (ℕ × ℕ)
+lines_read first second =
+    option_and_then (λ one. option_and_then (lesser_first one) (number_read 18446744073709551615 second)) (number_read 18446744073709551615 first)
 
 -- the words are exactly those of a command
 abbrev pub command_of : List (List ℕ) → Option Command
@@ -48,13 +57,16 @@ command_of (word ∷ first ∷ second ∷ []) =
     else if same_name word (codes "reorder") then option_map Reorder (number_read 18446744073709551615 second)
     else if same_name word (codes "gen") then option_map (λ numbers. Gen numbers.0 numbers.1) (numbers_read first second)
     else if same_name word (codes "gen-text") then option_map (λ numbers. GenText numbers.0 numbers.1) (numbers_read first second) else None
+command_of (word ∷ trace ∷ first ∷ second ∷ []) =
+    if same_name word (codes "adjacent") then option_map (λ lines. Adjacent lines.0 lines.1) (lines_read first second) else None
 command_of _ = None
 
--- its numbers are within their bounds: a built-in kind's, and how many calls a generated trace has
+-- its numbers are within their bounds: a built-in kind's, how many calls a generated trace has, and of two lines the lesser is the first
 abbrev pub IsWithinBounds : Command → Type 0
 IsWithinBounds (Kind number) = number < length shipped_kinds
 IsWithinBounds (Gen number count) = count ≤ MOST_CALLS
 IsWithinBounds (GenText number count) = count ≤ MOST_CALLS
+IsWithinBounds (Adjacent first second) = first < second
 IsWithinBounds _ = ⊤
 
 -- ---- what they mean
@@ -77,6 +89,7 @@ meaning_of words None = usage_meaning
 meaning_of words (Some (Check form)) = check_meaning form (nth_word words 1) (slice_get words 2)
 meaning_of words (Some Replay) = replay_meaning (nth_word words 1)
 meaning_of words (Some (Reorder number)) = reorder_meaning (nth_word words 1) number
+meaning_of words (Some (Adjacent first second)) = adjacent_meaning (nth_word words 1) first second
 meaning_of words (Some Spec) = said_meaning spec_text (nth_word words 1)
 meaning_of words (Some Points) = said_meaning points_text (nth_word words 1)
 meaning_of words (Some (Kind number)) = kind_meaning (kind_at shipped_kinds number)

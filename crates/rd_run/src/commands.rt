@@ -1,9 +1,9 @@
 //! What the words of the command line ask for.
-ghost use Rattle.std.specs.Prelude.{◌≡◌, ◌<◌, ◌≤◌, [], ◌∷◌, length, option_map, position, slice_get, IfSome};
+ghost use Rattle.std.specs.Prelude.{◌≡◌, ◌<◌, ◌≤◌, List, ℕ, [], ◌∷◌, length, option_map, position, slice_get, IfSome};
 ghost use Rattle.rd_gen.specs.declared.counts.TheConstants.{MOST_CALLS};
 ghost use Rattle.rd_kinds.specs.Shipped.{shipped_kinds};
 ghost use Rattle.rd_rules.specs.MayFollow.{same_name};
-ghost use Rattle.rd_run.specs.Commands.{IsWithinBounds, command_of, named_number, numbers_read, nth_word};
+ghost use Rattle.rd_run.specs.Commands.{IsWithinBounds, command_of, lines_read, named_number, numbers_read, nth_word};
 
 use rd_base::{Name, Word};
 use rd_decimals::read_number;
@@ -21,6 +21,8 @@ pub enum Command {
     Replay,
     /// `reorder TRACE NUMBER`
     Reorder(u64),
+    /// `adjacent TRACE LINE LINE`, by the two lines, the lesser first
+    Adjacent(u64, u64),
     /// `spec SPEC`
     Spec,
     /// `points SPEC`
@@ -130,7 +132,38 @@ fn command_of_three(word: &Word, first: &Word, second: &Word) -> Option<Command>
     None
 }
 
-/// The command that the words of the command line ask for, if they match one. They are two or three then.
+/// The numbers of two lines, the lesser first, if the words spell two different ones.
+fn call_lines(first: &Word, second: &Word) -> Option<(u64, u64)>
+    ensures lines { result ≡ lines_read first.now second.now }
+    ensures order { IfSome result (λ lines. lines.0 < lines.1) }
+{
+    let first = read_number(first.items(), u64::MAX)?;
+    let second = read_number(second.items(), u64::MAX)?;
+    if first < second {
+        return Some((first, second));
+    }
+    if second < first {
+        return Some((second, first));
+    }
+    None
+}
+
+/// The command that a word, a file and two more words ask for, if they do for one.
+fn command_of_four(word: &Word, first: &Word, second: &Word) -> Option<Command>
+    ensures asked { (trace : List ℕ) →
+        result ≡ command_of (word.now ∷ trace ∷ first.now ∷ second.now ∷ []) }
+    ensures within { IfSome result IsWithinBounds }
+{
+    if word.items() != b"adjacent".as_slice() {
+        return None;
+    }
+    match call_lines(first, second) {
+        Some((first, second)) => Some(Command::Adjacent(first, second)),
+        None => None,
+    }
+}
+
+/// The command that the words of the command line ask for, if they match one. They are two to four then.
 pub(crate) fn command_of(words: &[Word]) -> Option<Command>
     ensures asked { result ≡ command_of words.now }
     ensures within { IfSome result IsWithinBounds }
@@ -139,6 +172,7 @@ pub(crate) fn command_of(words: &[Word]) -> Option<Command>
     match words {
         [word, name] => command_of_two(word, name),
         [word, first, second] => command_of_three(word, first, second),
+        [word, _, first, second] => command_of_four(word, first, second),
         _ => None,
     }
 }

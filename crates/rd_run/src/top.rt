@@ -18,6 +18,7 @@ ghost use Rattle.rd_walk.specs.Output.{IsOutput, ended_status};
 ghost use Rattle.rd_walk.specs.Walk.{entries_of, step_bound, trace_of};
 
 use crate::commands::{Command, command_of, nth_word, third_word};
+use rd_adjacent_command::adjacent;
 use rd_base::{Limits, Steps, Word};
 use rd_check_command::{ToCheck, check};
 use rd_gen_command::{generate, generate_text};
@@ -83,6 +84,9 @@ fn obey<I: Inputs, S: Sink, L: Ledger>(
         }
         Command::Replay => replay(alloc, file, inputs, out, limits, steps),
         Command::Reorder(number) => reorder(alloc, file, number, inputs, out, limits, steps),
+        Command::Adjacent(first, second) => {
+            adjacent(alloc, file, (first, second), inputs, out, limits, steps)
+        }
         Command::Spec => spec(alloc, file, inputs, out),
         Command::Points => points(alloc, file, inputs, out),
         Command::Kind(number) => kind(alloc, number, out),
@@ -95,7 +99,8 @@ fn obey<I: Inputs, S: Sink, L: Ledger>(
 /// which report the races of a trace by the formulas of the kinds that are built in, and of those of a specification, and say whether the
 /// recorded results are those of the objects; `check-json TRACE` and `check-json TRACE SPEC`, the same as lines with one JSON object each;
 /// `replay TRACE`, which says this alone, and where it is so what the objects hold in the end; `reorder TRACE NUMBER`, which writes the
-/// trace in the order of its events that the number picks;
+/// trace in the order of its events that the number picks; `adjacent TRACE LINE LINE`, which writes it with the calls of two lines side by side, or
+/// the path that orders them;
 /// `spec SPEC`, which writes the canonical text of a specification, and `points SPEC`, which writes the access points of its kinds, or where
 /// and why it is refused; `kind NAME`, which writes the canonical text of a kind that is built in; `gen NUMBER COUNT`, which checks the
 /// trace of a number with so many calls and writes how many lines and calls it has and the ending of the report; or

@@ -1,6 +1,7 @@
 use Rattle.std.proofs.Common.{None, Some, ap, refl, subst, sym, ◌∙◌}
 use Rattle.std.proofs.lemmas.Option.{slice_get-get_or}
 use Rattle.std.specs.Prelude.{option_map}
+use Rattle.rd_adjacent_command.specs.Meanings.{adjacent_meaning}
 use Rattle.rd_check_command.specs.Meanings.{check_meaning}
 use Rattle.rd_ecl.specs.Specified.{kind_at, no_kind}
 use Rattle.rd_gen_command.specs.GeneratedTexts.{gen_text_meaning}
@@ -13,7 +14,7 @@ use Rattle.rd_replay_command.specs.Meanings.{replay_meaning}
 use Rattle.rd_spec_command.specs.Meanings.{kind_meaning, said_meaning}
 use Rattle.rd_run.proofs.RunLemmas.{asked_for}
 use Rattle.rd_run.specs.Commands.{IsWithinBounds, nth_word, usage_meaning}
-use Rattle.rd_run.specs.declared.commands.Command.TheVariants.{Check, Replay, Reorder, Spec, Points, Kind, Gen, GenText}
+use Rattle.rd_run.specs.declared.commands.Command.TheVariants.{Adjacent, Check, Replay, Reorder, Spec, Points, Kind, Gen, GenText}
 use Rattle.rd_walk.proofs.RanLemmas.{ran_beside}
 use Rattle.rd_walk.specs.Meanings.{Ran, seen}
 use Rattle.rd_walk.specs.Output.{ended_status}
@@ -52,6 +53,17 @@ returns-in-Reorder g c =
     let status = ended_status c.reorder.result in
     asked_for c.args.words.now (Some (Reorder c.in-Reorder.number)) (ap Some (sym c.in-Reorder.is) ∙ c.in-Some.ensures.asked) c.args.limits.now before after status
     (subst (λ name. Ran (reorder_meaning name c.in-Reorder.number) c.args.limits.now before after status) c.nth_word-file.ensures c.reorder.ensures)
+
+pub adjacent-requires-clause-order : goal.adjacent-requires-clause-order
+adjacent-requires-clause-order g c = subst IsWithinBounds c.in-Adjacent.is c.in-Some.ensures.within
+
+pub returns-in-Adjacent : goal.returns-in-Adjacent
+returns-in-Adjacent g c =
+    let before = seen g.I.Inputs.told g.I.Inputs.faults c.args.inputs.now g.S.Sink.written g.S.Sink.faults g.S.Sink.at_fault c.args.out.now c.args.steps.now in
+    let after = seen g.I.Inputs.told g.I.Inputs.faults c.adjacent.new.inputs g.S.Sink.written g.S.Sink.faults g.S.Sink.at_fault c.adjacent.new.out c.adjacent.new.steps in
+    let status = ended_status c.adjacent.result in
+    asked_for c.args.words.now (Some (Adjacent c.in-Adjacent.first c.in-Adjacent.second)) (ap Some (sym c.in-Adjacent.is) ∙ c.in-Some.ensures.asked) c.args.limits.now before after status
+    (subst (λ name. Ran (adjacent_meaning name c.in-Adjacent.first c.in-Adjacent.second) c.args.limits.now before after status) c.nth_word-file.ensures c.adjacent.ensures)
 
 pub returns-in-Spec : goal.returns-in-Spec
 returns-in-Spec g c =

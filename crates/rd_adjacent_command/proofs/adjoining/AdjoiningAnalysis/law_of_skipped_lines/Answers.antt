@@ -1,0 +1,17 @@
+use Rattle.std.proofs.Common.{sym, ◌∙◌}
+use Rattle.std.proofs.lemmas.List.{append-nil}
+use Rattle.rd_adjacent_command.proofs.AdjoiningLemmas.{skipped_more}
+use Rattle.rd_event.specs.declared.items.Line.TheVariants.{Skip}
+use Rattle.rd_rewriting.proofs.KeepingLemmas.{keeps_entry, nothing_more}
+use Rattle.rd_rules.specs.declared.causes.Accepted.TheVariants.{Nothing}
+use Rattle.rd_adjacent_command.proofs.adjoining.AdjoiningAnalysis.law_of_skipped_lines.Goals as goal
+
+pub returns-clause-leads : goal.returns-clause-leads
+returns-clause-leads c = λ kinds start before leads next.
+    let kept = c.args.self.now.kept in record {
+      order = leads.order;
+      first = leads.first;
+      second = leads.second;
+      keeps = keeps_entry kinds before (record { number = c.args._number; item = Skip }) kept kept c.args._roster.now Nothing leads.keeps next (nothing_more kept);
+      lines = leads.lines ∙ sym (skipped_more before c.args._number);
+    }

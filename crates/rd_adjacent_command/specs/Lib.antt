@@ -1,0 +1,5 @@
+pub mod Adjoining
+pub mod Meanings
+pub mod Outcomes
+pub mod Reports
+pub mod laws
