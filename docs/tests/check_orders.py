@@ -20,7 +20,7 @@ def wrapped(n):
 class Object:
     """What an object of a built-in kind holds. Values are spellings; a call answers its result."""
     def __init__(self, kind):
-        self.kind, self.value, self.items = kind, '0' if kind == 'counter' else 'nil', {}
+        self.kind, self.value, self.items, self.row = kind, '0' if kind == 'counter' else 'nil', {}, []
 
     def call(self, method, args):
         old = self.value
@@ -32,6 +32,28 @@ class Object:
             if method == 'get':
                 return old
             self.value = str(wrapped(int(old) + int(args[0])))
+            return 'nil'
+        if self.kind == 'peak':
+            if method == 'raise' and (old == 'nil' or int(old) < int(args[0])):
+                self.value = args[0]
+            return old
+        if self.kind == 'queue':
+            if method == 'enqueue':
+                self.row.append(args[0])
+                return 'nil'
+            if method == 'size':
+                return str(len(self.row))
+            return self.row.pop(0) if self.row else 'nil'
+        if self.kind in ('bag', 'tally'):
+            if method == 'total':
+                return str(sum(self.items.values()))
+            count = self.items.get(args[0], 0)
+            if method == 'count':
+                return str(count)
+            if method == 'remove':
+                self.items[args[0]] = max(count - 1, 0)
+                return 'true' if count else 'false'
+            self.items[args[0]] = count + 1
             return 'nil'
         if method == 'size':
             return str(len(self.items))
@@ -50,8 +72,10 @@ class Object:
         return found
 
     def state(self):
-        if self.kind == 'register':
+        if self.kind in ('register', 'peak'):
             return f'one {self.value}'
+        if self.kind == 'queue':
+            return ' '.join(['row', *self.row])
         if self.kind == 'counter':
             return f'number {self.value}'
         def rank(value):
@@ -59,6 +83,8 @@ class Object:
         keys = sorted(self.items, key=rank)
         if self.kind == 'set':
             return ' '.join(['items', *keys])
+        if self.kind in ('bag', 'tally'):
+            return ' '.join(['counts', *(word for key in keys if self.items[key] for word in (key, str(self.items[key])))])
         return ' '.join(['map', *(word for key in keys for word in (key, self.items[key]))])
 
 
@@ -80,6 +106,10 @@ CALLS = {
     'counter': [('get', 0), ('add', 1)],
     'set': [('add', 1), ('remove', 1), ('contains', 1), ('size', 0)],
     'dictionary': [('get', 1), ('put', 2), ('size', 0)],
+    'bag': [('add', 1), ('remove', 1), ('count', 1)],
+    'peak': [('raise', 1), ('get', 0)],
+    'queue': [('enqueue', 1), ('dequeue', 0), ('size', 0)],
+    'tally': [('hit', 1), ('count', 1), ('total', 0)],
 }
 
 
@@ -110,9 +140,9 @@ class Course:
 
     def call(self, thread, name, kind, reads):
         r = self.r
-        methods = [m for m in CALLS[kind] if not reads or m[0] in ('read', 'get', 'contains', 'size')]
+        methods = [m for m in CALLS[kind] if not reads or m[0] in ('read', 'get', 'contains', 'size', 'count', 'total')]
         method, count = r.choice(methods)
-        values = ['0', '1', '-2'] if kind == 'counter' else ['nil', 'true', '0', '1', '5']
+        values = ['0', '1', '-2'] if kind in ('counter', 'peak') else ['nil', 'true', '0', '1', '5'][kind == 'queue':]
         args = [r.choice(values) for _ in range(count)]
         self.events.append(('call', thread, name, method, *args, '->', self.held[name].call(method, args)))
 
@@ -159,15 +189,19 @@ def course(r, threads, objects, steps):
 
 # ---- the order, by all pairs
 
+def is_linked(a, b):
+    """Does the event come directly before another one behind it?"""
+    return (a[1] == b[1] or a[0] == 'fork' and a[2] == b[1] or b[0] == 'join' and b[2] == a[1] or a[0] == 'fork' and b[0] == 'join' and a[2] == b[2]
+            or a[0] == 'release' and b[0] in ('acquire', 'share') and a[2] == b[2] or a[0] == 'unshare' and b[0] == 'acquire' and a[2] == b[2])
+
+
 def reaching(events):
     """For each event the set of the places that reach it."""
     reach = []
     for j, b in enumerate(events):
         mine = set()
         for i, a in enumerate(events[:j]):
-            linked = (a[1] == b[1] or a[0] == 'fork' and a[2] == b[1] or b[0] == 'join' and b[2] == a[1] or a[0] == 'fork' and b[0] == 'join' and a[2] == b[2]
-                      or a[0] == 'release' and b[0] in ('acquire', 'share') and a[2] == b[2] or a[0] == 'unshare' and b[0] == 'acquire' and a[2] == b[2])
-            if linked:
+            if is_linked(a, b):
                 mine |= reach[i] | {i}
         reach.append(mine)
     return reach
