@@ -145,7 +145,7 @@ def usages(formats):
     for line in formats.prose.values():
         row = re.match(r'\| `rd2 (\w[\w-]*)([^`]*)` \|', line)
         words = row[2].split() if row else []
-        tries = ['set' if word.strip('[]') in ('TRACE', 'SPEC', 'FILE', 'NAME') else '1' for word in words]
+        tries = ['set' if word.strip('[]') in ('TRACE', 'SPEC', 'FILE', 'NAME') else str(place) for place, word in enumerate(words, 1)]
         for count in range(len([word for word in words if word[0] != '[']), len(words) + 1) if row else ():
             known[row[1], count] = tries[:count]
     return known
