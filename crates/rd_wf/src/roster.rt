@@ -14,7 +14,7 @@ pub use keywords::{
     ThreadLine, UnshareLine,
 };
 pub use lines::Judged;
-use rd_base::{Limits, Name, NoMemory};
+use rd_base::{Limits, Name, NoMemory, Slots};
 use rd_ecl::Spec;
 use rd_event::{Line, LineEvent};
 use rd_rules::{Accepted, BytesRefused, WfCause, WfRefused};
@@ -133,8 +133,30 @@ impl Roster {
                     method,
                     slots,
                 },
-            ) => self.call_apart(thread, object, method, slots, limits),
+            ) => self.call_named(thread, object, method, slots, limits),
         }
+    }
+
+    // A call, whose names are found anywhere.
+    #[inline(never)]
+    fn call_named(
+        &mut self,
+        thread: &Name,
+        object: &Name,
+        method: &Name,
+        slots: &Slots,
+        limits: &Limits,
+    ) -> Judged
+        ensures { TakesNames true ⊤ self.old self.new limits.now
+            (LineOf.Event (LineEvent.Call thread.now object.now method.now slots.now)) result }
+    {
+        self.call_apart::<Anywhere>(
+            thread.items(),
+            object.items(),
+            method.items(),
+            slots,
+            limits,
+        )
     }
 
     /// Accepts the next line, if it may follow the accepted ones, and says what it is in numbers, each in its range. Else it refuses the

@@ -56,8 +56,10 @@ impl Roster {
         Ok(Accepted::Root(thread))
     }
 
+    /// Accepts the line that declares an object of the kind with this name, if it may follow the accepted lines, as `accept` of it. `BadLine` says that
+    /// one of the two isn't a name.
     #[inline(never)]
-    pub(super) fn object(&mut self, name: &[u8], kind: &[u8], limits: &Limits) -> Judged
+    pub fn object(&mut self, name: &[u8], kind: &[u8], limits: &Limits) -> Judged
         ensures { TakesNames true (IsName name.now × IsName kind.now) self.old self.new limits.now
             (Line.Object name.now kind.now) result }
     {
@@ -353,24 +355,21 @@ impl Roster {
         Ok(self.count_call::<F>(called, slots))
     }
 
-    // The same of a call whose words are apart. Its values are copied last.
-    #[inline(never)]
-    pub(super) fn call_apart(
+    /// Accepts the call of this thread, object and method with these values, if it may follow the accepted lines, as `accept` of it. How the names
+    /// are found is up to the finder: `BadLine` says that one isn't a name only where each is found. The values are copied last.
+    #[inline(always)]
+    pub fn call_apart<F: Finder>(
         &mut self,
-        thread: &Name,
-        object: &Name,
-        method: &Name,
+        thread: &[u8],
+        object: &[u8],
+        method: &[u8],
         slots: &Slots,
         limits: &Limits,
     ) -> Judged
-        ensures { TakesNames true ⊤ self.old self.new limits.now
+        ensures { TakesNames F.complete (IsName thread.now × IsName object.now × IsName method.now) self.old self.new limits.now
             (Line.Event (LineEvent.Call thread.now object.now method.now slots.now)) result }
     {
-        let Some(called) = self.find_called::<Anywhere>(
-            thread.items(),
-            object.items(),
-            method.items(),
-        ) else {
+        let Some(called) = self.find_called::<F>(thread, object, method) else {
             return Err(BytesRefused::BadLine);
         };
         let count = slots.items().len();
@@ -384,6 +383,6 @@ impl Roster {
             return Err(BytesRefused::Cause(cause));
         }
         let slots = slots.copy(self.alloc)?;
-        Ok(self.count_call::<Anywhere>(called, slots))
+        Ok(self.count_call::<F>(called, slots))
     }
 }
