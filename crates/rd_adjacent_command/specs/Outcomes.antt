@@ -17,7 +17,7 @@ use Rattle.rd_rules.specs.Events.{events_of}
 use Rattle.rd_rules.specs.MayFollow.{is_event}
 use Rattle.rd_walk.specs.Output.{Outcome}
 use Rattle.rd_walk.specs.Traces.{ReportTexts}
-use Rattle.rd_walk.specs.Walk.{Entry, Walked, ending_of, entries_of, items}
+use Rattle.rd_walk.specs.Walk.{Entry, Walked, ending_of, entries_of, items, trace_says}
 use Rattle.rd_walk.specs.declared.status.Status.TheVariants.{Clean, NotACall}
 
 -- the line of each event
@@ -72,4 +72,4 @@ adjacent_outcome first second kinds walked =
 -- nothing is written for the lines, and no step is counted
 abbrev pub adjacent_texts : ℕ → ℕ → List Kind → ReportTexts
 adjacent_texts first second kinds =
-    record { lines = λ entries. []; outcome = adjacent_outcome first second kinds; bound = λ before item. 0; unopened = fault_line }
+    record { says = trace_says; lines = λ entries. []; outcome = adjacent_outcome first second kinds; bound = λ before item. 0; unopened = fault_line }

@@ -9,7 +9,7 @@ use crate::adjoining::Adjoining;
 use rd_base::{Limits, Steps, Word};
 use rd_io::{Inputs, Sink};
 use rd_kinds::shipped;
-use rd_walk::{Ended, Halt, Walker, report_trace};
+use rd_walk::{Ended, Halt, TraceLines, Walker, report_trace};
 use std::alloc::Global;
 use std::mem;
 use std::sync::ledger::Ledger;
@@ -35,7 +35,7 @@ pub fn adjacent<I: Inputs, S: Sink, L: Ledger>(
     let spec = shipped(alloc)?;
     let adjoining = Adjoining::new(alloc, calls.0, calls.1, &spec);
     let mut walker = Walker::new(alloc, limits, &spec, adjoining)?;
-    let ended = report_trace(&mut walker, trace, inputs, out, steps);
+    let ended = report_trace(&TraceLines, &mut walker, trace, inputs, out, steps);
     // what the walk held is left to the end of the process, which takes it back at once
     mem::forget(walker);
     ended

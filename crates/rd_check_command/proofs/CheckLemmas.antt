@@ -156,7 +156,7 @@ module _ (kinds : List Kind) where
         events_more kinds before line ∙ ap (λ l. events_of kinds before ++ cons_option (event_of kinds before l) []) is
         ∙ ap (λ x. events_of kinds before ++ x ∷ []) (sym number)
 
-    same_roots : root_count (before ++ line ∷ []) ≡ root_count before
+    pub same_roots : root_count (before ++ line ∷ []) ≡ root_count before
     same_roots =
         let (event, is, number) = event_line before line e next.told_as in
         roots_more before line ∙ ap (λ l. root_count before + cond (is_root l) 1 0) is ∙ omega arith
@@ -227,8 +227,8 @@ module _ (kinds : List Kind) where
 -- ---- the check
 
 -- the line that a check is handed is the next one for its tracker
-pub next_line : (kinds : List Kind) (start now : Check) (entries : List Entry) (roster : Roster) (line : Line) (numbers : Accepted)
-    → CheckLeads kinds start entries now → IsNextEntry kinds roster entries line numbers
+pub next_line : {number : ℕ} (kinds : List Kind) (start now : Check) (entries : List Entry) (roster : Roster) (line : Line) (numbers : Accepted)
+    → CheckLeads kinds start entries now → IsNextEntry kinds roster entries number line numbers
     → IsNextLine (kinds_of start.spec.now) now.tracker (items entries) line numbers
 next_line kinds start now entries roster line numbers leads next =
     let same = leads.kinds_are in

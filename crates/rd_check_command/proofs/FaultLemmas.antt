@@ -20,7 +20,7 @@ use Rattle.rd_walk.proofs.WalkLemmas.{walk_line}
 use Rattle.rd_check_command.proofs.OutcomeLemmas.{front_outcome}
 use Rattle.rd_check_command.specs.Checked.{check_outcome, entries_ending, race_texts, races_of}
 use Rattle.rd_report.specs.Endings.{thread_names}
-use Rattle.rd_walk.specs.Walk.{Entry, Walked, after, ending_of, ends, entries_of, goes, goes_or_ends, items, judgement_of, trace_of, walk, walk_by}
+use Rattle.rd_walk.specs.Walk.{Entry, Walked, after, ending_of, ends, entries_of, goes, goes_or_ends, items, judgement_of, trace_by, trace_of, walk, walk_by}
 use Rattle.rd_walk.specs.declared.walk.WalkEnd.TheVariants.{Fault}
 use Rattle.rd_rules.specs.declared.causes.TraceCause.{TraceCause}
 
@@ -57,7 +57,7 @@ module _ (kinds : List Kind) (limits : Limits) where
       by (Err cause) go = inl refl
 
   cut_trace : (stop : Stop) (bytes more : List ℕ) → IsCutOf (trace_of kinds limits fault bytes) (trace_of kinds limits stop (bytes ++ more))
-  unfolding trace_of
+  unfolding trace_by
   cut_trace stop bytes more =
       cut_walk [] 1 (reading limits.line limits.bytes fault bytes) (reading limits.line limits.bytes stop (bytes ++ more))
       (front_reading limits.line limits.bytes stop bytes more)

@@ -17,7 +17,7 @@ use Rattle.rd_check_command.proofs.CheckLemmas.{checks_quiet, next_line, quiet_t
 -- a line that is neither a root nor an event leaves all as it is
 module _ (kinds : List Kind) (start now : Check) (before : List Entry) (entry : Entry) (roster : Roster) (numbers : Accepted)
     (quiet : (numbers ≡ accepted.Nothing) ⊎ ((object : ℕ) × (kind : ℕ) × (numbers ≡ accepted.Object object kind)))
-    (leads : CheckLeads kinds start before now) (next : IsNextEntry kinds roster before entry.item numbers) where
+    (leads : CheckLeads kinds start before now) (next : IsNextEntry kinds roster before entry.number entry.item numbers) where
   line : IsNextLine (kinds_of start.spec.now) now.tracker (items before) entry.item numbers
   line = next_line kinds start now before roster entry.item numbers leads next
 

@@ -14,7 +14,7 @@ use Rattle.rd_walk.proofs.WalkLemmas.{bound_front}
 use Rattle.rd_walk.proofs.WholeLemmas.{not_risen}
 use Rattle.rd_walk.specs.Meanings.{Ran, Runs, Seen}
 use Rattle.rd_walk.specs.Traces.{walk_on}
-use Rattle.rd_walk.specs.Walk.{entries_of, step_bound, trace_of}
+use Rattle.rd_walk.specs.Walk.{entries_of, step_bound, trace_of, trace_says}
 use Rattle.rd_walk.specs.declared.status.Status.TheVariants.{NoMemory}
 use Rattle.rd_walk.specs.declared.status.Status.{Status}
 use Rattle.std.proofs.Common.{◌≡◌, ◌⊎◌, ◌+◌, ◌<◌, ◌≤◌, ◌^◌, ℕ, false, List, [], Option, Some, None, sym, ap, ◌∙◌, subst, inl, inr, arith}
@@ -31,7 +31,7 @@ module _ (form : Form) (trace : List ℕ) (limits : Limits) (old new : Source) (
   known_bounded file are (others, also, takes) =
       let (rest, first) = takes.first in
       let same = one_kinds old file others kinds also are in
-      let all = sym first ∙ ap (λ o. entries_of (walk_on (kinds_of others) limits (option_map (λ b. (end, b)) o))) at in
+      let all = sym first ∙ ap (λ o. entries_of (walk_on trace_says (kinds_of others) limits (option_map (λ b. (end, b)) o))) at in
       let cost : after ≤ before + step_bound (check_bound others) (entries_of (trace_of (kinds_of others) limits end bytes))
       = subst (λ es. after ≤ before + step_bound (check_bound others) es) all (omega (arith, takes.cost, bound_front (check_bound others) [] takes.begun rest)) in
       subst (λ k. after ≤ before + step_bound (check_bound k) (entries_of (trace_of (kinds_of k) limits end bytes))) same cost

@@ -17,7 +17,7 @@ use Rattle.rd_check_command.specs.Checked.{check_outcome}
 use Rattle.rd_json.specs.declared.forms.Form.{Form}
 use Rattle.rd_spec_command.specs.Meanings.{IsSpecFileRefused}
 use Rattle.rd_walk.specs.Traces.{walk_on}
-use Rattle.rd_walk.specs.Walk.{trace_of}
+use Rattle.rd_walk.specs.Walk.{trace_of, trace_says}
 use Rattle.rd_walk.specs.declared.status.Status.TheVariants.{OutputFault}
 use Rattle.rd_walk.specs.declared.status.Status.{Status}
 use Rattle.rd_reading.proofs.OneLemmas.{never_refused, one_said}
@@ -47,7 +47,7 @@ module _ (form : Form) (trace : List ℕ) (limits : Limits) (old new : Source) (
       → part ≡ outcome.text → status ≡ outcome.status → IsWrittenWhole form kinds limits bytes part status
   whole_checked file files outcome are checked text told =
       let same = one_kinds old file checked.kinds kinds checked.are are in
-      let is = checked.is ∙ (λ i. check_outcome form (same i) (walk_on (kinds_of (same i)) limits (option_map (λ b. (end, b)) (at i)))) in
+      let is = checked.is ∙ (λ i. check_outcome form (same i) (walk_on trace_says (kinds_of (same i)) limits (option_map (λ b. (end, b)) (at i)))) in
       record {
         headline = subst (IsChecked form kinds limits end bytes)
             (λ i. let o : Outcome = record { text = (ap (λ o. o.text) (sym is) ∙ sym text) i; status = (ap (λ o. o.status) (sym is) ∙ sym told) i } in o)

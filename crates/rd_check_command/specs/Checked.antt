@@ -18,7 +18,7 @@ use Rattle.rd_report.specs.Texts.{Naming, naming}
 use Rattle.rd_report.specs.declared.endings.Ending.{Ending}
 use Rattle.rd_replay_command.specs.Replaying.{replay_of}
 use Rattle.rd_walk.specs.Traces.{ReportTexts}
-use Rattle.rd_walk.specs.Walk.{Entry, Walked, ending_of, entries_of, items, tracking_bound}
+use Rattle.rd_walk.specs.Walk.{Entry, Walked, ending_of, entries_of, items, trace_says, tracking_bound}
 use Rattle.rd_walk.specs.declared.walk.WalkEnd.{WalkEnd}
 use Rattle.rd_rules.specs.Events.{event_of, events_of}
 use Rattle.rd_rules.specs.MayFollow.{is_event, threads_of}
@@ -108,4 +108,4 @@ check_bound kinds before item = tracking_bound before item + detector_bound kind
 -- what `check` writes in this form for accepted lines, in all and where the trace can't be opened, and the bound on its steps
 abbrev pub check_texts : Form → List SpecifiedKind → ReportTexts
 check_texts form kinds =
-    record { lines = race_texts form kinds; outcome = check_outcome form kinds; bound = check_bound kinds; unopened = fault_in form }
+    record { says = trace_says; lines = race_texts form kinds; outcome = check_outcome form kinds; bound = check_bound kinds; unopened = fault_in form }

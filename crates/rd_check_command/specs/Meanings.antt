@@ -13,7 +13,7 @@ use Rattle.rd_kinds.specs.Shipped.{reserved_names, shipped_kinds}
 use Rattle.rd_walk.specs.Output.{EndsAs, IsSpecEnd, IsTraceEnd, Outcome}
 use Rattle.rd_check_command.specs.Checked.{check_outcome, check_texts}
 use Rattle.rd_check_command.specs.Reports.{IsChecked}
-use Rattle.rd_walk.specs.Walk.{ending_of, trace_of}
+use Rattle.rd_walk.specs.Walk.{ending_of, trace_of, trace_says}
 use Rattle.rd_walk.specs.declared.status.Status.TheVariants.{NoMemory}
 use Rattle.rd_walk.specs.declared.status.Status.{Status}
 use Rattle.rd_walk.specs.declared.walk.WalkEnd.TheVariants.{End}
@@ -31,7 +31,7 @@ pub record IsCheckedWith (form : Form) (trace : List ℕ) (file : Option (List �
   pub all_opened : new.opens ≡ old.opens + files
   pub kinds : List SpecifiedKind
   pub are : AreKinds old file kinds
-  pub is : outcome ≡ check_outcome form kinds (walk_of (kinds_of kinds) trace limits rose old new)
+  pub is : outcome ≡ check_outcome form kinds (walk_of trace_says (kinds_of kinds) trace limits rose old new)
 
 abbrev pub IsCheckOutcome : Form → List ℕ → Option (List ℕ) → Limits → Bool → Source → Source → Outcome → Type 0
 IsCheckOutcome form trace None limits rose old new outcome = IsFaulted (fault_in form) 1 rose old new outcome ⊎ IsCheckedWith form trace None 1 limits rose old new outcome
@@ -57,7 +57,7 @@ TakesChecked form trace (Some file) limits rose old new part before after =
 -- the trace was read to its end
 abbrev pub ReadsChecked : List ℕ → Option (List ℕ) → Limits → Source → Source → Type 0
 ReadsChecked trace file limits old new =
-    (kinds : List SpecifiedKind) × AreKinds old file kinds × IsReadWhole (kinds_of kinds) trace limits old new
+    (kinds : List SpecifiedKind) × AreKinds old file kinds × IsReadWhole trace_says (kinds_of kinds) trace limits old new
 
 -- The headline holds of what was written and the status; and where the walk comes to the end of the trace, nothing is left out.
 pub record IsWrittenWhole (form : Form) (kinds : List SpecifiedKind) (limits : Limits) (bytes : List ℕ) (part : List ℕ) (status : Status) : Type 0 where

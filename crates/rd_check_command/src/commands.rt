@@ -19,7 +19,7 @@ use rd_io::{Inputs, Sink};
 use rd_json::Form;
 use rd_kinds::shipped;
 use rd_spec_command::{read_spec, refuse_unread};
-use rd_walk::{Ended, Halt, Walker, report_named};
+use rd_walk::{Ended, Halt, TraceLines, Walker, report_named};
 use std::alloc::Global;
 use std::mem;
 use std::sync::ledger::Ledger;
@@ -63,7 +63,7 @@ fn check_over<I: Inputs, S: Sink, L: Ledger>(
 {
     let report = CheckReport::new(alloc, asked.form, spec)?;
     let mut walker = Walker::new(alloc, limits, spec, report)?;
-    let ended = report_named(&mut walker, asked.trace, inputs, out, steps);
+    let ended = report_named(&TraceLines, &mut walker, asked.trace, inputs, out, steps);
     // what the walk held is left to the end of the process, which takes it back at once
     mem::forget(walker);
     ended

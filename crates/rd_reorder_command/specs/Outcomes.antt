@@ -11,7 +11,7 @@ use Rattle.rd_rewriting.specs.Ended.{ended_as}
 use Rattle.rd_rewriting.specs.Reordered.{reordered}
 use Rattle.rd_walk.specs.Output.{Outcome}
 use Rattle.rd_walk.specs.Traces.{ReportTexts}
-use Rattle.rd_walk.specs.Walk.{Walked, ending_of, entries_of, items}
+use Rattle.rd_walk.specs.Walk.{Walked, ending_of, entries_of, items, trace_says}
 use Rattle.rd_walk.specs.declared.status.Status.TheVariants.{Clean}
 use Rattle.rd_rules.specs.Events.{events_of}
 use Rattle.rd_rules.specs.MayFollow.{threads_of}
@@ -37,4 +37,4 @@ reorder_outcome number kinds walked =
 -- nothing is written for the lines, and no step is counted
 abbrev pub reorder_texts : ℕ → List Kind → ReportTexts
 reorder_texts number kinds =
-    record { lines = λ entries. []; outcome = reorder_outcome number kinds; bound = λ before item. 0; unopened = fault_line }
+    record { says = trace_says; lines = λ entries. []; outcome = reorder_outcome number kinds; bound = λ before item. 0; unopened = fault_line }

@@ -124,7 +124,7 @@ module _ (kinds : List Kind) (before : List Entry) (entry : Entry) where
   kinds_more = ap (object_kinds kinds) (items_more before entry) ∙ filter_map-append (declared_kind kinds) (items before) (entry.item ∷ [])
 
   module _ (replayer new : Replayer) (replayed : Replayed kinds before replayer) (roster : Roster) (numbers : Accepted)
-      (next : IsNextEntry kinds roster before entry.item numbers) where
+      (next : IsNextEntry kinds roster before entry.number entry.item numbers) where
     told_now : AreTold kinds (items before ++ entry.item ∷ [])
     told_now = told_more kinds next.limits (items before) entry.item next.usable next.follows next.few replayed.told
 

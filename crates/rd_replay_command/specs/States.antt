@@ -13,7 +13,7 @@ use Rattle.rd_report.specs.declared.endings.Ending.{Ending}
 use Rattle.rd_walk.specs.Output.{Outcome}
 use Rattle.rd_replay_command.specs.Replaying.{recorded_of, replay_of}
 use Rattle.rd_walk.specs.Traces.{ReportTexts}
-use Rattle.rd_walk.specs.Walk.{Entry, Walked, ending_of, entries_of, items}
+use Rattle.rd_walk.specs.Walk.{Entry, Walked, ending_of, entries_of, items, trace_says}
 use Rattle.rd_rules.specs.MayFollow.{object_kinds, objects_of}
 use Rattle.std.specs.Prelude.{ℕ, Bool, true, false, zero, suc, List, [], ◌++◌, length, Option, Some, None}
 
@@ -54,7 +54,8 @@ replay_outcome kinds walked =
 
 -- nothing is written for the lines, and no step is counted
 abbrev pub replay_texts : List Kind → ReportTexts
-replay_texts kinds = record { lines = λ entries. []; outcome = replay_outcome kinds; bound = λ before item. 0; unopened = fault_line }
+replay_texts kinds =
+    record { says = trace_says; lines = λ entries. []; outcome = replay_outcome kinds; bound = λ before item. 0; unopened = fault_line }
 
 -- those of a trace that is replayed
 abbrev pub built_in_kinds : List Kind

@@ -50,11 +50,11 @@ fn follow_call(replayer: &mut Replayer, number: u64, call: &Call) -> Result<(), 
 fn follow_event(replayer: &mut Replayer, number: u64, event: &Event) -> Result<(), Halt>
     requires { (kinds : List Kind) × (before : List Entry) × (item : LineOf) × (roster : RosterOf)
         × Replayed kinds before replayer.old
-        × IsNextEntry kinds roster before item (Accepted.Event event.now) }
+        × IsNextEntry kinds roster before number item (Accepted.Event event.now) }
     ensures follows { OnOk result
         ((kinds : List Kind) (before : List Entry) (item : LineOf) (roster : RosterOf) →
         Replayed kinds before replayer.old →
-        IsNextEntry kinds roster before item (Accepted.Event event.now) →
+        IsNextEntry kinds roster before number item (Accepted.Event event.now) →
         Replayed kinds (before ++ record { number = number; item = item } ∷ []) replayer.new) }
     ensures memory { IfErr result (λ halt. halt ≡ Halt.NoMemory) }
 {
@@ -68,11 +68,11 @@ fn follow_event(replayer: &mut Replayer, number: u64, event: &Event) -> Result<(
 pub fn follow(replayer: &mut Replayer, number: u64, accepted: &Accepted) -> Result<(), Halt>
     requires { (kinds : List Kind) × (before : List Entry) × (item : LineOf) × (roster : RosterOf)
         × Replayed kinds before replayer.old
-        × IsNextEntry kinds roster before item accepted.now }
+        × IsNextEntry kinds roster before number item accepted.now }
     ensures follows { OnOk result
         ((kinds : List Kind) (before : List Entry) (item : LineOf) (roster : RosterOf) →
         Replayed kinds before replayer.old →
-        IsNextEntry kinds roster before item accepted.now →
+        IsNextEntry kinds roster before number item accepted.now →
         Replayed kinds (before ++ record { number = number; item = item } ∷ []) replayer.new) }
     ensures memory { IfErr result (λ halt. halt ≡ Halt.NoMemory) }
 {

@@ -12,7 +12,7 @@ use rd_io::{Inputs, Sink};
 use rd_kinds::shipped;
 use rd_replay::Replayer;
 use rd_report::ending_of_report;
-use rd_walk::{Analysis, Ended, Halt, Report, WalkEnd, Walker, report_trace};
+use rd_walk::{Analysis, Ended, Halt, Report, TraceLines, WalkEnd, Walker, report_trace};
 use rd_wf::{Accepted, Roster};
 use std::alloc::Global;
 use std::mem;
@@ -114,7 +114,7 @@ pub fn replay<I: Inputs, S: Sink, L: Ledger>(
 {
     let spec = shipped(alloc)?;
     let mut walker = Walker::new(alloc, limits, &spec, Replaying::new(alloc))?;
-    let ended = report_trace(&mut walker, trace, inputs, out, steps);
+    let ended = report_trace(&TraceLines, &mut walker, trace, inputs, out, steps);
     // what the walk held is left to the end of the process, which takes it back at once
     mem::forget(walker);
     ended

@@ -85,7 +85,7 @@ root_below kinds before (Event event) thread next is = cc
 
 -- ---- one line more
 
-pub next_follower : (kinds : List Kind) (roster : Roster) (before : List Entry) (item : Line) (numbers : Accepted) → IsNextEntry kinds roster before item numbers
+pub next_follower : {number : ℕ} (kinds : List Kind) (roster : Roster) (before : List Entry) (item : Line) (numbers : Accepted) → IsNextEntry kinds roster before number item numbers
     → IsFollower kinds (items before) item
 next_follower kinds roster before item numbers next = record { limits = next.limits; usable = next.usable; follows = next.follows; few = next.few }
 
@@ -102,7 +102,7 @@ module _ (kinds : List Kind) (lines : List Line) (item : Line) (old new : Kept) 
 
 -- what is kept of entries and one more
 pub keeps_entry : (kinds : List Kind) (before : List Entry) (entry : Entry) (old new : Kept) (roster : Roster) (numbers : Accepted) → KeepsLines kinds old (items before)
-    → IsNextEntry kinds roster before entry.item numbers → KeepsMore old new numbers → KeepsLines kinds new (items (before ++ entry ∷ []))
+    → IsNextEntry kinds roster before entry.number entry.item numbers → KeepsMore old new numbers → KeepsLines kinds new (items (before ++ entry ∷ []))
 keeps_entry kinds before entry old new roster numbers keeps next more =
     subst (KeepsLines kinds new) (sym (items_more before entry))
     (keeps_more kinds (items before) entry.item old new keeps (next_follower kinds roster before entry.item numbers next)

@@ -9,7 +9,7 @@ use Rattle.rd_io.specs.Lines.Reading.{stops, line}
 use Rattle.rd_io.specs.Lines.{Stop, Reading, reading}
 use Rattle.rd_walk.specs.AcceptedLines.{IsAcceptedLine, IsRefusedLine, IsWalk, SaysItem}
 use Rattle.rd_walk.proofs.WalkLemmas.{walk_line}
-use Rattle.rd_walk.specs.Walk.{Walked, accepted_or, ending_of, entries_of, goes_or_ends, judgement_of, judgement_of_item, trace_of, walk, walk_by}
+use Rattle.rd_walk.specs.Walk.{Walked, accepted_or, ending_of, entries_of, goes_or_ends, judgement_of, judgement_of_item, trace_by, trace_of, walk, walk_by}
 use Rattle.rd_rules.proofs.FollowLemmas.{broken_from_some, follows_from_none}
 use Rattle.rd_rules.specs.MayFollow.{first_broken, version_of}
 use Rattle.rd_rules.specs.declared.causes.TraceCause.{TraceCause}
@@ -52,5 +52,5 @@ walk_is kinds limits before number (line bytes more) =
 
 pub trace_walk : (kinds : List Kind) (limits : Limits) (stop : Stop) (bytes : List ℕ)
     → IsWalk kinds limits [] 1 (reading limits.line limits.bytes stop bytes) (entries_of (trace_of kinds limits stop bytes)) (ending_of (trace_of kinds limits stop bytes))
-unfolding trace_of
+unfolding trace_by
 trace_walk kinds limits stop bytes = walk_is kinds limits [] 1 (reading limits.line limits.bytes stop bytes)

@@ -13,7 +13,7 @@ use Rattle.rd_walk.specs.Analysis.{TellsFault, TellsFaults}
 use Rattle.rd_walk.specs.Meanings.{Meaning, Ran, Runs, Seen, report_meaning, text_meaning}
 use Rattle.rd_walk.specs.Output.{HasOutcome, IsOutput, IsTraceEnd, IsWell, Outcome, ended_status}
 use Rattle.rd_walk.specs.Traces.{IsTraceOutcome, OpensOnly, ReportTexts, walk_on}
-use Rattle.rd_walk.specs.Walk.{Walked, ending_of, trace_of}
+use Rattle.rd_walk.specs.Walk.{Walked, ending_of, trace_by}
 use Rattle.rd_walk.specs.declared.analysis.Halt.TheVariants as halt
 use Rattle.rd_walk.specs.declared.analysis.Halt.{Halt}
 use Rattle.rd_walk.specs.declared.status.Ended.TheVariants.{InputFault}
@@ -80,8 +80,8 @@ ran_report texts kinds trace limits before after result well runs faults ends =
           | inl none ↦ inl none
           | inr all ↦ inr (elim all.is [
             | inl faulted ↦ absurd (true≢false (sym faulted.risen))
-            | inr told ↦ whole_from (texts.outcome (trace_of kinds limits end bytes)) all.outcome part (ended_status result) (well (trace_of kinds limits end bytes) ended)
-                (told.1 ∙ ap (λ o. texts.outcome (walk_on kinds limits (option_map (λ b. (end, b)) o))) at) all.text all.told
+            | inr told ↦ whole_from (texts.outcome (trace_by texts.says kinds limits end bytes)) all.outcome part (ended_status result) (well (trace_by texts.says kinds limits end bytes) ended)
+                (told.1 ∙ ap (λ o. texts.outcome (walk_on texts.says kinds limits (option_map (λ b. (end, b)) o))) at) all.text all.told
           ])
         ]
 

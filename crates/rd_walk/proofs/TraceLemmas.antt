@@ -20,10 +20,10 @@ use Rattle.rd_walk.specs.declared.analysis.Halt.{Halt}
 use Rattle.rd_walk.specs.declared.status.Ended.{Ended}
 use Rattle.std.specs.Result.{IsErr, IsErrAnd}
 use Rattle.rd_walk.specs.Progress.{IsBegun, IsTakenOfTrace}
-use Rattle.rd_walk.specs.Walk.{Entry, Walked, after, ending_of, ends, entries_of, items, step_bound, trace_of}
+use Rattle.rd_walk.specs.Walk.{Entry, Walked, after, ending_of, ends, entries_of, items, lines_begun, step_bound, trace_by}
 use Rattle.rd_walk.specs.declared.status.Status.{Status}
 use Rattle.rd_walk.specs.declared.status.Status.TheVariants.{NoMemory}
-use Rattle.rd_walk.proofs.AcceptedLemmas.{trace_accepted}
+use Rattle.rd_walk.proofs.AcceptedLemmas.{text_accepted}
 use Rattle.rd_walk.proofs.OutputLemmas.{fault_no_well, front_only, halted_no_well, has_outcome, report_without, well_written}
 use Rattle.rd_walk.proofs.WalkLemmas.{entries_after}
 use Rattle.rd_walk.proofs.FileLemmas.{ending_at, file_is, opens_none, opens_once, opens_only, rest_is, taken_is}
@@ -63,16 +63,16 @@ module _ (texts : ReportTexts) (kinds : List Kind) (name : List ℕ) (limits : L
       (well : (walked : Walked) → IsWell (texts.outcome walked).status → ending_of walked ≡ End)
       (usable : AreUsable limits) (range : limits.threads < 2 ^ 32) (before now : ℕ) (old mid new : Source) (entries : List Entry) (taken part : List ℕ)
       (status : Status) (from to : ℕ) (few : before < 2 ^ 63) (few_opens : old.opens ≤ 2 ^ 63) (opened : IsOpened old mid name) (takes : Takes mid new taken)
-      (cost : to ≤ from + step_bound texts.bound entries) (read : IsTakenOfTrace limits taken (length entries)) (begun : IsBegun texts.lines part entries) where
+      (cost : to ≤ from + step_bound texts.bound entries) (read : IsTakenOfTrace limits taken (lines_begun entries)) (begun : IsBegun texts.lines part entries) where
     module _ (walked : Walked) (rose : Bool) (is_rose : ltb before now ≡ rose) where
       -- the walk of the whole file, or of what was taken of it
-      reports_over : (walk_is : walk_of kinds name limits rose old new ≡ after entries walked)
-          → IsOutput status part (texts.outcome (after entries walked)) → (IsWell status → IsReadWhole kinds name limits old new)
+      reports_over : (walk_is : walk_of texts.says kinds name limits rose old new ≡ after entries walked)
+          → IsOutput status part (texts.outcome (after entries walked)) → (IsWell status → IsReadWhole texts.says kinds name limits old new)
           → Runs (report_meaning texts kinds name) limits (ltb before now) old new part status from to
       reports_over walk_is output read_whole =
           subst (λ r. Runs (report_meaning texts kinds name) limits r old new part status from to) (sym is_rose)
           (record {
-            output = has_outcome (IsTraceOutcome texts kinds name limits rose old new) status part (texts.outcome (walk_of kinds name limits rose old new))
+            output = has_outcome (IsTraceOutcome texts kinds name limits rose old new) status part (texts.outcome (walk_of texts.says kinds name limits rose old new))
                 (inr (opens_once name old mid new taken few_opens opened takes, refl))
                 (subst (λ w. IsOutput status part (texts.outcome w)) (sym walk_is) output);
             opened = opens_only name old mid new taken few_opens opened takes;
@@ -82,7 +82,7 @@ module _ (texts : ReportTexts) (kinds : List Kind) (name : List ℕ) (limits : L
                 begun = entries;
                 first = (entries_of walked, ap entries_of walk_is ∙ entries_after entries walked);
                 is_begun = begun;
-                read = subst (λ bytes. IsTakenOfTrace limits bytes (length entries)) (sym (taken_is name old mid new taken few_opens opened takes)) read;
+                read = subst (λ bytes. IsTakenOfTrace limits bytes (lines_begun entries)) (sym (taken_is name old mid new taken few_opens opened takes)) read;
                 cost = cost;
               },
               λ same. absurd (omega (arith, same, opens_once name old mid new taken few_opens opened takes)),
@@ -90,23 +90,23 @@ module _ (texts : ReportTexts) (kinds : List Kind) (name : List ℕ) (limits : L
             read = read_whole;
           })
 
-    whole_walk : (walked : Walked) → trace_of kinds limits end (taken ++ new.held) ≡ after entries walked
-        → walk_of kinds name limits false old new ≡ after entries walked
-    whole_walk walked is = ap (λ file. walk_on kinds limits (option_map (λ bytes. (end, bytes)) file)) (file_is name old mid new taken few_opens opened takes) ∙ is
+    whole_walk : (walked : Walked) → trace_by texts.says kinds limits end (taken ++ new.held) ≡ after entries walked
+        → walk_of texts.says kinds name limits false old new ≡ after entries walked
+    whole_walk walked is = ap (λ file. walk_on texts.says kinds limits (option_map (λ bytes. (end, bytes)) file)) (file_is name old mid new taken few_opens opened takes) ∙ is
 
-    fault_walk : (walked : Walked) → trace_of kinds limits fault taken ≡ after entries walked
-        → walk_of kinds name limits true old new ≡ after entries walked
-    fault_walk walked is = ap (λ bytes. walk_on kinds limits (Some (fault, bytes))) (taken_is name old mid new taken few_opens opened takes) ∙ is
+    fault_walk : (walked : Walked) → trace_by texts.says kinds limits fault taken ≡ after entries walked
+        → walk_of texts.says kinds name limits true old new ≡ after entries walked
+    fault_walk walked is = ap (λ bytes. walk_on texts.says kinds limits (Some (fault, bytes))) (taken_is name old mid new taken few_opens opened takes) ∙ is
 
     -- all of it was taken
-    read_to_end : new.held ≡ [] → trace_of kinds limits end (taken ++ new.held) ≡ after entries (ends End) → IsReadWhole kinds name limits old new
+    read_to_end : new.held ≡ [] → trace_by texts.says kinds limits end (taken ++ new.held) ≡ after entries (ends End) → IsReadWhole texts.says kinds name limits old new
     read_to_end none is =
         let all = ap (λ held. taken ++ held) none ∙ append-nil taken in
         let taken_now = taken_is name old mid new taken few_opens opened takes in
         record {
           none_left = none;
           whole = file_is name old mid new taken few_opens opened takes ∙ ap Some (all ∙ sym taken_now);
-          well = ap (λ bytes. ending_of (trace_of kinds limits end bytes)) (taken_now ∙ sym all) ∙ (ap ending_of is ∙ ending_at entries End);
+          well = ap (λ bytes. ending_of (trace_by texts.says kinds limits end bytes)) (taken_now ∙ sym all) ∙ (ap ending_of is ∙ ending_at entries End);
         }
 
     -- the lines end otherwise
@@ -130,7 +130,7 @@ module _ (texts : ReportTexts) (kinds : List Kind) (name : List ℕ) (limits : L
         let quiet : ltb before now ≡ false = grind (arith, nat_tests) in
         let (walked, is) = on end new.held in
         let accepted : AreAccepted kinds (items (entries_of (after entries walked)))
-        = subst (λ w. AreAccepted kinds (items (entries_of w))) is (trace_accepted kinds limits usable range end (taken ++ new.held)) in
+        = subst (λ w. AreAccepted kinds (items (entries_of w))) is (text_accepted texts.says kinds limits usable range end (taken ++ new.held)) in
         let (more, front) = fronts entries walked accepted in
         reports_over walked false quiet (whole_walk walked is)
         (subst (λ s. IsOutput s part (texts.outcome (after entries walked))) (sym halted)

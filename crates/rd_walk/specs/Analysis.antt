@@ -1,12 +1,12 @@
 -- What a command does with each accepted line, and what stands when it is cut short.
-use Rattle.std.specs.Prelude.{◌≡◌, ◌≢◌, ◌+◌, ◌≤◌, ℕ, IfOk, List, [], ◌∷◌, ◌++◌, length, Option, Result, Ok, Err}
+use Rattle.std.specs.Prelude.{◌≡◌, ◌≢◌, ◌+◌, ◌<◌, ◌≤◌, ℕ, All, true, IfOk, List, [], ◌∷◌, ◌++◌, length, Option, Result, Ok, Err}
 use Rattle.rd_base.specs.Limits.{AreUsable}
 use Rattle.rd_base.specs.declared.limits.Limits.{Limits}
 use Rattle.rd_event.specs.declared.items.Line.{Line}
 use Rattle.rd_io.specs.Inputs.{Rose}
 use Rattle.rd_io.specs.Sinks.{Appends}
 use Rattle.rd_ecl.specs.Kinds.{Kind}
-use Rattle.rd_rules.specs.MayFollow.{MayFollow, accepted_of, threads_of}
+use Rattle.rd_rules.specs.MayFollow.{MayFollow, accepted_of, is_event, threads_of}
 use Rattle.rd_wf.specs.Roster.{RosterStandsFor}
 use Rattle.rd_rules.specs.declared.causes.Accepted.{Accepted}
 use Rattle.rd_wf.specs.declared.roster.Roster.{Roster}
@@ -14,14 +14,20 @@ use Rattle.rd_walk.specs.Walk.{Entry, items}
 use Rattle.rd_walk.specs.declared.analysis.Halt.{Halt}
 use Rattle.rd_walk.specs.declared.analysis.Halt.TheVariants as halt
 
--- the line may follow the entries, it is this in numbers, the roster stands for them and it, and their threads fit 32 bits
-pub record IsNextEntry (kinds : List Kind) (roster : Roster) (before : List Entry) (item : Line) (accepted : Accepted) : Type 0 where
+-- the events among the entries are of lines in front of the one with this number
+abbrev pub AreBefore : ℕ → List Entry → Type 0
+AreBefore number before = All (λ (entry : Entry). is_event entry.item ≡ true → entry.number < number) before
+
+-- The item of the line with this number may follow the entries, it is this in numbers, the roster stands for them and it, and their threads fit 32
+-- bits. The events among the entries are of lines in front of that one.
+pub record IsNextEntry (kinds : List Kind) (roster : Roster) (before : List Entry) (number : ℕ) (item : Line) (accepted : Accepted) : Type 0 where
   pub limits : Limits
   pub usable : AreUsable limits
   pub follows : MayFollow kinds limits (items before) item
   pub numbers : accepted ≡ accepted_of kinds (items before) item
   pub stands : RosterStandsFor kinds roster (items before ++ item ∷ [])
   pub few : length (threads_of (items before ++ item ∷ [])) ≤ 4294967295
+  pub rising : AreBefore number before
 
 -- where the text was `before`, it is `now` with what was written between
 abbrev pub WritesBetween : Option (List ℕ) → Option (List ℕ) → List ℕ → List ℕ → Type 0

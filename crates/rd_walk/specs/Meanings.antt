@@ -7,7 +7,7 @@ use Rattle.rd_io.specs.Lines.Stop.{end}
 use Rattle.rd_io.specs.Sinks.{Appends}
 use Rattle.rd_walk.specs.Output.{EndsAs, HasOutcome, IsTraceEnd, IsWell, Outcome, StatusTellsFault}
 use Rattle.rd_walk.specs.Traces.{IsReadWhole, IsTraceOutcome, IsUntaken, IsWholeOutput, OpensOnly, ReportTexts, TakesTrace}
-use Rattle.rd_walk.specs.Walk.{ending_of, trace_of}
+use Rattle.rd_walk.specs.Walk.{ending_of, trace_by}
 use Rattle.rd_walk.specs.declared.status.Status.TheVariants.{InputFault, OutputFault, NoMemory}
 use Rattle.rd_walk.specs.declared.status.Status.{Status}
 use Rattle.rd_walk.specs.declared.walk.WalkEnd.TheVariants.{End}
@@ -119,8 +119,8 @@ TakesReported texts kinds trace limits rose old new part before after =
 -- nothing is left out
 abbrev pub WritesReported : ReportTexts → List Kind → List ℕ → Limits → Source → List ℕ → Status → Type 0
 WritesReported texts kinds trace limits old part status =
-    (bytes : List ℕ) → file_of old.files trace ≡ Some bytes → ending_of (trace_of kinds limits end bytes) ≡ End
-    → (status ≡ NoMemory) ⊎ IsWholeOutput (texts.outcome (trace_of kinds limits end bytes)) part status
+    (bytes : List ℕ) → file_of old.files trace ≡ Some bytes → ending_of (trace_by texts.says kinds limits end bytes) ≡ End
+    → (status ≡ NoMemory) ⊎ IsWholeOutput (texts.outcome (trace_by texts.says kinds limits end bytes)) part status
 
 -- a report that writes these texts on a trace whose objects are of these kinds
 abbrev pub report_meaning : ReportTexts → List Kind → List ℕ → Meaning
@@ -130,6 +130,6 @@ report_meaning texts kinds trace = record {
   statuses = EndsAs IsTraceEnd;
   outcome = IsTraceOutcome texts kinds trace;
   takes = TakesReported texts kinds trace;
-  reads = IsReadWhole kinds trace;
+  reads = IsReadWhole texts.says kinds trace;
   writes = WritesReported texts kinds trace;
 }

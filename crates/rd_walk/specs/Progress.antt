@@ -10,7 +10,7 @@ use Rattle.rd_io.specs.declared.lines.ReadEnd.TheVariants.{ReadFault, LineTooLon
 use Rattle.rd_base.specs.declared.limits.Limits.{Limits}
 use Rattle.rd_base.specs.declared.limits.LimitName.TheVariants.{Bytes, Line}
 use Rattle.rd_ecl.specs.Kinds.{Kind}
-use Rattle.rd_walk.specs.Walk.{Entry, Walked, after, ends, items, trace_of, walk}
+use Rattle.rd_walk.specs.Walk.{Entry, Saying, Walked, after, ends, items, trace_by, walk_by}
 use Rattle.rd_rules.specs.declared.causes.TraceCause.TheVariants.{NoFinalNewline, Limit}
 use Rattle.rd_walk.specs.declared.walk.WalkEnd.{WalkEnd}
 use Rattle.rd_walk.specs.declared.walk.WalkEnd.TheVariants.{End, Refused, Fault}
@@ -24,22 +24,22 @@ ending_for limits number NoLineFeed = Refused number NoFinalNewline
 
 -- Where these bytes were taken of an input and `held` is left of it: these lines of it are accepted, and it ends so. At its end nothing is
 -- left.
-abbrev pub WalksTo : List Kind → Limits → List ℕ → List ℕ → List Entry → WalkEnd → Type 0
-WalksTo kinds limits taken held entries Fault = trace_of kinds limits fault taken ≡ after entries (ends Fault)
-WalksTo kinds limits taken held entries End = (held ≡ []) × (trace_of kinds limits end (taken ++ held) ≡ after entries (ends End))
-WalksTo kinds limits taken held entries (Refused number cause) =
-    trace_of kinds limits end (taken ++ held) ≡ after entries (ends (Refused number cause))
+abbrev pub WalksTo : Saying → List Kind → Limits → List ℕ → List ℕ → List Entry → WalkEnd → Type 0
+WalksTo says kinds limits taken held entries Fault = trace_by says kinds limits fault taken ≡ after entries (ends Fault)
+WalksTo says kinds limits taken held entries End = (held ≡ []) × (trace_by says kinds limits end (taken ++ held) ≡ after entries (ends End))
+WalksTo says kinds limits taken held entries (Refused number cause) =
+    trace_by says kinds limits end (taken ++ held) ≡ after entries (ends (Refused number cause))
 
 -- these lines are the first that are accepted, whatever comes behind the bytes that were taken
-abbrev pub WalksOn : List Kind → Limits → List ℕ → List Entry → Type 0
-WalksOn kinds limits taken entries =
-    (stop : Stop) (more : List ℕ) → (walked : Walked) × (trace_of kinds limits stop (taken ++ more) ≡ after entries walked)
+abbrev pub WalksOn : Saying → List Kind → Limits → List ℕ → List Entry → Type 0
+WalksOn says kinds limits taken entries =
+    (stop : Stop) (more : List ℕ) → (walked : Walked) × (trace_by says kinds limits stop (taken ++ more) ≡ after entries walked)
 
 -- the same, and the lines behind them are those that the reader has still to give
-abbrev pub Continues : List Kind → Limits → List ℕ → Reader → List Entry → Type 0
-Continues kinds limits taken reader entries =
-    (stop : Stop) (more : List ℕ) → trace_of kinds limits stop (taken ++ more)
-    ≡ after entries (walk kinds limits (items entries) (reader.number + 1) (lines_left reader stop more))
+abbrev pub Continues : Saying → List Kind → Limits → List ℕ → Reader → List Entry → Type 0
+Continues says kinds limits taken reader entries =
+    (stop : Stop) (more : List ℕ) → trace_by says kinds limits stop (taken ++ more)
+    ≡ after entries (walk_by says kinds limits (items entries) (reader.number + 1) (lines_left reader stop more))
 
 -- a line with its line feed
 abbrev pub with_feed : List ℕ → List ℕ
@@ -52,8 +52,8 @@ pub record IsCut (limits : Limits) (taken : List ℕ) (reader : Reader) (lines :
   pub limit : reader.limit ≡ limits.line
   pub room : length (flat_map with_feed lines) + reader.room ≡ limits.bytes
 
--- The accepted lines that were begun, where `part` is what was written: all of the text of the first of them, and behind these at most one
--- line more. So no line is begun behind a write that failed.
+-- The accepted entries that were begun, where `part` is what was written: all of the text of the first of them, and behind these at most one
+-- more. So none is begun behind a write that failed.
 pub record IsBegun (text : List Entry → List ℕ) (part : List ℕ) (begun : List Entry) : Type 0 where
   pub told : List Entry
   pub last : List Entry
@@ -61,7 +61,7 @@ pub record IsBegun (text : List Entry → List ℕ) (part : List ℕ) (begun : L
   pub one : length last ≤ 1
   pub written : IsFront (text told) part
 
--- What was taken of a trace of which so many accepted lines were begun: all of these lines, or all but the last of them, and behind these no more
+-- What was taken of a trace of which so many lines were begun: all of these lines, or all but the last of them, and behind these no more
 -- bytes than a line may have, which hold that last one, or whatever line was refused; and all in all at most one byte past the limit on bytes.
 pub record IsTakenOfTrace (limits : Limits) (taken : List ℕ) (begun : ℕ) : Type 0 where
   pub lines : List (List ℕ)

@@ -1,5 +1,5 @@
 -- The walk over the lines of a trace: which are accepted, and how they end. This project's profile.
-use Rattle.std.specs.Prelude.{ℕ, ◌+◌, ◌*◌, ◌==◌, List, [], ◌∷◌, ◌++◌, map, length, Option, Some, None, option_map, Result, Ok, Err, if◌then◌else◌}
+use Rattle.std.specs.Prelude.{ℕ, ◌+◌, ◌*◌, ◌==◌, List, [], ◌∷◌, ◌++◌, fold, map, length, Option, Some, None, option_map, Result, Ok, Err, if◌then◌else◌}
 use Rattle.rd_io.specs.Lines.{Stop, Reading, reading, LinesEnding}
 use Rattle.rd_io.specs.Lines.LinesEnding.{at_end, no_final_newline, line_too_long, bytes_limit, faulted}
 use Rattle.rd_io.specs.Lines.Reading.{stops, line}
@@ -23,6 +23,14 @@ pub record Entry : Type 0 where
 
 abbrev pub items : List Entry → List Line
 items entries = map (λ entry. entry.item) entries
+
+-- the entries of items that the line with this number says
+abbrev pub entries_at : ℕ → List Line → List Entry
+entries_at number said = map (λ item. record { number = number; item = item }) said
+
+-- how many lines were begun of which these are the accepted entries: the number of the last one
+abbrev pub lines_begun : List Entry → ℕ
+lines_begun entries = fold (λ before entry. entry.number) 0 entries
 
 -- the accepted lines one after another, and how they end
 pub data Walked : Type 0 where
@@ -74,23 +82,31 @@ abbrev pub line_goes : List Kind → Limits → ℕ → List Line → Option (Li
 line_goes kinds limits number before None more = ends (Refused number BadLine)
 line_goes kinds limits number before (Some said) more = items_go kinds limits number before said more
 
+-- A grammar of lines: what the bytes of a line say behind the accepted items. Each of these items is accepted or refused by itself.
+abbrev pub Saying : Type 0
+Saying = List Line → List ℕ → Option (List Line)
+
 -- The walk over lines that come behind the accepted ones, the first of them with this number, by what the bytes of a line say behind them: items, each
 -- with the number of the line, or none that the grammar knows.
-unfoldable pub walk_by : (List Line → List ℕ → Option (List Line)) → List Kind → Limits → List Line → ℕ → Reading → Walked
+unfoldable pub walk_by : Saying → List Kind → Limits → List Line → ℕ → Reading → Walked
 walk_by says kinds limits before number (stops ending) = ends (trace_end_of limits before number ending)
 walk_by says kinds limits before number (line bytes more) =
     line_goes kinds limits number before (says before bytes) (λ behind. walk_by says kinds limits behind (number + 1) more)
 
 -- a line of a trace says one item, in the version of the accepted ones
-abbrev pub trace_says : List Line → List ℕ → Option (List Line)
+abbrev pub trace_says : Saying
 trace_says before bytes = option_map (λ item. item ∷ []) (item_of (version_of before) bytes)
 
 abbrev pub walk : List Kind → Limits → List Line → ℕ → Reading → Walked
 walk kinds limits before number lines = walk_by trace_says kinds limits before number lines
 
--- the walk over the lines of the bytes of a trace
-unfoldable pub trace_of : List Kind → Limits → Stop → List ℕ → Walked
-trace_of kinds limits stop bytes = walk kinds limits [] 1 (reading limits.line limits.bytes stop bytes)
+-- the walk over the lines of these bytes, by what lines say
+unfoldable pub trace_by : Saying → List Kind → Limits → Stop → List ℕ → Walked
+trace_by says kinds limits stop bytes = walk_by says kinds limits [] 1 (reading limits.line limits.bytes stop bytes)
+
+-- the same of a trace
+abbrev pub trace_of : List Kind → Limits → Stop → List ℕ → Walked
+trace_of kinds limits stop bytes = trace_by trace_says kinds limits stop bytes
 
 -- entries before a walk
 unfoldable pub after : List Entry → Walked → Walked

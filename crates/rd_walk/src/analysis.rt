@@ -55,26 +55,26 @@ pub trait Analysis {
     ) -> Result<(), Halt>
         requires { (kinds : List Kind) × (start : Self) × (before : List Entry) × (item : Item)
             × leads kinds start before self.old
-            × IsNextEntry kinds roster.now before item accepted.now }
+            × IsNextEntry kinds roster.now before number item accepted.now }
 
         // the lines lead on, and what is written for the line is written, or a front of it
         ensures leads { OnOk result
             ((kinds : List Kind) (start : Self) (before : List Entry) (item : Item) →
             leads kinds start before self.old →
-            IsNextEntry kinds roster.now before item accepted.now →
+            IsNextEntry kinds roster.now before number item accepted.now →
             leads kinds start
             (before ++ record { number = number; item = item } ∷ []) self.new) }
         ensures written { OnOk result
             ((kinds : List Kind) (start : Self) (before : List Entry) (item : Item) →
             leads kinds start before self.old →
-            IsNextEntry kinds roster.now before item accepted.now →
+            IsNextEntry kinds roster.now before number item accepted.now →
             WritesBetween (S.written out.old) (S.written out.new)
             (text kinds start before)
             (text kinds start (before ++ record { number = number; item = item } ∷ []))) }
         ensures halted { OnErr result
             ((kinds : List Kind) (start : Self) (before : List Entry) (item : Item) →
             leads kinds start before self.old →
-            IsNextEntry kinds roster.now before item accepted.now →
+            IsNextEntry kinds roster.now before number item accepted.now →
             WritesFront (S.written out.old) (S.written out.new)
             (text kinds start before)
             (text kinds start (before ++ record { number = number; item = item } ∷ []))) }
@@ -82,7 +82,7 @@ pub trait Analysis {
         // the steps are bounded, and a failed write is told as one
         ensures cost { (kinds : List Kind) (start : Self) (before : List Entry) (item : Item) →
             leads kinds start before self.old →
-            IsNextEntry kinds roster.now before item accepted.now →
+            IsNextEntry kinds roster.now before number item accepted.now →
             steps.new ≤ steps.old + bound kinds start (items before) item }
         ensures fault { TellsFault (S.faults out.old) (S.faults out.new) (S.at_fault out.new)
             (S.written out.new) result };
@@ -91,12 +91,12 @@ pub trait Analysis {
     fn law_of_skipped_lines(&self, number: u64, roster: &Roster)
         ensures leads { (kinds : List Kind) (start : Self) (before : List Entry) →
             leads kinds start before self.now →
-            IsNextEntry kinds roster.now before Item.Skip Accepted.Nothing →
+            IsNextEntry kinds roster.now before number Item.Skip Accepted.Nothing →
             leads kinds start
             (before ++ record { number = number; item = Item.Skip } ∷ []) self.now }
         ensures silent { (kinds : List Kind) (start : Self) (before : List Entry) →
             leads kinds start before self.now →
-            IsNextEntry kinds roster.now before Item.Skip Accepted.Nothing →
+            IsNextEntry kinds roster.now before number Item.Skip Accepted.Nothing →
             text kinds start (before ++ record { number = number; item = Item.Skip } ∷ [])
             ≡ text kinds start before };
 

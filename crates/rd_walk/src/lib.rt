@@ -2,6 +2,7 @@
 #![tactic(auto)]
 
 mod analysis;
+mod grammar;
 mod laws;
 mod reporting;
 mod status;
@@ -9,6 +10,7 @@ mod walk;
 mod writing;
 
 pub use analysis::{Analysis, Halt};
+pub use grammar::{Grammar, TraceLines, take_anywhere, take_keyword};
 pub use laws::law_of_walks;
 pub use reporting::{Report, report_named, report_trace};
 pub use status::{Ended, Status, ended_status};

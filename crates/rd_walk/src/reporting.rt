@@ -11,11 +11,12 @@ ghost use Rattle.rd_walk.specs.Traces.{HasReported, texts_of};
 ghost use Rattle.rd_walk.specs.Analysis.{TellsFault, TellsFaults};
 ghost use Rattle.rd_walk.specs.Output.{IsOutput, IsTraceEnd, IsWell, Outcome, ended_status};
 ghost use Rattle.rd_walk.specs.Progress.{IsBegun, IsTakenOfTrace};
-ghost use Rattle.rd_walk.specs.Walk.{Entry, Walked, after, ending_of, ends, entries_of, items, step_bound};
+ghost use Rattle.rd_walk.specs.Walk.{Entry, Walked, after, ending_of, ends, entries_of, items, lines_begun, step_bound};
 ghost use Rattle.rd_rules.specs.Events.{AreAccepted};
 ghost use Rattle.rd_wf.specs.Roster.{RosterStandsFor, kinds_in};
 
 use crate::analysis::{Analysis, Halt};
+use crate::grammar::Grammar;
 use crate::status::Ended;
 use crate::walk::{WalkEnd, Walker, walk_lines};
 use crate::writing::write_line;
@@ -77,7 +78,8 @@ pub trait Report: Analysis {
 }
 
 /// A report on the current input, from its first byte on.
-fn report_opened<A: Report, I: Inputs, S: Sink, L: Ledger>(
+fn report_opened<G: Grammar, A: Report, I: Inputs, S: Sink, L: Ledger>(
+    grammar: &G,
     walker: &mut Walker<A>,
     reader: &mut LineReader,
     inputs: &mut I,
@@ -93,10 +95,10 @@ fn report_opened<A: Report, I: Inputs, S: Sink, L: Ledger>(
     ensures reported { (entries : List Entry) × (taken : List ℕ) × (part : List ℕ)
         × Appends (S.written out.old) (S.written out.new) part
         × (steps.new ≤ steps.old + step_bound (A.bound (kinds_in walker.old.roster) walker.old.analysis) entries)
-        × IsTakenOfTrace walker.old.limits taken (length entries)
+        × IsTakenOfTrace walker.old.limits taken (lines_begun entries)
         × IsBegun (A.text (kinds_in walker.old.roster) walker.old.analysis) part entries
         × Goes (I.told inputs.old) (I.told inputs.new) (λ old new. Takes old new taken
-        × HasReported (texts_of A.text A.outcome A.bound A.unopened
+        × HasReported (texts_of G.says A.text A.outcome A.bound A.unopened
         (kinds_in walker.old.roster) walker.old.analysis)
         (kinds_in walker.old.roster) walker.old.limits taken new.held entries part (ended_status result)
         (I.faults inputs.old) (I.faults inputs.new)) }
@@ -104,14 +106,15 @@ fn report_opened<A: Report, I: Inputs, S: Sink, L: Ledger>(
     ensures faults { TellsFaults Ended.InputFault (I.faults inputs.old) (I.faults inputs.new)
         (S.faults out.old) (S.faults out.new) (S.at_fault out.new) (S.written out.new) result }
 {
-    let ending = walk_lines(walker, reader, inputs, out, steps)?;
+    let ending = walk_lines(grammar, walker, reader, inputs, out, steps)?;
     walker
         .analysis
         .conclude(walker.alloc, &walker.roster, ending, out)
 }
 
 /// A report on a trace, from the first states of a walk on, as one of the files that a command opens.
-pub fn report_named<A: Report, I: Inputs, S: Sink, L: Ledger>(
+pub fn report_named<G: Grammar, A: Report, I: Inputs, S: Sink, L: Ledger>(
+    grammar: &G,
     walker: &mut Walker<A>,
     trace: &Word,
     inputs: &mut I,
@@ -127,7 +130,7 @@ pub fn report_named<A: Report, I: Inputs, S: Sink, L: Ledger>(
         old.opens ≤ 2 ^ 63 →
         (new : Source) × (part : List ℕ) × (I.told inputs.new ≡ Some new)
         × Appends (S.written out.old) (S.written out.new) part
-        × Runs (report_meaning (texts_of A.text A.outcome A.bound A.unopened
+        × Runs (report_meaning (texts_of G.says A.text A.outcome A.bound A.unopened
         (kinds_in walker.old.roster) walker.old.analysis) (kinds_in walker.old.roster) trace.now) walker.old.limits
         (nat_lt (I.faults inputs.old)
         (I.faults inputs.new)) old new part (ended_status result) steps.old steps.new }
@@ -143,11 +146,12 @@ pub fn report_named<A: Report, I: Inputs, S: Sink, L: Ledger>(
     // its type says that it fits 32 bits
     let _threads = walker.limits.threads;
     walker.analysis.law_of_outcomes();
-    report_opened(walker, &mut reader, inputs, out, steps)
+    report_opened(grammar, walker, &mut reader, inputs, out, steps)
 }
 
 /// A report on a trace, from the first states of a walk on, as all that a command does.
-pub fn report_trace<A: Report, I: Inputs, S: Sink, L: Ledger>(
+pub fn report_trace<G: Grammar, A: Report, I: Inputs, S: Sink, L: Ledger>(
+    grammar: &G,
     walker: &mut Walker<A>,
     trace: &Word,
     inputs: &mut I,
@@ -157,12 +161,12 @@ pub fn report_trace<A: Report, I: Inputs, S: Sink, L: Ledger>(
     requires usable { AreUsable walker.old.limits }
     requires none { RosterStandsFor (kinds_in walker.old.roster) walker.old.roster [] }
     requires begins { A.begins (kinds_in walker.old.roster) walker.old.analysis }
-    ensures { Ran (report_meaning (texts_of A.text A.outcome A.bound A.unopened
+    ensures { Ran (report_meaning (texts_of G.says A.text A.outcome A.bound A.unopened
         (kinds_in walker.old.roster) walker.old.analysis) (kinds_in walker.old.roster) trace.now) walker.old.limits
         (seen I.told I.faults inputs.old S.written S.faults S.at_fault out.old steps.old)
         (seen I.told I.faults inputs.new S.written S.faults S.at_fault out.new steps.new)
         (ended_status result) }
 {
     walker.analysis.law_of_outcomes();
-    report_named(walker, trace, inputs, out, steps)
+    report_named(grammar, walker, trace, inputs, out, steps)
 }

@@ -7,24 +7,21 @@ ghost use Rattle.rd_io.specs.Inputs.{Goes, Takes, Rose};
 ghost use Rattle.rd_io.specs.LineReader.{fresh};
 ghost use Rattle.rd_io.specs.Lines.LinesEnding.{at_end};
 ghost use Rattle.rd_io.specs.Sinks.{Appends};
-ghost use Rattle.rd_walk.specs.Analysis.{IsCutIn, IsHandedOn, TellsFault};
-ghost use Rattle.rd_walk.specs.Taking.{TakesTraceLine};
+ghost use Rattle.rd_walk.specs.Analysis.{AreBefore, IsCutIn, IsHandedOn, TellsFault};
 ghost use Rattle.rd_walk.specs.Progress.{IsBegun, IsTakenOfTrace, WalksOn, WalksTo, ending_for};
 ghost use Rattle.rd_rules.specs.MayFollow.{MayFollow, first_broken};
 ghost use Rattle.rd_rules.specs.declared.causes.WfCause.{WfCause};
-ghost use Rattle.rd_walk.specs.Walk.{Entry, trace_end_of, items, step_bound};
+ghost use Rattle.rd_walk.specs.Walk.{Entry, lines_begun, trace_end_of, items, step_bound};
 ghost use Rattle.rd_ecl.specs.Kinds.{Kind};
 ghost use Rattle.rd_wf.specs.Roster.{RosterStandsFor, kinds_in};
 
 use crate::analysis::{Analysis, Halt};
+use crate::grammar::Grammar;
 use rd_base::{LimitName, Limits, NoMemory, Steps};
 use rd_ecl::Spec;
 use rd_event::{Line, is_skipped};
 use rd_io::{Inputs, LineReader, Next, ReadEnd, Sink};
-use rd_wf::{
-    AcquireLine, BytesRefused, CallLine, JoinLine, Keyword, Near, ReleaseLine, Roster, ShareLine,
-    TraceCause, UnshareLine, WfRefused,
-};
+use rd_wf::{Roster, TraceCause, WfRefused};
 use std::alloc::Global;
 use std::sync::ledger::Ledger;
 
@@ -136,13 +133,13 @@ pub fn take<A: Analysis, S: Sink, L: Ledger>(
     requires usable { AreUsable walker.old.limits }
     requires stands { (kinds : List Kind) × (start : A) × (before : List Entry)
         × RosterStandsFor kinds walker.old.roster (items before)
-        × A.leads kinds start before walker.old.analysis }
+        × A.leads kinds start before walker.old.analysis × AreBefore number before }
     ensures limits { walker.new.limits ≡ walker.old.limits }
 
     // the item may follow, and is handed on
     ensures taken { result ≡ Ok Taken.Accepted → (kinds : List Kind) (start : A) (before : List Entry) →
         RosterStandsFor kinds walker.old.roster (items before) →
-        A.leads kinds start before walker.old.analysis →
+        A.leads kinds start before walker.old.analysis → AreBefore number before →
         (first_broken kinds walker.old.limits (items before) walker.old.line ≡ None)
         × IsHandedOn (A.leads kinds start) (A.text kinds start) (A.bound kinds start) kinds
         walker.new.roster walker.new.analysis (S.written out.old) (S.written out.new)
@@ -166,7 +163,7 @@ pub fn take<A: Analysis, S: Sink, L: Ledger>(
     ensures halted { OnErr result
         ((kinds : List Kind) (start : A) (before : List Entry) →
         RosterStandsFor kinds walker.old.roster (items before) →
-        A.leads kinds start before walker.old.analysis →
+        A.leads kinds start before walker.old.analysis → AreBefore number before →
         ((S.written out.new ≡ S.written out.old) × (steps.new ≡ steps.old))
         ⊎ ((first_broken kinds walker.old.limits (items before) walker.old.line ≡ None)
         × IsCutIn (A.text kinds start) (A.bound kinds start) (S.written out.old) (S.written out.new)
@@ -192,115 +189,11 @@ pub fn take<A: Analysis, S: Sink, L: Ledger>(
     }
 }
 
-/// Takes a line of this sort, whose names are looked for near first. This doesn't stand in `take_line`: each other line would make room for
-/// what it holds.
-#[inline(never)]
-fn take_keyword<K: Keyword, A: Analysis, S: Sink, L: Ledger>(
-    walker: &mut Walker<A>,
-    number: u64,
-    bytes: &[u8],
-    out: &mut S,
-    steps: &mut Steps<L>,
-) -> Result<Taken, Halt>
-    requires usable { AreUsable walker.old.limits }
-    requires stands { (kinds : List Kind) × (start : A) × (before : List Entry)
-        × RosterStandsFor kinds walker.old.roster (items before)
-        × A.leads kinds start before walker.old.analysis }
-    ensures limits { walker.new.limits ≡ walker.old.limits }
-    ensures line { TakesTraceLine A.leads A.text A.bound number bytes.now walker.old walker.new
-        (S.written out.old) (S.written out.new) steps.old steps.new result }
-    ensures silent { result ≡ Ok Taken.Refused → out.new ≡ out.old }
-    ensures fault { TellsFault (S.faults out.old) (S.faults out.new) (S.at_fault out.new)
-        (S.written out.new) result }
-{
-    let Ok(accepted) = K::accept_bytes::<Near>(&mut walker.roster, bytes, &walker.limits) else {
-        return take_anywhere(walker, number, bytes, out, steps);
-    };
-    match walker
-        .analysis
-        .accept(number, &accepted, &walker.roster, out, steps)
-    {
-        Ok(()) => Ok(Taken::Accepted),
-        Err(halt) => Err(halt),
-    }
-}
-
-/// Takes a line, each of whose names is found.
-#[inline(never)]
-fn take_anywhere<A: Analysis, S: Sink, L: Ledger>(
-    walker: &mut Walker<A>,
-    number: u64,
-    bytes: &[u8],
-    out: &mut S,
-    steps: &mut Steps<L>,
-) -> Result<Taken, Halt>
-    requires usable { AreUsable walker.old.limits }
-    requires stands { (kinds : List Kind) × (start : A) × (before : List Entry)
-        × RosterStandsFor kinds walker.old.roster (items before)
-        × A.leads kinds start before walker.old.analysis }
-    ensures limits { walker.new.limits ≡ walker.old.limits }
-    ensures line { TakesTraceLine A.leads A.text A.bound number bytes.now walker.old walker.new
-        (S.written out.old) (S.written out.new) steps.old steps.new result }
-    ensures silent { result ≡ Ok Taken.Refused → out.new ≡ out.old }
-    ensures fault { TellsFault (S.faults out.old) (S.faults out.new) (S.at_fault out.new)
-        (S.written out.new) result }
-{
-    match walker.roster.accept_bytes(bytes, &walker.limits) {
-        Ok(accepted) => {
-            let Err(halt) = walker
-                .analysis
-                .accept(number, &accepted, &walker.roster, out, steps)
-            else {
-                return Ok(Taken::Accepted);
-            };
-            Err(halt)
-        }
-        Err(BytesRefused::BadLine) => {
-            walker.refused = Some(TraceCause::BadLine);
-            Ok(Taken::Refused)
-        }
-        Err(BytesRefused::Cause(cause)) => {
-            walker.refused = Some(TraceCause::Wf(cause));
-            Ok(Taken::Refused)
-        }
-        Err(BytesRefused::NoMemory) => Err(Halt::NoMemory),
-    }
-}
-
-/// Takes a line: it is judged, and what it says is handed on.
-fn take_line<A: Analysis, S: Sink, L: Ledger>(
-    walker: &mut Walker<A>,
-    number: u64,
-    bytes: &[u8],
-    out: &mut S,
-    steps: &mut Steps<L>,
-) -> Result<Taken, Halt>
-    requires usable { AreUsable walker.old.limits }
-    requires stands { (kinds : List Kind) × (start : A) × (before : List Entry)
-        × RosterStandsFor kinds walker.old.roster (items before)
-        × A.leads kinds start before walker.old.analysis }
-    ensures limits { walker.new.limits ≡ walker.old.limits }
-    ensures line { TakesTraceLine A.leads A.text A.bound number bytes.now walker.old walker.new
-        (S.written out.old) (S.written out.new) steps.old steps.new result }
-    ensures silent { result ≡ Ok Taken.Refused → out.new ≡ out.old }
-    ensures fault { TellsFault (S.faults out.old) (S.faults out.new) (S.at_fault out.new)
-        (S.written out.new) result }
-{
-    match bytes.first() {
-        Some(b'c') => take_keyword::<CallLine, A, S, L>(walker, number, bytes, out, steps),
-        Some(b'a') => take_keyword::<AcquireLine, A, S, L>(walker, number, bytes, out, steps),
-        Some(b'r') => take_keyword::<ReleaseLine, A, S, L>(walker, number, bytes, out, steps),
-        Some(b'j') => take_keyword::<JoinLine, A, S, L>(walker, number, bytes, out, steps),
-        Some(b's') => take_keyword::<ShareLine, A, S, L>(walker, number, bytes, out, steps),
-        Some(b'u') => take_keyword::<UnshareLine, A, S, L>(walker, number, bytes, out, steps),
-        _ => take_anywhere(walker, number, bytes, out, steps),
-    }
-}
-
-/// Walks over the lines of the current input from its first byte on, and hands each accepted line to the analysis. The roster then has
-/// all of them. The answer says how the lines end, or why the walk stopped before that: a write failed, or memory ran out. A turn
-/// takes at least one byte of the input, and no more is taken than `IsTakenOfTrace` says.
-pub fn walk_lines<A: Analysis, I: Inputs, S: Sink, L: Ledger>(
+/// Walks over the lines of the current input from its first byte on, by what the grammar says of a line, and hands each accepted item to the
+/// analysis. The roster then has all of them. The answer says how the lines end, or why the walk stopped before that: a write failed, or
+/// memory ran out. A turn takes at least one byte of the input, and no more is taken than `IsTakenOfTrace` says.
+pub fn walk_lines<G: Grammar, A: Analysis, I: Inputs, S: Sink, L: Ledger>(
+    grammar: &G,
     walker: &mut Walker<A>,
     reader: &mut LineReader,
     inputs: &mut I,
@@ -319,10 +212,10 @@ pub fn walk_lines<A: Analysis, I: Inputs, S: Sink, L: Ledger>(
         × Appends (S.written out.old) (S.written out.new)
         (A.text (kinds_in walker.old.roster) walker.old.analysis entries)
         × (steps.new ≤ steps.old + step_bound (A.bound (kinds_in walker.old.roster) walker.old.analysis) entries)
-        × IsTakenOfTrace walker.old.limits taken (length entries)
+        × IsTakenOfTrace walker.old.limits taken (lines_begun entries)
         × Goes (I.told inputs.old) (I.told inputs.new)
         (λ old new. Takes old new taken
-        × WalksTo (kinds_in walker.old.roster) walker.old.limits taken new.held entries ending)) }
+        × WalksTo G.says (kinds_in walker.old.roster) walker.old.limits taken new.held entries ending)) }
 
     // or some of them, and no line behind one of which not all was written
     ensures halted { OnErr result ((entries : List Entry) × (taken : List ℕ) × (part : List ℕ)
@@ -330,8 +223,8 @@ pub fn walk_lines<A: Analysis, I: Inputs, S: Sink, L: Ledger>(
         × IsFront part (A.text (kinds_in walker.old.roster) walker.old.analysis entries)
         × IsBegun (A.text (kinds_in walker.old.roster) walker.old.analysis) part entries
         × (steps.new ≤ steps.old + step_bound (A.bound (kinds_in walker.old.roster) walker.old.analysis) entries)
-        × IsTakenOfTrace walker.old.limits taken (length entries)
-        × WalksOn (kinds_in walker.old.roster) walker.old.limits taken entries
+        × IsTakenOfTrace walker.old.limits taken (lines_begun entries)
+        × WalksOn G.says (kinds_in walker.old.roster) walker.old.limits taken entries
         × Goes (I.told inputs.old) (I.told inputs.new) (λ old new. Takes old new taken)) }
 
     // each fault is told as one
@@ -349,11 +242,12 @@ pub fn walk_lines<A: Analysis, I: Inputs, S: Sink, L: Ledger>(
         }
         let number = reader.number();
         if is_skipped(reader.line()) {
+            grammar.law_of_skipped_bytes();
             walker.roster.law_of_skipped_lines();
             walker.analysis.law_of_skipped_lines(number, &walker.roster);
             continue;
         }
-        match take_line(walker, number, reader.line(), out, steps) {
+        match grammar.take_line(walker, number, reader.line(), out, steps) {
             Ok(Taken::Accepted) => {}
             Ok(Taken::Refused) => return Ok(WalkEnd::Refused {
                 line: number,

@@ -9,12 +9,12 @@ use Rattle.rd_order.specs.Order.{GivesBack, Hold, exclusive, shared}
 use Rattle.rd_rules.specs.Events.{events_of, roots_of}
 use Rattle.rd_ecl.specs.Kinds.{Kind, kinds_of}
 use Rattle.rd_rules.specs.laws.NoLines.{told_none}
-use Rattle.rd_check_command.specs.Checking.{CheckBegins, CheckLeads}
+use Rattle.rd_check_command.specs.Checking.{CheckBegins, CheckLeads, Tracks}
 use Rattle.rd_check_command.specs.Checked.{race_texts, races_before, races_of, texts_before}
 use Rattle.rd_check_command.specs.declared.checking.Check.{Check}
 
 -- a tracker of no event
-abbrev none_tracked : Tracking
+abbrev pub none_tracked : Tracking
 none_tracked = record { threads = []; locks = record { releases = []; unshares = [] } }
 
 -- no lock hands anything on
@@ -33,8 +33,15 @@ stands_none kinds = record {
   releases = λ lock m gives. none-some gives.0 gives.1;
 }
 
-formed_none : (kinds : List Kind) → WellFormedWith kinds (roots_of []) []
+pub formed_none : (kinds : List Kind) → WellFormedWith kinds (roots_of []) []
 formed_none kinds = record { formed = (told_none kinds).told.formed; fit = λ k d inside. absurd (omega (arith, inside)) }
+
+pub tracks_none : (kinds : List Kind) (tracker : Tracking) → tracker ≡ none_tracked → Tracks kinds tracker []
+tracks_none kinds tracker none = record {
+  told = told_none kinds;
+  stands = subst (λ t. TrackerStandsFor t (roots_of []) (events_of kinds [])) (sym none) (stands_none kinds);
+  count = ap (λ t. length t.threads) none;
+}
 
 pub checks_none : (kinds : List Kind) (start : Check) → CheckBegins kinds start → CheckLeads kinds start [] start
 unfolding races_of races_before
@@ -45,11 +52,7 @@ checks_none kinds start begins = record {
     form = refl;
     spec = refl;
     formulas = begins.new.formulas;
-    tracks = record {
-      told = told_none (kinds_of start.spec.now);
-      stands = subst (λ tracker. TrackerStandsFor tracker (roots_of []) (events_of (kinds_of start.spec.now) [])) (sym begins.new.no_event) (stands_none (kinds_of start.spec.now));
-      count = ap (λ tracker. length tracker.threads) begins.new.no_event;
-    };
+    tracks = tracks_none (kinds_of start.spec.now) start.tracker begins.new.no_event;
     detects = begins.new.no_call (roots_of []) (formed_none (kinds_of start.spec.now));
     races = begins.new.no_race;
   };

@@ -1,5 +1,6 @@
-use Rattle.std.proofs.Common.{◌+◌, [], ◌∷◌, ◌++◌, Ok, length, refl, sym, ap, ◌∙◌, subst, inl, inr, arith}
+use Rattle.std.proofs.Common.{◌≡◌, ◌+◌, ◌<◌, true, [], ◌∷◌, ◌++◌, Ok, length, refl, sym, ap, ◌∙◌, subst, inl, inr, arith}
 use Rattle.std.proofs.lemmas.List.{append_assoc, append-nil}
+use Rattle.std.proofs.lemmas.List.Elements.{All-nil}
 use Rattle.rd_gen_command.proofs.ReportLemmas.{counts_begun}
 use Rattle.rd_gen_command.proofs.TextLemmas.{split, split_none}
 use Rattle.rd_gen_command.proofs.WalkLemmas.{begun, walks_end, walks_on, walks_refused}
@@ -7,7 +8,8 @@ use Rattle.rd_io.proofs.SinkLemmas.{appends_none, appends_on}
 use Rattle.rd_io.specs.Sinks.{Appends}
 use Rattle.rd_walk.proofs.OutputLemmas.{always_err}
 use Rattle.rd_walk.proofs.ProgressLemmas.{all_begun}
-use Rattle.rd_walk.proofs.WalkLemmas.{bound_more, items_more}
+use Rattle.rd_walk.proofs.WalkLemmas.{before_next, bound_more, items_more}
+use Rattle.rd_rules.specs.MayFollow.{is_event}
 use Rattle.rd_walk.specs.Walk.{Entry, after, bound_from, ends, items}
 use Rattle.rd_walk.specs.declared.walk.WalkEnd.TheVariants.{Refused}
 use Rattle.rd_wf.specs.Roster.{RosterStandsFor, kinds_in}
@@ -27,11 +29,12 @@ lines-init g c =
       refl,
       refl,
       omega arith,
+      All-nil (λ (entry : Entry). is_event entry.item ≡ true → entry.number < 1),
     )
 
 pub returns-in_err-line-clause-halted : goal.returns-in_err-line-clause-halted
 returns-in_err-line-clause-halted g c =
-    let (entries, so_far, stands, leads, text, cost, calm, same, left) = c.lines.invariant in
+    let (entries, so_far, stands, leads, text, cost, calm, same, left, before) = c.lines.invariant in
     let kinds = kinds_in c.args.walker.now.roster in
     let start = c.args.walker.now.analysis in
     let wrote = g.A.Analysis.text kinds start entries in
@@ -50,7 +53,7 @@ returns-in_err-line-clause-halted g c =
 
 pub returns-in-Err-clause-halted : goal.returns-in-Err-clause-halted
 returns-in-Err-clause-halted g c =
-    let (entries, so_far, stands, leads, text, cost, calm, same, left) = c.lines.invariant in
+    let (entries, so_far, stands, leads, text, cost, calm, same, left, before) = c.lines.invariant in
     let kinds = kinds_in c.args.walker.now.roster in
     let limits = c.args.walker.now.limits in
     let start = c.args.walker.now.analysis in
@@ -59,7 +62,7 @@ returns-in-Err-clause-halted g c =
     let rest = c.next_line.new.self.lines in
     let lines = split c.lines.generator.lines rest c.in-Some.line c.in_ok-line.field-0 c.in_ok-line.ensures.line c.in-Some.is c.in_ok-line.ensures.rest
     ∙ ap (λ l. l ∷ rest) (sym c.keep.ensures) in
-    elim (c.in-Err.ensures.halted kinds start entries stands leads) [
+    elim (c.in-Err.ensures.halted kinds start entries stands leads before) [
       | inl (quiet, steps) ↦ (
         entries,
         wrote,
@@ -90,7 +93,7 @@ returns-in-Err-clause-halted g c =
 
 pub returns-in-Ok-Refused-clause-walked : goal.returns-in-Ok-Refused-clause-walked
 returns-in-Ok-Refused-clause-walked g c =
-    let (entries, so_far, stands, leads, text, cost, calm, same, left) = c.lines.invariant in
+    let (entries, so_far, stands, leads, text, cost, calm, same, left, before) = c.lines.invariant in
     let kinds = kinds_in c.args.walker.now.roster in
     let limits = c.args.walker.now.limits in
     let line = c.keep.new.last in
@@ -110,7 +113,7 @@ returns-in-Ok-Refused-clause-walked g c =
 
 pub lines-preserved : goal.lines-preserved
 lines-preserved g c =
-    let (entries, so_far, stands, leads, text, cost, calm, same, left) = c.lines.invariant in
+    let (entries, so_far, stands, leads, text, cost, calm, same, left, before) = c.lines.invariant in
     let kinds = kinds_in c.args.walker.now.roster in
     let limits = c.args.walker.now.limits in
     let start = c.args.walker.now.analysis in
@@ -118,7 +121,7 @@ lines-preserved g c =
     let rest = c.next_line.new.self.lines in
     let lines = split c.lines.generator.lines rest c.in-Some.line c.in_ok-line.field-0 c.in_ok-line.ensures.line c.in-Some.is c.in_ok-line.ensures.rest
     ∙ ap (λ l. l ∷ rest) (sym c.keep.ensures) in
-    let (accepted, handed) = c.in-Ok-Accepted.ensures.taken (ap Ok c.in-Ok-Accepted.field-0-is) kinds start entries stands leads in
+    let (accepted, handed) = c.in-Ok-Accepted.ensures.taken (ap Ok c.in-Ok-Accepted.field-0-is) kinds start entries stands leads before in
     let writes = handed.written in
     let entry : Entry = record { number = c.lines.number + 1; item = line } in (
       entries ++ entry ∷ [],
@@ -131,11 +134,12 @@ lines-preserved g c =
       c.in-Ok-Accepted.ensures.fault ∙ calm,
       c.in-Ok-Accepted.ensures.limits ∙ same,
       omega (arith, left, ap length lines),
+      before_next (c.lines.number + 1) entries (line ∷ []) before,
     )
 
 pub returns-clause-walked : goal.returns-clause-walked
 returns-clause-walked g c =
-    let (entries, so_far, stands, leads, text, cost, calm, same, left) = c.lines.invariant in
+    let (entries, so_far, stands, leads, text, cost, calm, same, left, before) = c.lines.invariant in
     let kinds = kinds_in c.args.walker.now.roster in
     let limits = c.args.walker.now.limits in
     let none = split_none c.lines.generator.lines (sym c.in_default.is ∙ c.in_ok-line.ensures.line) in

@@ -1,6 +1,7 @@
 use Rattle.std.proofs.Common.{◌≡◌, ◌+◌, ◌≤◌, List, [], length}
 use Rattle.rd_gen_command.specs.GeneratedWalks.{walk_items}
 use Rattle.rd_io.specs.Sinks.{Appends}
+use Rattle.rd_walk.specs.Analysis.{AreBefore}
 use Rattle.rd_walk.specs.Walk.{Entry, after, items, step_bound}
 use Rattle.rd_wf.specs.Roster.{RosterStandsFor, kinds_in}
 use Rattle.rd_gen_command.proofs.walk.walk_generated.Given as goal
@@ -17,6 +18,7 @@ invariant-lines g l =
     × (g.S.Sink.faults l.out ≡ g.S.Sink.faults l.initial.out)
     × (l.walker.limits ≡ l.initial.walker.limits)
     × (l.number + length l.generator.lines ≡ length l.initial.generator.lines)
+    × AreBefore (l.number + 1) entries
 
 abbrev pub decreases-lines : goal.decreases-lines
 decreases-lines g l = length l.generator.lines

@@ -36,11 +36,11 @@ returns-in-Root-clause-follows c = λ kinds before item roster replayed next.
 pub follow_event-requires : goal.follow_event-requires
 follow_event-requires c =
     let (kinds, before, item, roster, replayed, next) = c.requires in
-    (kinds, before, item, roster, replayed, subst (IsNextEntry kinds roster before item) c.in-Event.is next)
+    (kinds, before, item, roster, replayed, subst (IsNextEntry kinds roster before c.args.number item) c.in-Event.is next)
 
 pub returns-in-Event-clause-follows : goal.returns-in-Event-clause-follows
 returns-in-Event-clause-follows c = on_ok_weaker c.follow_event.result
     (λ (all : (kinds : List Kind) (before : List Entry) (item : Line) (roster : Roster) → Replayed kinds before c.args.replayer.now
-    → IsNextEntry kinds roster before item (accepted.Event c.in-Event.event) → Replayed kinds (before ++ record { number = c.args.number; item = item } ∷ []) c.follow_event.new.replayer)
-    kinds before item roster replayed next. all kinds before item roster replayed (subst (IsNextEntry kinds roster before item) c.in-Event.is next))
+    → IsNextEntry kinds roster before c.args.number item (accepted.Event c.in-Event.event) → Replayed kinds (before ++ record { number = c.args.number; item = item } ∷ []) c.follow_event.new.replayer)
+    kinds before item roster replayed next. all kinds before item roster replayed (subst (IsNextEntry kinds roster before c.args.number item) c.in-Event.is next))
     c.follow_event.ensures.follows

@@ -12,7 +12,7 @@ returns-in_err-reader-clause-reports g c = λ old told few few_opens.
     let wrote = g.S.Sink.written c.args.out.now in
     let faults = g.I.Inputs.faults c.args.inputs.now in
     let kinds = kinds_in c.args.walker.now.roster in
-    let texts : ReportTexts = texts_of g.A.Analysis.text g.A.Report.outcome g.A.Analysis.bound g.A.Report.unopened kinds c.args.walker.now.analysis in (
+    let texts : ReportTexts = texts_of g.G.Grammar.says g.A.Analysis.text g.A.Report.outcome g.A.Analysis.bound g.A.Report.unopened kinds c.args.walker.now.analysis in (
       old,
       [],
       told,
@@ -28,7 +28,7 @@ returns-in_default-clause-reports g c = λ old told few few_opens.
       _,
       now,
       c.in_ok-write_line.ensures.ok,
-      reports_unopened (texts_of g.A.Analysis.text g.A.Report.outcome g.A.Analysis.bound g.A.Report.unopened kinds c.args.walker.now.analysis) kinds c.args.trace.now c.args.walker.now.limits (g.I.Inputs.faults c.args.inputs.now)
+      reports_unopened (texts_of g.G.Grammar.says g.A.Analysis.text g.A.Report.outcome g.A.Analysis.bound g.A.Report.unopened kinds c.args.walker.now.analysis) kinds c.args.trace.now c.args.walker.now.limits (g.I.Inputs.faults c.args.inputs.now)
           (g.I.Inputs.faults c.open.new.self) old new _ _ c.args.steps.now few c.in_default.ensures.cause.failed opened (c.unopened_text.ensures, refl),
     )
 
@@ -41,7 +41,7 @@ returns-in_err-write_line-clause-reports g c = λ old told few few_opens.
       part,
       now,
       writes,
-      reports_unopened (texts_of g.A.Analysis.text g.A.Report.outcome g.A.Analysis.bound g.A.Report.unopened kinds c.args.walker.now.analysis) kinds c.args.trace.now c.args.walker.now.limits (g.I.Inputs.faults c.args.inputs.now)
+      reports_unopened (texts_of g.G.Grammar.says g.A.Analysis.text g.A.Report.outcome g.A.Analysis.bound g.A.Report.unopened kinds c.args.walker.now.analysis) kinds c.args.trace.now c.args.walker.now.limits (g.I.Inputs.faults c.args.inputs.now)
           (g.I.Inputs.faults c.open.new.self) old new part _ c.args.steps.now few c.in_default.ensures.cause.failed opened
           (report_cut c.from_residual-in_err-write_line.result _ c.from_residual-in_err-write_line.ensures part rest (unopened_outcome (g.A.Report.unopened c.args.walker.now.analysis)) (sym c.unopened_text.ensures ∙ is)),
     )
@@ -56,7 +56,7 @@ returns-clause-reports g c = λ old told few few_opens.
     let kinds = kinds_in c.args.walker.now.roster in
     let start = c.args.walker.now.analysis in
     let status = ended_status c.report_opened.result in
-    let texts : ReportTexts = texts_of g.A.Analysis.text g.A.Report.outcome g.A.Analysis.bound g.A.Report.unopened kinds start in (
+    let texts : ReportTexts = texts_of g.G.Grammar.says g.A.Analysis.text g.A.Report.outcome g.A.Analysis.bound g.A.Report.unopened kinds start in (
       new,
       part,
       now,

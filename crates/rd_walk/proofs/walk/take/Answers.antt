@@ -5,28 +5,30 @@ use Rattle.rd_walk.proofs.walk.take.Goals as goal
 
 pub accept-requires-in-Ok : goal.accept-requires-in-Ok
 accept-requires-in-Ok g c =
-    let (kinds, start, before, stands, leads) = c.requires.stands in
+    let (kinds, start, before, stands, leads, behind) = c.requires.stands in
     let okay = c.in-Ok.ensures.ok kinds (items before) stands in
-    let next : IsNextEntry kinds c.accept.new.self before c.args.walker.now.line c.in-Ok.accepted = record {
+    let next : IsNextEntry kinds c.accept.new.self before c.args.number c.args.walker.now.line c.in-Ok.accepted = record {
       limits = c.args.walker.now.limits;
       usable = c.requires.usable;
       follows = c.in-Ok.ensures.follows kinds (items before) stands;
       numbers = okay.1;
       stands = okay.2;
       few = c.in-Ok.ensures.few kinds (items before) stands;
+      rising = behind;
     } in
     (kinds, start, before, c.args.walker.now.line, leads, next)
 
 pub returns-in_default-clause-taken : goal.returns-in_default-clause-taken
-returns-in_default-clause-taken g c = λ taken kinds start before stands leads.
+returns-in_default-clause-taken g c = λ taken kinds start before stands leads behind.
     let okay = c.in-Ok.ensures.ok kinds (items before) stands in
-    let next : IsNextEntry kinds c.accept.new.self before c.args.walker.now.line c.in-Ok.accepted = record {
+    let next : IsNextEntry kinds c.accept.new.self before c.args.number c.args.walker.now.line c.in-Ok.accepted = record {
       limits = c.args.walker.now.limits;
       usable = c.requires.usable;
       follows = c.in-Ok.ensures.follows kinds (items before) stands;
       numbers = okay.1;
       stands = okay.2;
       few = c.in-Ok.ensures.few kinds (items before) stands;
+      rising = behind;
     } in (
       okay.0,
       record {
@@ -38,15 +40,16 @@ returns-in_default-clause-taken g c = λ taken kinds start before stands leads.
     )
 
 pub returns-in-Err-clause-halted : goal.returns-in-Err-clause-halted
-returns-in-Err-clause-halted g c = λ kinds start before stands leads.
+returns-in-Err-clause-halted g c = λ kinds start before stands leads behind.
     let okay = c.in-Ok.ensures.ok kinds (items before) stands in
-    let next : IsNextEntry kinds c.accept.new.self before c.args.walker.now.line c.in-Ok.accepted = record {
+    let next : IsNextEntry kinds c.accept.new.self before c.args.number c.args.walker.now.line c.in-Ok.accepted = record {
       limits = c.args.walker.now.limits;
       usable = c.requires.usable;
       follows = c.in-Ok.ensures.follows kinds (items before) stands;
       numbers = okay.1;
       stands = okay.2;
       few = c.in-Ok.ensures.few kinds (items before) stands;
+      rising = behind;
     } in
     inr (
       okay.0,

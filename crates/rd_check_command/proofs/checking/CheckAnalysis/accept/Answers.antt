@@ -23,8 +23,8 @@ use Rattle.rd_check_command.proofs.ReportLemmas.{texts_grow}
 use Rattle.rd_check_command.proofs.checking.CheckAnalysis.accept.Goals as goal
 
 -- the event is the next one, at its place
-module _ (kinds : List Kind) (start now : Check) (before : List Entry) (item : Line) (roster : Roster) (numbers : Accepted) (e : Numbered) (is : numbers ≡ accepted.Event e)
-    (leads : CheckLeads kinds start before now) (next : IsNextEntry kinds roster before item numbers) where
+module _ (kinds : List Kind) (start now : Check) (before : List Entry) (number : ℕ) (item : Line) (roster : Roster) (numbers : Accepted) (e : Numbered) (is : numbers ≡ accepted.Event e)
+    (leads : CheckLeads kinds start before now) (next : IsNextEntry kinds roster before number item numbers) where
   event_line : IsNextLine (kinds_of start.spec.now) now.tracker (items before) item (accepted.Event e)
   event_line = subst (IsNextLine (kinds_of start.spec.now) now.tracker (items before) item) is (next_line kinds start now before roster item numbers leads next)
 
@@ -47,7 +47,7 @@ overflow_sub-events g c =
     let (kinds, start, before, item, leads, next) = c.requires in
     omega (
       arith,
-      counted kinds start c.args.self.now before item c.args.roster.now c.args.accepted.now c.in-Event.event c.in-Event.is leads next c.events.result
+      counted kinds start c.args.self.now before c.args.number item c.args.roster.now c.args.accepted.now c.in-Event.event c.in-Event.is leads next c.events.result
           (c.events.ensures kinds (items before ++ item ∷ []) next.stands),
     )
 
@@ -57,7 +57,7 @@ event-requires g c =
       start,
       before,
       item,
-      ready kinds start c.args.self.now before item c.args.roster.now c.args.accepted.now c.in-Event.event c.in-Event.is leads next c.events.result
+      ready kinds start c.args.self.now before c.args.number item c.args.roster.now c.args.accepted.now c.in-Event.event c.in-Event.is leads next c.events.result
           (c.events.ensures kinds (items before ++ item ∷ []) next.stands),
     )
 
@@ -110,7 +110,7 @@ returns-in-Event-clause-leads g c = on_ok_weaker c.event.result
     → Checks start (before ++ record { number = c.args.number; item = item } ∷ []) c.event.new.self) kinds start before item leads next. record {
       kinds_are = leads.kinds_are;
       checks = all start before item
-          (ready kinds start c.args.self.now before item c.args.roster.now c.args.accepted.now c.in-Event.event c.in-Event.is leads next c.events.result
+          (ready kinds start c.args.self.now before c.args.number item c.args.roster.now c.args.accepted.now c.in-Event.event c.in-Event.is leads next c.events.result
           (c.events.ensures kinds (items before ++ item ∷ []) next.stands));
     })
     c.event.ensures.checks
@@ -122,7 +122,7 @@ returns-in-Event-clause-written g c = on_ok_weaker c.event.result
     → WritesBetween (g.S.Sink.written c.args.out.now) (g.S.Sink.written c.event.new.out) (race_texts start.form start.spec.now before)
     (race_texts start.form start.spec.now (before ++ record { number = c.args.number; item = item } ∷ []))) kinds start before item leads next.
     wrote start before item
-    (ready kinds start c.args.self.now before item c.args.roster.now c.args.accepted.now c.in-Event.event c.in-Event.is leads next c.events.result
+    (ready kinds start c.args.self.now before c.args.number item c.args.roster.now c.args.accepted.now c.in-Event.event c.in-Event.is leads next c.events.result
     (c.events.ensures kinds (items before ++ item ∷ []) next.stands)))
     c.event.ensures.written
 
@@ -133,14 +133,14 @@ returns-in-Event-clause-halted g c = on_err_weaker c.event.result
     → WritesFront (g.S.Sink.written c.args.out.now) (g.S.Sink.written c.event.new.out) (race_texts start.form start.spec.now before)
     (race_texts start.form start.spec.now (before ++ record { number = c.args.number; item = item } ∷ []))) kinds start before item leads next.
     wrote start before item
-    (ready kinds start c.args.self.now before item c.args.roster.now c.args.accepted.now c.in-Event.event c.in-Event.is leads next c.events.result
+    (ready kinds start c.args.self.now before c.args.number item c.args.roster.now c.args.accepted.now c.in-Event.event c.in-Event.is leads next c.events.result
     (c.events.ensures kinds (items before ++ item ∷ []) next.stands)))
     c.event.ensures.halted
 
 pub returns-in-Event-clause-cost : goal.returns-in-Event-clause-cost
 returns-in-Event-clause-cost g c = λ kinds start before item leads next.
     c.event.ensures.cost start before item
-    (ready kinds start c.args.self.now before item c.args.roster.now c.args.accepted.now c.in-Event.event c.in-Event.is leads next c.events.result
+    (ready kinds start c.args.self.now before c.args.number item c.args.roster.now c.args.accepted.now c.in-Event.event c.in-Event.is leads next c.events.result
     (c.events.ensures kinds (items before ++ item ∷ []) next.stands))
 
 pub returns-in-Nothing-clause-leads : goal.returns-in-Nothing-clause-leads

@@ -5,20 +5,20 @@ use Rattle.rd_walk.specs.Walk.{items}
 use Rattle.rd_walk.proofs.TakingLemmas.{still}
 use Rattle.rd_walk.proofs.WalkLemmas.{judged_as, judged_bad, judged_broken, next_as}
 use Rattle.rd_wf.specs.Roster.{TakesBytes}
-use Rattle.rd_walk.proofs.walk.take_anywhere.Goals as goal
+use Rattle.rd_walk.proofs.grammar.take_anywhere.Goals as goal
 
 pub accept-requires : goal.accept-requires
 accept-requires g c =
-    let (kinds, start, before, stands, leads) = c.requires.stands in
+    let (kinds, start, before, stands, leads, behind) = c.requires.stands in
     let (item, is) = c.in-Ok.ensures kinds (items before) stands in
-    (kinds, start, before, item, leads, next_as kinds c.args.walker.now.limits before c.args.bytes.now item c.in-Ok.accepted c.accept_bytes.new.self c.requires.usable is)
+    (kinds, start, before, item, leads, next_as kinds c.args.walker.now.limits before c.args.number c.args.bytes.now item c.in-Ok.accepted c.accept_bytes.new.self c.requires.usable behind is)
 
 pub returns-in_default-clause-line : goal.returns-in_default-clause-line
 returns-in_default-clause-line g c = record {
-  taken = λ _ kinds start before stands leads.
+  taken = λ _ kinds start before stands leads behind.
       let limits = c.args.walker.now.limits in
       let (item, is) = c.in-Ok.ensures kinds (items before) stands in
-      let next = next_as kinds limits before c.args.bytes.now item c.in-Ok.accepted c.accept_bytes.new.self c.requires.usable is in (
+      let next = next_as kinds limits before c.args.number c.args.bytes.now item c.in-Ok.accepted c.accept_bytes.new.self c.requires.usable behind is in (
         item,
         judged_as kinds limits (items before) c.args.bytes.now item c.in-Ok.accepted c.accept_bytes.new.self is,
         record {
@@ -42,10 +42,10 @@ returns-in-Err-clause-line g c = record {
   refused = λ is. cc;
   silent = λ is. cc;
   memory = λ _ kinds before stands. let (item, is) = c.in-Ok.ensures kinds before stands in (item, is.says, inr is.follows);
-  halted = λ kinds start before stands leads.
+  halted = λ kinds start before stands leads behind.
       let limits = c.args.walker.now.limits in
       let (item, is) = c.in-Ok.ensures kinds (items before) stands in
-      let next = next_as kinds limits before c.args.bytes.now item c.in-Ok.accepted c.accept_bytes.new.self c.requires.usable is in
+      let next = next_as kinds limits before c.args.number c.args.bytes.now item c.in-Ok.accepted c.accept_bytes.new.self c.requires.usable behind is in
       inr (
         item,
         judged_as kinds limits (items before) c.args.bytes.now item c.in-Ok.accepted c.accept_bytes.new.self is,
@@ -98,5 +98,5 @@ returns-in-Err-NoMemory-clause-line g c = record {
       let limits = c.args.walker.now.limits in
       let (item, says, either, stays) = subst (λ e. TakesBytes ⊤ kinds limits before c.args.bytes.now c.args.walker.now.roster c.accept_bytes.new.self (Err e)) c.in-Err-NoMemory.field-0-is
       (c.in-Err-NoMemory.ensures kinds before stands) in (item, says, either);
-  halted = λ kinds start before stands leads. inl (refl, refl);
+  halted = λ kinds start before stands leads behind. inl (refl, refl);
 }
