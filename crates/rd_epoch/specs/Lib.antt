@@ -1,0 +1,5 @@
+pub mod Accesses
+pub mod EpochParts
+pub mod Epochs
+pub mod Taking
+pub mod TestRows
