@@ -2,6 +2,7 @@
 use Rattle.rd_adjacent_command.specs.Meanings.{adjacent_meaning}
 use Rattle.rd_walk.specs.Meanings.{Meaning, text_meaning}
 use Rattle.rd_check_command.specs.Meanings.{check_meaning}
+use Rattle.rd_epochs_command.specs.Meanings.{epochs_meaning}
 use Rattle.rd_decimals.specs.Decimals.{number_read}
 use Rattle.rd_ecl.specs.Specified.{kind_at}
 use Rattle.rd_gen.specs.declared.counts.TheConstants.{MOST_CALLS}
@@ -18,7 +19,7 @@ use Rattle.rd_rules.specs.MayFollow.{same_name}
 use Rattle.rd_spec_command.specs.Meanings.{kind_meaning, said_meaning}
 use Rattle.rd_walk.specs.Output.{Outcome}
 use Rattle.rd_walk.specs.declared.status.Status.TheVariants.{Usage}
-use Rattle.rd_run.specs.declared.commands.Command.TheVariants.{Adjacent, Check, Replay, Reorder, Spec, Points, Kind, Gen, GenText}
+use Rattle.rd_run.specs.declared.commands.Command.TheVariants.{Adjacent, Check, Epochs, Replay, Reorder, Spec, Points, Kind, Gen, GenText}
 use Rattle.rd_run.specs.declared.commands.Command.{Command}
 use Rattle.std.specs.List.{cons_option}
 use Rattle.std.specs.Option.{option_and_then}
@@ -48,6 +49,7 @@ command_of (word ∷ name ∷ []) =
     if same_name word (codes "check") then Some (Check Text)
     else if same_name word (codes "check-json") then Some (Check Json)
     else if same_name word (codes "replay") then Some Replay
+    else if same_name word (codes "epochs") then Some Epochs
     else if same_name word (codes "spec") then Some Spec
     else if same_name word (codes "points") then Some Points
     else if same_name word (codes "kind") then option_map Kind (named_number name) else None
@@ -88,6 +90,7 @@ abbrev pub meaning_of : List (List ℕ) → Option Command → Meaning
 meaning_of words None = usage_meaning
 meaning_of words (Some (Check form)) = check_meaning form (nth_word words 1) (slice_get words 2)
 meaning_of words (Some Replay) = replay_meaning (nth_word words 1)
+meaning_of words (Some Epochs) = epochs_meaning (nth_word words 1)
 meaning_of words (Some (Reorder number)) = reorder_meaning (nth_word words 1) number
 meaning_of words (Some (Adjacent first second)) = adjacent_meaning (nth_word words 1) first second
 meaning_of words (Some Spec) = said_meaning spec_text (nth_word words 1)

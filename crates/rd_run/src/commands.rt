@@ -19,6 +19,8 @@ pub enum Command {
     Check(Form),
     /// `replay TRACE`
     Replay,
+    /// `epochs TRACE`
+    Epochs,
     /// `reorder TRACE NUMBER`
     Reorder(u64),
     /// `adjacent TRACE LINE LINE`, by the two lines, the lesser first
@@ -83,6 +85,9 @@ fn command_of_two(word: &Word, name: &Word) -> Option<Command>
     }
     if word == b"replay".as_slice() {
         return Some(Command::Replay);
+    }
+    if word == b"epochs".as_slice() {
+        return Some(Command::Epochs);
     }
     if word == b"spec".as_slice() {
         return Some(Command::Spec);

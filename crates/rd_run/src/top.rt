@@ -21,6 +21,7 @@ use crate::commands::{Command, command_of, nth_word, third_word};
 use rd_adjacent_command::adjacent;
 use rd_base::{Limits, Steps, Word};
 use rd_check_command::{ToCheck, check};
+use rd_epochs_command::epochs;
 use rd_gen_command::{generate, generate_text};
 use rd_io::{Inputs, Sink};
 use rd_points_command::points;
@@ -83,6 +84,7 @@ fn obey<I: Inputs, S: Sink, L: Ledger>(
             check(alloc, &asked, inputs, out, limits, steps)
         }
         Command::Replay => replay(alloc, file, inputs, out, limits, steps),
+        Command::Epochs => epochs(alloc, file, inputs, out, limits, steps),
         Command::Reorder(number) => reorder(alloc, file, number, inputs, out, limits, steps),
         Command::Adjacent(first, second) => {
             adjacent(alloc, file, (first, second), inputs, out, limits, steps)
@@ -100,7 +102,7 @@ fn obey<I: Inputs, S: Sink, L: Ledger>(
 /// recorded results are those of the objects; `check-json TRACE` and `check-json TRACE SPEC`, the same as lines with one JSON object each;
 /// `replay TRACE`, which says this alone, and where it is so what the objects hold in the end; `reorder TRACE NUMBER`, which writes the
 /// trace in the order of its events that the number picks; `adjacent TRACE LINE LINE`, which writes it with the calls of two lines side by side, or
-/// the path that orders them;
+/// the path that orders them; `epochs TRACE`, which writes the first race of each variable of a trace of reads and writes;
 /// `spec SPEC`, which writes the canonical text of a specification, and `points SPEC`, which writes the access points of its kinds, or where
 /// and why it is refused; `kind NAME`, which writes the canonical text of a kind that is built in; `gen NUMBER COUNT`, which checks the
 /// trace of a number with so many calls and writes how many lines and calls it has and the ending of the report; or

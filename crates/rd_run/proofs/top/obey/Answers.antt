@@ -4,6 +4,7 @@ use Rattle.std.specs.Prelude.{option_map}
 use Rattle.rd_adjacent_command.specs.Meanings.{adjacent_meaning}
 use Rattle.rd_check_command.specs.Meanings.{check_meaning}
 use Rattle.rd_ecl.specs.Specified.{kind_at, no_kind}
+use Rattle.rd_epochs_command.specs.Meanings.{epochs_meaning}
 use Rattle.rd_gen_command.specs.GeneratedTexts.{gen_text_meaning}
 use Rattle.rd_gen_command.specs.Meanings.{gen_check_meaning}
 use Rattle.rd_kinds.specs.Shipped.{shipped_kinds}
@@ -14,7 +15,7 @@ use Rattle.rd_replay_command.specs.Meanings.{replay_meaning}
 use Rattle.rd_spec_command.specs.Meanings.{kind_meaning, said_meaning}
 use Rattle.rd_run.proofs.RunLemmas.{asked_for}
 use Rattle.rd_run.specs.Commands.{IsWithinBounds, nth_word, usage_meaning}
-use Rattle.rd_run.specs.declared.commands.Command.TheVariants.{Adjacent, Check, Replay, Reorder, Spec, Points, Kind, Gen, GenText}
+use Rattle.rd_run.specs.declared.commands.Command.TheVariants.{Adjacent, Check, Epochs, Replay, Reorder, Spec, Points, Kind, Gen, GenText}
 use Rattle.rd_walk.proofs.RanLemmas.{ran_beside}
 use Rattle.rd_walk.specs.Meanings.{Ran, seen}
 use Rattle.rd_walk.specs.Output.{ended_status}
@@ -45,6 +46,14 @@ returns-in-Replay g c =
     let status = ended_status c.replay.result in
     asked_for c.args.words.now (Some Replay) (ap Some (sym c.in-Replay.is) ∙ c.in-Some.ensures.asked) c.args.limits.now before after status
     (subst (λ name. Ran (replay_meaning name) c.args.limits.now before after status) c.nth_word-file.ensures c.replay.ensures)
+
+pub returns-in-Epochs : goal.returns-in-Epochs
+returns-in-Epochs g c =
+    let before = seen g.I.Inputs.told g.I.Inputs.faults c.args.inputs.now g.S.Sink.written g.S.Sink.faults g.S.Sink.at_fault c.args.out.now c.args.steps.now in
+    let after = seen g.I.Inputs.told g.I.Inputs.faults c.epochs.new.inputs g.S.Sink.written g.S.Sink.faults g.S.Sink.at_fault c.epochs.new.out c.epochs.new.steps in
+    let status = ended_status c.epochs.result in
+    asked_for c.args.words.now (Some Epochs) (ap Some (sym c.in-Epochs.is) ∙ c.in-Some.ensures.asked) c.args.limits.now before after status
+    (subst (λ name. Ran (epochs_meaning name) c.args.limits.now before after status) c.nth_word-file.ensures c.epochs.ensures)
 
 pub returns-in-Reorder : goal.returns-in-Reorder
 returns-in-Reorder g c =

@@ -1,0 +1,11 @@
+pub mod AccessedLemmas
+pub mod FirstLemmas
+pub mod ItemLemmas
+pub mod JudgeLemmas
+pub mod KeywordLemmas
+pub mod OutcomeLemmas
+pub mod QuietLemmas
+pub mod ReportLemmas
+pub mod SayingLemmas
+pub mod TextLemmas
+pub mod WatchLemmas

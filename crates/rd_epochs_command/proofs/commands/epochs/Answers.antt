@@ -1,0 +1,54 @@
+use Rattle.std.proofs.Common.{◌≢◌, ◌∙◌, subst, sym, ap, arith}
+use Rattle.std.specs.Prelude.{AllPairs}
+use Rattle.rd_ecl.specs.Kinds.{kind_names, kinds_of}
+use Rattle.rd_epoch.specs.Accesses.{variable_kind}
+use Rattle.rd_epochs_command.specs.Firsts.{epochs_texts}
+use Rattle.rd_epochs_command.specs.Watching.{WatchBegins, memory_kinds}
+use Rattle.rd_walk.proofs.RanLemmas.{ran_report_without}
+use Rattle.rd_walk.specs.Meanings.{Ran, report_meaning, seen}
+use Rattle.rd_walk.specs.Output.{ended_status}
+use Rattle.rd_wf.specs.Roster.{kinds_in}
+use Rattle.rd_epochs_command.proofs.commands.epochs.Goals as goal
+
+-- one kind has no name twice
+one_name : AllPairs (λ x y. x ≢ y) (kind_names memory_kinds)
+unfolding variable_kind
+one_name = λ i j d less inside. absurd (omega (arith, less, inside))
+
+pub new-requires-3-clause-few : goal.new-requires-3-clause-few
+new-requires-3-clause-few g c = rw c.in_ok-spec.ensures (omega arith)
+
+pub new-requires-3-clause-different : goal.new-requires-3-clause-different
+new-requires-3-clause-different g c = subst (λ kinds. AllPairs (λ x y. x ≢ y) (kind_names (kinds_of kinds))) (sym c.in_ok-spec.ensures) one_name
+
+pub returns-in_err-spec : goal.returns-in_err-spec
+returns-in_err-spec g c =
+    ran_report_without epochs_texts memory_kinds c.args.trace.now c.args.limits.now
+    (seen g.I.Inputs.told g.I.Inputs.faults c.args.inputs.now g.S.Sink.written g.S.Sink.faults g.S.Sink.at_fault c.args.out.now c.args.steps.now)
+    c.from_residual.result c.from_residual.ensures
+
+pub returns-in_err-lines : goal.returns-in_err-lines
+returns-in_err-lines g c =
+    ran_report_without epochs_texts memory_kinds c.args.trace.now c.args.limits.now
+    (seen g.I.Inputs.told g.I.Inputs.faults c.args.inputs.now g.S.Sink.written g.S.Sink.faults g.S.Sink.at_fault c.args.out.now c.args.steps.now)
+    c.from_residual-in_err-lines.result c.from_residual-in_err-lines.ensures
+
+pub returns-in_err-walker : goal.returns-in_err-walker
+returns-in_err-walker g c =
+    ran_report_without epochs_texts memory_kinds c.args.trace.now c.args.limits.now
+    (seen g.I.Inputs.told g.I.Inputs.faults c.args.inputs.now g.S.Sink.written g.S.Sink.faults g.S.Sink.at_fault c.args.out.now c.args.steps.now)
+    c.from_residual-in_err-walker.result c.from_residual-in_err-walker.ensures
+
+pub report_trace-ended-requires-clause-begins : goal.report_trace-ended-requires-clause-begins
+report_trace-ended-requires-clause-begins g c =
+    subst (WatchBegins (kinds_in c.in_ok-walker.walker.roster)) (sym c.in_ok-walker.ensures.analysis)
+    (record { kinds_are = c.in_ok-walker.ensures.kinds ∙ ap kinds_of c.in_ok-spec.ensures; new = c.new-2.ensures })
+
+pub returns : goal.returns
+returns g c =
+    let before = seen g.I.Inputs.told g.I.Inputs.faults c.args.inputs.now g.S.Sink.written g.S.Sink.faults g.S.Sink.at_fault c.args.out.now c.args.steps.now in
+    let after = seen g.I.Inputs.told g.I.Inputs.faults c.report_trace-ended.new.inputs g.S.Sink.written g.S.Sink.faults g.S.Sink.at_fault c.report_trace-ended.new.out c.report_trace-ended.new.steps in
+    let status = ended_status c.report_trace-ended.result in
+    let kinds = c.in_ok-walker.ensures.kinds ∙ ap kinds_of c.in_ok-spec.ensures in
+    subst (λ (T : Type 0). T) (λ i. Ran (report_meaning epochs_texts (kinds i) c.args.trace.now) (c.in_ok-walker.ensures.limits i) before after status)
+    c.report_trace-ended.ensures

@@ -1,0 +1,355 @@
+//! The lines of a trace of reads and writes.
+ghost use Rattle.std.specs.Prelude.{◌≡◌, ◌≢◌, ◌∷◌, [], ◌++◌, List, ℕ, Ok, Some, IfNone, IfSome, codes, false, true, option_map};
+ghost use Rattle.rd_base.specs.Limits.{AreUsable};
+ghost use Rattle.rd_base.specs.Names.{IsName};
+ghost use Rattle.rd_base.specs.declared.values.Value.TheVariants.{Nil};
+ghost use Rattle.rd_ecl.specs.Kinds.{Kind};
+ghost use Rattle.rd_epochs_command.specs.Lines.{SayAccess, TakesItem, WasJudged};
+ghost use Rattle.rd_event.specs.Reading.{names_read};
+ghost use Rattle.rd_event.specs.declared.items.Line.{Line as Item};
+ghost use Rattle.rd_memory.specs.MemoryLines.{access_keyword, access_of, memory_line_of};
+ghost use Rattle.rd_memory.specs.MemoryTraces.{access_call, memory_says};
+ghost use Rattle.rd_rules.specs.MayFollow.{is_among, objects_of};
+ghost use Rattle.rd_walk.specs.Analysis.{AreBefore, TellsFault};
+ghost use Rattle.rd_walk.specs.Taking.{TakesGrammarLine};
+ghost use Rattle.rd_walk.specs.Walk.{Entry, items};
+ghost use Rattle.rd_wf.specs.Roster.{RosterStandsFor, TakesNames};
+
+use rd_base::{Limits, NoMemory, Slots, Steps, Value};
+use rd_event::is_skipped;
+use rd_io::Sink;
+use rd_memory::law_of_keywords;
+use rd_tables::cut_at_space;
+use rd_walk::{Analysis, Grammar, Halt, Taken, Walker, take_anywhere, take_keyword};
+use rd_wf::{
+    Accepted, AcquireLine, Anywhere, BytesRefused, Finder, JoinLine, Judged, Near, ReleaseLine,
+    Roster, TraceCause,
+};
+use std::alloc::Global;
+use std::sync::ledger::Ledger;
+
+/// The lines of a trace of reads and writes. An access is a call without arguments, whose result is nil; the first one to a variable declares it.
+#[derive(Drop)]
+pub struct MemoryLines {
+    /// the result of each access
+    result: Slots,
+    ghost is_nil: { result ≡ Nil ∷ [] },
+}
+
+/// The words of an access.
+#[derive(Clone, Copy)]
+pub(crate) struct Words<'a> {
+    pub(crate) thread: &'a [u8],
+    pub(crate) variable: &'a [u8],
+    pub(crate) write: bool,
+}
+
+// The method of an access.
+#[inline(always)]
+fn keyword_of(write: bool) -> &'static [u8]
+    ensures { result.now ≡ access_keyword write }
+{
+    if write { b"write" } else { b"read" }
+}
+
+// The line is refused.
+fn refuse<A: Analysis>(walker: &mut Walker<A>, cause: TraceCause) -> Result<Taken, Halt>
+    ensures refused { result ≡ Ok Taken.Refused }
+    ensures cause { walker.new.refused ≡ Some cause }
+    ensures same { (walker.new.roster ≡ walker.old.roster) × (walker.new.analysis ≡ walker.old.analysis)
+        × (walker.new.limits ≡ walker.old.limits) }
+{
+    walker.refused = Some(cause);
+    Ok(Taken::Refused)
+}
+
+// Whether no object has this name.
+fn is_undeclared(roster: &Roster, name: &[u8]) -> bool
+    ensures undeclared { result ≡ true → (kinds : List Kind) (lines : List Item) →
+        RosterStandsFor kinds roster.now lines → is_among (objects_of lines) name.now ≡ false }
+    ensures declared { result ≡ false → IsName name.now → (kinds : List Kind) (lines : List Item) →
+        RosterStandsFor kinds roster.now lines → is_among (objects_of lines) name.now ≡ true }
+{
+    match Anywhere::object(roster, 0, name) {
+        Some(found) => found.unknown,
+        None => false,
+    }
+}
+
+// An item that the roster accepted is handed on.
+#[inline(always)]
+fn hand_on<A: Analysis, S: Sink, L: Ledger>(
+    walker: &mut Walker<A>,
+    number: u64,
+    accepted: &Accepted,
+    out: &mut S,
+    steps: &mut Steps<L>,
+) -> Result<Taken, Halt>
+    requires usable { AreUsable walker.old.limits }
+    requires next { (old : Walker A) × (item : Item) × WasJudged old walker.old item (Ok accepted.now)
+        × (kinds : List Kind) × (start : A) × (before : List Entry)
+        × RosterStandsFor kinds old.roster (items before)
+        × A.leads kinds start before old.analysis × AreBefore number before }
+    ensures item { (old : Walker A) (item : Item) → WasJudged old walker.old item (Ok accepted.now) →
+        TakesItem A.leads A.text A.bound number item old walker.new
+        (S.written out.old) (S.written out.new) steps.old steps.new result }
+    ensures accepted { result ≢ Ok Taken.Refused }
+    ensures limits { walker.new.limits ≡ walker.old.limits }
+    ensures fault { TellsFault (S.faults out.old) (S.faults out.new) (S.at_fault out.new)
+        (S.written out.new) result }
+{
+    match walker
+        .analysis
+        .accept(number, accepted, &walker.roster, out, steps)
+    {
+        Ok(()) => Ok(Taken::Accepted),
+        Err(halt) => Err(halt),
+    }
+}
+
+// What the roster judged of an item is done.
+fn finish<A: Analysis, S: Sink, L: Ledger>(
+    walker: &mut Walker<A>,
+    number: u64,
+    judged: Judged,
+    out: &mut S,
+    steps: &mut Steps<L>,
+) -> Result<Taken, Halt>
+    requires usable { AreUsable walker.old.limits }
+    requires next { (old : Walker A) × (item : Item) × WasJudged old walker.old item judged
+        × (kinds : List Kind) × (start : A) × (before : List Entry)
+        × RosterStandsFor kinds old.roster (items before)
+        × A.leads kinds start before old.analysis × AreBefore number before }
+    ensures item { (old : Walker A) (item : Item) → WasJudged old walker.old item judged →
+        TakesItem A.leads A.text A.bound number item old walker.new
+        (S.written out.old) (S.written out.new) steps.old steps.new result }
+    ensures limits { walker.new.limits ≡ walker.old.limits }
+    ensures fault { TellsFault (S.faults out.old) (S.faults out.new) (S.at_fault out.new)
+        (S.written out.new) result }
+{
+    match judged {
+        Ok(accepted) => hand_on(walker, number, &accepted, out, steps),
+        Err(refused) => match refused {
+            BytesRefused::BadLine => unreachable!(),
+            BytesRefused::Cause(cause) => refuse(walker, TraceCause::Wf(cause)),
+            BytesRefused::NoMemory => Err(Halt::NoMemory),
+        },
+    }
+}
+
+impl MemoryLines {
+    /// The lines of a trace of reads and writes. Its error is want of memory.
+    pub fn new(alloc: Global) -> Result<MemoryLines, NoMemory> {
+        let mut result = Slots::new(alloc);
+        result.push(Value::Nil)?;
+        Ok(MemoryLines { result })
+    }
+
+    // Accepts an access, as the call that it is.
+    #[inline(always)]
+    fn judge<F: Finder>(&self, roster: &mut Roster, words: Words, limits: &Limits) -> Judged
+        ensures { TakesNames F.complete (IsName words.entry.thread.now × IsName words.entry.variable.now) roster.old roster.new limits.now
+            (access_call words.entry.thread.now words.entry.variable.now words.entry.write) result }
+    {
+        roster.call_apart::<F>(
+            words.thread,
+            words.variable,
+            keyword_of(words.write),
+            &self.result,
+            limits,
+        )
+    }
+
+    // Takes the first access to a variable: it is declared, and then the access is judged.
+    #[inline(never)]
+    fn take_first<A: Analysis, S: Sink, L: Ledger>(
+        &self,
+        walker: &mut Walker<A>,
+        number: u64,
+        words: Words,
+        out: &mut S,
+        steps: &mut Steps<L>,
+    ) -> Result<Taken, Halt>
+        requires usable { AreUsable walker.old.limits }
+        requires stands { (kinds : List Kind) × (start : A) × (before : List Entry)
+            × RosterStandsFor kinds walker.old.roster (items before)
+            × A.leads kinds start before walker.old.analysis × AreBefore number before }
+        requires named { IsName words.thread.now × IsName words.variable.now }
+        requires undeclared { (kinds : List Kind) (lines : List Item) →
+            RosterStandsFor kinds walker.old.roster lines → is_among (objects_of lines) words.variable.now ≡ false }
+        ensures limits { walker.new.limits ≡ walker.old.limits }
+        ensures line { (bytes : List ℕ) → SayAccess bytes words.entry →
+            TakesGrammarLine memory_says A.leads A.text A.bound number bytes walker.old walker.new
+            (S.written out.old) (S.written out.new) steps.old steps.new result }
+        ensures fault { TellsFault (S.faults out.old) (S.faults out.new) (S.at_fault out.new)
+            (S.written out.new) result }
+    {
+        let declared = walker
+            .roster
+            .object(words.variable, b"variable", &walker.limits);
+        match finish(walker, number, declared, out, steps) {
+            Ok(Taken::Accepted) => {}
+            Ok(Taken::Refused) => return Ok(Taken::Refused),
+            Err(halt) => return Err(halt),
+        }
+        let judged = self.judge::<Anywhere>(&mut walker.roster, words, &walker.limits);
+        finish(walker, number, judged, out, steps)
+    }
+
+    // Takes an access, each of whose names is found.
+    #[inline(never)]
+    fn take_far<A: Analysis, S: Sink, L: Ledger>(
+        &self,
+        walker: &mut Walker<A>,
+        number: u64,
+        words: Words,
+        out: &mut S,
+        steps: &mut Steps<L>,
+    ) -> Result<Taken, Halt>
+        requires usable { AreUsable walker.old.limits }
+        requires stands { (kinds : List Kind) × (start : A) × (before : List Entry)
+            × RosterStandsFor kinds walker.old.roster (items before)
+            × A.leads kinds start before walker.old.analysis × AreBefore number before }
+        ensures limits { walker.new.limits ≡ walker.old.limits }
+        ensures line { (bytes : List ℕ) → SayAccess bytes words.entry →
+            TakesGrammarLine memory_says A.leads A.text A.bound number bytes walker.old walker.new
+            (S.written out.old) (S.written out.new) steps.old steps.new result }
+        ensures fault { TellsFault (S.faults out.old) (S.faults out.new) (S.at_fault out.new)
+            (S.written out.new) result }
+    {
+        match self.judge::<Anywhere>(&mut walker.roster, words, &walker.limits) {
+            Ok(accepted) => hand_on(walker, number, &accepted, out, steps),
+            Err(BytesRefused::BadLine) => refuse(walker, TraceCause::BadLine),
+            Err(BytesRefused::Cause(cause)) => {
+                if is_undeclared(&walker.roster, words.variable) {
+                    return self.take_first(walker, number, words, out, steps);
+                }
+                refuse(walker, TraceCause::Wf(cause))
+            }
+            Err(BytesRefused::NoMemory) => Err(Halt::NoMemory),
+        }
+    }
+
+    // Takes an access with these names, which are looked for near first.
+    #[inline(always)]
+    fn take_access<A: Analysis, S: Sink, L: Ledger>(
+        &self,
+        walker: &mut Walker<A>,
+        number: u64,
+        names: &[u8],
+        write: bool,
+        out: &mut S,
+        steps: &mut Steps<L>,
+    ) -> Result<Taken, Halt>
+        requires usable { AreUsable walker.old.limits }
+        requires stands { (kinds : List Kind) × (start : A) × (before : List Entry)
+            × RosterStandsFor kinds walker.old.roster (items before)
+            × A.leads kinds start before walker.old.analysis × AreBefore number before }
+        ensures limits { walker.new.limits ≡ walker.old.limits }
+        ensures line { (bytes : List ℕ) → memory_line_of bytes ≡ option_map (access_of write) (names_read names.now) →
+            TakesGrammarLine memory_says A.leads A.text A.bound number bytes walker.old walker.new
+            (S.written out.old) (S.written out.new) steps.old steps.new result }
+        ensures fault { TellsFault (S.faults out.old) (S.faults out.new) (S.at_fault out.new)
+            (S.written out.new) result }
+    {
+        let Some((thread, variable)) = cut_at_space(names) else {
+            return refuse(walker, TraceCause::BadLine);
+        };
+        let words = Words {
+            thread,
+            variable,
+            write,
+        };
+        let Ok(accepted) = self.judge::<Near>(&mut walker.roster, words, &walker.limits) else {
+            return self.take_far(walker, number, words, out, steps);
+        };
+        hand_on(walker, number, &accepted, out, steps)
+    }
+}
+
+// Takes a line that is no access, no acquire, no release and no join.
+#[inline(never)]
+fn take_rare<A: Analysis, S: Sink, L: Ledger>(
+    walker: &mut Walker<A>,
+    number: u64,
+    bytes: &[u8],
+    out: &mut S,
+    steps: &mut Steps<L>,
+) -> Result<Taken, Halt>
+    requires usable { AreUsable walker.old.limits }
+    requires stands { (kinds : List Kind) × (start : A) × (before : List Entry)
+        × RosterStandsFor kinds walker.old.roster (items before)
+        × A.leads kinds start before walker.old.analysis × AreBefore number before }
+    requires read { (rest : List ℕ) → bytes.now ≢ codes "read " ++ rest }
+    requires write { (rest : List ℕ) → bytes.now ≢ codes "write " ++ rest }
+    requires acquire { (rest : List ℕ) → bytes.now ≢ codes "acquire " ++ rest }
+    requires release { (rest : List ℕ) → bytes.now ≢ codes "release " ++ rest }
+    requires join { (rest : List ℕ) → bytes.now ≢ codes "join " ++ rest }
+    ensures limits { walker.new.limits ≡ walker.old.limits }
+    ensures line { TakesGrammarLine memory_says A.leads A.text A.bound number bytes.now walker.old walker.new
+        (S.written out.old) (S.written out.new) steps.old steps.new result }
+    ensures fault { TellsFault (S.faults out.old) (S.faults out.new) (S.at_fault out.new)
+        (S.written out.new) result }
+{
+    law_of_keywords();
+    if behind(bytes, b"fork ").is_some() {
+        return take_anywhere(walker, number, bytes, out, steps);
+    }
+    if behind(bytes, b"thread ").is_some() {
+        return take_anywhere(walker, number, bytes, out, steps);
+    }
+    if is_skipped(bytes) {
+        return take_anywhere(walker, number, bytes, out, steps);
+    }
+    if bytes == b"rdmem 1".as_slice() {
+        // it says what the header of a trace says
+        return take_anywhere(walker, number, b"rdtrace 1", out, steps);
+    }
+    refuse(walker, TraceCause::BadLine)
+}
+
+// What stands behind the text, if the bytes begin with it.
+#[inline(always)]
+fn behind<'a>(bytes: &'a [u8], text: &[u8]) -> Option<&'a [u8]>
+    ensures some { IfSome result (λ rest. bytes.now ≡ text.now ++ rest.now) }
+    ensures none { IfNone result ((rest : List ℕ) → bytes.now ≢ text.now ++ rest) }
+{
+    bytes.strip_prefix(text)
+}
+
+impl Grammar for MemoryLines {
+    ghost use Rattle.rd_memory.specs.MemoryTraces.{memory_says};
+
+    ghost says = { memory_says };
+
+    fn take_line<A: Analysis, S: Sink, L: Ledger>(
+        &self,
+        walker: &mut Walker<A>,
+        number: u64,
+        bytes: &[u8],
+        out: &mut S,
+        steps: &mut Steps<L>,
+    ) -> Result<Taken, Halt> {
+        law_of_keywords();
+        if let Some(names) = behind(bytes, b"read ") {
+            return self.take_access(walker, number, names, false, out, steps);
+        }
+        if let Some(names) = behind(bytes, b"write ") {
+            return self.take_access(walker, number, names, true, out, steps);
+        }
+        if behind(bytes, b"acquire ").is_some() {
+            return take_keyword::<AcquireLine, A, S, L>(walker, number, bytes, out, steps);
+        }
+        if behind(bytes, b"release ").is_some() {
+            return take_keyword::<ReleaseLine, A, S, L>(walker, number, bytes, out, steps);
+        }
+        if behind(bytes, b"join ").is_some() {
+            return take_keyword::<JoinLine, A, S, L>(walker, number, bytes, out, steps);
+        }
+        take_rare(walker, number, bytes, out, steps)
+    }
+
+    fn law_of_skipped_bytes(&self) {
+        law_of_keywords();
+    }
+}
