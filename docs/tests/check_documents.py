@@ -15,7 +15,7 @@ OUTSIDE = {'out'}                                 # folders of crates that build
 MADE = {'run.trace', 'run.out', 'report.txt'}     # files that a command in a document writes
 ENDINGS = r'\.(?:trace|spec|out|md|py|rt|antt|edit|txt|java|go|cpp|hpp)'
 PROGRAM = r'(?:crates/rd2/out/)?rd2'
-REPORT = re.compile(r'(race line \d|races \d|replay (exact|differs line \d|not shipped)|verdict (deterministic|not shown)|refused (line|spec line) \d|refused usage)')
+REPORT = re.compile(r'(race line \d|first \S+ line \d|races \d|replay (exact|differs line \d|not shipped)|verdict (deterministic|not shown)|refused (line|spec line) \d|refused usage)')
 
 faults, checked = [], collections.Counter()
 
@@ -205,7 +205,7 @@ def stored(words):
     if len(words) < 2 or not words[1].startswith('examples/'):
         return None
     base, ending = words[1].rsplit('.', 1)
-    path = TOP / {'check': base + '.out', 'replay': base + '.replay.out', 'points': base + '.points.out',
+    path = TOP / {'check': base + '.out', 'epochs': base + '.out', 'replay': base + '.replay.out', 'points': base + '.points.out',
                   'spec': base + '.spec.out'}.get(words[0], 'none')
     return path if path.is_file() else None
 
@@ -265,15 +265,15 @@ def variants(document, spec, first, last):
 
 def check_whole_texts(document, program):
     """Whole traces and specifications give what is shown behind them; other reports stand in a file of examples/."""
-    spec = trace = None
+    spec = trace = command = None
     before = 0                                    # where the block before ends
     reports = ['\n' + path.read_text() for path in (TOP / 'examples').glob('*.out')]
     for block in document.blocks:
         text = '\n'.join(block) + '\n'
         if head(block) == 'rdspec 1':
             spec, trace = text, None
-        elif head(block) == 'rdtrace 1':
-            trace = text
+        elif head(block) in ('rdtrace 1', 'rdmem 1'):
+            trace, command = text, 'check' if head(block) == 'rdtrace 1' else 'epochs'
         elif REPORT.match(block[0]):
             refused = block[0].startswith('refused spec')
             if not trace and not (refused and spec):
@@ -286,7 +286,7 @@ def check_whole_texts(document, program):
                 if refused:
                     answers = [program.run_on('spec', each) for each in specs]
                 else:
-                    answers = [program.run_on('check', trace, *specs[:1])]
+                    answers = [program.run_on(command, trace, *specs[:command == 'check'])]
                 if block not in answers:
                     fault(document, block.first, f'the text above it gives {" / ".join(answers[-1][:2])}')
         elif head(block).startswith('kind ') and program:
@@ -338,12 +338,13 @@ def check_bad_lines(document, program):
         for bad, codes in zip((True, False), cells):
             for code in codes:
                 body = as_bytes(code)
-                if not bad and not re.match(rb'(call|fork|rdtrace|nil|true|-?\d|".*"$)', body):
+                access = re.match(rb'(read|write) ', body)
+                if not bad and not access and not re.match(rb'(call|fork|rdtrace|nil|true|-?\d|".*"$)', body):
                     continue                      # a part of a line
-                if not re.match(rb'(call|fork|\xef\xbb\xbf|rdtrace)', body):
+                if not access and not re.match(rb'(call|fork|\xef\xbb\xbf|rdtrace)', body):
                     body = b'call a x write ' + body + b' -> nil'
-                begin = b'' if b'rdtrace' in body else b'rdtrace 1\nthread main\nthread a\nobject x register\n'
-                answer = program.run_on('check', begin + body + b'\n')
+                begin = b'rdmem 1\nthread a\n' if access else b'' if b'rdtrace' in body else b'rdtrace 1\nthread main\nthread a\nobject x register\n'
+                answer = program.run_on('epochs' if access else 'check', begin + body + b'\n')
                 checked['lines that look right, run'] += 1
                 if bad != any(re.fullmatch(r'refused line \d+ bad-line', line) for line in answer):
                     fault(document, number, f'`{code}` gives {answer[-1]}')

@@ -135,11 +135,26 @@ join main a
 join main b
 call main d size -> 1
 '''
+ACCESSES = '''rdmem 1
+thread main
+write main v
+fork main a
+fork main b
+fork main c
+read a v
+read b v
+read c v
+acquire c l
+write main v
+write main w
+read b w
+'''
 COMMANDS = [
     ['check', 'trace'], ['check', 'flags', 'kinds'], ['check', 'quiet'], ['check-json', 'flags', 'kinds'], ['replay', 'quiet'], ['reorder', 'quiet', '7'],
-    ['spec', 'kinds'], ['points', 'kinds'], ['kind', 'dictionary'], ['gen', '2', '40'], ['gen-text', '2', '40'], ['check', 'wrong'], ['no-command'],
+    ['spec', 'kinds'], ['points', 'kinds'], ['kind', 'dictionary'], ['gen', '2', '40'], ['gen-text', '2', '40'], ['check', 'wrong'], ['epochs', 'accesses'],
+    ['no-command'],
 ]
-FILES = {'trace': TRACE, 'flags': FLAGS, 'kinds': KINDS, 'quiet': QUIET, 'wrong': 'rdtrace 1\nthread p\njoin p p\n'}
+FILES = {'trace': TRACE, 'flags': FLAGS, 'kinds': KINDS, 'quiet': QUIET, 'accesses': ACCESSES, 'wrong': 'rdtrace 1\nthread p\njoin p p\n'}
 
 RACES = [
     'race line 6 b d put "k" 2 -> 1 clock b:1\nwith line 5 a d put "k" 1 -> nil clock a:1\n'
@@ -197,7 +212,7 @@ def check_inputs(program, words, status, text):
         answer, written, _ = program.run(words, PIECE=PIECE, FAIL_INPUT=number)
         if words == ['check', 'trace']:
             ask((answer, written) == (6, TAKEN[number - 1]), words, 'input', number, answer, written)
-        elif words[0] in ('check', 'check-json'):
+        elif words[0] in ('check', 'check-json', 'epochs'):
             # a front of the races' lines, and then the fault
             lines = written.splitlines()
             told = lines[-1] in ('fault input', '{"ending":"fault input"}') or lines[-1].startswith('{"ending":"fault input","races":')

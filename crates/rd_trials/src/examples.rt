@@ -55,6 +55,11 @@ const EXAMPLES: &str = "\
     check updates_in_turn.trace updates_in_turn.out\n\
     check word_count.trace word_count.out\n\
     check-json dictionary_update.trace dictionary_update.json.out\n\
+    epochs forgotten_reader.trace forgotten_reader.out\n\
+    epochs lazy_value.trace lazy_value.out\n\
+    epochs lazy_value_under_its_lock.trace lazy_value_under_its_lock.out\n\
+    epochs recorded_accesses.trace recorded_accesses.out\n\
+    epochs two_puts_as_writes.trace two_puts_as_writes.out\n\
     replay check_then_act.trace check_then_act.replay.out\n\
     replay dictionary_update.trace dictionary_update.replay.out\n\
     replay guarded_counter.trace guarded_counter.replay.out\n\
