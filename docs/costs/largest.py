@@ -46,6 +46,13 @@ def objects():
     return ['rdtrace 1', 'thread main', *[f'object o{i} dictionary' for i in range(OBJECTS)], *[f'call main o{i} put 1 2 -> nil' for i in range(OBJECTS)]]
 
 
+def variables():
+    """All variables, each written, and then read by 64 threads, of which none knows of another."""
+    names = [f't{i}' for i in range(64)]
+    return ['rdmem 1', 'thread main', *[f'write main v{i}' for i in range(OBJECTS)], *[f'fork main {t}' for t in names],
+            *[f'read {t} v{i}' for t in names for i in range(OBJECTS)]]
+
+
 def long_lines():
     """Lines as long as they may be: comments, and calls with seven texts of 255 bytes that are written as four each."""
     text = '"' + '\\x00' * 255 + '"'
@@ -101,6 +108,7 @@ def one_call_each():
 ROWS = [
     ('threads', ['check'], [threads]), ('threads that meet', ['check'], [threads_that_meet]), ('locks', ['check'], [locks]),
     ('locks of all threads', ['check'], [locks_of_all_threads]), ('objects', ['check'], [objects]),
+    ('variables', ['epochs'], [variables]),
     ('long lines', ['check'], [long_lines, long_lines_kinds]), ('longest specification', ['spec'], [longest_specification]),
     ('largest kinds: spec', ['spec'], [largest_kinds]), ('largest kinds: points', ['points'], [largest_kinds]),
     ('largest kinds: check', ['check'], [empty, largest_kinds]), ('largest kinds: calls', ['check'], [one_call_each, largest_kinds]),
