@@ -5,9 +5,10 @@
 
 On N random traces of reads and writes, some of which end with a line that is refused, the whole output and the status have to be those of the slow
 program: it orders all pairs of events, and asks of each access all earlier ones to its variable. Where a trace was read to its end, `check` has to tell the same
-first races of the trace of objects that it stands for. Ends with 1 where something differs.
+first races of the trace of objects that it stands for. Of what the recorder of accesses prints, in whatever order its threads ran, the unguarded field alone has to
+race. Ends with 1 where something differs.
 """
-import argparse, collections, pathlib, random, re, sys, tempfile
+import argparse, collections, pathlib, random, re, subprocess, sys, tempfile
 
 sys.dont_write_bytecode = True
 from check_orders import Runs, reaching
@@ -204,6 +205,15 @@ def check_trace(runs, spec, text, counts):
     return None
 
 
+def check_recorder(runs):
+    """What is wrong with the answer to a recorded run, or none."""
+    recorder = pathlib.Path(__file__).resolve().parents[1] / 'recorders' / 'python' / 'accesses.py'
+    runs.trace.write_bytes(subprocess.run([sys.executable, recorder], check=True, stdout=subprocess.PIPE).stdout)
+    status, told = runs.run('epochs', runs.trace)
+    wanted = r'first account\.balance line \d+ with line \d+\nraces 1\n'
+    return None if status == 1 and re.fullmatch(wanted, told) else f'epochs answers {(status, told)}'
+
+
 def main():
     options = argparse.ArgumentParser(usage=__doc__)
     options.add_argument('--rd2', required=True)
@@ -221,6 +231,12 @@ def main():
                 good = False
                 print(f'seed {seed}: {wrong}\n{text}', flush=True)
             counts['traces'] += 1
+        for _ in range(10):
+            wrong = check_recorder(runs)
+            if wrong:
+                good = False
+                print(f'a recorded run: {wrong}', flush=True)
+            counts['recorded runs'] += 1
     print(', '.join(f'{count} {what}' for what, count in sorted(counts.items())))
     sys.exit(0 if good else 1)
 
