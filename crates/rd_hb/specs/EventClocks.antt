@@ -1,8 +1,8 @@
 -- Vector clocks: Fidge 1988 and Mattern 1989.
-use Rattle.std.specs.Prelude.{◌≡◌, ◌⊎◌, ℕ, suc, List, length, Some, slice_get}
+use Rattle.std.specs.Prelude.{◌≡◌, ◌⊎◌, ℕ, suc, List, length}
 use Rattle.rd_event.specs.declared.events.Event.{Event}
 use Rattle.rd_order.specs.Counts.{Counts}
-use Rattle.rd_order.specs.Order.{IsOf, Reaches, thread_of}
+use Rattle.rd_order.specs.Order.{IsOf, Reaches}
 
 -- the event at place i is the o-th of thread t, counted from 1
 abbrev pub OwnNumber : List Event → ℕ → ℕ → ℕ → Type 0

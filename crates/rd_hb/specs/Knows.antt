@@ -1,7 +1,7 @@
 -- What is known after a list of events: what a clock counts that carries on from some places (Fidge 1988 and Mattern 1989).
 use Rattle.std.specs.Prelude.{◌≡◌, ◌⊎◌, ℕ, List, length, Some, slice_get}
 use Rattle.rd_event.specs.declared.events.Event.{Event}
-use Rattle.rd_order.specs.Order.{Hold, IsOf, Reaches, forked_thread, hold_given}
+use Rattle.rd_order.specs.Order.{IsOf, Reaches, forked_thread}
 use Rattle.rd_order.specs.Counts.{Counts}
 
 -- ---- where a clock carries on from

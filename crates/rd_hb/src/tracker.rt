@@ -1,5 +1,6 @@
 //! The clocks of the threads of a trace, and of its locks.
 ghost use Rattle.std.specs.Prelude.{◌≡◌, ◌≢◌, ◌⊎◌, ◌↔◌, ℕ, ◌+◌, ◌*◌, ◌<◌, ◌≤◌, Bool, true, false, ◌==◌, max, ◌||◌, if◌then◌else◌, List, [], ◌∷◌, ◌++◌, length, slice_index_or, slice_set, Option, Some, None, IfSome, IfOk, OnOk, OnErr, IsTrue};
+ghost use Rattle.rd_event.specs.declared.events.Call.{Call as CallOf};
 ghost use Rattle.rd_event.specs.declared.events.Event.{Event as EventOf};
 ghost use Rattle.rd_event.specs.declared.events.Event.TheVariants as event;
 ghost use Rattle.rd_order.specs.EventLists.{threads_after};
@@ -170,6 +171,27 @@ impl Tracker {
                 Ok(())
             }
         }
+    }
+
+    /// Takes the next event, which is a call of this thread, as `pass` does. It takes no memory.
+    #[inline(always)]
+    pub fn pass_call<L: Ledger>(&mut self, thread: u32, steps: &mut Steps<L>)
+        requires next { (roots : ℕ → Bool) × (es : List EventOf) × (call : CallOf) × (call.thread ≡ thread)
+            × IsNextEvent self.old roots es (event.Call call) }
+
+        // the event is stamped, and the tracker stands for it too
+        ensures stamp { (roots : ℕ → Bool) (es : List EventOf) (call : CallOf) → call.thread ≡ thread →
+            IsNextEvent self.old roots es (event.Call call) →
+            IsStamp (es ++ event.Call call ∷ []) (length es) (last_stamp self.new.threads thread) }
+        ensures stands { (roots : ℕ → Bool) (es : List EventOf) (call : CallOf) → call.thread ≡ thread →
+            IsNextEvent self.old roots es (event.Call call) →
+            TrackerStandsFor self.new roots (es ++ event.Call call ∷ []) }
+
+        // no thread begins, and the steps are bounded
+        ensures count { length self.new.threads ≡ length self.old.threads }
+        ensures cost { steps.new ≤ steps.old + 2 * length self.old.threads }
+    {
+        self.tick(thread, steps);
     }
 
     /// Where the last event of a thread stands, with its clock lent, where the thread learnt nothing since: as after `pass` with an event of
