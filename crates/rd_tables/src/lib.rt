@@ -4,6 +4,7 @@
 mod found;
 mod locks;
 mod methods;
+mod names;
 mod near;
 mod sharers;
 mod shares;
@@ -11,6 +12,7 @@ mod shares;
 pub use found::{Declared, FoundLock, FoundObject, FoundThread, Pair};
 pub use locks::{FREE, Lock};
 pub use methods::{FoundMethod, Methods};
+pub use names::NameBytes;
 pub use near::{NEAR_LENGTH, cut_at_space, near_bytes};
 pub use sharers::lesser;
 pub use shares::Shares;

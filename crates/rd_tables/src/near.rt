@@ -13,7 +13,8 @@ pub fn near_bytes(bytes: &[u8]) -> usize {
         [.., third, second, last] => {
             (usize::from(*third) * 10 + usize::from(*second)) * 10 + usize::from(*last)
         }
-        [.., last] => usize::from(*last),
+        [second, last] => usize::from(*second) * 10 + usize::from(*last),
+        [last] => usize::from(*last),
         [] => 0,
     }
 }

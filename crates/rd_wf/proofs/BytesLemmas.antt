@@ -3,6 +3,7 @@ use Rattle.std.proofs.Common.{◌≡◌, ◌≢◌, ℕ, ◌==◌, ◌+◌, Bool
 use Rattle.std.specs.Prelude.{⊤, slice_get}
 use Rattle.std.proofs.lemmas.Option.{none-some, same_Some}
 use Rattle.std.specs.List.{before_first, after_first}
+use Rattle.std.specs.Map.{lookup_key}
 use Rattle.std.specs.Option.{option_and_then, option_map}
 use Rattle.std.specs.Str.{bytes_eq}
 use Rattle.std.specs.Cmp.Lexicographic.{bytes_decides}
@@ -23,11 +24,11 @@ use Rattle.rd_event.specs.declared.items.LineEvent.TheVariants.{Fork, Join, Acqu
 use Rattle.rd_event.proofs.SlotLemmas.{slots_said}
 use Rattle.rd_event.proofs.ReadingLemmas.{call_behind, call_keyword, found_said}
 use Rattle.rd_event.proofs.WordLemmas.{name_found, name_refused, nothing_refused}
-use Rattle.rd_rules.specs.MayFollow.{accepted_of, first_broken, version_of}
+use Rattle.rd_rules.specs.MayFollow.{accepted_of, first_broken, same_name, version_of}
 use Rattle.rd_rules.specs.declared.causes.Accepted.{Accepted}
 use Rattle.rd_rules.specs.declared.causes.Accepted.TheVariants.{Nothing}
 use Rattle.rd_rules.specs.declared.causes.WfRefused.TheVariants as wf
-use Rattle.rd_wf.specs.Roster.{Accepts, AcceptsAs, BeginsWith, Refuses, RosterStandsFor, TakesBytes, TakesCall, TakesNames}
+use Rattle.rd_wf.specs.Roster.{Accepts, AcceptsAs, BeginsWith, RosterStandsFor, TakesBytes, TakesCall, TakesNames}
 use Rattle.rd_wf.specs.declared.roster.Roster.{Roster}
 use Rattle.rd_rules.specs.declared.causes.BytesRefused.{BytesRefused}
 use Rattle.rd_rules.specs.declared.causes.BytesRefused.TheVariants as refused
@@ -396,3 +397,29 @@ module _ (words thread names object rest method values : List ℕ) (is_thread : 
 
       pub call_worthless : slots_read 7 values ≡ None → call_read words ≡ None
       call_worthless none = parts ∙ ap (called (name_read thread) (name_read object) (name_read method)) none ∙ no_values_called (name_read thread) (name_read object) (name_read method)
+
+-- what hangs on no name hangs on one that is one
+pub named_too : (named : Type 0) → named → (old new : Roster) (limits : Limits) (line : Line) (result : Result Accepted BytesRefused)
+    → TakesNames true ⊤ old new limits line result → TakesNames true named old new limits line result
+named_too named is old new limits line (Ok accepted) takes = (is, takes.1)
+named_too named is old new limits line (Err refused.BadLine) takes = absurd (takes.0 refl tt)
+named_too named is old new limits line (Err (refused.Cause cause)) takes = (is, takes.1)
+named_too named is old new limits line (Err refused.NoMemory) takes = (is, takes.1)
+
+-- what hangs on one name hangs on two, of which the second is one
+pub also_named : (named also : Type 0) → also → (old new : Roster) (limits : Limits) (line : Line) (result : Result Accepted BytesRefused)
+    → TakesNames true named old new limits line result → TakesNames true (named × also) old new limits line result
+also_named named also is old new limits line (Ok accepted) takes = ((takes.0, is), takes.1)
+also_named named also is old new limits line (Err refused.BadLine) takes = (λ yes both. takes.0 yes both.0, takes.1)
+also_named named also is old new limits line (Err (refused.Cause cause)) takes = ((takes.0, is), takes.1)
+also_named named also is old new limits line (Err refused.NoMemory) takes = ((takes.0, is), takes.1)
+
+-- the key that a look-up finds is the name
+pub key_is : {X : Type 0} (name : List ℕ) (entries : List (List ℕ × X)) (known : List ℕ) → Some known ≡ lookup_key (same_name name) entries → known ≡ name
+key_is name [] known is = absurd (none-some known (sym is))
+key_is name (e ∷ entries) known is = by (key_is name entries known) (same_name name e.0) refl is
+  where
+    by : (Some known ≡ lookup_key (same_name name) entries → known ≡ name) → (b : Bool) → same_name name e.0 ≡ b
+        → Some known ≡ (if b then Some e.0 else lookup_key (same_name name) entries) → known ≡ name
+    by rest true same is = same_Some known e.0 is ∙ sym ((bytes_decides name e.0).0 same)
+    by rest false same is = rest is

@@ -8,7 +8,7 @@ use Rattle.rd_event.specs.declared.events.Event.TheVariants as numbered
 use Rattle.rd_event.specs.declared.items.Line.{Line}
 use Rattle.rd_event.specs.declared.items.Line.TheVariants.{Event}
 use Rattle.rd_event.specs.declared.items.LineEvent.{LineEvent}
-use Rattle.rd_event.specs.declared.items.LineEvent.TheVariants.{Acquire, Release}
+use Rattle.rd_event.specs.declared.items.LineEvent.TheVariants.{Release}
 use Rattle.rd_rules.specs.declared.causes.Accepted.TheVariants as accepted
 use Rattle.rd_tables.specs.declared.locks.Lock.{Lock}
 use Rattle.rd_wf.specs.declared.roster.Roster.{Roster}
@@ -17,7 +17,7 @@ use Rattle.rd_rules.specs.MayFollow.{accepted_of, first_broken, place, threads_o
 use Rattle.rd_tables.specs.Tables.{depth_of}
 use Rattle.rd_wf.specs.Roster.{IsFoundLock, RosterStandsFor, lock_count, lock_in}
 use Rattle.rd_rules.proofs.FollowLemmas.{known_thread}
-use Rattle.rd_wf.proofs.NextLemmas.{IsWritten, after_acquire, after_release, lock_below, same_locks, written_known}
+use Rattle.rd_wf.proofs.NextLemmas.{IsWritten, after_release, lock_below, same_locks, written_known}
 
 module _ (kinds : List Kind) (limits : Limits) (old new : Roster) (lines : List Line) (stands : RosterStandsFor kinds old lines)
     (same_kinds : new.kinds.entries ≡ old.kinds.entries) (same_shares : new.shares ≡ old.shares) (header : new.header ≡ old.header) (events : new.events ≡ old.events + 1)

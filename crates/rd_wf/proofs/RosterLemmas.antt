@@ -160,7 +160,7 @@ module _ (kinds : List Kind) (roster : Roster) (lines : List Line) (stands : Ros
   thread_known : (name : List ℕ) → is_some (get_by (same_name name) roster.threads) ≡ is_among (threads_of lines) name
   thread_known name = known_in roster.threads.entries (threads_of lines) thread_keys name
 
-  object_known : (name : List ℕ) → is_some (get_by (same_name name) roster.objects) ≡ is_among (objects_of lines) name
+  pub object_known : (name : List ℕ) → is_some (get_by (same_name name) roster.objects) ≡ is_among (objects_of lines) name
   object_known name = known_in roster.objects.entries (objects_of lines) object_keys name
 
   joined_is : (name : List ℕ) (joined : Option Bool) → get_by (same_name name) roster.threads ≡ joined → is_among (joined_of lines) name ≡ unwrap_or joined false

@@ -4,15 +4,20 @@ use Rattle.std.specs.List.{IsDistinct, before_first}
 use Rattle.indexmap.specs.IndexMap.{get_by, index_map_len}
 use Rattle.rd_base.specs.declared.limits.Limits.{Limits}
 use Rattle.rd_base.specs.Bytes.{is_space}
+use Rattle.rd_base.specs.declared.values.Value.{Value}
+use Rattle.rd_event.specs.declared.events.Call.{Call}
+use Rattle.rd_event.specs.declared.events.Event.TheVariants as numbered
 use Rattle.rd_event.specs.Reading.{call_read, is_call_keyword, item_of}
 use Rattle.rd_event.specs.declared.items.Line.{Line}
 use Rattle.rd_event.specs.declared.items.Line.TheVariants.{Event, Object}
 use Rattle.rd_event.specs.declared.items.LineEvent.{LineEvent}
 use Rattle.rd_rules.specs.declared.causes.Accepted.{Accepted}
+use Rattle.rd_rules.specs.declared.causes.Accepted.TheVariants as accepted
 use Rattle.rd_rules.specs.declared.causes.WfCause.{WfCause}
 use Rattle.rd_rules.specs.declared.causes.WfRefused.{WfRefused}
 use Rattle.rd_rules.specs.declared.causes.WfRefused.TheVariants.{Cause, NoMemory}
 use Rattle.rd_wf.specs.declared.roster.Roster.{Roster}
+use Rattle.rd_wf.specs.declared.roster.lines.CallNumbers.{CallNumbers}
 use Rattle.rd_rules.specs.declared.causes.BytesRefused.{BytesRefused}
 use Rattle.rd_rules.specs.declared.causes.BytesRefused.TheVariants as refused
 use Rattle.rd_tables.specs.declared.locks.Lock.{Lock}
@@ -181,6 +186,14 @@ TakesNames complete named old new limits line (Ok accepted) = named × Accepts o
 TakesNames complete named old new limits line (Err refused.BadLine) = (complete ≡ true → ¬ named) × (new ≡ old)
 TakesNames complete named old new limits line (Err (refused.Cause cause)) = named × Refuses old new limits line (Cause cause)
 TakesNames complete named old new limits line (Err refused.NoMemory) = named × Refuses old new limits line NoMemory
+
+-- the call with these numbers and values, and what becomes of it
+abbrev pub call_with : CallNumbers → List Value → Call
+call_with numbers slots = record { thread = numbers.thread; object = numbers.object; kind = numbers.kind; method = numbers.method; slots = slots }
+
+abbrev pub with_values : List Value → Result CallNumbers BytesRefused → Result Accepted BytesRefused
+with_values slots (Ok numbers) = Ok (accepted.Event (numbered.Call (call_with numbers slots)))
+with_values slots (Err refused) = Err refused
 
 -- the same of the call with these words behind its keyword, whose values are read before it is judged
 abbrev pub TakesCall : Bool → List ℕ → Roster → Roster → Limits → Result Accepted BytesRefused → Type 0

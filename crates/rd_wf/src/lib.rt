@@ -7,6 +7,6 @@ pub use rd_rules::{
     Accepted, BytesRefused, TraceCause, WfCause, WfRefused, law_of_events, law_of_following,
 };
 pub use roster::{
-    AcquireLine, Anywhere, CallLine, Finder, ForkLine, JoinLine, Judged, Keyword, Near, ObjectLine,
-    ReleaseLine, Roster, ShareLine, ThreadLine, UnshareLine,
+    AcquireLine, Anywhere, CallLine, CallNumbers, Finder, ForkLine, JoinLine, Judged, Keyword,
+    KnownMethod, Near, ObjectLine, ReleaseLine, Roster, ShareLine, ThreadLine, UnshareLine,
 };

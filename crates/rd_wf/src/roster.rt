@@ -13,7 +13,7 @@ pub use keywords::{
     AcquireLine, CallLine, ForkLine, JoinLine, Keyword, ObjectLine, ReleaseLine, ShareLine,
     ThreadLine, UnshareLine,
 };
-pub use lines::Judged;
+pub use lines::{CallNumbers, Judged, KnownMethod};
 use rd_base::{Limits, Name, NoMemory, Slots};
 use rd_ecl::Spec;
 use rd_event::{Line, LineEvent};

@@ -2,7 +2,7 @@
 
 use super::Roster;
 use rd_base::Name;
-use rd_tables::{FREE, FoundLock, FoundMethod, FoundObject, FoundThread, NEAR_LENGTH};
+use rd_tables::{FREE, FoundLock, FoundMethod, FoundObject, FoundThread, NEAR_LENGTH, NameBytes};
 
 /// A way to find names. There is no answer where the bytes are no name's, or where this way doesn't find them.
 pub trait Finder {
@@ -146,20 +146,26 @@ impl Roster {
         ensures named { IsSome result → IsName name.now }
         ensures none { IfNone result (¬ (IsName name.now)) }
     {
-        let Ok(name) = Name::from_bytes(name) else {
-            return None;
-        };
-        match self.threads.get_full(&name) {
-            None => Some(FoundThread {
-                number: self.threads.len() as u32,
-                unknown: true,
-                joined: false,
-            }),
-            Some((number, _, joined)) => Some(FoundThread {
-                number: number as u32,
-                unknown: false,
-                joined: *joined,
-            }),
+        match self.threads.get_full(NameBytes { bytes: name }) {
+            Some((number, known, joined)) => {
+                // `items` is called for its clause that it is a name
+                let _name = known.items();
+                Some(FoundThread {
+                    number: number as u32,
+                    unknown: false,
+                    joined: *joined,
+                })
+            }
+            None => {
+                let Ok(_name) = Name::from_bytes(name) else {
+                    return None;
+                };
+                Some(FoundThread {
+                    number: self.threads.len() as u32,
+                    unknown: true,
+                    joined: false,
+                })
+            }
         }
     }
 
@@ -173,20 +179,25 @@ impl Roster {
         ensures named { IsSome result → IsName name.now }
         ensures none { IfNone result (¬ (IsName name.now)) }
     {
-        let Ok(name) = Name::from_bytes(name) else {
-            return None;
-        };
-        match self.locks.get_full(&name) {
-            None => Some(FoundLock {
-                number: self.locks.len() as u32,
-                unknown: true,
-                lock: FREE,
-            }),
-            Some((number, _, lock)) => Some(FoundLock {
-                number: number as u32,
-                unknown: false,
-                lock: *lock,
-            }),
+        match self.locks.get_full(NameBytes { bytes: name }) {
+            Some((number, known, lock)) => {
+                let _name = known.items();
+                Some(FoundLock {
+                    number: number as u32,
+                    unknown: false,
+                    lock: *lock,
+                })
+            }
+            None => {
+                let Ok(_name) = Name::from_bytes(name) else {
+                    return None;
+                };
+                Some(FoundLock {
+                    number: self.locks.len() as u32,
+                    unknown: true,
+                    lock: FREE,
+                })
+            }
         }
     }
 
@@ -196,20 +207,25 @@ impl Roster {
         ensures named { IsSome result → IsName name.now }
         ensures none { IfNone result (¬ (IsName name.now)) }
     {
-        let Ok(name) = Name::from_bytes(name) else {
-            return None;
-        };
-        match self.objects.get_full(&name) {
-            None => Some(FoundObject {
-                number: self.objects.len() as u32,
-                unknown: true,
-                kind: self.kinds.len() as u32,
-            }),
-            Some((number, _, kind)) => Some(FoundObject {
-                number: number as u32,
-                unknown: false,
-                kind: *kind,
-            }),
+        match self.objects.get_full(NameBytes { bytes: name }) {
+            Some((number, known, kind)) => {
+                let _name = known.items();
+                Some(FoundObject {
+                    number: number as u32,
+                    unknown: false,
+                    kind: *kind,
+                })
+            }
+            None => {
+                let Ok(_name) = Name::from_bytes(name) else {
+                    return None;
+                };
+                Some(FoundObject {
+                    number: self.objects.len() as u32,
+                    unknown: true,
+                    kind: self.kinds.len() as u32,
+                })
+            }
         }
     }
 

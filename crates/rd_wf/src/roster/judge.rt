@@ -66,12 +66,15 @@ impl Roster {
         self.kinds.get_index_of(kind)
     }
 
+    // By whether an object has the name.
     pub(super) fn judge_object(
         &self,
         name: &Name,
         kind: &Name,
+        taken: bool,
         limits: &Limits,
     ) -> Result<Declared, WfCause>
+        requires { taken ≡ is_some (get_by (same_name name.now) self.now.objects) }
         ensures ok { IfOk result
             (λ new. Permits self.now limits.now (Line.Object name.now kind.now)
             (Accepted.Object new.object new.kind)) }
@@ -83,7 +86,7 @@ impl Roster {
         let kind = found.unwrap_or(self.kinds.len());
         let broken = Broken {
             header_first: self.header.is_none(),
-            name_taken: self.objects.contains_key(name),
+            name_taken: taken,
             unknown_kind: found.is_none(),
             objects: limits.objects <= object,
             ..UNBROKEN

@@ -13,6 +13,22 @@ use rd_tables::{
 /// What becomes of a line by its bytes, or by names that are lent.
 pub type Judged = Result<Accepted, BytesRefused>;
 
+/// A method as a look-up in a kind found it, with the number of the kind.
+#[derive(Clone, Copy)]
+pub struct KnownMethod {
+    pub kind: u32,
+    pub found: FoundMethod,
+}
+
+/// What an accepted call is in numbers, without its values.
+#[derive(Clone, Copy)]
+pub struct CallNumbers {
+    pub thread: u32,
+    pub object: u32,
+    pub kind: u32,
+    pub method: u8,
+}
+
 // What is found of the names of a call, and where the numbers of its thread and object are remembered.
 #[derive(Clone, Copy)]
 pub(super) struct Called {
@@ -24,11 +40,14 @@ pub(super) struct Called {
 }
 
 impl Roster {
-    ghost use Rattle.std.specs.Prelude.{◌≡◌, ◌+◌, ◌<◌, ◌^◌, ◌++◌, ◌∷◌, [], List, ℕ, ⊤, true, IfNone, IfSome, IsSome};
+    ghost use Rattle.std.specs.Prelude.{◌≡◌, ◌≢◌, ◌+◌, ◌<◌, ◌^◌, ◌++◌, ◌∷◌, [], List, ℕ, ⊤, false, true, is_some, length, IfErr, IfNone, IfSome, IsSome};
     ghost use Rattle.rd_base.specs.Names.{IsName};
+    ghost use Rattle.rd_base.specs.declared.values.Value.{Value};
     ghost use Rattle.rd_ecl.specs.Kinds.{Kind};
     ghost use Rattle.rd_event.specs.declared.items.Line.{Line as LineOf};
-    ghost use Rattle.rd_wf.specs.Roster.{IsFoundMethod, IsFoundObject, IsFoundThread, RosterStandsFor, TakesCall, TakesNames};
+    ghost use Rattle.indexmap.specs.IndexMap.{get_by};
+    ghost use Rattle.rd_rules.specs.MayFollow.{is_among, objects_of, same_name};
+    ghost use Rattle.rd_wf.specs.Roster.{IsFoundMethod, IsFoundObject, IsFoundThread, RosterStandsFor, TakesCall, TakesNames, with_values};
 
     #[inline(never)]
     pub(super) fn header(&mut self, version: u8, limits: &Limits) -> Judged
@@ -56,24 +75,57 @@ impl Roster {
         Ok(Accepted::Root(thread))
     }
 
-    /// Accepts the line that declares an object of the kind with this name, if it may follow the accepted lines, as `accept` of it. `BadLine` says that
-    /// one of the two isn't a name.
-    #[inline(never)]
-    pub fn object(&mut self, name: &[u8], kind: &[u8], limits: &Limits) -> Judged
+    // The line that declares an object of the kind with this name. `BadLine` says that one of the two isn't a name.
+    pub(super) fn object(&mut self, name: &[u8], kind: &[u8], limits: &Limits) -> Judged
         ensures { TakesNames true (IsName name.now × IsName kind.now) self.old self.new limits.now
             (Line.Object name.now kind.now) result }
+    {
+        let Ok(kind) = Name::from_bytes(kind) else {
+            return Err(BytesRefused::BadLine);
+        };
+        self.declare(name, &kind, limits)
+    }
+
+    /// Accepts the line that declares an object of this kind, if it may follow the accepted lines, as `accept` of it. `BadLine` says that the object's
+    /// name isn't one.
+    #[inline(never)]
+    pub fn declare(&mut self, name: &[u8], kind: &Name, limits: &Limits) -> Judged
+        ensures { TakesNames true (IsName name.now) self.old self.new limits.now (Line.Object name.now kind.now) result }
     {
         let Ok(name) = Name::from_bytes(name) else {
             return Err(BytesRefused::BadLine);
         };
-        let Ok(kind) = Name::from_bytes(kind) else {
-            return Err(BytesRefused::BadLine);
+        let taken = self.objects.contains_key(&name);
+        self.put_object(name, kind, taken, limits)
+    }
+
+    /// The same of an object that was not declared.
+    #[inline(never)]
+    pub fn declare_new(&mut self, name: &[u8], kind: &Name, limits: &Limits) -> Judged
+        requires named { IsName name.now }
+        requires new { (kinds : List Kind) × (lines : List LineOf) × RosterStandsFor kinds self.old lines
+            × (is_among (objects_of lines) name.now ≡ false) }
+        ensures { TakesNames true ⊤ self.old self.new limits.now (Line.Object name.now kind.now) result }
+    {
+        let Ok(name) = Name::from_bytes(name) else {
+            unreachable!();
         };
-        let Declared { object, kind } = match self.judge_object(&name, &kind, limits) {
+        self.put_object(name, kind, false, limits)
+    }
+
+    // The line that declares an object of this kind, where it is told whether an object has its name.
+    #[inline(always)]
+    fn put_object(&mut self, name: Name, kind: &Name, taken: bool, limits: &Limits) -> Judged
+        requires { taken ≡ is_some (get_by (same_name name) self.old.objects) }
+        ensures { TakesNames true ⊤ self.old self.new limits.now (Line.Object name kind.now) result }
+    {
+        let near = near_bytes(name.items()) % NEAR_LENGTH;
+        let Declared { object, kind } = match self.judge_object(&name, kind, taken, limits) {
             Ok(new) => new,
             Err(cause) => return Err(BytesRefused::Cause(cause)),
         };
         self.objects.insert(name, kind)?;
+        Anywhere::remember(&mut self.near_objects, near, object);
         Ok(Accepted::Object { object, kind })
     }
 
@@ -294,13 +346,11 @@ impl Roster {
         })
     }
 
-    // Counts a call that may follow, with what was found of its names, and with these values.
+    // Counts a call that may follow, with what was found of its names.
     #[inline(always)]
-    fn count_call<F: Finder>(&mut self, called: Called, slots: Slots) -> Accepted
+    fn count<F: Finder>(&mut self, called: Called)
         requires { self.old.events + 1 < 2 ^ 32 }
-        ensures numbers { result ≡ Accepted.Event (Event.Call
-            (record { thread = called.actor.number; object = called.object.number; kind = called.object.kind; method = called.method.number; slots = slots })) }
-        ensures stands { (kinds : List Kind) (lines : List LineOf) (thread object method : List ℕ) →
+        ensures { (kinds : List Kind) (lines : List LineOf) (thread object method : List ℕ) (slots : List Value) →
             RosterStandsFor kinds self.old lines → RosterStandsFor kinds self.new
             (lines ++ LineOf.Event (LineEvent.Call thread object method slots) ∷ []) }
     {
@@ -311,6 +361,19 @@ impl Roster {
             called.object_near,
             called.object.number,
         );
+    }
+
+    // Counts a call that may follow, with what was found of its names, and with these values.
+    #[inline(always)]
+    fn count_call<F: Finder>(&mut self, called: Called, slots: Slots) -> Accepted
+        requires { self.old.events + 1 < 2 ^ 32 }
+        ensures numbers { result ≡ Accepted.Event (Event.Call
+            (record { thread = called.actor.number; object = called.object.number; kind = called.object.kind; method = called.method.number; slots = slots })) }
+        ensures stands { (kinds : List Kind) (lines : List LineOf) (thread object method : List ℕ) →
+            RosterStandsFor kinds self.old lines → RosterStandsFor kinds self.new
+            (lines ++ LineOf.Event (LineEvent.Call thread object method slots) ∷ []) }
+    {
+        self.count::<F>(called);
         Accepted::Event(Event::Call(Call {
             thread: called.actor.number,
             object: called.object.number,
@@ -355,10 +418,9 @@ impl Roster {
         Ok(self.count_call::<F>(called, slots))
     }
 
-    /// Accepts the call of this thread, object and method with these values, if it may follow the accepted lines, as `accept` of it. How the names
-    /// are found is up to the finder: `BadLine` says that one isn't a name only where each is found. The values are copied last.
+    // The call of this thread, object and method with these values. How the names are found is up to the finder. The values are copied last.
     #[inline(always)]
-    pub fn call_apart<F: Finder>(
+    pub(super) fn call_apart<F: Finder>(
         &mut self,
         thread: &[u8],
         object: &[u8],
@@ -384,5 +446,78 @@ impl Roster {
         }
         let slots = slots.copy(self.alloc)?;
         Ok(self.count_call::<F>(called, slots))
+    }
+    // The method with this name of an object, which was looked up before in one kind.
+    #[inline(always)]
+    fn method_of(&self, object: FoundObject, name: &[u8], known: KnownMethod) -> FoundMethod
+        requires { IsFoundMethod self.now known.kind name.now known.found }
+        ensures { IsFoundMethod self.now object.kind name.now result }
+    {
+        if object.kind == known.kind {
+            return known.found;
+        }
+        self.method_of_kind(object.kind, name)
+    }
+
+    // The same where the object is of another kind, or unknown.
+    #[inline(never)]
+    fn method_of_kind(&self, kind: u32, name: &[u8]) -> FoundMethod
+        ensures { IsFoundMethod self.now kind name.now result }
+    {
+        match self.kinds.get_index(kind as usize) {
+            None => FoundMethod {
+                number: 0,
+                unknown: true,
+                slots: 0,
+            },
+            Some((_, methods)) => methods.find(name),
+        }
+    }
+
+    /// Accepts the call of this thread, object and method, with as many values as the method has, if it may follow the accepted lines, as `accept` of
+    /// it, and says what it is in numbers. The method was looked up before. How the other names are found is up to the finder: `BadLine` says that one
+    /// isn't a name only where each is found. It takes no memory, since it makes no values.
+    #[inline(always)]
+    pub fn call_numbers<F: Finder>(
+        &mut self,
+        thread: &[u8],
+        object: &[u8],
+        method: &[u8],
+        known: KnownMethod,
+        limits: &Limits,
+    ) -> Result<CallNumbers, BytesRefused>
+        requires named { IsName method.now }
+        requires known { IsFoundMethod self.old known.kind method.now known.found }
+        ensures takes { (slots : List Value) → length slots ≡ known.found.slots →
+            TakesNames F.complete (IsName thread.now × IsName object.now) self.old self.new limits.now
+            (Line.Event (LineEvent.Call thread.now object.now method.now slots)) (with_values slots result) }
+        ensures memory { IfErr result (λ refused. refused ≢ BytesRefused.NoMemory) }
+    {
+        let near = near_bytes(thread) % NEAR_LENGTH;
+        let object_near = near_bytes(object) % NEAR_LENGTH;
+        let Some(actor) = F::thread(self, self.near_threads[near], thread) else {
+            return Err(BytesRefused::BadLine);
+        };
+        let Some(object) = F::object(self, self.near_objects[object_near], object) else {
+            return Err(BytesRefused::BadLine);
+        };
+        let method = self.method_of(object, method, known);
+        let count = usize::from(known.found.slots);
+        if let Err(cause) = self.judge_call(actor, object, method, count, limits) {
+            return Err(BytesRefused::Cause(cause));
+        }
+        self.count::<F>(Called {
+            near,
+            object_near,
+            actor,
+            object,
+            method,
+        });
+        Ok(CallNumbers {
+            thread: actor.number,
+            object: object.number,
+            kind: object.kind,
+            method: method.number,
+        })
     }
 }

@@ -1,4 +1,4 @@
-use Rattle.std.proofs.Common.{◌≡◌, Ok, Err, true, refl, subst, arith}
+use Rattle.std.proofs.Common.{Ok, Err, true, subst, arith}
 use Rattle.std.specs.Prelude.{⊤}
 use Rattle.rd_rules.specs.declared.causes.WfRefused.TheVariants.{Cause, NoMemory}
 use Rattle.rd_wf.specs.Roster.{Refuses, TakesNames}

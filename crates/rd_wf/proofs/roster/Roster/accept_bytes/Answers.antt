@@ -1,4 +1,4 @@
-use Rattle.std.proofs.Common.{rules, ◌≡◌, ◌≢◌, Some, refl, ap, sym, ◌∙◌}
+use Rattle.std.proofs.Common.{rules, ◌≢◌, Some, refl, ap, sym, ◌∙◌}
 use Rattle.rd_event.specs.Items.{is_skipped}
 use Rattle.rd_rules.specs.MayFollow.{version_of}
 use Rattle.rd_wf.proofs.BytesLemmas.{first_is, no_keyword, nothing_skipped, skip_taken, taken_where}

@@ -1,4 +1,4 @@
-use Rattle.std.proofs.Common.{◌≡◌, [], length, option_map, refl, sym, ap, ◌∙◌}
+use Rattle.std.proofs.Common.{[], length, option_map, refl, sym, ap, ◌∙◌}
 use Rattle.std.specs.List.{before_first, after_first}
 use Rattle.rd_base.specs.Bytes.{is_space}
 use Rattle.rd_event.specs.declared.items.LineEvent.TheVariants.{Call}

@@ -1,4 +1,4 @@
-use Rattle.std.proofs.Common.{◌≡◌, true, sym, subst, ◌∙◌}
+use Rattle.std.proofs.Common.{true, sym, subst}
 use Rattle.std.specs.Prelude.{⊤}
 use Rattle.rd_base.specs.Names.{IsName}
 use Rattle.rd_event.specs.declared.items.Line.TheVariants.{Event}

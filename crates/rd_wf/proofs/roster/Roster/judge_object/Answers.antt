@@ -7,12 +7,12 @@ use Rattle.rd_wf.proofs.roster.Roster.judge_object.Goals as goal
 
 pub returns-in-Some-clause-err : goal.returns-in-Some-clause-err
 returns-in-Some-clause-err c = λ kinds lines stands.
-    object_judged kinds c.args.self.now lines stands _ c.is_none.ensures c.args.limits.now c.args.name.now c.args.kind.now _ _ _ c.contains_key.ensures (sym c.is_none-2.ensures ∙ c.find_kind-found.ensures.found) c.len-object.ensures.len ∙ sym (c.in-Some.ensures.first lines tt)
+    object_judged kinds c.args.self.now lines stands _ c.is_none.ensures c.args.limits.now c.args.name.now c.args.kind.now _ _ _ c.requires (sym c.is_none-2.ensures ∙ c.find_kind-found.ensures.found) c.len-object.ensures.len ∙ sym (c.in-Some.ensures.first lines tt)
 
 pub returns-clause-ok : goal.returns-clause-ok
 unfolding accepted_of
 returns-clause-ok c = λ kinds lines stands. (
-  object_judged kinds c.args.self.now lines stands _ c.is_none.ensures c.args.limits.now c.args.name.now c.args.kind.now _ _ _ c.contains_key.ensures (sym c.is_none-2.ensures ∙ c.find_kind-found.ensures.found) c.len-object.ensures.len ∙ sym (c.in_default.ensures.first lines tt),
+  object_judged kinds c.args.self.now lines stands _ c.is_none.ensures c.args.limits.now c.args.name.now c.args.kind.now _ _ _ c.requires (sym c.is_none-2.ensures ∙ c.find_kind-found.ensures.found) c.len-object.ensures.len ∙ sym (c.in_default.ensures.first lines tt),
   λ i. accepted.Object ((c.len-object.ensures.len ∙ stands.object_total) i) ((c.unwrap_or-kind.ensures ∙ ap (unwrap_or c.find_kind-found.result) c.len.ensures.len ∙ kind_place kinds c.args.self.now lines stands c.args.kind.now _ c.find_kind-found.ensures.index) i),
 )
 

@@ -1,12 +1,16 @@
-use Rattle.std.proofs.Common.{sym}
+use Rattle.std.proofs.Common.{subst, sym}
+use Rattle.rd_base.specs.Names.{IsName}
+use Rattle.rd_wf.proofs.BytesLemmas.{key_is}
 use Rattle.rd_wf.proofs.RosterLemmas.{thread_found}
 use Rattle.rd_wf.proofs.roster.Roster.look_up_thread.Goals as goal
 
-pub returns-in-None-clause-found : goal.returns-in-None-clause-found
-returns-in-None-clause-found c = λ kinds lines stands.
-    rw (c.len.ensures.len, sym c.in-Ok.ensures.value)
-    (sym (thread_found kinds c.args.self.now lines stands c.in-Ok.name _ _ (sym c.in-None.ensures.index) (sym c.in-None.ensures.value)))
+pub returns-in-Ok-clause-found : goal.returns-in-Ok-clause-found
+returns-in-Ok-clause-found c = λ kinds lines stands.
+    rw (c.len.ensures.len) (sym (thread_found kinds c.args.self.now lines stands c.args.name.now _ _ (sym c.in-None.ensures.index) (sym c.in-None.ensures.value)))
 
 pub returns-in-Some-clause-found : goal.returns-in-Some-clause-found
 returns-in-Some-clause-found c = λ kinds lines stands.
-    rw (sym c.in-Ok.ensures.value) (sym (thread_found kinds c.args.self.now lines stands c.in-Ok.name _ _ (sym c.in-Some.ensures.index) (sym c.in-Some.ensures.value)))
+    sym (thread_found kinds c.args.self.now lines stands c.args.name.now _ _ (sym c.in-Some.ensures.index) (sym c.in-Some.ensures.value))
+
+pub returns-in-Some-clause-named : goal.returns-in-Some-clause-named
+returns-in-Some-clause-named c = λ some. subst IsName (key_is c.args.name.now _ c.in-Some.known.now c.in-Some.ensures.key) c.items-name.ensures.name

@@ -1,7 +1,5 @@
 use Rattle.rd_base.specs.Names.{IsName}
-use Rattle.std.proofs.Common.{subst, sym, false, refl, ap, ◌∙◌}
-use Rattle.indexmap.specs.IndexMap.{insert_entry}
-use Rattle.rd_rules.specs.MayFollow.{same_name}
+use Rattle.std.proofs.Common.{subst, sym, false, refl, ◌∙◌}
 use Rattle.rd_rules.proofs.FollowLemmas.{fresh_root}
 use Rattle.rd_wf.proofs.RosterLemmas.{inserted_thread}
 use Rattle.rd_wf.proofs.NextLemmas.{after_root}

@@ -1,8 +1,7 @@
 use Rattle.std.proofs.Common.{rules, ◌≡◌, true, refl, sym, ap, subst, ◌∙◌}
 use Rattle.std.specs.Prelude.{⊤}
 use Rattle.rd_base.specs.Names.{IsName}
-use Rattle.rd_event.specs.declared.items.Line.{Line}
-use Rattle.rd_event.specs.declared.items.Line.TheVariants.{Event, Object, Skip, Thread}
+use Rattle.rd_event.specs.declared.items.Line.TheVariants.{Event, Object, Thread}
 use Rattle.rd_event.specs.declared.items.LineEvent.TheVariants.{Acquire, Fork, Join, Release, Share, Unshare}
 use Rattle.rd_rules.specs.MayFollow.{accepted_of, first_broken}
 use Rattle.rd_wf.specs.Roster.{TakesNames}

@@ -1,9 +1,9 @@
-use Rattle.std.proofs.Common.{◌≡◌, ℕ, List, option_map, refl, ap, ◌∙◌}
-use Rattle.rd_event.specs.declared.items.Line.TheVariants.{Event, Object}
-use Rattle.rd_event.specs.declared.items.LineEvent.TheVariants.{Fork, Join, Acquire, Release}
-use Rattle.rd_event.proofs.ReadingLemmas.{acquire_behind, join_behind, object_behind, release_behind}
+use Rattle.std.proofs.Common.{option_map, refl, ap, ◌∙◌}
+use Rattle.rd_event.specs.declared.items.Line.TheVariants.{Event}
+use Rattle.rd_event.specs.declared.items.LineEvent.TheVariants.{Release}
+use Rattle.rd_event.proofs.ReadingLemmas.{release_behind}
 use Rattle.rd_rules.specs.MayFollow.{version_of}
-use Rattle.rd_wf.proofs.BytesLemmas.{fork_behind, no_second, pair_taken, taken_where}
+use Rattle.rd_wf.proofs.BytesLemmas.{no_second, pair_taken, taken_where}
 use Rattle.rd_wf.proofs.roster.keywords.ReleaseLineKeyword.accept_bytes.Goals as goal
 
 pub returns-in_default : goal.returns-in_default

@@ -1,4 +1,4 @@
-use Rattle.std.proofs.Common.{◌≡◌, option_map, refl, ap, ◌∙◌}
+use Rattle.std.proofs.Common.{option_map, refl, ap, ◌∙◌}
 use Rattle.rd_base.specs.Names.{IsName}
 use Rattle.rd_event.specs.declared.items.Line.TheVariants.{Thread}
 use Rattle.rd_event.proofs.WordLemmas.{name_found, name_refused}
