@@ -1,5 +1,5 @@
 -- The walk goes on as the reader gives lines.
-use Rattle.std.proofs.Common.{◌≡◌, ℕ, ◌+◌, Bool, true, false, cond, List, [], ◌∷◌, ◌++◌, Ok, Err, sym, ap, ◌∙◌, refl, eqb}
+use Rattle.std.proofs.Common.{◌≡◌, ℕ, ◌+◌, Bool, true, false, cond, List, [], ◌++◌, Err, sym, ap, ◌∙◌, refl, eqb}
 use Rattle.std.proofs.lemmas.List.{append_assoc, append-nil}
 use Rattle.rd_io.specs.Lines.{Stop, LinesEnding}
 use Rattle.rd_io.specs.Lines.Stop.{end, fault}

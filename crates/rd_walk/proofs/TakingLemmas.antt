@@ -6,7 +6,6 @@ use Rattle.rd_base.specs.declared.limits.Limits.{Limits}
 use Rattle.rd_ecl.specs.Kinds.{Kind}
 use Rattle.rd_event.specs.declared.items.Line.{Line}
 use Rattle.rd_rules.specs.MayFollow.{MayFollow}
-use Rattle.rd_rules.specs.declared.causes.Accepted.{Accepted}
 use Rattle.rd_rules.specs.declared.causes.TraceCause.{TraceCause}
 use Rattle.rd_walk.proofs.WalkLemmas.{bound_append, bound_one, items_more, line_judged}
 use Rattle.rd_walk.specs.Analysis.{IsCutIn, IsHandedOn}

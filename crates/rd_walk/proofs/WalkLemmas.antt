@@ -1,6 +1,6 @@
 -- The walk over the lines of a trace, one line after another.
 use Rattle.std.proofs.Common.{◌≡◌, ◌≢◌, fold, ℕ, ◌+◌, ◌≤◌, List, [], ◌∷◌, ◌++◌, Option, Some, None, Ok, Err, true, ap, ◌∙◌, refl, sym, arith, inl, false, length, true≢false}
-use Rattle.std.specs.Prelude.{All, ◌<◌, option_map}
+use Rattle.std.specs.Prelude.{◌<◌, option_map}
 use Rattle.std.proofs.lemmas.List.Elements.{All-append, All-map, All-push}
 use Rattle.std.proofs.lemmas.List.{append_assoc, append-nil, map-append}
 use Rattle.std.proofs.lemmas.List.Sums.{fold-append}
@@ -22,7 +22,6 @@ use Rattle.rd_wf.specs.declared.roster.Roster.{Roster}
 use Rattle.rd_walk.specs.Walk.{Entry, Walked, accepted_or, after, bound_from, trace_end_of, ending_of, ends, entries_of, lines_begun, goes, goes_or_ends, items, judgement_of, judgement_of_item, Saying, entries_at, items_go, line_goes, trace_says, walk, walk_by}
 use Rattle.rd_walk.specs.Taking.{BeginsAs, EndsAs, GoesAs}
 use Rattle.rd_rules.specs.declared.causes.WfCause.{WfCause}
-use Rattle.rd_rules.specs.declared.causes.TraceCause.{TraceCause}
 use Rattle.rd_rules.specs.declared.causes.TraceCause.TheVariants.{BadLine, Wf}
 use Rattle.rd_walk.specs.declared.walk.WalkEnd.TheVariants.{Refused}
 

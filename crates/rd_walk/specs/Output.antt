@@ -7,7 +7,7 @@ use Rattle.rd_walk.specs.declared.status.Status.TheVariants.{Clean, Raced, Usage
 use Rattle.rd_walk.specs.declared.status.Status.{Status}
 use Rattle.rd_walk.specs.declared.status.Ended.TheVariants as ended
 use Rattle.rd_walk.specs.declared.status.Ended.{Ended}
-use Rattle.std.specs.Prelude.{◌≡◌, ◌⊎◌, ℕ, List, ◌++◌, Option, [], Result, Ok, Err, ⊤}
+use Rattle.std.specs.Prelude.{◌≡◌, ◌⊎◌, ℕ, List, Option, [], Result, Ok, Err, ⊤}
 
 -- the number of a status
 abbrev pub code_of : Status → ℕ

@@ -19,13 +19,13 @@ use rd_wf::{
 };
 use std::sync::ledger::Ledger;
 
-/// A grammar of lines: what the bytes of a line say, and how a line of it is taken.
-pub trait Grammar {
+/// A grammar of lines: what the bytes of a line say, and how a line of it is taken, for an analysis.
+pub trait Grammar<A: Analysis> {
     // What lines say.
     ghost says: { Saying };
 
     /// Takes a line that isn't skipped: it is judged by what its bytes say behind the accepted lines, and that is handed on, item by item.
-    fn take_line<A: Analysis, S: Sink, L: Ledger>(
+    fn take_line<S: Sink, L: Ledger>(
         &self,
         walker: &mut Walker<A>,
         number: u64,
@@ -51,12 +51,12 @@ pub trait Grammar {
 /// The lines of a trace.
 pub struct TraceLines;
 
-impl Grammar for TraceLines {
+impl<A: Analysis> Grammar<A> for TraceLines {
     ghost use Rattle.rd_walk.specs.Walk.{trace_says};
 
     ghost says = { trace_says };
 
-    fn take_line<A: Analysis, S: Sink, L: Ledger>(
+    fn take_line<S: Sink, L: Ledger>(
         &self,
         walker: &mut Walker<A>,
         number: u64,

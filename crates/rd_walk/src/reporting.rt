@@ -78,7 +78,7 @@ pub trait Report: Analysis {
 }
 
 /// A report on the current input, from its first byte on.
-fn report_opened<G: Grammar, A: Report, I: Inputs, S: Sink, L: Ledger>(
+fn report_opened<G: Grammar<A>, A: Report, I: Inputs, S: Sink, L: Ledger>(
     grammar: &G,
     walker: &mut Walker<A>,
     reader: &mut LineReader,
@@ -113,7 +113,7 @@ fn report_opened<G: Grammar, A: Report, I: Inputs, S: Sink, L: Ledger>(
 }
 
 /// A report on a trace, from the first states of a walk on, as one of the files that a command opens.
-pub fn report_named<G: Grammar, A: Report, I: Inputs, S: Sink, L: Ledger>(
+pub fn report_named<G: Grammar<A>, A: Report, I: Inputs, S: Sink, L: Ledger>(
     grammar: &G,
     walker: &mut Walker<A>,
     trace: &Word,
@@ -150,7 +150,7 @@ pub fn report_named<G: Grammar, A: Report, I: Inputs, S: Sink, L: Ledger>(
 }
 
 /// A report on a trace, from the first states of a walk on, as all that a command does.
-pub fn report_trace<G: Grammar, A: Report, I: Inputs, S: Sink, L: Ledger>(
+pub fn report_trace<G: Grammar<A>, A: Report, I: Inputs, S: Sink, L: Ledger>(
     grammar: &G,
     walker: &mut Walker<A>,
     trace: &Word,

@@ -192,7 +192,7 @@ pub fn take<A: Analysis, S: Sink, L: Ledger>(
 /// Walks over the lines of the current input from its first byte on, by what the grammar says of a line, and hands each accepted item to the
 /// analysis. The roster then has all of them. The answer says how the lines end, or why the walk stopped before that: a write failed, or
 /// memory ran out. A turn takes at least one byte of the input, and no more is taken than `IsTakenOfTrace` says.
-pub fn walk_lines<G: Grammar, A: Analysis, I: Inputs, S: Sink, L: Ledger>(
+pub fn walk_lines<G: Grammar<A>, A: Analysis, I: Inputs, S: Sink, L: Ledger>(
     grammar: &G,
     walker: &mut Walker<A>,
     reader: &mut LineReader,

@@ -1,4 +1,4 @@
-use Rattle.std.proofs.Common.{◌≡◌, inl, inr, refl, ap, sym, subst, ◌∙◌, Err}
+use Rattle.std.proofs.Common.{inl, inr, refl, ap, subst, ◌∙◌, Err}
 use Rattle.std.specs.Prelude.{⊤}
 use Rattle.std.proofs.lemmas.Option.{same_Some}
 use Rattle.rd_walk.specs.Walk.{items}

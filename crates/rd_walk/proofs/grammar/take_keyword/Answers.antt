@@ -1,4 +1,4 @@
-use Rattle.std.proofs.Common.{◌≡◌, inr, refl}
+use Rattle.std.proofs.Common.{inr, refl}
 use Rattle.rd_walk.specs.Walk.{items}
 use Rattle.rd_walk.proofs.TakingLemmas.{still, taken_later}
 use Rattle.rd_walk.proofs.WalkLemmas.{judged_as, next_as}
