@@ -107,7 +107,7 @@ module _ (held : List HeldAccesses) (roots : ℕ → Bool) (lines : List ℕ) (e
   this_access : IsAccess now v w n
   this_access = record { call = _; at = at_end es (event_of_access access stamp slots); object = refl; method = refl }
 
-  this_epoch : IsEpoch now_lines now n this
+  pub this_epoch : IsEpoch now_lines now n this
   this_epoch = record {
     line = ap (slice_get now_lines) (sym next.stands.lengths) ∙ at_end lines access.line;
     thread = (event_of_access access stamp slots, at_end es (event_of_access access stamp slots), refl);
@@ -131,7 +131,7 @@ module _ (held : List HeldAccesses) (roots : ℕ → Bool) (lines : List ℕ) (e
   ]
 
   -- the clock counts a kept access exactly where it reaches this one
-  told : (k : ℕ) (epoch : Epoch) → IsEpoch lines es k epoch → IsHeardEpoch stamp.clock epoch ↔ Reaches now k n
+  pub told : (k : ℕ) (epoch : Epoch) → IsEpoch lines es k epoch → IsHeardEpoch stamp.clock epoch ↔ Reaches now k n
   told k epoch is = clock_tells now k n epoch.thread epoch.number (component stamp.clock epoch.thread) inside more
       (is_of_longer es (event_of_access access stamp slots ∷ []) epoch.thread k is.thread)
       ((own_number_longer es (event_of_access access stamp slots ∷ []) epoch.thread k epoch.number inside).0 is.number)

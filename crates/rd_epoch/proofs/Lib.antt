@@ -1,7 +1,9 @@
 pub mod AccessLemmas
 pub mod EpochLemmas
 pub mod FewLemmas
+pub mod LessonLemmas
 pub mod LineLemmas
 pub mod ReadLemmas
 pub mod StandLemmas
+pub mod StillLemmas
 pub mod TestLemmas

@@ -57,6 +57,16 @@ le_decides a b = elim (leb_tells a b) [
 heard_decides : (clock : List ℕ) (epoch : Epoch) → Decides (is_heard clock epoch) (IsHeardEpoch clock epoch)
 heard_decides clock epoch = le_decides epoch.number (component clock epoch.thread)
 
+pub is_heard_one : (clock : List ℕ) (epoch : Epoch) → IsHeardEpoch clock epoch → is_heard clock epoch ≡ true
+is_heard_one clock epoch heard = (heard_decides clock epoch).1 heard
+
+pub not_heard : (clock : List ℕ) (epoch : Epoch) → ¬ (IsHeardEpoch clock epoch) → is_heard clock epoch ≡ false
+not_heard clock epoch apart = by (is_heard clock epoch) refl
+  where
+    by : (b : Bool) → is_heard clock epoch ≡ b → is_heard clock epoch ≡ false
+    by false is = is
+    by true is = absurd (apart ((heard_decides clock epoch).0 is))
+
 pub in_unheard : (clock : List ℕ) (epochs : List Epoch) (epoch : Epoch) → Contains epochs epoch → ¬ (IsHeardEpoch clock epoch) → Contains (unheard clock epochs) epoch
 in_unheard clock epochs epoch has not_heard =
     in_filter (λ e. not (is_heard clock e)) epochs epoch has ((Decides-not (is_heard clock epoch) (heard_decides clock epoch)).1 not_heard)

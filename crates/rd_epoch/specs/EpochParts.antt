@@ -1,5 +1,5 @@
 -- How an access is taken.
-use Rattle.std.specs.Prelude.{◌≡◌, ◌≢◌, ℕ, ◌+◌, ◌≤◌, max, length, nat_le, not, Bool, true, false, List, [], ◌∷◌, ◌++◌, Contains, Option, Some, None, if◌then◌else◌, fold, filter}
+use Rattle.std.specs.Prelude.{◌≡◌, ◌≢◌, ℕ, ◌+◌, ◌<◌, ◌≤◌, AllPairs, max, length, nat_le, not, Bool, true, false, List, [], ◌∷◌, ◌++◌, Contains, Option, Some, None, if◌then◌else◌, fold, filter}
 use Rattle.rd_clock.specs.Clock.{component}
 use Rattle.rd_epoch.specs.Epochs.{HeldAccesses, held_at, reads_of_one}
 use Rattle.rd_epoch.specs.declared.kept.Epoch.{Epoch}
@@ -59,3 +59,10 @@ pub record IsHeldAt (variable : ℕ) (held : HeldAccesses) (old new : List HeldA
   pub count : length new ≡ max (length old) (variable + 1)
   pub at : held_at new variable ≡ held
   pub others : (w : ℕ) → w ≢ variable → held_at new w ≡ held_at old w
+
+-- Of these open reads each thread has one at most, which it has heard of itself. Where the thread of the access learnt nothing behind a line, and its own
+-- read is behind it, it has heard of no other.
+pub record AreStill (clock : List ℕ) (learnt : ℕ) (now : Epoch) (reads : List Epoch) : Type 0 where
+  pub one_each : AllPairs (λ a b. a.thread ≢ b.thread) reads
+  pub own : (one : Epoch) → Contains reads one → one.thread ≡ now.thread → IsHeardEpoch clock one
+  pub others : (one : Epoch) → Contains reads one → one.thread ≡ now.thread → learnt < one.line → (other : Epoch) → Contains reads other → other.thread ≢ now.thread → ¬ (IsHeardEpoch clock other)

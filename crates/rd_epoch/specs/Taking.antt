@@ -5,12 +5,18 @@ use Rattle.rd_base.specs.declared.values.Value.{Value}
 use Rattle.rd_clock.specs.declared.clock.Stamp.{Stamp}
 use Rattle.rd_event.specs.declared.events.Event.{Event}
 use Rattle.rd_epoch.specs.Epochs.{EpochsStandFor, HeldAccesses, IsFirstTold, IsNextAccess, event_of_access, held_at}
+use Rattle.rd_epoch.specs.Lessons.{HasLearntBy}
 use Rattle.rd_epoch.specs.declared.epochs.Access.{Access}
 use Rattle.rd_epoch.specs.declared.epochs.First.{First}
 
 -- the access, with this stamp, is the next event of some list for which this is held
 abbrev pub MayTake : List HeldAccesses → Access → Stamp → Type 0
 MayTake held access stamp = (roots : ℕ → Bool) × (lines : List ℕ) × (es : List Event) × (slots : List Value) × IsNextAccess held roots lines es access stamp slots
+
+-- the access may be taken, and its thread has learnt nothing behind this line
+abbrev pub MayTakeSince : List HeldAccesses → Access → Stamp → ℕ → Type 0
+MayTakeSince held access stamp learnt = (roots : ℕ → Bool) × (lines : List ℕ) × (es : List Event) × (slots : List Value) × IsNextAccess held roots lines es access stamp slots
+    × HasLearntBy lines es stamp.thread learnt
 
 -- The access, with this stamp, is judged and kept, for each list whose next event it is.
 pub record TakesAccess (old new : List HeldAccesses) (access : Access) (stamp : Stamp) (result : Result (Option First) NoMemory) (before after : ℕ) : Type 0 where

@@ -6,9 +6,9 @@ ghost use Rattle.rd_clock.specs.Stamps.{lent_stamp};
 ghost use Rattle.rd_hb.specs.Tracker.{last_stamp};
 ghost use Rattle.rd_order.specs.EventLists.{WellFormedWith};
 ghost use Rattle.rd_epoch.specs.Accesses.{variable_kinds};
-ghost use Rattle.rd_epoch.specs.EpochParts.{IsHeldAt, found_for, held_after};
+ghost use Rattle.rd_epoch.specs.EpochParts.{AreStill, IsHeldAt, found_for, held_after};
 ghost use Rattle.rd_epoch.specs.Epochs.{EpochsStandFor, held_at, no_access};
-ghost use Rattle.rd_epoch.specs.Taking.{MayTake, TakesAccess};
+ghost use Rattle.rd_epoch.specs.Taking.{MayTakeSince, MayTake, TakesAccess};
 
 #[cfg(test)]
 mod tests;
@@ -96,15 +96,16 @@ impl Epochs {
         Ok(())
     }
 
-    // Takes an access as `access` does, with its stamp lent.
+    // Takes an access as `access` does, with its stamp lent, and with the line by which its thread learnt last.
     #[inline(always)]
     fn judge<L: Ledger>(
         &mut self,
         access: &Access,
         stamp: &StampRef,
+        learnt: u64,
         steps: &mut Steps<L>,
     ) -> Result<Option<First>, NoMemory>
-        requires next { MayTake self.old access.now (lent_stamp stamp.now) }
+        requires next { MayTakeSince self.old access.now (lent_stamp stamp.now) learnt }
         ensures { TakesAccess self.old self.new access.now (lent_stamp stamp.now) result steps.old steps.new }
     {
         let now = Epoch {
@@ -112,7 +113,14 @@ impl Epochs {
             number: stamp.number,
             line: access.line,
         };
-        let found = self.take(access.variable, access.write, &now, stamp.clock, steps)?;
+        let found = self.take(
+            access.variable,
+            access.write,
+            &now,
+            stamp.clock,
+            learnt,
+            steps,
+        )?;
         Ok(first_of(access.line, found))
     }
 
@@ -129,22 +137,26 @@ impl Epochs {
         requires next { MayTake self.old access.now stamp.now }
         ensures { TakesAccess self.old self.new access.now stamp.now result steps.old steps.new }
     {
-        self.judge(access, &StampRef::new(stamp), steps)
+        // its thread may have learnt something up to its line
+        self.judge(access, &StampRef::new(stamp), access.line, steps)
     }
 
-    /// Takes an access as `access` does, where the tracker passed it last, and so has its stamp, of which no copy is made.
+    /// Takes an access as `access` does, where the tracker passed it last, and so has its stamp, of which no copy is made. By the event of this line or
+    /// an earlier one its thread learnt last what others did; 0 where it did never. So a read by a thread that learnt nothing since its last one asks no
+    /// other.
     pub fn follow<L: Ledger>(
         &mut self,
         access: &Access,
         thread: u32,
         tracker: &Tracker,
+        learnt: u64,
         steps: &mut Steps<L>,
     ) -> Result<Option<First>, NoMemory>
         requires known { thread < length tracker.now.threads }
-        requires next { MayTake self.old access.now (last_stamp tracker.now.threads thread) }
+        requires next { MayTakeSince self.old access.now (last_stamp tracker.now.threads thread) learnt }
         ensures { TakesAccess self.old self.new access.now (last_stamp tracker.now.threads thread) result steps.old steps.new }
     {
-        self.judge(access, &tracker.last_stamp(thread), steps)
+        self.judge(access, &tracker.last_stamp(thread), learnt, steps)
     }
 
     // Takes an access: answers the line of the latest earlier one that races with it, where none raced before, and keeps it.
@@ -155,9 +167,11 @@ impl Epochs {
         write: bool,
         now: &Epoch,
         clock: &Clock,
+        learnt: u64,
         steps: &mut Steps<L>,
     ) -> Result<Option<u64>, NoMemory>
-        requires { variable ≤ length self.old }
+        requires numbered { variable ≤ length self.old }
+        requires still { (held_at self.old variable).raced ≡ false → AreStill clock.now learnt now.now (held_at self.old variable).reads }
         ensures found { IfOk result (λ found. found ≡ found_for clock.now write (held_at self.old variable)) }
         ensures held { IfOk result (λ found. IsHeldAt variable (held_after clock.now write now.now (held_at self.old variable) found) self.old self.new) }
         ensures err { OnErr result (self.new ≡ self.old) }
@@ -167,7 +181,7 @@ impl Epochs {
     {
         let place = variable as usize;
         if place < self.variables.len() {
-            return self.variables[place].take(write, now, clock, steps);
+            return self.variables[place].take(write, now, clock, learnt, steps);
         }
         self.begin(write, now, clock, steps)
     }
@@ -188,7 +202,7 @@ impl Epochs {
         ensures cost { steps.new ≤ steps.old + 1 }
     {
         let mut first = Variable::new(self.alloc);
-        let found = first.take(write, now, clock, steps)?;
+        let found = first.take(write, now, clock, now.line, steps)?;
         self.variables.push(first)?;
         Ok(found)
     }

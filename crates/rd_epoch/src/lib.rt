@@ -4,8 +4,10 @@
 mod epochs;
 mod kept;
 mod laws;
+mod lessons;
 mod reads;
 mod variables;
 
 pub use epochs::{Access, Epochs, First};
 pub use laws::{law_of_accesses, law_of_epochs};
+pub use lessons::Lessons;

@@ -1,6 +1,6 @@
 //! The open reads of a variable.
-ghost use Rattle.std.specs.Prelude.{◌≡◌, ◌≢◌, ◌+◌, ◌≤◌, true, [], ◌∷◌, ◌++◌, length, if◌then◌else◌, vec_len, vec_capacity, OnOk, OnErr};
-ghost use Rattle.rd_epoch.specs.EpochParts.{latest_line, unheard};
+ghost use Rattle.std.specs.Prelude.{◌≡◌, ◌≢◌, ◌+◌, ◌<◌, ◌≤◌, true, [], ◌∷◌, ◌++◌, length, slice_get, if◌then◌else◌, vec_len, vec_capacity, IfSome, OnOk, OnErr};
+ghost use Rattle.rd_epoch.specs.EpochParts.{AreStill, latest_line, unheard};
 ghost use Rattle.rd_epoch.specs.Epochs.{reads_of_one};
 
 use crate::kept::{Epoch, is_heard, later_line_seen, later_unheard};
@@ -49,6 +49,20 @@ fn keep_unheard<L: Ledger>(epochs: &mut Vec<Epoch>, clock: &Clock, steps: &mut S
     epochs.truncate(kept);
 }
 
+// Where the thread's own read stands, if it is of a later line than this one.
+#[inline(always)]
+fn own_place(epochs: &[Epoch], thread: u32, learnt: u64) -> Option<usize>
+    ensures { IfSome result (λ place. (place < length epochs.now)
+        × IfSome (slice_get epochs.now place) (λ own. (own.thread ≡ thread) × (learnt < own.line))) }
+{
+    for (place, epoch) in epochs.iter().enumerate() {
+        if epoch.thread == thread && epoch.line > learnt {
+            return Some(place);
+        }
+    }
+    None
+}
+
 // Whether there is a read that the clock doesn't count.
 #[inline(always)]
 fn stays<L: Ledger>(read: &Option<Epoch>, clock: &Clock, steps: &mut Steps<L>) -> bool
@@ -62,7 +76,8 @@ fn stays<L: Ledger>(read: &Option<Epoch>, clock: &Clock, steps: &mut Steps<L>) -
     }
 }
 
-// Adds a read beside others, where it is told whether the first of them stays.
+// Adds a read beside others, where it is told whether the first of them stays. Where the thread learnt nothing since its own read, it has heard of no
+// other, and none is asked.
 // kept out of line, so that a variable with one open read doesn't pay for it
 #[inline(never)]
 #[tactic(auto, using(crate::proofs::ReadLemmas::unheard_joined))]
@@ -72,15 +87,22 @@ fn add_beside<L: Ledger>(
     stays: bool,
     now: &Epoch,
     clock: &Clock,
+    learnt: u64,
     steps: &mut Steps<L>,
 ) -> Result<(), NoMemory>
-    requires { unheard clock.now (reads_of_one first.old) ≡ (if stays then reads_of_one first.old else []) }
+    requires first { unheard clock.now (reads_of_one first.old) ≡ (if stays then reads_of_one first.old else []) }
+    requires still { AreStill clock.now learnt now.now (reads_of_one first.old ++ more.old.items) }
     ensures items { OnOk result (reads_of_one first.new ++ more.new.items
         ≡ unheard clock.now (reads_of_one first.old ++ more.old.items) ++ now.now ∷ []) }
     ensures first { OnErr result (first.new ≡ first.old) }
     ensures more { OnErr result (more.new.items ≡ more.old.items) }
     ensures cost { steps.new ≤ steps.old + length more.old.items }
 {
+    if let Some(place) = own_place(more.as_slice(), now.thread, learnt) {
+        more.remove(place);
+        more.push_reserved(*now);
+        return Ok(());
+    }
     more.reserve(1)?;
     keep_unheard(more, clock, steps);
     if stays {
@@ -150,15 +172,17 @@ impl Reads {
         self.more.clear();
     }
 
-    /// Drops those that the clock counts, and adds one. It takes a step for each that was there. After want of memory, which comes only where one
-    /// was there, all is as before.
+    /// Drops those that the clock counts, and adds one. It takes a step for each that was there, or fewer: where the thread learnt nothing behind this
+    /// line, and has a read behind it, that one alone is counted. After want of memory, which comes only where one was there, all is as before.
     #[inline(always)]
     pub(crate) fn add<L: Ledger>(
         &mut self,
         now: &Epoch,
         clock: &Clock,
+        learnt: u64,
         steps: &mut Steps<L>,
     ) -> Result<(), NoMemory>
+        requires still { AreStill clock.now learnt now.now self.old }
         ensures ok { OnOk result (self.new ≡ unheard clock.now self.old ++ now.now ∷ []) }
         ensures err { OnErr result (self.new ≡ self.old) }
         ensures cost { steps.new ≤ steps.old + length self.old }
@@ -166,7 +190,15 @@ impl Reads {
     {
         let stays = stays(&self.first, clock, steps);
         if stays || !self.more.is_empty() {
-            return add_beside(&mut self.first, &mut self.more, stays, now, clock, steps);
+            return add_beside(
+                &mut self.first,
+                &mut self.more,
+                stays,
+                now,
+                clock,
+                learnt,
+                steps,
+            );
         }
         self.first = Some(*now);
         Ok(())

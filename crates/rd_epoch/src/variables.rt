@@ -1,6 +1,6 @@
 //! What is kept of a variable.
 ghost use Rattle.std.specs.Prelude.{◌≡◌, ◌≢◌, ◌+◌, ◌≤◌, true, false, [], length, IfOk, OnOk, OnErr};
-ghost use Rattle.rd_epoch.specs.EpochParts.{found_for, held_after, held_with};
+ghost use Rattle.rd_epoch.specs.EpochParts.{AreStill, found_for, held_after, held_with};
 ghost use Rattle.rd_epoch.specs.Epochs.{no_access};
 
 use crate::kept::{Epoch, later_unheard};
@@ -62,9 +62,11 @@ impl Variable {
         write: bool,
         now: &Epoch,
         clock: &Clock,
+        learnt: u64,
         steps: &mut Steps<L>,
     ) -> Result<(), NoMemory>
-        requires { self.old.raced ≡ false }
+        requires quiet { self.old.raced ≡ false }
+        requires still { AreStill clock.now learnt now.now self.old.reads }
         ensures held { OnOk result (self.new ≡ held_with clock.now write now.now self.old) }
         ensures err { OnErr result (self.new ≡ self.old) }
         ensures cost { steps.new ≤ steps.old + length self.old.reads }
@@ -73,23 +75,25 @@ impl Variable {
         ensures beside { OnErr result (self.old.reads ≢ []) }
     {
         if !write {
-            return self.reads.add(now, clock, steps);
+            return self.reads.add(now, clock, learnt, steps);
         }
         self.write = Some(*now);
         self.reads.clear();
         Ok(())
     }
 
-    /// Takes an access: answers the line of the latest earlier one that races with it, where none raced before, and keeps it. It takes memory only
-    /// for a read where one is open. After want of memory all is as before.
+    /// Takes an access of a thread that learnt last by this line: answers the line of the latest earlier one that races with it, where none raced before,
+    /// and keeps it. It takes memory only for a read where one is open. After want of memory all is as before.
     #[inline(always)]
     pub(crate) fn take<L: Ledger>(
         &mut self,
         write: bool,
         now: &Epoch,
         clock: &Clock,
+        learnt: u64,
         steps: &mut Steps<L>,
     ) -> Result<Option<u64>, NoMemory>
+        requires still { self.old.raced ≡ false → AreStill clock.now learnt now.now self.old.reads }
         ensures found { IfOk result (λ found. found ≡ found_for clock.now write self.old) }
         ensures held { IfOk result (λ found. self.new ≡ held_after clock.now write now.now self.old found) }
         ensures err { OnErr result (self.new ≡ self.old) }
@@ -104,7 +108,7 @@ impl Variable {
         let found = self.find(write, clock, steps);
         match found {
             Some(_) => self.raced = true,
-            None => self.keep(write, now, clock, steps)?,
+            None => self.keep(write, now, clock, learnt, steps)?,
         }
         Ok(found)
     }

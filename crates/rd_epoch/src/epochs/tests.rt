@@ -82,7 +82,7 @@ fn told<L: Ledger>(
     if lent {
         tracker.pass(event, steps).expect(rt, "memory");
         return epochs
-            .follow(&access, call.thread, tracker, steps)
+            .follow(&access, call.thread, tracker, access.line, steps)
             .expect(rt, "memory");
     }
     let stamp = tracker.event(event, steps).expect(rt, "memory");

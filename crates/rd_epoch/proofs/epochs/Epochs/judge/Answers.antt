@@ -6,7 +6,13 @@ use Rattle.rd_epoch.specs.Epochs.{IsFirstTold, event_of_access, held_at}
 use Rattle.rd_epoch.specs.declared.epochs.First.{First}
 use Rattle.rd_epoch.proofs.EpochLemmas.{answers}
 use Rattle.rd_epoch.proofs.StandLemmas.{stands_after, takes_none}
+use Rattle.rd_epoch.proofs.StillLemmas.{still}
 use Rattle.rd_epoch.proofs.epochs.Epochs.judge.Goals as goal
+
+pub take-requires-clause-still : goal.take-requires-clause-still
+take-requires-clause-still g c =
+    let (roots, lines, es, slots, next, has) = c.requires.next in
+    still c.args.self.now roots lines es c.args.access.now (lent_stamp c.args.stamp.now) slots next c.args.learnt has
 
 pub returns : goal.returns
 returns g c = record {

@@ -16,20 +16,15 @@ follow-requires g c =
     let roots = c.requires.0 in
     let es = c.requires.1 in
     let row = c.requires.2 in
+    let next = access_row c.args.tracker.now c.args.epochs.now roots es c.args.place c.args.event.now row c.in-Call.call c.in-Call.is
+    (last_stamp c.pass-then-lent.new.self.threads c.in-Call.call.thread)
+    (stamp_row c.args.tracker.now c.args.epochs.now roots es c.args.place c.args.event.now row c.in-Call.call c.in-Call.is c.pass-then-lent.new.self
+    (on_ok c.pass-then-lent.result c.expect-then-lent.result c.expect-then-lent.ensures c.pass-then-lent.ensures.stamp roots es row.next))
+    (omega (arith, c.len.ensures, ap length c.epochs.view_is)) in
     record {
       known = known_row c.args.tracker.now c.args.epochs.now roots es c.args.place c.args.event.now row c.in-Call.call c.in-Call.is c.pass-then-lent.new.self
           (on_ok c.pass-then-lent.result c.expect-then-lent.result c.expect-then-lent.ensures c.pass-then-lent.ensures.count);
-      next = (
-        roots,
-        row.run.lines,
-        es,
-        Nil ∷ [],
-        access_row c.args.tracker.now c.args.epochs.now roots es c.args.place c.args.event.now row c.in-Call.call c.in-Call.is
-            (last_stamp c.pass-then-lent.new.self.threads c.in-Call.call.thread)
-            (stamp_row c.args.tracker.now c.args.epochs.now roots es c.args.place c.args.event.now row c.in-Call.call c.in-Call.is c.pass-then-lent.new.self
-            (on_ok c.pass-then-lent.result c.expect-then-lent.result c.expect-then-lent.ensures c.pass-then-lent.ensures.stamp roots es row.next))
-            (omega (arith, c.len.ensures, ap length c.epochs.view_is)),
-      );
+      next = (roots, row.run.lines, es, Nil ∷ [], next, λ k e line at taught is. let below = next.line k line is in omega arith);
     }
 
 pub returns-then-lent-clause-run : goal.returns-then-lent-clause-run
