@@ -10,11 +10,11 @@ use Rattle.rd_epoch.proofs.AccessLemmas.{call_fits}
 use Rattle.rd_epoch.proofs.FewLemmas.{few_open}
 use Rattle.rd_epoch.specs.Accesses.{access_method, variable_kinds}
 use Rattle.rd_epoch.specs.Epochs.{EpochsStandFor, HeldAccesses, IsFirstTold, IsNextAccess, event_of_access, held_at}
-use Rattle.rd_epoch.specs.Taking.{MayTake, TakesAccess}
+use Rattle.rd_epoch.specs.Taking.{TakesAccess}
 use Rattle.rd_epoch.specs.declared.epochs.First.{First}
 use Rattle.rd_epochs_command.proofs.WatchLemmas.{all_rise, event_is, formed_with, line_of, told_now, variable_held}
 use Rattle.rd_epochs_command.specs.Firsts.{accesses, epochs_bound}
-use Rattle.rd_epochs_command.specs.Watching.{IsNextWatchedEvent, access_by, memory_kinds}
+use Rattle.rd_epochs_command.specs.Watching.{IsNextWatchedEvent, MayAccess, access_by, memory_kinds}
 use Rattle.rd_epochs_command.specs.declared.watching.FirstRaces.{FirstRaces}
 use Rattle.rd_event.specs.declared.events.Call.{Call as CallOf}
 use Rattle.rd_event.specs.declared.events.Event.TheVariants as numbered
@@ -101,8 +101,8 @@ module _ (before : List Entry) (now : FirstRaces) (number : ℕ) (item : Line) (
         numbered = let held = variable_held before now entry (accepted.Event e) ready.line e refl call called in omega (arith, held);
       }
 
-      pub may_take : MayTake now.epochs (access_by number place call) (last_stamp tracker.threads call.thread)
-      may_take = (roots, numbers, es, call.slots, access_next)
+      pub may_access : MayAccess now.epochs now.lessons (access_by number place call) (last_stamp tracker.threads call.thread)
+      may_access = (roots, numbers, es, call.slots, access_next, ready.line.watches.lessons)
 
       module _ (held : List HeldAccesses) (result : Result (Option First) NoMemory) (middle after : ℕ)
           (takes : TakesAccess now.epochs held (access_by number place call) (last_stamp tracker.threads call.thread) result middle after) where

@@ -45,7 +45,7 @@ module _ (kinds : List Kind) (start now : FirstRaces) (before : List Entry) (ent
         kinds_are = leads.kinds_are;
         starts = leads.starts;
         watches = watches_quiet before now entry accepted.Nothing line now event
-            (quiet_tracks memory_kinds now.tracker (items before) entry.item accepted.Nothing line.next (inl refl)) leads.watches.holds (omega (arith, none)) refl;
+            (quiet_tracks memory_kinds now.tracker (items before) entry.item accepted.Nothing line.next (inl refl)) leads.watches.holds (omega (arith, none)) refl leads.watches.lessons leads.watches.each;
       }
 
   pub quiet_text : first_texts (before ++ entry ∷ []) ≡ first_texts before

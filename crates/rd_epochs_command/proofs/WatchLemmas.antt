@@ -13,6 +13,7 @@ use Rattle.rd_epoch.proofs.AccessLemmas.{same_call}
 use Rattle.rd_epoch.proofs.StandLemmas.{stands_quiet}
 use Rattle.rd_epoch.specs.Accesses.{IsFirstRace, variable_kinds}
 use Rattle.rd_epoch.specs.Epochs.{EpochsStandFor, HeldAccesses, IsFirstTold}
+use Rattle.rd_epoch.specs.Lessons.{AreLessons}
 use Rattle.rd_epoch.specs.declared.epochs.First.{First}
 use Rattle.rd_epochs_command.proofs.FirstLemmas.{first_told}
 use Rattle.rd_epochs_command.proofs.TextLemmas.{firsts_more, firsts_quiet, objects_more, texts_more, texts_quiet}
@@ -49,7 +50,7 @@ other_roots held roots others lines es formed stands =
     record { formed = formed; lengths = stands.lengths; rising = stands.rising; numbered = stands.numbered; each = stands.each }
 
 -- the numbers of events rise
-rises : (entries : List Entry) (number line : ℕ) → AreBefore number entries → (k : ℕ) → slice_get (event_numbers entries) k ≡ Some line → line < number
+pub rises : (entries : List Entry) (number line : ℕ) → AreBefore number entries → (k : ℕ) → slice_get (event_numbers entries) k ≡ Some line → line < number
 rises [] number line all k at = absurd (none-some line at)
 rises (entry ∷ entries) number line all k at =
     by (is_event entry.item) refl (rises entries number line (λ i d inside. all (suc i) d (omega (arith, inside)))) k at
@@ -76,8 +77,9 @@ module _ (before : List Entry) (now : FirstRaces) (entry : Entry) (numbers : Acc
   -- a line that is no event
   pub watches_quiet : (new : FirstRaces) → is_event entry.item ≡ false → Tracks memory_kinds new.tracker (items before ++ entry.item ∷ [])
       → EpochsStandFor new.epochs (roots_of (items before)) (event_numbers before) (accesses before)
-      → length now.epochs + length (cons_option (declared_name entry.item) []) ≤ length new.epochs → new.firsts ≡ now.firsts → Watches After new
-  watches_quiet new event tracks holds count firsts =
+      → length now.epochs + length (cons_option (declared_name entry.item) []) ≤ length new.epochs → new.firsts ≡ now.firsts
+      → AreLessons new.lessons (event_numbers before) (accesses before) → length new.lessons ≡ length new.tracker.threads → Watches After new
+  watches_quiet new event tracks holds count firsts lessons each =
       let same_events = quiet_events variable_kinds before entry event in
       let same_numbers = quiet_numbers variable_kinds before entry event in record {
         tracks = subst (Tracks memory_kinds new.tracker) (sym (items_more before entry)) tracks;
@@ -87,6 +89,8 @@ module _ (before : List Entry) (now : FirstRaces) (entry : Entry) (numbers : Acc
             let all = ap length (ap objects_of (items_more before entry) ∙ objects_more (items before) entry.item) in
             omega (arith, count, next.watches.declared, all, length-append (objects_of (items before)) (cons_option (declared_name entry.item) []));
         firsts = firsts ∙ next.watches.firsts ∙ sym (firsts_quiet before entry event);
+        lessons = subst (λ (T : Type 0). T) (λ i. AreLessons new.lessons (sym same_numbers i) (sym same_events i)) lessons;
+        each = each;
       }
 
   pub written_quiet : is_event entry.item ≡ false → first_texts After ≡ first_texts before
@@ -123,8 +127,9 @@ module _ (before : List Entry) (now : FirstRaces) (entry : Entry) (numbers : Acc
 
     pub watches_event : (new : FirstRaces) → Tracks memory_kinds new.tracker (items before ++ entry.item ∷ [])
         → EpochsStandFor new.epochs (roots_of (items before)) (event_numbers before ++ entry.number ∷ []) Es → length now.epochs ≤ length new.epochs
-        → new.firsts ≡ now.firsts + cond (is_some (first_at Es (length (accesses before)))) 1 0 → Watches After new
-    watches_event new tracks holds count firsts =
+        → new.firsts ≡ now.firsts + cond (is_some (first_at Es (length (accesses before)))) 1 0
+        → AreLessons new.lessons (event_numbers before ++ entry.number ∷ []) Es → length new.lessons ≡ length new.tracker.threads → Watches After new
+    watches_event new tracks holds count firsts lessons each =
         let (event, is, same) = event_is in record {
           tracks = subst (Tracks memory_kinds new.tracker) (sym (items_more before entry)) tracks;
           holds = other_roots new.epochs (roots_of (items before)) (roots_of (items After)) (event_numbers After) (accesses After) formed_now
@@ -136,6 +141,8 @@ module _ (before : List Entry) (now : FirstRaces) (entry : Entry) (numbers : Acc
           firsts = firsts ∙ ap (λ n. n + cond (is_some (first_at Es (length (accesses before)))) 1 0) next.watches.firsts
               ∙ ap (λ x. firsts_of before + cond (is_some (first_at (accesses before ++ x ∷ []) (length (accesses before)))) 1 0) same
               ∙ sym (firsts_more before entry event is);
+          lessons = subst (λ (T : Type 0). T) (λ i. AreLessons new.lessons (sym all_numbers i) (sym all_events i)) lessons;
+          each = each;
         }
 
     pub written_event : first_texts After ≡ first_texts before

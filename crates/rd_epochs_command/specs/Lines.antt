@@ -5,7 +5,12 @@ use Rattle.rd_ecl.specs.Kinds.{Kind}
 use Rattle.rd_event.specs.declared.items.Line.{Line}
 use Rattle.rd_memory.specs.MemoryLines.{memory_line_of}
 use Rattle.rd_memory.specs.declared.lines.MemLine.TheVariants.{Access}
+use Rattle.rd_epochs_command.specs.Firsts.{epochs_bound, first_texts}
+use Rattle.rd_epochs_command.specs.Watching.{WatchLeads}
 use Rattle.rd_epochs_command.specs.declared.lines.Words.{Words}
+use Rattle.rd_epochs_command.specs.declared.watching.FirstRaces.{FirstRaces}
+use Rattle.rd_memory.specs.MemoryTraces.{memory_says}
+use Rattle.rd_walk.specs.Taking.{TakesGrammarLine}
 use Rattle.rd_rules.specs.MayFollow.{first_broken}
 use Rattle.rd_rules.specs.declared.causes.Accepted.{Accepted}
 use Rattle.rd_rules.specs.declared.causes.BytesRefused.{BytesRefused}
@@ -48,3 +53,10 @@ pub record TakesItem {A : Type 0} (leads : List Kind → A → List Entry → A 
       → AreBefore number before → ((now ≡ written) × (to ≡ from))
       ⊎ ((first_broken kinds old.limits (items before) item ≡ None)
       × IsCutIn (text kinds start) (bound kinds start) written now from to before (record { number = number; item = item })))
+
+-- so for the first races of a trace of reads and writes: an item, and a line
+abbrev pub TakesMemoryItem : ℕ → Line → Walker FirstRaces → Walker FirstRaces → Option (List ℕ) → Option (List ℕ) → ℕ → ℕ → Result Taken Halt → Type 0
+TakesMemoryItem = TakesItem WatchLeads (λ _ _. first_texts) (λ _ _. epochs_bound)
+
+abbrev pub TakesMemoryLine : ℕ → List ℕ → Walker FirstRaces → Walker FirstRaces → Option (List ℕ) → Option (List ℕ) → ℕ → ℕ → Result Taken Halt → Type 0
+TakesMemoryLine = TakesGrammarLine memory_says WatchLeads (λ _ _. first_texts) (λ _ _. epochs_bound)

@@ -1,10 +1,13 @@
 -- What `epochs` keeps of the accepted lines.
 use Rattle.std.specs.Prelude.{◌≡◌, ◌≤◌, ℕ, Bool, List, [], ◌∷◌, ◌++◌, ◌==◌, length}
+use Rattle.rd_base.specs.declared.values.Value.{Value}
 use Rattle.rd_check_command.specs.Checked.{event_numbers}
 use Rattle.rd_check_command.specs.Checking.{IsNextLine as IsNextTracked, Tracks}
+use Rattle.rd_clock.specs.declared.clock.Stamp.{Stamp}
 use Rattle.rd_ecl.specs.Kinds.{Kind, kinds_of}
 use Rattle.rd_epoch.specs.Accesses.{variable_kinds}
-use Rattle.rd_epoch.specs.Epochs.{EpochsStandFor}
+use Rattle.rd_epoch.specs.Epochs.{EpochsStandFor, HeldAccesses, IsNextAccess}
+use Rattle.rd_epoch.specs.Lessons.{AreLessons}
 use Rattle.rd_epochs_command.specs.Firsts.{accesses, firsts_of}
 use Rattle.rd_epochs_command.specs.declared.watching.FirstRaces.{FirstRaces}
 use Rattle.rd_epoch.specs.declared.epochs.Access.{Access}
@@ -26,17 +29,20 @@ memory_kinds = kinds_of variable_kinds
 -- it has taken no line
 pub record WatchesNone (start : FirstRaces) : Type 0 where
   pub no_event : start.tracker ≡ record { threads = []; locks = record { releases = []; unshares = [] } }
+  pub no_lesson : start.lessons ≡ []
   pub no_variable : start.epochs ≡ []
   pub stands : (roots : ℕ → Bool) → WellFormedWith memory_kinds roots [] → EpochsStandFor start.epochs roots [] []
   pub no_race : start.firsts ≡ 0
 
--- from a new one on, the tracker and what is held of each variable stand for the events of these accepted lines, and the first races among them are
--- counted
+-- from a new one on, the tracker and what is held of each variable stand for the events of these accepted lines, the first races among them are
+-- counted, and each thread has learnt nothing behind its line
 pub record Watches (entries : List Entry) (now : FirstRaces) : Type 0 where
   pub tracks : Tracks memory_kinds now.tracker (items entries)
   pub holds : EpochsStandFor now.epochs (roots_of (items entries)) (event_numbers entries) (accesses entries)
   pub declared : length (objects_of (items entries)) ≤ length now.epochs
   pub firsts : now.firsts ≡ firsts_of entries
+  pub lessons : AreLessons now.lessons (event_numbers entries) (accesses entries)
+  pub each : length now.lessons ≡ length now.tracker.threads
 
 -- so it is where the kinds are those of reads and writes
 pub record WatchLeads (kinds : List Kind) (start : FirstRaces) (entries : List Entry) (now : FirstRaces) : Type 0 where
@@ -64,3 +70,7 @@ pub record IsNextWatchedEvent (before : List Entry) (now : FirstRaces) (number :
 -- the access that a call on this line, at this place, is
 abbrev pub access_by : ℕ → ℕ → Call → Access
 access_by line place call = record { place = place; line = line; variable = call.object; write = call.method == 1 }
+
+-- the access is the next event of some list for which this is held, and where these are the threads' lessons
+abbrev pub MayAccess : List HeldAccesses → List ℕ → Access → Stamp → Type 0
+MayAccess held lessons access stamp = (roots : ℕ → Bool) × (lines : List ℕ) × (es : List Event) × (slots : List Value) × IsNextAccess held roots lines es access stamp slots × AreLessons lessons lines es

@@ -31,7 +31,7 @@ pub fn epochs<I: Inputs, S: Sink, L: Ledger>(
         (ended_status result) }
 {
     let spec = variables(alloc)?;
-    let lines = MemoryLines::new(alloc)?;
+    let lines = MemoryLines::new();
     let mut walker = Walker::new(alloc, limits, &spec, FirstRaces::new(alloc))?;
     let ended = report_trace(&lines, &mut walker, trace, inputs, out, steps);
     // what the walk held is left to the end of the process, which takes it back at once

@@ -1,39 +1,41 @@
 //! The lines of a trace of reads and writes.
-ghost use Rattle.std.specs.Prelude.{◌≡◌, ◌≢◌, ◌∷◌, [], ◌++◌, List, ℕ, Ok, Some, IfNone, IfSome, codes, false, true, option_map};
+ghost use Rattle.std.specs.Prelude.{◌≡◌, ◌≢◌, ◌∷◌, [], ◌++◌, List, ℕ, Ok, Err, Some, IfErr, IfNone, IfSome, codes, false, true, option_map};
 ghost use Rattle.rd_base.specs.Limits.{AreUsable};
 ghost use Rattle.rd_base.specs.Names.{IsName};
 ghost use Rattle.rd_base.specs.declared.values.Value.TheVariants.{Nil};
-ghost use Rattle.rd_ecl.specs.Kinds.{Kind};
-ghost use Rattle.rd_epochs_command.specs.Lines.{SayAccess, TakesItem, WasJudged};
+ghost use Rattle.rd_ecl.specs.Kinds.{Kind, methods_at};
+ghost use Rattle.rd_epochs_command.specs.Lines.{SayAccess, TakesItem, TakesMemoryItem, TakesMemoryLine, WasJudged};
+ghost use Rattle.rd_epochs_command.specs.Watching.{WatchLeads, memory_kinds};
 ghost use Rattle.rd_event.specs.Reading.{names_read};
 ghost use Rattle.rd_event.specs.declared.items.Line.{Line as Item};
 ghost use Rattle.rd_memory.specs.MemoryLines.{access_keyword, access_of, memory_line_of};
 ghost use Rattle.rd_memory.specs.MemoryTraces.{access_call, memory_says};
 ghost use Rattle.rd_rules.specs.MayFollow.{is_among, objects_of};
+ghost use Rattle.rd_tables.specs.Tables.{found_method};
 ghost use Rattle.rd_walk.specs.Analysis.{AreBefore, TellsFault};
 ghost use Rattle.rd_walk.specs.Taking.{TakesGrammarLine};
 ghost use Rattle.rd_walk.specs.Walk.{Entry, items};
-ghost use Rattle.rd_wf.specs.Roster.{RosterStandsFor, TakesNames};
+ghost use Rattle.rd_wf.specs.Roster.{RosterStandsFor, TakesNames, kinds_in, with_values};
 
-use rd_base::{Limits, NoMemory, Slots, Steps, Value};
+use crate::watching::FirstRaces;
+use rd_base::{Limits, Name, Steps};
 use rd_event::is_skipped;
 use rd_io::Sink;
 use rd_memory::law_of_keywords;
-use rd_tables::cut_at_space;
+use rd_tables::{FoundMethod, cut_at_space};
 use rd_walk::{Analysis, Grammar, Halt, Taken, Walker, take_anywhere, take_keyword};
 use rd_wf::{
-    Accepted, AcquireLine, Anywhere, BytesRefused, Finder, JoinLine, Judged, Near, ReleaseLine,
-    Roster, TraceCause,
+    Accepted, AcquireLine, Anywhere, BytesRefused, CallNumbers, Finder, JoinLine, Judged,
+    KnownMethod, ReleaseLine, Roster, TraceCause, WfCause,
 };
-use std::alloc::Global;
 use std::sync::ledger::Ledger;
 
 /// The lines of a trace of reads and writes. An access is a call without arguments, whose result is nil; the first one to a variable declares it.
 #[derive(Drop)]
 pub struct MemoryLines {
-    /// the result of each access
-    result: Slots,
-    ghost is_nil: { result ≡ Nil ∷ [] },
+    /// the kind of a variable
+    kind: Name,
+    ghost is_variable: { kind ≡ codes "variable" },
 }
 
 /// The words of an access.
@@ -137,133 +139,210 @@ fn finish<A: Analysis, S: Sink, L: Ledger>(
     }
 }
 
-impl MemoryLines {
-    /// The lines of a trace of reads and writes. Its error is want of memory.
-    pub fn new(alloc: Global) -> Result<MemoryLines, NoMemory> {
-        let mut result = Slots::new(alloc);
-        result.push(Value::Nil)?;
-        Ok(MemoryLines { result })
-    }
-
-    // Accepts an access, as the call that it is.
-    #[inline(always)]
-    fn judge<F: Finder>(&self, roster: &mut Roster, words: Words, limits: &Limits) -> Judged
-        ensures { TakesNames F.complete (IsName words.entry.thread.now × IsName words.entry.variable.now) roster.old roster.new limits.now
-            (access_call words.entry.thread.now words.entry.variable.now words.entry.write) result }
+// An access that the roster accepted is handed on.
+#[inline(always)]
+fn hand_on_access<S: Sink, L: Ledger>(
+    walker: &mut Walker<FirstRaces>,
+    number: u64,
+    call: CallNumbers,
+    out: &mut S,
+    steps: &mut Steps<L>,
+) -> Result<Taken, Halt>
+    requires usable { AreUsable walker.old.limits }
+    requires next { (old : Walker FirstRaces) × (item : Item) × WasJudged old walker.old item (with_values (Nil ∷ []) (Ok call))
+        × (kinds : List Kind) × (start : FirstRaces) × (before : List Entry)
+        × RosterStandsFor kinds old.roster (items before)
+        × WatchLeads kinds start before old.analysis × AreBefore number before }
+    ensures item { (old : Walker FirstRaces) (item : Item) → WasJudged old walker.old item (with_values (Nil ∷ []) (Ok call)) →
+        TakesMemoryItem number item old walker.new (S.written out.old) (S.written out.new) steps.old steps.new result }
+    ensures accepted { result ≢ Ok Taken.Refused }
+    ensures limits { walker.new.limits ≡ walker.old.limits }
+    ensures fault { TellsFault (S.faults out.old) (S.faults out.new) (S.at_fault out.new)
+        (S.written out.new) result }
+{
+    let place = walker.roster.events() - 1;
+    match walker
+        .analysis
+        .call(number, place, call, &walker.roster, out, steps)
     {
-        roster.call_apart::<F>(
-            words.thread,
-            words.variable,
-            keyword_of(words.write),
-            &self.result,
-            limits,
-        )
+        Ok(()) => Ok(Taken::Accepted),
+        Err(halt) => Err(halt),
     }
+}
 
-    // Takes the first access to a variable: it is declared, and then the access is judged.
-    #[inline(never)]
-    fn take_first<A: Analysis, S: Sink, L: Ledger>(
-        &self,
-        walker: &mut Walker<A>,
-        number: u64,
-        words: Words,
-        out: &mut S,
-        steps: &mut Steps<L>,
-    ) -> Result<Taken, Halt>
-        requires usable { AreUsable walker.old.limits }
-        requires stands { (kinds : List Kind) × (start : A) × (before : List Entry)
-            × RosterStandsFor kinds walker.old.roster (items before)
-            × A.leads kinds start before walker.old.analysis × AreBefore number before }
-        requires named { IsName words.thread.now × IsName words.variable.now }
-        requires undeclared { (kinds : List Kind) (lines : List Item) →
-            RosterStandsFor kinds walker.old.roster lines → is_among (objects_of lines) words.variable.now ≡ false }
-        ensures limits { walker.new.limits ≡ walker.old.limits }
-        ensures line { (bytes : List ℕ) → SayAccess bytes words.entry →
-            TakesGrammarLine memory_says A.leads A.text A.bound number bytes walker.old walker.new
-            (S.written out.old) (S.written out.new) steps.old steps.new result }
-        ensures fault { TellsFault (S.faults out.old) (S.faults out.new) (S.at_fault out.new)
-            (S.written out.new) result }
-    {
-        let declared = walker
-            .roster
-            .object(words.variable, b"variable", &walker.limits);
-        match finish(walker, number, declared, out, steps) {
-            Ok(Taken::Accepted) => {}
-            Ok(Taken::Refused) => return Ok(Taken::Refused),
-            Err(halt) => return Err(halt),
-        }
-        let judged = self.judge::<Anywhere>(&mut walker.roster, words, &walker.limits);
-        finish(walker, number, judged, out, steps)
+// What the roster judged of an access, whose words are names, is done.
+fn finish_access<S: Sink, L: Ledger>(
+    walker: &mut Walker<FirstRaces>,
+    number: u64,
+    judged: Result<CallNumbers, BytesRefused>,
+    out: &mut S,
+    steps: &mut Steps<L>,
+) -> Result<Taken, Halt>
+    requires usable { AreUsable walker.old.limits }
+    requires next { (old : Walker FirstRaces) × (item : Item) × WasJudged old walker.old item (with_values (Nil ∷ []) judged)
+        × (kinds : List Kind) × (start : FirstRaces) × (before : List Entry)
+        × RosterStandsFor kinds old.roster (items before)
+        × WatchLeads kinds start before old.analysis × AreBefore number before }
+    ensures item { (old : Walker FirstRaces) (item : Item) → WasJudged old walker.old item (with_values (Nil ∷ []) judged) →
+        TakesMemoryItem number item old walker.new (S.written out.old) (S.written out.new) steps.old steps.new result }
+    ensures limits { walker.new.limits ≡ walker.old.limits }
+    ensures fault { TellsFault (S.faults out.old) (S.faults out.new) (S.at_fault out.new)
+        (S.written out.new) result }
+{
+    match judged {
+        Ok(call) => hand_on_access(walker, number, call, out, steps),
+        Err(refused) => match refused {
+            BytesRefused::BadLine => unreachable!(),
+            BytesRefused::Cause(cause) => refuse(walker, TraceCause::Wf(cause)),
+            BytesRefused::NoMemory => Err(Halt::NoMemory),
+        },
     }
+}
 
-    // Takes an access, each of whose names is found.
-    #[inline(never)]
-    fn take_far<A: Analysis, S: Sink, L: Ledger>(
-        &self,
-        walker: &mut Walker<A>,
-        number: u64,
-        words: Words,
-        out: &mut S,
-        steps: &mut Steps<L>,
-    ) -> Result<Taken, Halt>
-        requires usable { AreUsable walker.old.limits }
-        requires stands { (kinds : List Kind) × (start : A) × (before : List Entry)
-            × RosterStandsFor kinds walker.old.roster (items before)
-            × A.leads kinds start before walker.old.analysis × AreBefore number before }
-        ensures limits { walker.new.limits ≡ walker.old.limits }
-        ensures line { (bytes : List ℕ) → SayAccess bytes words.entry →
-            TakesGrammarLine memory_says A.leads A.text A.bound number bytes walker.old walker.new
-            (S.written out.old) (S.written out.new) steps.old steps.new result }
-        ensures fault { TellsFault (S.faults out.old) (S.faults out.new) (S.at_fault out.new)
-            (S.written out.new) result }
-    {
-        match self.judge::<Anywhere>(&mut walker.roster, words, &walker.limits) {
-            Ok(accepted) => hand_on(walker, number, &accepted, out, steps),
-            Err(BytesRefused::BadLine) => refuse(walker, TraceCause::BadLine),
-            Err(BytesRefused::Cause(cause)) => {
-                if is_undeclared(&walker.roster, words.variable) {
-                    return self.take_first(walker, number, words, out, steps);
-                }
-                refuse(walker, TraceCause::Wf(cause))
+// What a look-up of the method of an access finds.
+#[inline(always)]
+fn method_of(write: bool) -> FoundMethod
+    ensures found { result ≡ found_method (methods_at memory_kinds 0) (access_keyword write) }
+    ensures slots { result.slots ≡ 1 }
+{
+    FoundMethod {
+        number: if write { 1 } else { 0 },
+        unknown: false,
+        slots: 1,
+    }
+}
+
+// Accepts an access, as the call that it is. Its method is known, since the kinds are those of reads and writes.
+#[inline(always)]
+fn judge(roster: &mut Roster, words: Words, limits: &Limits) -> Result<CallNumbers, BytesRefused>
+    requires { kinds_in roster.old ≡ memory_kinds }
+    ensures takes { TakesNames true (IsName words.entry.thread.now × IsName words.entry.variable.now) roster.old roster.new limits.now
+        (access_call words.entry.thread.now words.entry.variable.now words.entry.write) (with_values (Nil ∷ []) result) }
+    ensures memory { IfErr result (λ refused. refused ≢ BytesRefused.NoMemory) }
+{
+    let known = KnownMethod {
+        kind: 0,
+        found: method_of(words.write),
+    };
+    roster.call_numbers::<Anywhere>(
+        words.thread,
+        words.variable,
+        keyword_of(words.write),
+        known,
+        limits,
+    )
+}
+
+// Takes the first access to a variable: it is declared, and then the access is judged.
+#[inline(never)]
+fn take_first<S: Sink, L: Ledger>(
+    kind: &Name,
+    walker: &mut Walker<FirstRaces>,
+    number: u64,
+    words: Words,
+    out: &mut S,
+    steps: &mut Steps<L>,
+) -> Result<Taken, Halt>
+    requires kind { kind.now ≡ codes "variable" }
+    requires usable { AreUsable walker.old.limits }
+    requires stands { (kinds : List Kind) × (start : FirstRaces) × (before : List Entry)
+        × RosterStandsFor kinds walker.old.roster (items before)
+        × WatchLeads kinds start before walker.old.analysis × AreBefore number before }
+    requires named { IsName words.thread.now × IsName words.variable.now }
+    requires undeclared { (kinds : List Kind) (lines : List Item) →
+        RosterStandsFor kinds walker.old.roster lines → is_among (objects_of lines) words.variable.now ≡ false }
+    ensures limits { walker.new.limits ≡ walker.old.limits }
+    ensures line { (bytes : List ℕ) → SayAccess bytes words.entry →
+        TakesMemoryLine number bytes walker.old walker.new (S.written out.old) (S.written out.new) steps.old steps.new result }
+    ensures fault { TellsFault (S.faults out.old) (S.faults out.new) (S.at_fault out.new)
+        (S.written out.new) result }
+{
+    let declared = walker
+        .roster
+        .declare_new(words.variable, kind, &walker.limits);
+    match finish(walker, number, declared, out, steps) {
+        Ok(Taken::Accepted) => {}
+        Ok(Taken::Refused) => return Ok(Taken::Refused),
+        Err(halt) => return Err(halt),
+    }
+    let judged = judge(&mut walker.roster, words, &walker.limits);
+    finish_access(walker, number, judged, out, steps)
+}
+
+// Takes an access that the roster refused, of which it may be the first one to its variable.
+#[inline(never)]
+fn take_refused<S: Sink, L: Ledger>(
+    kind: &Name,
+    walker: &mut Walker<FirstRaces>,
+    number: u64,
+    words: Words,
+    refused: BytesRefused,
+    out: &mut S,
+    steps: &mut Steps<L>,
+) -> Result<Taken, Halt>
+    requires kind { kind.now ≡ codes "variable" }
+    requires usable { AreUsable walker.old.limits }
+    requires stands { (kinds : List Kind) × (start : FirstRaces) × (before : List Entry)
+        × RosterStandsFor kinds walker.old.roster (items before)
+        × WatchLeads kinds start before walker.old.analysis × AreBefore number before }
+    requires judged { TakesNames true (IsName words.thread.now × IsName words.variable.now) walker.old.roster walker.old.roster walker.old.limits
+        (access_call words.thread.now words.variable.now words.write) (Err refused) }
+    requires memory { refused ≢ BytesRefused.NoMemory }
+    ensures limits { walker.new.limits ≡ walker.old.limits }
+    ensures line { (bytes : List ℕ) → SayAccess bytes words.entry →
+        TakesMemoryLine number bytes walker.old walker.new (S.written out.old) (S.written out.new) steps.old steps.new result }
+    ensures fault { TellsFault (S.faults out.old) (S.faults out.new) (S.at_fault out.new)
+        (S.written out.new) result }
+{
+    match refused {
+        BytesRefused::BadLine => refuse(walker, TraceCause::BadLine),
+        BytesRefused::Cause(cause) => {
+            if let WfCause::UnknownObject = cause {
+                return take_first(kind, walker, number, words, out, steps);
             }
-            Err(BytesRefused::NoMemory) => Err(Halt::NoMemory),
+            // an earlier cause says nothing of the variable
+            if is_undeclared(&walker.roster, words.variable) {
+                return take_first(kind, walker, number, words, out, steps);
+            }
+            refuse(walker, TraceCause::Wf(cause))
         }
+        BytesRefused::NoMemory => unreachable!(),
     }
+}
 
-    // Takes an access with these names, which are looked for near first.
-    #[inline(always)]
-    fn take_access<A: Analysis, S: Sink, L: Ledger>(
-        &self,
-        walker: &mut Walker<A>,
-        number: u64,
-        names: &[u8],
-        write: bool,
-        out: &mut S,
-        steps: &mut Steps<L>,
-    ) -> Result<Taken, Halt>
-        requires usable { AreUsable walker.old.limits }
-        requires stands { (kinds : List Kind) × (start : A) × (before : List Entry)
-            × RosterStandsFor kinds walker.old.roster (items before)
-            × A.leads kinds start before walker.old.analysis × AreBefore number before }
-        ensures limits { walker.new.limits ≡ walker.old.limits }
-        ensures line { (bytes : List ℕ) → memory_line_of bytes ≡ option_map (access_of write) (names_read names.now) →
-            TakesGrammarLine memory_says A.leads A.text A.bound number bytes walker.old walker.new
-            (S.written out.old) (S.written out.new) steps.old steps.new result }
-        ensures fault { TellsFault (S.faults out.old) (S.faults out.new) (S.at_fault out.new)
-            (S.written out.new) result }
-    {
-        let Some((thread, variable)) = cut_at_space(names) else {
-            return refuse(walker, TraceCause::BadLine);
-        };
-        let words = Words {
-            thread,
-            variable,
-            write,
-        };
-        let Ok(accepted) = self.judge::<Near>(&mut walker.roster, words, &walker.limits) else {
-            return self.take_far(walker, number, words, out, steps);
-        };
-        hand_on(walker, number, &accepted, out, steps)
+// Takes an access with these names.
+#[inline(always)]
+fn take_access<S: Sink, L: Ledger>(
+    kind: &Name,
+    walker: &mut Walker<FirstRaces>,
+    number: u64,
+    names: &[u8],
+    write: bool,
+    out: &mut S,
+    steps: &mut Steps<L>,
+) -> Result<Taken, Halt>
+    requires kind { kind.now ≡ codes "variable" }
+    requires usable { AreUsable walker.old.limits }
+    requires stands { (kinds : List Kind) × (start : FirstRaces) × (before : List Entry)
+        × RosterStandsFor kinds walker.old.roster (items before)
+        × WatchLeads kinds start before walker.old.analysis × AreBefore number before }
+    ensures limits { walker.new.limits ≡ walker.old.limits }
+    ensures line { (bytes : List ℕ) → memory_line_of bytes ≡ option_map (access_of write) (names_read names.now) →
+        TakesMemoryLine number bytes walker.old walker.new (S.written out.old) (S.written out.new) steps.old steps.new result }
+    ensures fault { TellsFault (S.faults out.old) (S.faults out.new) (S.at_fault out.new)
+        (S.written out.new) result }
+{
+    let Some((thread, variable)) = cut_at_space(names) else {
+        return refuse(walker, TraceCause::BadLine);
+    };
+    let words = Words {
+        thread,
+        variable,
+        write,
+    };
+    match judge(&mut walker.roster, words, &walker.limits) {
+        Ok(call) => hand_on_access(walker, number, call, out, steps),
+        Err(refused) => take_refused(kind, walker, number, words, refused, out, steps),
     }
 }
 
@@ -317,14 +396,24 @@ fn behind<'a>(bytes: &'a [u8], text: &[u8]) -> Option<&'a [u8]>
     bytes.strip_prefix(text)
 }
 
-impl Grammar for MemoryLines {
+impl MemoryLines {
+    /// The lines of a trace of reads and writes.
+    pub fn new() -> MemoryLines {
+        let Ok(kind) = Name::from_bytes(b"variable") else {
+            unreachable!();
+        };
+        MemoryLines { kind }
+    }
+}
+
+impl Grammar<FirstRaces> for MemoryLines {
     ghost use Rattle.rd_memory.specs.MemoryTraces.{memory_says};
 
     ghost says = { memory_says };
 
-    fn take_line<A: Analysis, S: Sink, L: Ledger>(
+    fn take_line<S: Sink, L: Ledger>(
         &self,
-        walker: &mut Walker<A>,
+        walker: &mut Walker<FirstRaces>,
         number: u64,
         bytes: &[u8],
         out: &mut S,
@@ -332,19 +421,19 @@ impl Grammar for MemoryLines {
     ) -> Result<Taken, Halt> {
         law_of_keywords();
         if let Some(names) = behind(bytes, b"read ") {
-            return self.take_access(walker, number, names, false, out, steps);
+            return take_access(&self.kind, walker, number, names, false, out, steps);
         }
         if let Some(names) = behind(bytes, b"write ") {
-            return self.take_access(walker, number, names, true, out, steps);
+            return take_access(&self.kind, walker, number, names, true, out, steps);
         }
         if behind(bytes, b"acquire ").is_some() {
-            return take_keyword::<AcquireLine, A, S, L>(walker, number, bytes, out, steps);
+            return take_keyword::<AcquireLine, FirstRaces, S, L>(walker, number, bytes, out, steps);
         }
         if behind(bytes, b"release ").is_some() {
-            return take_keyword::<ReleaseLine, A, S, L>(walker, number, bytes, out, steps);
+            return take_keyword::<ReleaseLine, FirstRaces, S, L>(walker, number, bytes, out, steps);
         }
         if behind(bytes, b"join ").is_some() {
-            return take_keyword::<JoinLine, A, S, L>(walker, number, bytes, out, steps);
+            return take_keyword::<JoinLine, FirstRaces, S, L>(walker, number, bytes, out, steps);
         }
         take_rare(walker, number, bytes, out, steps)
     }

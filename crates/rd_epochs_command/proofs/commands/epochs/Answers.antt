@@ -15,23 +15,17 @@ one_name : AllPairs (λ x y. x ≢ y) (kind_names memory_kinds)
 unfolding variable_kind
 one_name = λ i j d less inside. absurd (omega (arith, less, inside))
 
-pub new-requires-3-clause-few : goal.new-requires-3-clause-few
-new-requires-3-clause-few g c = rw c.in_ok-spec.ensures (omega arith)
+pub new-requires-2-clause-few : goal.new-requires-2-clause-few
+new-requires-2-clause-few g c = rw c.in_ok-spec.ensures (omega arith)
 
-pub new-requires-3-clause-different : goal.new-requires-3-clause-different
-new-requires-3-clause-different g c = subst (λ kinds. AllPairs (λ x y. x ≢ y) (kind_names (kinds_of kinds))) (sym c.in_ok-spec.ensures) one_name
+pub new-requires-2-clause-different : goal.new-requires-2-clause-different
+new-requires-2-clause-different g c = subst (λ kinds. AllPairs (λ x y. x ≢ y) (kind_names (kinds_of kinds))) (sym c.in_ok-spec.ensures) one_name
 
 pub returns-in_err-spec : goal.returns-in_err-spec
 returns-in_err-spec g c =
     ran_report_without epochs_texts memory_kinds c.args.trace.now c.args.limits.now
     (seen g.I.Inputs.told g.I.Inputs.faults c.args.inputs.now g.S.Sink.written g.S.Sink.faults g.S.Sink.at_fault c.args.out.now c.args.steps.now)
     c.from_residual.result c.from_residual.ensures
-
-pub returns-in_err-lines : goal.returns-in_err-lines
-returns-in_err-lines g c =
-    ran_report_without epochs_texts memory_kinds c.args.trace.now c.args.limits.now
-    (seen g.I.Inputs.told g.I.Inputs.faults c.args.inputs.now g.S.Sink.written g.S.Sink.faults g.S.Sink.at_fault c.args.out.now c.args.steps.now)
-    c.from_residual-in_err-lines.result c.from_residual-in_err-lines.ensures
 
 pub returns-in_err-walker : goal.returns-in_err-walker
 returns-in_err-walker g c =
@@ -42,7 +36,7 @@ returns-in_err-walker g c =
 pub report_trace-ended-requires-clause-begins : goal.report_trace-ended-requires-clause-begins
 report_trace-ended-requires-clause-begins g c =
     subst (WatchBegins (kinds_in c.in_ok-walker.walker.roster)) (sym c.in_ok-walker.ensures.analysis)
-    (record { kinds_are = c.in_ok-walker.ensures.kinds ∙ ap kinds_of c.in_ok-spec.ensures; new = c.new-2.ensures })
+    (record { kinds_are = c.in_ok-walker.ensures.kinds ∙ ap kinds_of c.in_ok-spec.ensures; new = c.new.ensures })
 
 pub returns : goal.returns
 returns g c =

@@ -15,7 +15,7 @@ pub returns-in-Ok-clause-watches : goal.returns-in-Ok-clause-watches
 returns-in-Ok-clause-watches c = λ before entry object kind next.
     let (event, one) = object_item before c.args.self.now entry object kind next in
     let held = c.in-Ok.ensures.ok in
-    watches_quiet before c.args.self.now entry (Object object kind) next (record { alloc = c.args.self.now.alloc; tracker = c.args.self.now.tracker; epochs = c.declare.new.self; firsts = c.args.self.now.firsts }) event
+    watches_quiet before c.args.self.now entry (Object object kind) next (record { alloc = c.args.self.now.alloc; tracker = c.args.self.now.tracker; lessons = c.args.self.now.lessons; epochs = c.declare.new.self; firsts = c.args.self.now.firsts }) event
     (quiet_tracks memory_kinds c.args.self.now.tracker (items before) entry.item (Object object kind) next.next (inr (object, kind, refl)))
     (c.in-Ok.ensures.stands (roots_of (items before)) (event_numbers before) (accesses before) next.watches.holds)
-    (omega (arith, one, ap length held ∙ length-append c.args.self.now.epochs (no_access ∷ []))) refl
+    (omega (arith, one, ap length held ∙ length-append c.args.self.now.epochs (no_access ∷ []))) refl next.watches.lessons next.watches.each

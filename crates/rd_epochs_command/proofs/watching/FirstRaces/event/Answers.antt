@@ -1,27 +1,28 @@
-use Rattle.std.proofs.Common.{◌≢◌, length, ◌+◌, [], ◌∷◌, ◌++◌, Ok, None, Some, ap, refl, subst, sym, ◌∙◌, arith}
+use Rattle.std.proofs.Common.{◌≢◌, List, [], ◌∷◌, ◌++◌, ap, refl, subst, sym, ◌∙◌, arith}
 use Rattle.std.proofs.lemmas.List.{append-nil}
 use Rattle.rd_io.proofs.SinkLemmas.{appends_none}
-use Rattle.rd_walk.proofs.OutputLemmas.{always_ok}
 use Rattle.std.proofs.lemmas.Result.{on_err_weaker, on_ok_weaker}
 use Rattle.rd_check_command.proofs.CheckLemmas.{event_cost, event_next, event_tracks}
 use Rattle.rd_check_command.specs.Checked.{event_numbers}
-use Rattle.rd_check_command.specs.Checking.{Tracks}
-use Rattle.rd_epoch.specs.Epochs.{EpochsStandFor}
 use Rattle.rd_event.specs.declared.events.Call.{Call as CallOf}
+use Rattle.rd_base.specs.declared.values.Value.{Value}
 use Rattle.rd_event.specs.declared.events.Event.TheVariants.{Call}
-use Rattle.rd_epochs_command.proofs.AccessedLemmas.{access_answer, access_cost, access_held, may_take, thread_known}
+use Rattle.rd_event.specs.declared.items.Line.{Line}
 use Rattle.rd_epochs_command.proofs.TextLemmas.{texts_grow}
-use Rattle.rd_epochs_command.proofs.WatchLemmas.{answer_told, counted_first, counted_none, events_few, first_none, holds_other, variable_counted, watches_event, written_first, written_none}
-use Rattle.rd_epochs_command.specs.Firsts.{accesses, first_line, first_texts}
-use Rattle.rd_epochs_command.specs.Watching.{memory_kinds}
-use Rattle.rd_io.specs.Sinks.{Appends}
-use Rattle.rd_report.specs.Texts.{name_of}
-use Rattle.rd_rules.specs.Events.{roots_of}
+use Rattle.rd_epochs_command.proofs.WatchLemmas.{all_rise, counted_none, first_none, holds_other, watches_event, written_none}
+use Rattle.rd_epochs_command.specs.Firsts.{accesses, first_texts}
+use Rattle.rd_epochs_command.specs.Watching.{IsNextWatchedEvent, Watches, memory_kinds}
+use Rattle.rd_hb.proofs.TrackerLemmas.{next_inside}
+use Rattle.rd_order.specs.EventLists.{threads_after}
 use Rattle.rd_rules.specs.declared.causes.Accepted.TheVariants as accepted
-use Rattle.rd_walk.specs.Analysis.{WritesFront}
+use Rattle.rd_walk.specs.Analysis.{WritesBetween, WritesFront}
 use Rattle.rd_walk.specs.Walk.{Entry, items}
-use Rattle.rd_wf.specs.Roster.{object_names_in}
+use Rattle.rd_wf.specs.Roster.{call_with, object_names_in}
+use Rattle.rd_wf.specs.declared.roster.lines.CallNumbers.{CallNumbers}
 use Rattle.rd_epochs_command.proofs.watching.FirstRaces.event.Goals as goal
+
+abbrev numbers_of : CallOf → CallNumbers
+numbers_of call = record { thread = call.thread; object = call.object; kind = call.kind; method = call.method }
 
 pub pass-requires : goal.pass-requires
 pass-requires g c =
@@ -30,160 +31,58 @@ pass-requires g c =
 
 -- ---- memory ran out at the tracker
 
-pub returns-in_default-clause-halted : goal.returns-in_default-clause-halted
-returns-in_default-clause-halted g c = λ before item ready.
+pub returns-in_default-pass-clause-halted : goal.returns-in_default-pass-clause-halted
+returns-in_default-pass-clause-halted g c = λ before item ready.
     let entry : Entry = record { number = c.args.number; item = item } in
     let (rest, is) = texts_grow before entry ready.line.watches.tracks.told in
     ([], rest, is, appends_none (g.S.Sink.written c.args.out.now) (g.S.Sink.written c.args.out.now) refl)
 
-pub returns-in_default-clause-cost : goal.returns-in_default-clause-cost
-returns-in_default-clause-cost g c = λ before item ready.
+pub returns-in_default-pass-clause-cost : goal.returns-in_default-pass-clause-cost
+returns-in_default-pass-clause-cost g c = λ before item ready.
     omega (arith, c.pass.ensures.cost, event_cost memory_kinds c.args.self.now.tracker (items before) item c.args.event.now ready.line.next)
 
 -- ---- an event that is no access
 
-pub returns-in_default-event-clause-watches : goal.returns-in_default-event-clause-watches
-returns-in_default-event-clause-watches g c = λ before item ready.
-    let entry : Entry = record { number = c.args.number; item = item } in
-    let numbers = accepted.Event c.args.event.now in
-    let other : (call : CallOf) → c.args.event.now ≢ Call call = λ call same. c.in_default-event.not-Call call same in
-    let tracked = event_tracks memory_kinds c.args.self.now.tracker (items before) item c.args.event.now ready.line.next c.pass.new.self c.in-Ok.ensures.stands c.in-Ok.ensures.count in
-    watches_event before c.args.self.now entry numbers ready.line c.args.event.now refl (record { alloc = c.args.self.now.alloc; tracker = c.pass.new.self; epochs = c.args.self.now.epochs; firsts = c.args.self.now.firsts }) tracked
-    (holds_other before c.args.self.now entry numbers ready.line c.args.event.now refl other) (omega arith)
-    (counted_none before c.args.self.now entry numbers ready.line c.args.event.now refl (first_none before c.args.self.now entry numbers ready.line c.args.event.now refl other) c.args.self.now.firsts refl)
+pub learn-requires-clause-known : goal.learn-requires-clause-known
+learn-requires-clause-known g c =
+    let (before, item, ready) = c.requires in
+    let inside = next_inside c.args.self.now.tracker _ _ c.args.event.now (event_next memory_kinds c.args.self.now.tracker (items before) item c.args.event.now ready.line.next) in
+    omega (arith, inside, ready.line.watches.each)
 
-pub returns-in_default-event-clause-written : goal.returns-in_default-event-clause-written
-returns-in_default-event-clause-written g c = λ before item ready.
+pub learn-requires-clause-next : goal.learn-requires-clause-next
+learn-requires-clause-next g c = λ u forked.
+    let (before, item, ready) = c.requires in
+    let next = event_next memory_kinds c.args.self.now.tracker (items before) item c.args.event.now ready.line.next in
+    next.numbered u forked ∙ sym ready.line.watches.each
+
+pub returns-in-Ok-learn-clause-watches : goal.returns-in-Ok-learn-clause-watches
+returns-in-Ok-learn-clause-watches g c = λ before item ready.
+    let entry : Entry = record { number = c.args.number; item = item } in
+    let now = c.args.self.now in
+    let e = c.args.event.now in
+    let numbers = accepted.Event e in
+    let other : (call : CallOf) → e ≢ Call call = λ call same. c.in_default.not-Call call same in
+    let tracked = event_tracks memory_kinds now.tracker (items before) item e ready.line.next c.pass.new.self c.in-Ok.ensures.stands c.in-Ok.ensures.count in
+    watches_event before now entry numbers ready.line e refl
+    (record { alloc = now.alloc; tracker = c.pass.new.self; lessons = c.learn.new.self; epochs = now.epochs; firsts = now.firsts }) tracked
+    (holds_other before now entry numbers ready.line e refl other) (omega arith)
+    (counted_none before now entry numbers ready.line e refl (first_none before now entry numbers ready.line e refl other) now.firsts refl)
+    (c.in-Ok-learn.ensures.learnt (event_numbers before) (accesses before) ready.line.watches.holds.lengths (all_rise before now entry numbers ready.line e refl) ready.line.watches.lessons)
+    (c.in-Ok-learn.ensures.count ∙ ap (threads_after e) ready.line.watches.each ∙ sym c.in-Ok.ensures.count)
+
+pub returns-in-Ok-learn-clause-written : goal.returns-in-Ok-learn-clause-written
+returns-in-Ok-learn-clause-written g c = λ before item ready.
     let entry : Entry = record { number = c.args.number; item = item } in
     let numbers = accepted.Event c.args.event.now in
-    let other : (call : CallOf) → c.args.event.now ≢ Call call = λ call same. c.in_default-event.not-Call call same in
+    let other : (call : CallOf) → c.args.event.now ≢ Call call = λ call same. c.in_default.not-Call call same in
     let same = written_none before c.args.self.now entry numbers ready.line c.args.event.now refl (first_none before c.args.self.now entry numbers ready.line c.args.event.now refl other) in
     ([], same ∙ sym (append-nil (first_texts before)), appends_none (g.S.Sink.written c.args.out.now) (g.S.Sink.written c.args.out.now) refl)
 
-pub returns-in_default-event-clause-cost : goal.returns-in_default-event-clause-cost
-returns-in_default-event-clause-cost g c = λ before item ready.
+pub returns-in-Ok-learn-clause-cost : goal.returns-in-Ok-learn-clause-cost
+returns-in-Ok-learn-clause-cost g c = λ before item ready.
     omega (arith, c.pass.ensures.cost, event_cost memory_kinds c.args.self.now.tracker (items before) item c.args.event.now ready.line.next)
 
--- ---- an access
-
-pub access-requires-clause-known : goal.access-requires-clause-known
-access-requires-clause-known g c =
-    let (before, item, ready) = c.requires in
-    thread_known before c.args.self.now c.args.number item c.args.event.now _ c.args.place ready c.in-Call.call c.in-Call.is c.pass.new.self c.in-Ok.ensures.count
-
-pub access-requires-clause-next : goal.access-requires-clause-next
-access-requires-clause-next g c =
-    let (before, item, ready) = c.requires in
-    may_take before c.args.self.now c.args.number item c.args.event.now _ c.args.place ready c.in-Call.call c.in-Call.is c.pass.new.self c.in-Ok.ensures.count c.in-Ok.ensures.stamp
-
-pub returns-in-Ok-None-clause-watches : goal.returns-in-Ok-None-clause-watches
-returns-in-Ok-None-clause-watches g c = λ before item ready.
-    let entry : Entry = record { number = c.args.number; item = item } in
-    let numbers = accepted.Event c.args.event.now in
-    let now = c.args.self.now in
-    let e = c.args.event.now in
-    let said = c.in-Ok-None.ensures in
-    let is = ap Ok c.in-Ok-None.field-0-is in
-    let tracked = event_tracks memory_kinds now.tracker (items before) item e ready.line.next c.pass.new.self c.in-Ok.ensures.stands c.in-Ok.ensures.count in
-    let answer = access_answer before now c.args.number item e _ c.args.place ready c.in-Call.call c.in-Call.is c.pass.new.self c.in-Ok.ensures.count c.in-Ok.ensures.stamp
-    c.access.new.self.epochs (Ok c.in-Ok-None.field-0) c.pass.new.steps c.access.new.steps said.taken None is in
-    let held = access_held before now c.args.number item e _ c.args.place ready c.in-Call.call c.in-Call.is c.pass.new.self c.in-Ok.ensures.count c.in-Ok.ensures.stamp
-    c.access.new.self.epochs (Ok c.in-Ok-None.field-0) c.pass.new.steps c.access.new.steps said.taken None is in
-    watches_event before now entry numbers ready.line e refl c.access.new.self
-    (subst (λ tracker. Tracks memory_kinds tracker (items before ++ item ∷ [])) (sym said.same.0) tracked) held (omega (arith, said.taken.count))
-    (counted_none before now entry numbers ready.line e refl (answer_told before now entry numbers ready.line e refl c.in-Call.call c.in-Call.is None answer) c.access.new.self.firsts said.same.1)
-
-pub returns-in-Ok-None-clause-written : goal.returns-in-Ok-None-clause-written
-returns-in-Ok-None-clause-written g c = λ before item ready.
-    let entry : Entry = record { number = c.args.number; item = item } in
-    let numbers = accepted.Event c.args.event.now in
-    let now = c.args.self.now in
-    let e = c.args.event.now in
-    let answer = access_answer before now c.args.number item e _ c.args.place ready c.in-Call.call c.in-Call.is c.pass.new.self c.in-Ok.ensures.count c.in-Ok.ensures.stamp
-    c.access.new.self.epochs (Ok c.in-Ok-None.field-0) c.pass.new.steps c.access.new.steps c.in-Ok-None.ensures.taken None (ap Ok c.in-Ok-None.field-0-is) in
-    let same = written_none before now entry numbers ready.line e refl (answer_told before now entry numbers ready.line e refl c.in-Call.call c.in-Call.is None answer) in
-    ([], same ∙ sym (append-nil (first_texts before)), appends_none (g.S.Sink.written c.args.out.now) (g.S.Sink.written c.args.out.now) refl)
-
-pub returns-in-Ok-None-clause-cost : goal.returns-in-Ok-None-clause-cost
-returns-in-Ok-None-clause-cost g c = λ before item ready.
-    access_cost before c.args.self.now c.args.number item c.args.event.now _ c.args.place ready c.in-Call.call c.in-Call.is c.pass.new.self c.in-Ok.ensures.count c.in-Ok.ensures.stamp
-    c.access.new.self.epochs (Ok c.in-Ok-None.field-0) c.pass.new.steps c.access.new.steps c.in-Ok-None.ensures.taken c.args.steps.now c.pass.ensures.cost
-
--- ---- a first race
-
-pub report-requires-clause-named : goal.report-requires-clause-named
-report-requires-clause-named g c =
-    let (before, item, ready) = c.requires in
-    let entry : Entry = record { number = c.args.number; item = item } in
-    variable_counted before c.args.self.now entry (accepted.Event c.args.event.now) ready.line c.args.event.now refl c.in-Call.call c.in-Call.is c.args.names.now ready.named
-
-pub report-requires-clause-few : goal.report-requires-clause-few
-report-requires-clause-few g c =
-    let (before, item, ready) = c.requires in
-    omega (arith, c.in-Ok-Some.ensures.same.1, events_few before c.args.self.now ready.line.watches)
-
-pub returns-in-Ok-Some-clause-watches : goal.returns-in-Ok-Some-clause-watches
-returns-in-Ok-Some-clause-watches g c = always_ok _ c.report.result (λ before item ready.
-    let entry : Entry = record { number = c.args.number; item = item } in
-    let numbers = accepted.Event c.args.event.now in
-    let now = c.args.self.now in
-    let e = c.args.event.now in
-    let said = c.in-Ok-Some.ensures in
-    let same = c.report.ensures.same in
-    let is = ap Ok c.in-Ok-Some.field-0-is in
-    let tracked = event_tracks memory_kinds now.tracker (items before) item e ready.line.next c.pass.new.self c.in-Ok.ensures.stands c.in-Ok.ensures.count in
-    let answer = access_answer before now c.args.number item e _ c.args.place ready c.in-Call.call c.in-Call.is c.pass.new.self c.in-Ok.ensures.count c.in-Ok.ensures.stamp
-    c.access.new.self.epochs (Ok c.in-Ok-Some.field-0) c.pass.new.steps c.access.new.steps said.taken (Some c.in-Ok-Some.first) is in
-    let held = access_held before now c.args.number item e _ c.args.place ready c.in-Call.call c.in-Call.is c.pass.new.self c.in-Ok.ensures.count c.in-Ok.ensures.stamp
-    c.access.new.self.epochs (Ok c.in-Ok-Some.field-0) c.pass.new.steps c.access.new.steps said.taken (Some c.in-Ok-Some.first) is in
-    watches_event before now entry numbers ready.line e refl c.report.new.self
-    (subst (λ tracker. Tracks memory_kinds tracker (items before ++ item ∷ [])) (sym (same.0 ∙ said.same.0)) tracked)
-    (subst (λ h. EpochsStandFor h (roots_of (items before)) (event_numbers before ++ c.args.number ∷ []) (accesses before ++ e ∷ [])) (sym same.1) held) (omega (arith, ap length same.1, said.taken.count))
-    (counted_first before now entry numbers ready.line e refl c.in-Call.call c.in-Call.is c.in-Ok-Some.first (answer_told before now entry numbers ready.line e refl c.in-Call.call c.in-Call.is (Some c.in-Ok-Some.first) answer)
-    c.report.new.self.firsts (same.2 ∙ ap (λ n. n + 1) said.same.1)))
-
-pub returns-in-Ok-Some-clause-written : goal.returns-in-Ok-Some-clause-written
-returns-in-Ok-Some-clause-written g c = on_ok_weaker c.report.result
-    (λ (wrote : Appends (g.S.Sink.written c.args.out.now) (g.S.Sink.written c.report.new.out)
-    (first_line (name_of (object_names_in c.args.names.now) c.in-Call.call.object) c.in-Ok-Some.first.later c.in-Ok-Some.first.earlier)) before item ready.
-    let entry : Entry = record { number = c.args.number; item = item } in
-    let numbers = accepted.Event c.args.event.now in
-    let now = c.args.self.now in
-    let e = c.args.event.now in
-    let answer = access_answer before now c.args.number item e _ c.args.place ready c.in-Call.call c.in-Call.is c.pass.new.self c.in-Ok.ensures.count c.in-Ok.ensures.stamp
-    c.access.new.self.epochs (Ok c.in-Ok-Some.field-0) c.pass.new.steps c.access.new.steps c.in-Ok-Some.ensures.taken (Some c.in-Ok-Some.first) (ap Ok c.in-Ok-Some.field-0-is) in
-    let text = written_first before now entry numbers ready.line e refl c.in-Call.call c.in-Call.is c.in-Ok-Some.first
-    (answer_told before now entry numbers ready.line e refl c.in-Call.call c.in-Call.is (Some c.in-Ok-Some.first) answer) in
-    (_, text ∙ ap (λ names. first_texts before ++ first_line (name_of names c.in-Call.call.object) c.in-Ok-Some.first.later c.in-Ok-Some.first.earlier) (sym ready.named), wrote))
-    c.report.ensures.ok
-
-pub returns-in-Ok-Some-clause-halted : goal.returns-in-Ok-Some-clause-halted
-returns-in-Ok-Some-clause-halted g c = on_err_weaker c.report.result
-    (λ (front : WritesFront (g.S.Sink.written c.args.out.now) (g.S.Sink.written c.report.new.out) []
-    (first_line (name_of (object_names_in c.args.names.now) c.in-Call.call.object) c.in-Ok-Some.first.later c.in-Ok-Some.first.earlier)) before item ready.
-    let entry : Entry = record { number = c.args.number; item = item } in
-    let numbers = accepted.Event c.args.event.now in
-    let now = c.args.self.now in
-    let e = c.args.event.now in
-    let answer = access_answer before now c.args.number item e _ c.args.place ready c.in-Call.call c.in-Call.is c.pass.new.self c.in-Ok.ensures.count c.in-Ok.ensures.stamp
-    c.access.new.self.epochs (Ok c.in-Ok-Some.field-0) c.pass.new.steps c.access.new.steps c.in-Ok-Some.ensures.taken (Some c.in-Ok-Some.first) (ap Ok c.in-Ok-Some.field-0-is) in
-    let text = written_first before now entry numbers ready.line e refl c.in-Call.call c.in-Call.is c.in-Ok-Some.first
-    (answer_told before now entry numbers ready.line e refl c.in-Call.call c.in-Call.is (Some c.in-Ok-Some.first) answer) in
-    let (part, rest, is, writes) = front in (
-      part,
-      rest,
-      text ∙ ap (λ names. first_texts before ++ first_line (name_of names c.in-Call.call.object) c.in-Ok-Some.first.later c.in-Ok-Some.first.earlier) (sym ready.named)
-          ∙ ap (λ t. first_texts before ++ t) is,
-      writes,
-    ))
-    c.report.ensures.front
-
-pub returns-in-Ok-Some-clause-cost : goal.returns-in-Ok-Some-clause-cost
-returns-in-Ok-Some-clause-cost g c = λ before item ready.
-    access_cost before c.args.self.now c.args.number item c.args.event.now _ c.args.place ready c.in-Call.call c.in-Call.is c.pass.new.self c.in-Ok.ensures.count c.in-Ok.ensures.stamp
-    c.access.new.self.epochs (Ok c.in-Ok-Some.field-0) c.pass.new.steps c.access.new.steps c.in-Ok-Some.ensures.taken c.args.steps.now c.pass.ensures.cost
-
--- ---- memory ran out at the access
+-- ---- memory ran out at a lesson
 
 pub returns-in-Err-clause-halted : goal.returns-in-Err-clause-halted
 returns-in-Err-clause-halted g c = λ before item ready.
@@ -193,5 +92,36 @@ returns-in-Err-clause-halted g c = λ before item ready.
 
 pub returns-in-Err-clause-cost : goal.returns-in-Err-clause-cost
 returns-in-Err-clause-cost g c = λ before item ready.
-    access_cost before c.args.self.now c.args.number item c.args.event.now _ c.args.place ready c.in-Call.call c.in-Call.is c.pass.new.self c.in-Ok.ensures.count c.in-Ok.ensures.stamp
-    c.access.new.self.epochs c.access.result c.pass.new.steps c.access.new.steps c.access.ensures.taken c.args.steps.now c.pass.ensures.cost
+    omega (arith, c.pass.ensures.cost, event_cost memory_kinds c.args.self.now.tracker (items before) item c.args.event.now ready.line.next)
+
+-- ---- an access
+
+pub call-requires : goal.call-requires
+call-requires g c =
+    let (before, item, ready) = c.requires in
+    (before, item, c.in-Call.call.slots, subst (λ e. IsNextWatchedEvent before c.args.self.now c.args.number item e (object_names_in c.args.names.now) c.args.place) c.in-Call.is ready)
+
+pub returns-in-Call-clause-watches : goal.returns-in-Call-clause-watches
+returns-in-Call-clause-watches g c = on_ok_weaker c.call.result
+    (λ (all : (before : List Entry) (item : Line) (slots : List Value) → IsNextWatchedEvent before c.args.self.now c.args.number item (Call (call_with (numbers_of c.in-Call.call) slots)) (object_names_in c.args.names.now) c.args.place
+    → Watches (before ++ record { number = c.args.number; item = item } ∷ []) c.call.new.self) before item ready.
+    all before item c.in-Call.call.slots (subst (λ e. IsNextWatchedEvent before c.args.self.now c.args.number item e (object_names_in c.args.names.now) c.args.place) c.in-Call.is ready))
+    c.call.ensures.watches
+
+pub returns-in-Call-clause-written : goal.returns-in-Call-clause-written
+returns-in-Call-clause-written g c = on_ok_weaker c.call.result
+    (λ (all : (before : List Entry) (item : Line) (slots : List Value) → IsNextWatchedEvent before c.args.self.now c.args.number item (Call (call_with (numbers_of c.in-Call.call) slots)) (object_names_in c.args.names.now) c.args.place
+    → WritesBetween (g.S.Sink.written c.args.out.now) (g.S.Sink.written c.call.new.out) (first_texts before) (first_texts (before ++ record { number = c.args.number; item = item } ∷ []))) before item ready.
+    all before item c.in-Call.call.slots (subst (λ e. IsNextWatchedEvent before c.args.self.now c.args.number item e (object_names_in c.args.names.now) c.args.place) c.in-Call.is ready))
+    c.call.ensures.written
+
+pub returns-in-Call-clause-halted : goal.returns-in-Call-clause-halted
+returns-in-Call-clause-halted g c = on_err_weaker c.call.result
+    (λ (all : (before : List Entry) (item : Line) (slots : List Value) → IsNextWatchedEvent before c.args.self.now c.args.number item (Call (call_with (numbers_of c.in-Call.call) slots)) (object_names_in c.args.names.now) c.args.place
+    → WritesFront (g.S.Sink.written c.args.out.now) (g.S.Sink.written c.call.new.out) (first_texts before) (first_texts (before ++ record { number = c.args.number; item = item } ∷ []))) before item ready.
+    all before item c.in-Call.call.slots (subst (λ e. IsNextWatchedEvent before c.args.self.now c.args.number item e (object_names_in c.args.names.now) c.args.place) c.in-Call.is ready))
+    c.call.ensures.halted
+
+pub returns-in-Call-clause-cost : goal.returns-in-Call-clause-cost
+returns-in-Call-clause-cost g c = λ before item ready.
+    c.call.ensures.cost before item c.in-Call.call.slots (subst (λ e. IsNextWatchedEvent before c.args.self.now c.args.number item e (object_names_in c.args.names.now) c.args.place) c.in-Call.is ready)

@@ -79,25 +79,24 @@ pub root-requires : goal.root-requires
 root-requires g c =
     let (kinds, start, before, item, leads, next) = c.requires in (
       before,
-      c.args.number,
       item,
       subst (IsNextWatched before c.args.self.now c.args.number item) c.in-Root.is (next_line kinds start c.args.self.now before c.args.roster.now item c.args.accepted.now leads next),
     )
 
 pub returns-in-Root-clause-leads : goal.returns-in-Root-clause-leads
 returns-in-Root-clause-leads g c = on_ok_weaker c.root.result
-    (λ (all : (before : List Entry) (entry : Entry) → IsNextWatched before c.args.self.now entry.number entry.item (accepted.Root c.in-Root.thread) → Watches (before ++ entry ∷ []) c.root.new.self)
+    (λ (all : (before : List Entry) (item : Line) → IsNextWatched before c.args.self.now c.args.number item (accepted.Root c.in-Root.thread) → Watches (before ++ record { number = c.args.number; item = item } ∷ []) c.root.new.self)
     kinds start before item leads next. record {
       kinds_are = leads.kinds_are;
       starts = leads.starts;
-      watches = all before (record { number = c.args.number; item = item })
+      watches = all before item
           (subst (IsNextWatched before c.args.self.now c.args.number item) c.in-Root.is (next_line kinds start c.args.self.now before c.args.roster.now item c.args.accepted.now leads next));
     })
     c.root.ensures.watches
 
 pub returns-in-Root-clause-written : goal.returns-in-Root-clause-written
 returns-in-Root-clause-written g c = on_ok_weaker c.root.result
-    (λ (all : (before : List Entry) (entry : Entry) → IsNextWatched before c.args.self.now entry.number entry.item (accepted.Root c.in-Root.thread) → Watches (before ++ entry ∷ []) c.root.new.self)
+    (λ (all : (before : List Entry) (item : Line) → IsNextWatched before c.args.self.now c.args.number item (accepted.Root c.in-Root.thread) → Watches (before ++ record { number = c.args.number; item = item } ∷ []) c.root.new.self)
     kinds start before item leads next.
     let entry : Entry = record { number = c.args.number; item = item } in
     let wrote = g.S.Sink.written c.args.out.now in

@@ -2,7 +2,7 @@ use Rattle.std.proofs.Common.{codes, refl}
 use Rattle.rd_epochs_command.proofs.KeywordLemmas.{found_behind, same_behind}
 use Rattle.rd_memory.specs.MemoryTraces.{memory_says}
 use Rattle.rd_walk.proofs.TakingLemmas.{taken_as, wrote_none}
-use Rattle.rd_epochs_command.proofs.lines.MemoryLinesGrammar.take_line.Goals as goal
+use Rattle.rd_epochs_command.proofs.lines.MemoryLinesGrammarFirstRaces.take_line.Goals as goal
 
 pub returns-then-is_some-clause-line : goal.returns-then-is_some-clause-line
 returns-then-is_some-clause-line g c =
