@@ -1,0 +1,12 @@
+//! The lines of a log that a thread kept for itself: what each may say.
+#![tactic(auto)]
+
+mod laws;
+mod lines;
+mod reading;
+#[cfg(test)]
+mod tests;
+
+pub use laws::law_of_log_lines;
+pub use lines::LogLine;
+pub use reading::{read_log_header, read_log_line};

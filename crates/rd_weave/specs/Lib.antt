@@ -1,0 +1,5 @@
+pub mod Logs
+pub mod Samples
+pub mod Turns
+pub mod WeaveTests
+pub mod Weavings
