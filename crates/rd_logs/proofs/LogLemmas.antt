@@ -1,5 +1,5 @@
 -- `log_line_of` finds a line exactly where the bytes say it.
-use Rattle.std.proofs.Common.{◌≡◌, ◌≢◌, ℕ, ◌<◌, ◌≤◌, ◌==◌, Bool, true, false, if◌then◌else◌, List, [], ◌∷◌, ◌++◌, length, drop, get_or, refl, sym, ◌∙◌, ap, arith, codes, decimal, Option, Some, None, IfSome, IfOk, IfErr, Result, Ok, Err, length-append}
+use Rattle.std.proofs.Common.{◌≡◌, ◌≢◌, ℕ, ◌<◌, ◌≤◌, ◌==◌, Bool, true, false, if◌then◌else◌, List, [], ◌∷◌, ◌++◌, length, take, drop, get_or, refl, sym, ◌∙◌, ap, arith, codes, decimal, Option, Some, None, IfSome, IfOk, IfErr, Result, Ok, Err, length-append}
 use Rattle.std.specs.Prelude.{⊤}
 use Rattle.std.specs.List.{before_first, after_first}
 use Rattle.std.specs.Option.{option_map, option_and_then}
@@ -9,6 +9,8 @@ use Rattle.std.proofs.lemmas.Option.{same_Some, none-some, MatchOption-at_some}
 use Rattle.std.proofs.lemmas.Bool.{eqb-true, false_from_ne_true, true≢false}
 use Rattle.std.proofs.lemmas.Bool.Decides.{Decides-eqb}
 use Rattle.std.proofs.lemmas.Fmt.{decimal_nonempty}
+use Rattle.std.proofs.lemmas.List.{take-append-drop}
+use Rattle.std.proofs.lemmas.Slice.Eq.{bytes_eq-Decides}
 use Rattle.rd_base.specs.Bytes.{is_space}
 use Rattle.rd_base.specs.Names.{IsName}
 use Rattle.rd_base.specs.declared.values.Value.{Value}
@@ -27,7 +29,7 @@ use Rattle.rd_event.specs.declared.reading.LineRefused.{LineRefused}
 use Rattle.rd_event.specs.declared.reading.LineRefused.TheVariants.{BadLine}
 use Rattle.rd_logs.specs.declared.lines.LogLine.{LogLine}
 use Rattle.rd_logs.specs.declared.lines.LogLine.TheVariants.{Skip, Object, Event, Acquire}
-use Rattle.rd_logs.specs.LogLines.{LogLineInRange, SaysInLog, acquire_read, log_line_of, log_line_with, log_spelling, most_acquires, some_number}
+use Rattle.rd_logs.specs.LogLines.{LogLineInRange, SaysInLog, acquire_read, header_spelling, log_header_of, log_line_of, log_line_with, log_spelling, most_acquires, some_number}
 
 -- ---- what is found is said
 
@@ -351,3 +353,30 @@ none_with thread bytes named other none =
 
 pub skipped_found : (thread bytes : List ℕ) → is_skipped bytes ≡ true → log_line_of thread bytes ≡ Some Skip
 skipped_found = skip_found
+
+-- ---- the header, by what `strip_prefix` tells
+
+pub header_apart : (bytes front : List ℕ) → front ≡ codes "rdlog 1 " → bytes_eq (take (length front) bytes) front ≡ false → log_header_of bytes ≡ None
+unfolding log_header_of
+header_apart bytes front is apart = let test : bytes_eq (take 8 bytes) (codes "rdlog 1 ") ≡ false = rw is at apart in rw test refl
+
+pub header_behind : (bytes front name : List ℕ) → front ≡ codes "rdlog 1 " → bytes_eq (take (length front) bytes) front ≡ true → name ≡ drop (length front) bytes → log_header_of bytes ≡ name_read name
+unfolding log_header_of
+header_behind bytes front name is same behind =
+    let test : bytes_eq (take 8 bytes) (codes "rdlog 1 ") ≡ true = rw is at same in
+    let rest : name ≡ drop 8 bytes = rw is at behind in
+    rw (test, rest) refl
+
+pub header_found : (thread bytes : List ℕ) → IsName thread → bytes ≡ header_spelling thread → log_header_of bytes ≡ Some thread
+unfolding log_header_of
+header_found thread bytes named is = ap log_header_of is ∙ name_found thread named
+
+pub header_said : (thread bytes : List ℕ) → log_header_of bytes ≡ Some thread → bytes ≡ header_spelling thread
+unfolding log_header_of
+header_said thread bytes found = by (bytes_eq (take 8 bytes) (codes "rdlog 1 ")) refl found
+  where
+    by : (b : Bool) → bytes_eq (take 8 bytes) (codes "rdlog 1 ") ≡ b → (if b then name_read (drop 8 bytes) else None) ≡ Some thread → bytes ≡ header_spelling thread
+    by true same read =
+        sym (take-append-drop 8 bytes) ∙ ap (λ front. front ++ drop 8 bytes) ((bytes_eq-Decides (take 8 bytes) (codes "rdlog 1 ")).0 same)
+        ∙ ap (λ name. codes "rdlog 1 " ++ name) (sym (name_is (drop 8 bytes) thread read).1)
+    by false apart read = absurd (none-some thread read)

@@ -1,5 +1,5 @@
 -- What a line of a thread's log says, and its spelling: this project's profile.
-use Rattle.std.specs.Prelude.{◌≡◌, ℕ, ◌≤◌, ◌==◌, Bool, true, false, if◌then◌else◌, List, [], ◌++◌, codes, decimal, Option, Some, None, IsTrue}
+use Rattle.std.specs.Prelude.{take, drop, ◌≡◌, ℕ, ◌≤◌, ◌==◌, Bool, true, false, if◌then◌else◌, List, [], ◌++◌, codes, decimal, Option, Some, None, IsTrue}
 use Rattle.std.specs.List.{before_first, after_first}
 use Rattle.std.specs.Option.{option_map, option_and_then}
 use Rattle.std.specs.Str.{bytes_eq}
@@ -82,3 +82,7 @@ log_line_with thread keyword rest =
 -- the line that the bytes spell
 unfoldable pub log_line_of : List ℕ → List ℕ → Option LogLine
 log_line_of thread bytes = if is_skipped bytes then Some Skip else log_line_with thread (before_first is_space bytes) (after_first is_space bytes)
+
+-- the thread of the header that they spell
+unfoldable pub log_header_of : List ℕ → Option (List ℕ)
+log_header_of bytes = if bytes_eq (take 8 bytes) (codes "rdlog 1 ") then name_read (drop 8 bytes) else None

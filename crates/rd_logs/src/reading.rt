@@ -8,7 +8,7 @@ ghost use Rattle.rd_event.specs.Reading.{call_read, name_read, names_read};
 ghost use Rattle.rd_event.specs.Items.{words_apart};
 ghost use Rattle.rd_event.specs.declared.items.LineEvent.{LineEvent as EventOf};
 ghost use Rattle.rd_logs.specs.declared.lines.LogLine.{LogLine as LineOf};
-ghost use Rattle.rd_logs.specs.LogLines.{LogLineInRange, SaysInLog, acquire_read, header_spelling, log_line_of, log_line_with, most_acquires, some_number};
+ghost use Rattle.rd_logs.specs.LogLines.{LogLineInRange, SaysInLog, acquire_read, header_spelling, log_header_of, log_line_of, log_line_with, most_acquires, some_number};
 
 use crate::lines::LogLine;
 use rd_base::Name;
@@ -217,6 +217,9 @@ pub fn read_log_line(alloc: Global, thread: &Name, bytes: &[u8]) -> Result<LogLi
 pub fn read_log_header(bytes: &[u8]) -> Option<Name>
     ensures thread { IfSome result (λ thread. IsName thread × (bytes.now ≡ header_spelling thread)) }
     ensures none { IfNone result ((thread : List ℕ) → IsName thread → bytes.now ≢ header_spelling thread) }
+
+    // as `log_header_of` tells too
+    ensures read { result ≡ log_header_of bytes.now }
 {
     let name = bytes.strip_prefix(b"rdlog 1 ".as_slice())?;
     let Ok(name) = Name::from_bytes(name) else {

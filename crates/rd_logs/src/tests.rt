@@ -1,6 +1,6 @@
-//! Lines of logs, with what each says.
+//! Lines of logs, with what each says, and whole logs.
 
-use crate::{LogLine, read_log_header, read_log_line};
+use crate::{LogLine, LogRefused, read_log, read_log_header, read_log_line};
 use rd_base::Name;
 use rd_event::{LineEvent, LineRefused};
 use std::alloc::Global;
@@ -159,4 +159,49 @@ fn headers(rt: HostRuntime) {
     assert!(rt; begins("rdlog 2 main", ""));
     assert!(rt; begins("rdlog 1 main now", ""));
     assert!(rt; begins("rdtrace 1", ""));
+}
+
+// A log with lines that are skipped in front of its header, between its lines and behind them.
+const LOG: &str =
+    "# one run\n\nrdlog 1 main\nobject x register\n# work\nfork b\n\nacquire l 2\n#\n";
+
+/// A log says whose it is, and its lines in their order without those that are skipped.
+#[test]
+fn logs(rt: HostRuntime) {
+    let log = read_log(rt.alloc(), LOG.as_bytes())
+        .ok()
+        .expect(&rt, "a log");
+    assert!(rt; log.thread.items() == b"main".as_slice());
+    assert!(rt; log.lines.len() == 3);
+    assert!(rt; words(&log.lines[0]).0 == "object");
+    assert!(rt; is_fork_by(&log.lines[1], b"main"));
+    assert!(rt; words(&log.lines[2]).3 == 2);
+    let header = read_log(rt.alloc(), b"rdlog 1 a\n")
+        .ok()
+        .expect(&rt, "a log");
+    assert!(rt; header.lines.is_empty());
+}
+
+// Is the text no log, with its first bad line at this number?
+fn is_bad_at(alloc: Global, text: &str, number: u64) -> bool {
+    match read_log(alloc, text.as_bytes()) {
+        Ok(_) => false,
+        Err(refused) => refused == LogRefused::BadLine(number),
+    }
+}
+
+/// A text that is no log is bad at the line that should be its header, says nothing or has no line feed; with no header, behind its last line.
+#[test]
+fn no_logs(rt: HostRuntime) {
+    let alloc = rt.alloc();
+    assert!(rt; is_bad_at(alloc, "", 1));
+    assert!(rt; is_bad_at(alloc, "\n# none\n", 3));
+    assert!(rt; is_bad_at(alloc, "\n# none", 2));
+    assert!(rt; is_bad_at(alloc, "fork b\nrdlog 1 a\n", 1));
+    assert!(rt; is_bad_at(alloc, "#\nrdlog 2 a\nfork b\n", 2));
+    assert!(rt; is_bad_at(alloc, "rdlog 1 a", 1));
+    assert!(rt; is_bad_at(alloc, "rdlog 1 a\nfork b", 2));
+    assert!(rt; is_bad_at(alloc, "rdlog 1 a\nfork b\n# end", 3));
+    assert!(rt; is_bad_at(alloc, "rdlog 1 a\nfork b\nrdlog 1 a\n", 3));
+    assert!(rt; is_bad_at(alloc, "rdlog 1 a\n\nforks b\nfork\n", 3));
 }

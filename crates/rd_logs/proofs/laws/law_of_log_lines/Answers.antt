@@ -1,5 +1,5 @@
 use Rattle.std.proofs.Common.{drop, ap}
-use Rattle.rd_logs.proofs.LogLemmas.{found_again, line_found, line_said, one_line}
+use Rattle.rd_logs.proofs.LogLemmas.{found_again, header_found, header_said, line_found, line_said, one_line}
 use Rattle.rd_logs.proofs.laws.law_of_log_lines.Goals as goal
 
 pub returns-clause-test : goal.returns-clause-test
@@ -16,3 +16,6 @@ returns-clause-one_line c = λ thread bytes x y named. one_line thread bytes x y
 
 pub returns-clause-header : goal.returns-clause-header
 returns-clause-header c = λ thread other same. ap (drop 8) same
+
+pub returns-clause-header_read : goal.returns-clause-header_read
+returns-clause-header_read c = λ thread bytes named. (header_found thread bytes named, header_said thread bytes)
