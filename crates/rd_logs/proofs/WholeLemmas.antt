@@ -10,7 +10,7 @@ use Rattle.rd_event.specs.Items.{is_skipped}
 use Rattle.rd_io.specs.Lines.{Parts, part, parts_of, rest, with_byte}
 use Rattle.rd_logs.specs.declared.lines.LogLine.{LogLine}
 use Rattle.rd_logs.specs.LogLines.{log_header_of, log_line_of}
-use Rattle.rd_logs.specs.WholeLogs.{begun_by, in_front, kept_line, lines_from, log_from}
+use Rattle.rd_logs.specs.WholeLogs.{begun_by, in_front, kept_line, log_lines_from, log_from}
 
 -- ---- the first line of bytes
 
@@ -56,23 +56,23 @@ begins number parts more line found are other is = rw (are, other, is) refl
 
 -- the lines in front of those that are still to be read
 module _ (thread : List ℕ) (number : ℕ) (front : List LogLine) where
-  pub all_read : (bytes : List ℕ) → bytes ≡ [] → in_front front (lines_from thread number (parts_of bytes)) ≡ Ok front
-  unfolding lines_from
+  pub all_read : (bytes : List ℕ) → bytes ≡ [] → in_front front (log_lines_from thread number (parts_of bytes)) ≡ Ok front
+  unfolding log_lines_from
   all_read bytes none = rw none (ap Ok (append-nil front))
 
-  pub left_over : (bytes : List ℕ) → bytes ≢ [] → parts_of bytes ≡ rest bytes → in_front front (lines_from thread number (parts_of bytes)) ≡ Err number
-  unfolding lines_from
+  pub left_over : (bytes : List ℕ) → bytes ≢ [] → parts_of bytes ≡ rest bytes → in_front front (log_lines_from thread number (parts_of bytes)) ≡ Err number
+  unfolding log_lines_from
   left_over [] some are = absurd (some refl)
-  left_over (byte ∷ bytes) some are = ap (λ parts. in_front front (lines_from thread number parts)) are
+  left_over (byte ∷ bytes) some are = ap (λ parts. in_front front (log_lines_from thread number parts)) are
 
-  pub bad_line : (parts more : Parts) (line : List ℕ) → parts ≡ part line more → log_line_of thread line ≡ None → in_front front (lines_from thread number parts) ≡ Err number
-  unfolding lines_from
+  pub bad_line : (parts more : Parts) (line : List ℕ) → parts ≡ part line more → log_line_of thread line ≡ None → in_front front (log_lines_from thread number parts) ≡ Err number
+  unfolding log_lines_from
   bad_line parts more line are none = rw (are, none) refl
 
   pub reads : (parts more : Parts) (line : List ℕ) (said : LogLine) → parts ≡ part line more → log_line_of thread line ≡ Some said
-      → in_front front (lines_from thread number parts) ≡ in_front (front ++ kept_line said) (lines_from thread (number + 1) more)
-  unfolding lines_from
-  reads parts more line said are is = rw (are, is) (further (lines_from thread (number + 1) more))
+      → in_front front (log_lines_from thread number parts) ≡ in_front (front ++ kept_line said) (log_lines_from thread (number + 1) more)
+  unfolding log_lines_from
+  reads parts more line said are is = rw (are, is) (further (log_lines_from thread (number + 1) more))
     where
       further : (behind : Result (List LogLine) ℕ) → in_front front (in_front (kept_line said) behind) ≡ in_front (front ++ kept_line said) behind
       further (Ok lines) = ap Ok (sym (append_assoc front (kept_line said) lines))

@@ -16,15 +16,15 @@ abbrev pub in_front : List LogLine → Result (List LogLine) ℕ → Result (Lis
 in_front lines (Ok more) = Ok (lines ++ more)
 in_front lines (Err number) = Err number
 
-abbrev pub with_line : Option LogLine → ℕ → Result (List LogLine) ℕ → Result (List LogLine) ℕ
-with_line None number more = Err number
-with_line (Some line) number more = in_front (kept_line line) more
+abbrev pub line_in_front : Option LogLine → ℕ → Result (List LogLine) ℕ → Result (List LogLine) ℕ
+line_in_front None number more = Err number
+line_in_front (Some line) number more = in_front (kept_line line) more
 
 -- the lines of a thread's log from the one with this number on, or the number of the first that says nothing or has no line feed
-unfoldable pub lines_from : List ℕ → ℕ → Parts → Result (List LogLine) ℕ
-lines_from thread number (rest []) = Ok []
-lines_from thread number (rest (byte ∷ bytes)) = Err number
-lines_from thread number (part bytes more) = with_line (log_line_of thread bytes) number (lines_from thread (number + 1) more)
+unfoldable pub log_lines_from : List ℕ → ℕ → Parts → Result (List LogLine) ℕ
+log_lines_from thread number (rest []) = Ok []
+log_lines_from thread number (rest (byte ∷ bytes)) = Err number
+log_lines_from thread number (part bytes more) = line_in_front (log_line_of thread bytes) number (log_lines_from thread (number + 1) more)
 
 abbrev pub of_thread : List ℕ → Result (List LogLine) ℕ → Result (List ℕ × List LogLine) ℕ
 of_thread thread (Ok lines) = Ok (thread, lines)
@@ -32,7 +32,7 @@ of_thread thread (Err number) = Err number
 
 abbrev pub begun_by : Option (List ℕ) → ℕ → Parts → Result (List ℕ × List LogLine) ℕ
 begun_by None number more = Err number
-begun_by (Some thread) number more = of_thread thread (lines_from thread (number + 1) more)
+begun_by (Some thread) number more = of_thread thread (log_lines_from thread (number + 1) more)
 
 -- the log from its line with this number on, in front of its header: the header is the first line that isn't skipped
 unfoldable pub log_from : ℕ → Parts → Result (List ℕ × List LogLine) ℕ

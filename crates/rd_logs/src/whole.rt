@@ -1,7 +1,7 @@
 //! Reading a whole log.
 ghost use Rattle.std.specs.Prelude.{◌≡◌, ◌+◌, ◌<◌, ◌≤◌, ◌^◌, ◌++◌, ℕ, Ok, Err, IfNone, IfOk, IfErr, IfSome, OnOk, length};
 ghost use Rattle.rd_io.specs.Lines.{part, parts_of, rest as rest_of};
-ghost use Rattle.rd_logs.specs.WholeLogs.{kept_line, lines_from, log_of, of_thread};
+ghost use Rattle.rd_logs.specs.WholeLogs.{kept_line, log_lines_from, log_of, of_thread};
 
 use crate::lines::LogLine;
 use crate::reading::{read_log_header, read_log_line};
@@ -58,7 +58,7 @@ fn cut_line(text: &[u8]) -> Option<(&[u8], &[u8])>
 
 // Finds the header, which is the first line that isn't skipped; or the number of the line that should be it.
 fn find_header(bytes: &[u8]) -> Result<Begun, u64>
-    ensures ok { IfOk result (λ begun. log_of bytes.now ≡ of_thread begun.thread (lines_from begun.thread begun.number (parts_of begun.rest.now))) }
+    ensures ok { IfOk result (λ begun. log_of bytes.now ≡ of_thread begun.thread (log_lines_from begun.thread begun.number (parts_of begun.rest.now))) }
     ensures few { IfOk result (λ begun. begun.number + length begun.rest.now ≤ length bytes.now + 1) }
     ensures err { IfErr result (λ number. log_of bytes.now ≡ Err number) }
 {
@@ -103,8 +103,8 @@ fn read_lines(
     bytes: &[u8],
 ) -> Result<Vec<LogLine>, LogRefused>
     requires { first + length bytes.now < 2 ^ 64 }
-    ensures ok { IfOk result (λ lines. lines_from thread.now first (parts_of bytes.now) ≡ Ok lines.items) }
-    ensures bad { IfErr result (λ e. (number : ℕ) → e ≡ LogRefused.BadLine number → lines_from thread.now first (parts_of bytes.now) ≡ Err number) }
+    ensures ok { IfOk result (λ lines. log_lines_from thread.now first (parts_of bytes.now) ≡ Ok lines.items) }
+    ensures bad { IfErr result (λ e. (number : ℕ) → e ≡ LogRefused.BadLine number → log_lines_from thread.now first (parts_of bytes.now) ≡ Err number) }
 {
     let mut lines = Vec::new(alloc);
     let mut rest = bytes;

@@ -1,7 +1,7 @@
 use Rattle.std.proofs.Common.{◌≡◌, ◌≢◌, ◌+◌, Err, length, [], arith, ap, sym, ◌∙◌}
 use Rattle.std.proofs.lemmas.List.{nil_from_length}
 use Rattle.rd_io.specs.Lines.{parts_of}
-use Rattle.rd_logs.specs.WholeLogs.{in_front, lines_from}
+use Rattle.rd_logs.specs.WholeLogs.{in_front, log_lines_from}
 use Rattle.rd_logs.proofs.WholeLemmas.{all_read, bad_line, left_over, reads}
 use Rattle.rd_logs.proofs.whole.read_lines.Goals as goal
 
@@ -22,7 +22,7 @@ loop-rest-preserved c = record {
   same =
       c.loop-rest.invariant.same
       ∙ reads c.args.thread.now c.loop-rest.number c.loop-rest.lines.items _ _ c.in-Some.line.now c.in-Ok.said c.in-Some.ensures.some c.in-Ok.ensures.line
-      ∙ ap (λ lines. in_front lines (lines_from c.args.thread.now (c.loop-rest.number + 1) (parts_of c.in-Some.behind.now))) (sym c.in_ok-keep.ensures);
+      ∙ ap (λ lines. in_front lines (log_lines_from c.args.thread.now (c.loop-rest.number + 1) (parts_of c.in-Some.behind.now))) (sym c.in_ok-keep.ensures);
   few = omega (arith, c.in-Some.ensures.less);
 }
 

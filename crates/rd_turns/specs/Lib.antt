@@ -1,0 +1,4 @@
+pub mod NumberedLogs
+pub mod Standing
+pub mod Waiting
+pub mod Turning
