@@ -1,5 +1,5 @@
 -- Reading a whole log, line by line.
-use Rattle.std.proofs.Common.{◌≡◌, ◌≢◌, ℕ, zero, suc, ◌+◌, ◌<◌, ◌==◌, true, false, if◌then◌else◌, List, [], ◌∷◌, ◌++◌, length, take, drop, Option, Some, None, Result, Ok, Err, refl, sym, ap, ◌∙◌, arith}
+use Rattle.std.proofs.Common.{◌≡◌, ◌≢◌, ℕ, zero, suc, ◌+◌, ◌<◌, ◌==◌, true, false, if◌then◌else◌, List, [], ◌∷◌, length, take, drop, Option, Some, None, Result, Ok, Err, refl, sym, ap, ap₂, ◌∙◌, arith}
 use Rattle.std.specs.Prelude.{slice_index}
 use Rattle.std.proofs.lemmas.Bool.{false_from_ne_true}
 use Rattle.std.proofs.lemmas.Bool.Decides.{Decides-eqb}
@@ -10,7 +10,7 @@ use Rattle.rd_event.specs.Items.{is_skipped}
 use Rattle.rd_io.specs.Lines.{Parts, part, parts_of, rest, with_byte}
 use Rattle.rd_logs.specs.declared.lines.LogLine.{LogLine}
 use Rattle.rd_logs.specs.LogLines.{log_header_of, log_line_of}
-use Rattle.rd_logs.specs.WholeLogs.{begun_by, in_front, kept_line, log_lines_from, log_from}
+use Rattle.rd_logs.specs.WholeLogs.{SaidLines, added, begun_by, in_front, log_lines_from, log_from, said_by}
 
 -- ---- the first line of bytes
 
@@ -54,11 +54,11 @@ begins number parts more line found are other is = rw (are, other, is) refl
 
 -- ---- the lines
 
--- the lines in front of those that are still to be read
-module _ (thread : List ℕ) (number : ℕ) (front : List LogLine) where
+-- what lines said in front of those that are still to be read
+module _ (thread : List ℕ) (number : ℕ) (front : SaidLines) where
   pub all_read : (bytes : List ℕ) → bytes ≡ [] → in_front front (log_lines_from thread number (parts_of bytes)) ≡ Ok front
   unfolding log_lines_from
-  all_read bytes none = rw none (ap Ok (append-nil front))
+  all_read bytes none = rw none (ap₂ (λ objects events. Ok (record { objects = objects; events = events })) (append-nil front.objects) (append-nil front.events))
 
   pub left_over : (bytes : List ℕ) → bytes ≢ [] → parts_of bytes ≡ rest bytes → in_front front (log_lines_from thread number (parts_of bytes)) ≡ Err number
   unfolding log_lines_from
@@ -70,10 +70,11 @@ module _ (thread : List ℕ) (number : ℕ) (front : List LogLine) where
   bad_line parts more line are none = rw (are, none) refl
 
   pub reads : (parts more : Parts) (line : List ℕ) (said : LogLine) → parts ≡ part line more → log_line_of thread line ≡ Some said
-      → in_front front (log_lines_from thread number parts) ≡ in_front (front ++ kept_line said) (log_lines_from thread (number + 1) more)
+      → in_front front (log_lines_from thread number parts) ≡ in_front (added front (said_by thread said)) (log_lines_from thread (number + 1) more)
   unfolding log_lines_from
-  reads parts more line said are is = rw (are, is) (further (log_lines_from thread (number + 1) more))
+  reads parts more line said are is = rw (are, is) (further (said_by thread said) (log_lines_from thread (number + 1) more))
     where
-      further : (behind : Result (List LogLine) ℕ) → in_front front (in_front (kept_line said) behind) ≡ in_front (front ++ kept_line said) behind
-      further (Ok lines) = ap Ok (sym (append_assoc front (kept_line said) lines))
-      further (Err bad) = refl
+      further : (one : SaidLines) (behind : Result SaidLines ℕ) → in_front front (in_front one behind) ≡ in_front (added front one) behind
+      further one (Ok lines) =
+          ap₂ (λ objects events. Ok (record { objects = objects; events = events })) (sym (append_assoc front.objects one.objects lines.objects)) (sym (append_assoc front.events one.events lines.events))
+      further one (Err bad) = refl

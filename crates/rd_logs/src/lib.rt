@@ -9,6 +9,6 @@ mod tests;
 mod whole;
 
 pub use laws::law_of_log_lines;
-pub use lines::LogLine;
+pub use lines::{LogEvent, LogLine, LogObject};
 pub use reading::{read_log_header, read_log_line};
 pub use whole::{LogRefused, ReadLog, read_log};

@@ -15,3 +15,18 @@ pub enum LogLine {
     /// `acquire L N`: the thread acquires lock L, as the Nth acquire of it over all logs
     Acquire { lock: Name, number: u32 },
 }
+
+/// What a log declares: an object, with its kind.
+#[derive(Drop, PartialEq, Eq)]
+pub struct LogObject {
+    pub name: Name,
+    pub kind: Name,
+}
+
+/// An event of a log, with the thread that the log's header names. Where it is an acquire, the number says which one of its lock it is over all logs, from 1;
+/// else it is 0.
+#[derive(Drop, PartialEq, Eq)]
+pub struct LogEvent {
+    pub event: LineEvent,
+    pub number: u32,
+}

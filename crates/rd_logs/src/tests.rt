@@ -98,10 +98,22 @@ fn lines(rt: HostRuntime) {
     );
 }
 
-// Is the line a fork by the thread with this name?
-fn is_fork_by(line: &LogLine, by: &[u8]) -> bool {
-    match line {
-        LogLine::Event(LineEvent::Fork { thread, .. }) => thread.items() == by,
+// Does the event begin b by the thread with this name?
+fn forks_b(event: &LineEvent, by: &[u8]) -> bool {
+    match event {
+        LineEvent::Fork { thread, child } => {
+            thread.items() == by && child.items() == b"b".as_slice()
+        }
+        _ => false,
+    }
+}
+
+// Does it acquire l by the thread with this name?
+fn acquires_l(event: &LineEvent, by: &[u8]) -> bool {
+    match event {
+        LineEvent::Acquire { thread, lock } => {
+            thread.items() == by && lock.items() == b"l".as_slice()
+        }
         _ => false,
     }
 }
@@ -110,7 +122,10 @@ fn is_fork_by(line: &LogLine, by: &[u8]) -> bool {
 #[test]
 fn thread(rt: HostRuntime) {
     let line = read_log_line(rt.alloc(), &name(&rt, b"main"), b"fork b").expect(&rt, "a line");
-    assert!(rt; is_fork_by(&line, b"main"));
+    match line {
+        LogLine::Event(event) => assert!(rt; forks_b(&event, b"main")),
+        _ => assert!(rt; false),
+    }
 }
 
 /// Empty lines and comments are skipped.
@@ -165,21 +180,26 @@ fn headers(rt: HostRuntime) {
 const LOG: &str =
     "# one run\n\nrdlog 1 main\nobject x register\n# work\nfork b\n\nacquire l 2\n#\n";
 
-/// A log says whose it is, and its lines in their order without those that are skipped.
+/// A log says whose it is, what it declares, and its events in their order, of which an acquire has its number.
 #[test]
 fn logs(rt: HostRuntime) {
     let log = read_log(rt.alloc(), LOG.as_bytes())
         .ok()
         .expect(&rt, "a log");
     assert!(rt; log.thread.items() == b"main".as_slice());
-    assert!(rt; log.lines.len() == 3);
-    assert!(rt; words(&log.lines[0]).0 == "object");
-    assert!(rt; is_fork_by(&log.lines[1], b"main"));
-    assert!(rt; words(&log.lines[2]).3 == 2);
-    let header = read_log(rt.alloc(), b"rdlog 1 a\n")
-        .ok()
-        .expect(&rt, "a log");
-    assert!(rt; header.lines.is_empty());
+    assert!(rt; log.objects.len() == 1 && log.objects[0].name.items() == b"x".as_slice());
+    assert!(rt; log.objects[0].kind.items() == b"register".as_slice());
+    assert!(rt; log.events.len() == 2);
+    assert!(rt; forks_b(&log.events[0].event, b"main") && log.events[0].number == 0);
+    assert!(rt; acquires_l(&log.events[1].event, b"main") && log.events[1].number == 2);
+    let header = read_log(
+        rt.alloc(),
+        b"rdlog 1 a
+",
+    )
+    .ok()
+    .expect(&rt, "a log");
+    assert!(rt; header.objects.is_empty() && header.events.is_empty());
 }
 
 // Is the text no log, with its first bad line at this number?

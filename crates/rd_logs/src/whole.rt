@@ -1,20 +1,28 @@
 //! Reading a whole log.
-ghost use Rattle.std.specs.Prelude.{◌≡◌, ◌+◌, ◌<◌, ◌≤◌, ◌^◌, ◌++◌, ℕ, Ok, Err, IfNone, IfOk, IfErr, IfSome, OnOk, length};
+ghost use Rattle.std.specs.Prelude.{◌≡◌, ◌+◌, ◌<◌, ◌≤◌, ◌^◌, ℕ, Ok, Err, IfNone, IfOk, IfErr, IfSome, OnOk, length};
 ghost use Rattle.rd_io.specs.Lines.{part, parts_of, rest as rest_of};
-ghost use Rattle.rd_logs.specs.WholeLogs.{kept_line, log_lines_from, log_of, of_thread};
+ghost use Rattle.rd_logs.specs.WholeLogs.{added, log_lines_from, log_of, of_thread, record_of, said_by, said_in};
 
-use crate::lines::LogLine;
+use crate::lines::{LogEvent, LogLine, LogObject};
 use crate::reading::{read_log_header, read_log_line};
 use memchr::memchr;
 use rd_base::{Name, NoMemory};
-use rd_event::{LineRefused, is_skipped};
+use rd_event::{LineEvent, LineRefused, is_skipped};
 use std::alloc::Global;
 
-/// A log that was read: whose it is, and what its lines say, in their order, without those that are skipped.
+/// A log that was read: whose it is, the objects that it declares, and its events, each in the order of their lines.
 #[derive(Drop)]
 pub struct ReadLog {
     pub thread: Name,
-    pub lines: Vec<LogLine>,
+    pub objects: Vec<LogObject>,
+    pub events: Vec<LogEvent>,
+}
+
+// What lines behind the header say.
+#[derive(Drop)]
+struct Said {
+    objects: Vec<LogObject>,
+    events: Vec<LogEvent>,
 }
 
 /// Why a log isn't read.
@@ -84,59 +92,70 @@ fn find_header(bytes: &[u8]) -> Result<Begun, u64>
     Err(number)
 }
 
-// Keeps a line, if it isn't skipped.
-fn keep(lines: &mut Vec<LogLine>, line: LogLine) -> Result<(), NoMemory>
-    ensures { OnOk result (lines.new.items ≡ lines.old.items ++ kept_line line) }
+// Keeps what a line says, if it isn't skipped.
+fn keep(thread: &Name, said: &mut Said, line: LogLine) -> Result<(), NoMemory>
+    ensures { OnOk result (said_in said.new ≡ added (said_in said.old) (said_by thread.now line)) }
 {
-    if let LogLine::Skip = line {
-        return Ok(());
+    match line {
+        LogLine::Skip => Ok(()),
+        LogLine::Object { name, kind } => {
+            said.objects.push(LogObject { name, kind })?;
+            Ok(())
+        }
+        LogLine::Event(event) => {
+            said.events.push(LogEvent { event, number: 0 })?;
+            Ok(())
+        }
+        LogLine::Acquire { lock, number } => {
+            let thread = thread.copy();
+            let event = LineEvent::Acquire { thread, lock };
+            said.events.push(LogEvent { event, number })?;
+            Ok(())
+        }
     }
-    lines.push(line)?;
-    Ok(())
 }
 
 // Reads the lines behind the header, of which the first has this number.
-fn read_lines(
-    alloc: Global,
-    thread: &Name,
-    first: u64,
-    bytes: &[u8],
-) -> Result<Vec<LogLine>, LogRefused>
+fn read_lines(alloc: Global, thread: &Name, first: u64, bytes: &[u8]) -> Result<Said, LogRefused>
     requires { first + length bytes.now < 2 ^ 64 }
-    ensures ok { IfOk result (λ lines. log_lines_from thread.now first (parts_of bytes.now) ≡ Ok lines.items) }
+    ensures ok { IfOk result (λ said. log_lines_from thread.now first (parts_of bytes.now) ≡ Ok (said_in said)) }
     ensures bad { IfErr result (λ e. (number : ℕ) → e ≡ LogRefused.BadLine number → log_lines_from thread.now first (parts_of bytes.now) ≡ Err number) }
 {
-    let mut lines = Vec::new(alloc);
+    let mut said = Said {
+        objects: Vec::new(alloc),
+        events: Vec::new(alloc),
+    };
     let mut rest = bytes;
     let mut number = first;
     while !rest.is_empty() {
         let Some((line, behind)) = cut_line(rest) else {
             return Err(LogRefused::BadLine(number));
         };
-        let said = match read_log_line(alloc, thread, line) {
-            Ok(said) => said,
+        let line = match read_log_line(alloc, thread, line) {
+            Ok(line) => line,
             Err(LineRefused::BadLine) => return Err(LogRefused::BadLine(number)),
             Err(LineRefused::NoMemory) => return Err(LogRefused::NoMemory),
         };
-        keep(&mut lines, said)?;
+        keep(thread, &mut said, line)?;
         number += 1;
         rest = behind;
     }
-    Ok(lines)
+    Ok(said)
 }
 
 /// Reads a log: `log_of` says whose it is and what its lines say, or which line is the first bad one.
 pub fn read_log(alloc: Global, bytes: &[u8]) -> Result<ReadLog, LogRefused>
-    ensures ok { IfOk result (λ log. log_of bytes.now ≡ Ok (log.thread, log.lines.items)) }
+    ensures ok { IfOk result (λ log. log_of bytes.now ≡ Ok (record_of log)) }
     ensures bad { IfErr result (λ e. (number : ℕ) → e ≡ LogRefused.BadLine number → log_of bytes.now ≡ Err number) }
 {
     let begun = match find_header(bytes) {
         Ok(begun) => begun,
         Err(number) => return Err(LogRefused::BadLine(number)),
     };
-    let lines = read_lines(alloc, &begun.thread, begun.number, begun.rest)?;
+    let said = read_lines(alloc, &begun.thread, begun.number, begun.rest)?;
     Ok(ReadLog {
         thread: begun.thread,
-        lines,
+        objects: said.objects,
+        events: said.events,
     })
 }
