@@ -1,3 +1,4 @@
+pub mod Alike
 pub mod Logs
 pub mod Samples
 pub mod Turns

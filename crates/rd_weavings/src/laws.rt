@@ -4,6 +4,7 @@ ghost use Rattle.rd_order.specs.Order.{Reaches};
 ghost use Rattle.rd_event.specs.declared.events.Event.TheVariants.{Fork, Join, Acquire, Release};
 ghost use Rattle.rd_event.specs.declared.events.Call.{Call as CallOf};
 ghost use Rattle.rd_races.specs.Races.{Racing};
+ghost use Rattle.rd_weavings.specs.Alike.{AreAlike};
 ghost use Rattle.rd_weavings.specs.Samples.{a_call, a_log, at, log, main_log, numbered, unnumbered};
 ghost use Rattle.rd_weavings.specs.WeaveTests.{counts_of, logs_of, may_give, placed_in, woven_first};
 ghost use Rattle.rd_weavings.specs.declared.spots.Spot.{Spot};
@@ -47,6 +48,12 @@ pub fn law_of_weavings()
         → (s t : Spot) (i j k l : ℕ) → slice_get one i ≡ Some s → slice_get one j ≡ Some t → slice_get other k ≡ Some s → slice_get other l ≡ Some t
         → Racing (λ a b. IsTrue (commuting a b)) (woven all one) i j
         → Racing (λ a b. IsTrue (commuting a b)) (woven all other) k l ⊎ Racing (λ a b. IsTrue (commuting a b)) (woven all other) l k }
+{}
+
+/// Logs that differ at most in which kinds, methods and values are called on their objects take the same turns.
+pub fn law_of_alike_logs()
+    ensures turns { (one other : Logs) → AreAlike one other → woven_first one ≡ woven_first other }
+    ensures counts { (one other : Logs) (spots : List Spot) → AreAlike one other → counts_of one spots ≡ counts_of other spots }
 {}
 
 /// Logs that are woven, or not.
