@@ -1,0 +1,5 @@
+pub mod NameLemmas
+pub mod StepLemmas
+pub mod MarkLemmas
+pub mod LogLemmas
+pub mod LawLemmas

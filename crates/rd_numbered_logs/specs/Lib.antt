@@ -1,0 +1,3 @@
+pub mod LogNames
+pub mod LogsUnder
+pub mod Numbering
