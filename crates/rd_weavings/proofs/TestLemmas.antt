@@ -22,7 +22,7 @@ use Rattle.rd_weavings.proofs.SpotLemmas.{some_counted}
 
 -- ---- lists
 
-same_test : (b : Bool) → Decides b (b ≡ true)
+pub same_test : (b : Bool) → Decides b (b ≡ true)
 same_test b = (λ h. h, λ h. h)
 
 -- each number from a on passes
@@ -52,7 +52,7 @@ logs_all p (x ∷ xs) = (
     by h (suc l) y at rest = rest ((Decides-and (p x) _ (same_test (p x)) (same_test (list_all p xs))).0 h).1 l y at
 
 -- what is found passes, or nothing does
-abbrev FoundIn : (ℕ → Bool) → ℕ → ℕ → Option ℕ → Type 0
+abbrev pub FoundIn : (ℕ → Bool) → ℕ → ℕ → Option ℕ → Type 0
 FoundIn p a n None = (l : ℕ) → a ≤ l → l < a + n → p l ≡ false
 FoundIn p a n (Some l) = p l ≡ true
 
@@ -60,7 +60,7 @@ wider : (p : ℕ → Bool) (a n : ℕ) (o : Option ℕ) → p a ≡ false → Fo
 wider p a n None is rest = λ l from below. elim (cases_eq a l) [ inl same ↦ subst (λ l. p l ≡ false) same is | inr differ ↦ rest l (omega arith) (omega arith) ]
 wider p a n (Some l) is rest = rest
 
-find_is : (p : ℕ → Bool) (a n : ℕ) → FoundIn p a n (find p (range_with_len a n))
+pub find_is : (p : ℕ → Bool) (a n : ℕ) → FoundIn p a n (find p (range_with_len a n))
 find_is p a zero = λ l from below. absurd (omega arith)
 find_is p a (suc n) = by (p a) refl (find_is p (a + 1) n)
   where
@@ -269,6 +269,14 @@ module _ (all : Logs) (logs : AreLogs all) (spots : List Spot) (is : Sound all s
 
 -- ---- the turns
 
+-- with the next event of a log, one fewer is left
+pub fewer_inside : (all : Logs) (spots : List Spot) (log : ℕ) → IsSpot all (next_spot spots log) → turns_left all (spots ++ next_spot spots log ∷ []) + 1 ≡ turns_left all spots
+fewer_inside all spots log more =
+    sum_less (λ l. length (log_at all l).events - given (spots ++ next_spot spots log ∷ []) l) (λ l. length (log_at all l).events - given spots l) 0 (length all.logs) log (omega arith)
+    (let inside = spot_within all (next_spot spots log) more in omega (arith, inside))
+    (omega (arith, more, given_own spots log))
+    (λ l differ. ap (λ g. length (log_at all l).events - g) (given_other spots log l (λ same. differ (sym same))))
+
 module _ (all : Logs) (logs : AreLogs all) where
   left_in : List Spot → ℕ → ℕ
   left_in spots l = length (log_at all l).events - given spots l
@@ -281,11 +289,7 @@ module _ (all : Logs) (logs : AreLogs all) where
       omega arith
 
   pub fewer_left : (spots : List Spot) (log : ℕ) → MayGive all spots log → turns_left all (spots ++ next_spot spots log ∷ []) + 1 ≡ turns_left all spots
-  fewer_left spots log may =
-      sum_less (λ l. length (log_at all l).events - given (spots ++ next_spot spots log ∷ []) l) (λ l. length (log_at all l).events - given spots l) 0 (length all.logs) log (omega arith)
-      (let inside = spot_within all (next_spot spots log) may.inside in omega (arith, inside))
-      (let more : given spots log < length (log_at all log).events = may.inside in omega (arith, more, given_own spots log))
-      (λ l differ. ap (λ g. length (log_at all l).events - g) (given_other spots log l (λ same. differ (sym same))))
+  fewer_left spots log may = fewer_inside all spots log may.inside
 
   turned : (turns : ℕ) (spots : List Spot) → ArePlaced all spots → turns_left all spots ≤ turns → ArePlaced all (placed_in all turns spots) × ((log : ℕ) → ¬ (MayGive all (placed_in all turns spots) log))
   turned zero spots placed few = (placed, no_log_gives spots (omega arith))
@@ -302,18 +306,18 @@ module _ (all : Logs) (logs : AreLogs all) where
       )
       by (Some log) passes go = go log ((give_decides all logs spots (sound all spots placed) log).0 passes)
 
-  end : ArePlaced all (woven_first all) × ((log : ℕ) → ¬ (MayGive all (woven_first all) log))
+  pub end : ArePlaced all (woven_first all) × ((log : ℕ) → ¬ (MayGive all (woven_first all) log))
   unfolding woven_first
   end = turned (turns_left all []) [] none (omega arith)
 
-  whole_of : turns_left all (woven_first all) ≡ 0 → (s : Spot) → IsSpot all s → IsPlaced (woven_first all) s
+  pub whole_of : turns_left all (woven_first all) ≡ 0 → (s : Spot) → IsSpot all s → IsPlaced (woven_first all) s
   whole_of gone s is_s =
       let inside = spot_within all s is_s in
       let nothing : length (log_at all s.log).events - given (woven_first all) s.log ≡ 0 =
       sum_none (λ l. length (log_at all l).events - given (woven_first all) l) 0 (length all.logs) gone s.log (omega arith) (omega (arith, inside)) in
       (sound all (woven_first all) end.0).all_below s (omega (arith, is_s, nothing))
 
-  nothing_left : ((s : Spot) → IsSpot all s → IsPlaced (woven_first all) s) → turns_left all (woven_first all) ≡ 0
+  pub nothing_left : ((s : Spot) → IsSpot all s → IsPlaced (woven_first all) s) → turns_left all (woven_first all) ≡ 0
   nothing_left every = sum_zero (λ l. length (log_at all l).events - given (woven_first all) l) 0 (length all.logs) (λ l. elim (cases_lt (given (woven_first all) l) (length (log_at all l).events)) [
     | inl more ↦ absurd (let low = (sound all (woven_first all) end.0).below (next_spot (woven_first all) l) (every (next_spot (woven_first all) l) more) in omega arith)
     | inr past ↦ omega arith

@@ -1,14 +1,14 @@
 //! The laws of weavings.
-ghost use Rattle.std.specs.Prelude.{◌≡◌, ◌≢◌, ◌⊎◌, ◌↔◌, ◌<◌, ℕ, Bool, List, [], ◌∷◌, ◌++◌, Some, IsTrue, length, slice_get};
+ghost use Rattle.std.specs.Prelude.{◌≡◌, ◌≢◌, ◌⊎◌, ◌↔◌, ◌<◌, ◌+◌, ℕ, Bool, List, [], ◌∷◌, ◌++◌, Some, IsTrue, length, slice_get, take};
 ghost use Rattle.rd_order.specs.Order.{Reaches};
 ghost use Rattle.rd_event.specs.declared.events.Event.TheVariants.{Fork, Join, Acquire, Release};
 ghost use Rattle.rd_event.specs.declared.events.Call.{Call as CallOf};
 ghost use Rattle.rd_races.specs.Races.{Racing};
 ghost use Rattle.rd_weavings.specs.Alike.{AreAlike};
 ghost use Rattle.rd_weavings.specs.Samples.{a_call, a_log, at, log, main_log, numbered, unnumbered};
-ghost use Rattle.rd_weavings.specs.WeaveTests.{counts_of, logs_of, may_give, placed_in, woven_first};
+ghost use Rattle.rd_weavings.specs.WeaveTests.{counts_of, logs_of, may_give, placed_in, turns_left, woven_first};
 ghost use Rattle.rd_weavings.specs.declared.spots.Spot.{Spot};
-ghost use Rattle.rd_weavings.specs.Logs.{AreLogs, IsSpot, Logs, IsPlaced, next_spot, woven};
+ghost use Rattle.rd_weavings.specs.Logs.{AreLogs, IsSpot, Logs, IsPlaced, given, next_spot, woven};
 ghost use Rattle.rd_weavings.specs.Turns.{IsWoken};
 ghost use Rattle.rd_weavings.specs.Weavings.{ArePlaced, IsWeaving, HaveOwnThreads, MayGive};
 
@@ -35,6 +35,16 @@ pub fn law_of_first_turns()
         → (IsTrue (may_give all spots log) ↔ MayGive all spots log) }
     ensures woven { (all : Logs) → AreLogs all → HaveOwnThreads all
         → IsWeaving all (woven_first all) ⊎ ((whole : List Spot) → ¬ (IsWeaving all whole)) }
+{}
+
+/// What the turns leave: where nothing is left, a weaving was made, and where something is, there is none. Each event that is placed is the next one of
+/// its log then, and one event fewer is left.
+pub fn law_of_ends()
+    ensures whole { (all : Logs) → AreLogs all → HaveOwnThreads all → turns_left all (woven_first all) ≡ 0 → IsWeaving all (woven_first all) }
+    ensures stuck { (all : Logs) → AreLogs all → turns_left all (woven_first all) ≢ 0 → (spots : List Spot) → ¬ (IsWeaving all spots) }
+    ensures left { (all : Logs) → turns_left all (woven_first all) + length (woven_first all) ≡ turns_left all [] }
+    ensures next { (all : Logs) (s : Spot) (j : ℕ) → slice_get (woven_first all) j ≡ Some s
+        → IsSpot all s × (s.log < length all.logs) × (s.place ≡ given (take j (woven_first all)) s.log) }
 {}
 
 /// Any two weavings of the same logs order the same events, and the same pairs of calls race, whichever commute.

@@ -5,7 +5,7 @@ mod laws;
 mod spots;
 
 pub use laws::{
-    examples_of_weaving, law_of_alike_logs, law_of_first_turns, law_of_placing, law_of_turns,
-    law_of_weavings,
+    examples_of_weaving, law_of_alike_logs, law_of_ends, law_of_first_turns, law_of_placing,
+    law_of_turns, law_of_weavings,
 };
 pub use spots::Spot;
