@@ -2,6 +2,7 @@ pub mod AccessLemmas
 pub mod EpochLemmas
 pub mod FewLemmas
 pub mod LessonLemmas
+pub mod LikeLemmas
 pub mod LineLemmas
 pub mod ReadLemmas
 pub mod StandLemmas

@@ -1,11 +1,12 @@
 -- The open reads, of which the first lies by itself.
-use Rattle.std.proofs.Common.{◌≡◌, ◌≢◌, ◌+◌, ◌<◌, inl, inr, zero, suc, cond, get_or, length, List, [], ◌∷◌, ◌++◌, take, drop, Option, Some, None, ℕ, refl, sym, ap, subst, ◌∙◌, arith}
+use Rattle.std.proofs.Common.{◌≡◌, ◌≢◌, ◌<◌, inl, inr, zero, suc, cond, get_or, length, List, [], ◌∷◌, ◌++◌, take, drop, set, Option, Some, None, ℕ, refl, sym, ap, subst, ◌∙◌, arith}
 use Rattle.std.proofs.lemmas.Bool.{cases_lt}
 use Rattle.std.proofs.lemmas.List.Elements.{Contains-get_or, filter-append}
 use Rattle.std.proofs.lemmas.List.Sums.{fold-append}
 use Rattle.std.proofs.lemmas.Option.{get_or_from_slice_get, none-some, same_Some, slice_get-get_or, slice_get_within}
-use Rattle.std.specs.Prelude.{Contains, IfSome, not, slice_get}
-use Rattle.std.proofs.lemmas.List.{append_assoc}
+use Rattle.std.specs.Prelude.{Contains, IfSome, IsPermutation, not, slice_get}
+use Rattle.std.proofs.lemmas.List.{append_assoc, set_split}
+use Rattle.std.proofs.lemmas.List.Sorted.{IsPermutation-append_right, IsPermutation-middle, IsPermutation-sym, IsPermutation-to_front, IsPermutation-trans}
 use Rattle.rd_epoch.proofs.LineLemmas.{is_heard_one, not_heard}
 use Rattle.rd_epoch.specs.EpochParts.{AreStill, IsHeardEpoch, is_heard, later_unheard, latest_line, unheard}
 use Rattle.rd_epoch.specs.Epochs.{reads_of_one}
@@ -60,12 +61,20 @@ renewed_by : (clock : List ℕ) (learnt : ℕ) (now : Epoch) (first : Option Epo
 renewed_by clock learnt now None more p own at same since are = kept_by_place clock learnt now more p own at same since are
 renewed_by clock learnt now (Some first) more p own at same since are = kept_by_place clock learnt now (first ∷ more) (suc p) own at same since are
 
+-- in the place of its thread's own one, a read stands beside those that are kept
 pub renewed : (clock : List ℕ) (learnt : ℕ) (now : Epoch) (first : Option Epoch) (more : List Epoch) (p : ℕ) → p < length more
     → IfSome (slice_get more p) (λ own. (own.thread ≡ now.thread) × (learnt < own.line)) → AreStill clock learnt now (reads_of_one first ++ more)
-    → reads_of_one first ++ ((take p more ++ drop (p + 1) more) ++ now ∷ []) ≡ unheard clock (reads_of_one first ++ more) ++ now ∷ []
+    → IsPermutation (unheard clock (reads_of_one first ++ more) ++ now ∷ []) (reads_of_one first ++ set more p now)
 renewed clock learnt now first more p inside is are =
     let at = slice_get-get_or more p now inside in
-    let behind : p + 1 ≡ suc p = omega arith in
     let own = subst (λ o. IfSome o (λ own. (own.thread ≡ now.thread) × (learnt < own.line))) at is in
-    sym (append_assoc (reads_of_one first) (take p more ++ drop (p + 1) more) (now ∷ []))
-    ∙ ap (λ l. l ++ now ∷ []) (ap (λ k. reads_of_one first ++ (take p more ++ drop k more)) behind ∙ sym (renewed_by clock learnt now first more p (get_or more p now) at own.0 own.1 are))
+    let one = reads_of_one first in
+    let front = take p more in
+    let rest = drop (suc p) more in
+    let last : unheard clock (one ++ more) ++ now ∷ [] ≡ one ++ ((front ++ rest) ++ now ∷ []) =
+    ap (λ l. l ++ now ∷ []) (renewed_by clock learnt now first more p (get_or more p now) at own.0 own.1 are) ∙ append_assoc one (front ++ rest) (now ∷ []) in
+    subst (λ l. IsPermutation l (one ++ set more p now)) (sym last)
+    (subst (λ l. IsPermutation (one ++ ((front ++ rest) ++ now ∷ [])) (one ++ l)) (sym (set_split more p now inside))
+    (IsPermutation-append_right one ((front ++ rest) ++ now ∷ []) (front ++ now ∷ rest)
+    (IsPermutation-trans ((front ++ rest) ++ now ∷ []) (now ∷ (front ++ rest)) (front ++ now ∷ rest)
+    (IsPermutation-to_front (front ++ rest) now) (IsPermutation-sym (front ++ now ∷ rest) (now ∷ (front ++ rest)) (IsPermutation-middle front now rest)))))

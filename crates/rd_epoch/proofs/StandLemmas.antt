@@ -22,6 +22,7 @@ use Rattle.rd_epoch.specs.Taking.{TakesAccess}
 use Rattle.rd_epoch.specs.declared.epochs.Access.{Access}
 use Rattle.rd_epoch.specs.declared.epochs.First.{First}
 use Rattle.rd_epoch.proofs.AccessLemmas.{access_shorter, access_within, at_more}
+use Rattle.rd_epoch.proofs.LikeLemmas.{holds_like}
 use Rattle.rd_epoch.proofs.LineLemmas.{none_in}
 use Rattle.rd_epoch.proofs.EpochLemmas.{holds_after, holds_longer, earlier_or_this}
 
@@ -74,7 +75,7 @@ stands_after held now roots lines es access stamp slots next is = record {
   ];
   each = λ u inside. elim (cases_eq u access.variable) [
     | inl same ↦ subst (λ u. HoldsOf (lines ++ access.line ∷ []) (es ++ event_of_access access stamp slots ∷ []) u (held_at now u) (held_at now u).raced) (sym same)
-        (subst (λ (h : HeldAccesses). HoldsOf (lines ++ access.line ∷ []) (es ++ event_of_access access stamp slots ∷ []) access.variable h h.raced) (sym is.at) (holds_after held roots lines es access stamp slots next))
+        (holds_like (lines ++ access.line ∷ []) (es ++ event_of_access access stamp slots ∷ []) access.variable _ (held_at now access.variable) is.at (holds_after held roots lines es access stamp slots next))
     | inr other ↦ subst (λ (h : HeldAccesses). HoldsOf (lines ++ access.line ∷ []) (es ++ event_of_access access stamp slots ∷ []) u h h.raced) (sym (is.others u other))
         (holds_longer lines es access.line (event_of_access access stamp slots) u (held_at held u) (held_at held u).raced next.stands.lengths
         (λ w k at. elim (before u w k at) [ inl early ↦ early | inr last ↦ absurd (other last.1) ])

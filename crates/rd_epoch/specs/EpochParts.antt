@@ -1,5 +1,5 @@
 -- How an access is taken.
-use Rattle.std.specs.Prelude.{◌≡◌, ◌≢◌, ℕ, ◌+◌, ◌<◌, ◌≤◌, AllPairs, max, length, nat_le, not, Bool, true, false, List, [], ◌∷◌, ◌++◌, Contains, Option, Some, None, if◌then◌else◌, fold, filter}
+use Rattle.std.specs.Prelude.{◌≡◌, ◌≢◌, ℕ, ◌+◌, ◌<◌, ◌≤◌, AllPairs, IsPermutation, max, length, nat_le, not, Bool, true, false, List, [], ◌∷◌, ◌++◌, Contains, Option, Some, None, if◌then◌else◌, fold, filter}
 use Rattle.rd_clock.specs.Clock.{component}
 use Rattle.rd_epoch.specs.Epochs.{HeldAccesses, held_at, reads_of_one}
 use Rattle.rd_epoch.specs.declared.kept.Epoch.{Epoch}
@@ -54,10 +54,16 @@ IsLatestLine clock epochs (Some line) =
     ((epoch : Epoch) × Contains epochs epoch × (¬ (IsHeardEpoch clock epoch)) × (epoch.line ≡ line))
     × ((epoch : Epoch) → Contains epochs epoch → ¬ (IsHeardEpoch clock epoch) → epoch.line ≤ line)
 
--- this is held of a variable, and of each other one what was
+-- the same is held, but for the order of the open reads
+pub record IsLikeHeld (one other : HeldAccesses) : Type 0 where
+  pub raced : other.raced ≡ one.raced
+  pub write : other.write ≡ one.write
+  pub reads : IsPermutation one.reads other.reads
+
+-- this is held of a variable, but for the order of its open reads, and of each other one what was
 pub record IsHeldAt (variable : ℕ) (held : HeldAccesses) (old new : List HeldAccesses) : Type 0 where
   pub count : length new ≡ max (length old) (variable + 1)
-  pub at : held_at new variable ≡ held
+  pub at : IsLikeHeld held (held_at new variable)
   pub others : (w : ℕ) → w ≢ variable → held_at new w ≡ held_at old w
 
 -- Of these open reads each thread has one at most, which it has heard of itself. Where the thread of the access learnt nothing behind a line, and its own

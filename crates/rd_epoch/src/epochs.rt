@@ -6,8 +6,8 @@ ghost use Rattle.rd_clock.specs.Stamps.{lent_stamp};
 ghost use Rattle.rd_hb.specs.Tracker.{last_stamp};
 ghost use Rattle.rd_order.specs.EventLists.{WellFormedWith};
 ghost use Rattle.rd_epoch.specs.Accesses.{variable_kinds};
-ghost use Rattle.rd_epoch.specs.EpochParts.{AreStill, IsHeldAt, found_for, held_after};
-ghost use Rattle.rd_epoch.specs.Epochs.{EpochsStandFor, held_at, no_access};
+ghost use Rattle.rd_epoch.specs.EpochParts.{AreStill, IsHeldAt, IsLikeHeld, found_for, held_after};
+ghost use Rattle.rd_epoch.specs.Epochs.{EpochsStandFor, HeldAccesses, held_at, no_access};
 ghost use Rattle.rd_epoch.specs.Taking.{MayTakeSince, MayTake, TakesAccess};
 
 #[cfg(test)]
@@ -144,6 +144,7 @@ impl Epochs {
     /// Takes an access as `access` does, where the tracker passed it last, and so has its stamp, of which no copy is made. By the event of this line or
     /// an earlier one its thread learnt last what others did; 0 where it did never. So a read by a thread that learnt nothing since its last one asks no
     /// other.
+    #[inline(always)]
     pub fn follow<L: Ledger>(
         &mut self,
         access: &Access,
@@ -197,7 +198,8 @@ impl Epochs {
         steps: &mut Steps<L>,
     ) -> Result<Option<u64>, NoMemory>
         ensures found { IfOk result (λ found. found ≡ found_for clock.now write no_access) }
-        ensures held { IfOk result (λ found. self.new ≡ self.old ++ held_after clock.now write now.now no_access found ∷ []) }
+        ensures held { IfOk result (λ found. (held : HeldAccesses) × IsLikeHeld (held_after clock.now write now.now no_access found) held
+            × (self.new ≡ self.old ++ held ∷ [])) }
         ensures err { OnErr result (self.new ≡ self.old) }
         ensures cost { steps.new ≤ steps.old + 1 }
     {

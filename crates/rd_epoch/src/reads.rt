@@ -1,5 +1,5 @@
 //! The open reads of a variable.
-ghost use Rattle.std.specs.Prelude.{◌≡◌, ◌≢◌, ◌+◌, ◌<◌, ◌≤◌, true, [], ◌∷◌, ◌++◌, length, slice_get, if◌then◌else◌, vec_len, vec_capacity, IfSome, OnOk, OnErr};
+ghost use Rattle.std.specs.Prelude.{◌≡◌, ◌≢◌, ◌+◌, ◌<◌, ◌≤◌, true, [], ◌∷◌, ◌++◌, IsPermutation, length, slice_get, if◌then◌else◌, vec_len, vec_capacity, IfSome, OnOk, OnErr};
 ghost use Rattle.rd_epoch.specs.EpochParts.{AreStill, latest_line, unheard};
 ghost use Rattle.rd_epoch.specs.Epochs.{reads_of_one};
 
@@ -76,8 +76,7 @@ fn stays<L: Ledger>(read: &Option<Epoch>, clock: &Clock, steps: &mut Steps<L>) -
     }
 }
 
-// Adds a read beside others, where it is told whether the first of them stays. Where the thread learnt nothing since its own read, it has heard of no
-// other, and none is asked.
+// Adds a read beside others, where it is told whether the first of them stays.
 // kept out of line, so that a variable with one open read doesn't pay for it
 #[inline(never)]
 #[tactic(auto, using(crate::proofs::ReadLemmas::unheard_joined))]
@@ -87,22 +86,15 @@ fn add_beside<L: Ledger>(
     stays: bool,
     now: &Epoch,
     clock: &Clock,
-    learnt: u64,
     steps: &mut Steps<L>,
 ) -> Result<(), NoMemory>
     requires first { unheard clock.now (reads_of_one first.old) ≡ (if stays then reads_of_one first.old else []) }
-    requires still { AreStill clock.now learnt now.now (reads_of_one first.old ++ more.old.items) }
     ensures items { OnOk result (reads_of_one first.new ++ more.new.items
         ≡ unheard clock.now (reads_of_one first.old ++ more.old.items) ++ now.now ∷ []) }
     ensures first { OnErr result (first.new ≡ first.old) }
     ensures more { OnErr result (more.new.items ≡ more.old.items) }
     ensures cost { steps.new ≤ steps.old + length more.old.items }
 {
-    if let Some(place) = own_place(more.as_slice(), now.thread, learnt) {
-        more.remove(place);
-        more.push_reserved(*now);
-        return Ok(());
-    }
     more.reserve(1)?;
     keep_unheard(more, clock, steps);
     if stays {
@@ -172,8 +164,9 @@ impl Reads {
         self.more.clear();
     }
 
-    /// Drops those that the clock counts, and adds one. It takes a step for each that was there, or fewer: where the thread learnt nothing behind this
-    /// line, and has a read behind it, that one alone is counted. After want of memory, which comes only where one was there, all is as before.
+    /// Drops those that the clock counts, and adds one, somewhere among the others. It takes a step for each that was there, or fewer: where the thread
+    /// learnt nothing behind this line, and has a read behind it, it has heard of no other one, and none is counted. After want of memory, which comes
+    /// only where one was there, all is as before.
     #[inline(always)]
     pub(crate) fn add<L: Ledger>(
         &mut self,
@@ -183,6 +176,26 @@ impl Reads {
         steps: &mut Steps<L>,
     ) -> Result<(), NoMemory>
         requires still { AreStill clock.now learnt now.now self.old }
+        ensures ok { OnOk result (IsPermutation (unheard clock.now self.old ++ now.now ∷ []) self.new) }
+        ensures err { OnErr result (self.new ≡ self.old) }
+        ensures cost { steps.new ≤ steps.old + length self.old }
+        ensures memory { OnErr result (self.old ≢ []) }
+    {
+        if let Some(place) = own_place(self.more.as_slice(), now.thread, learnt) {
+            self.more[place] = *now;
+            return Ok(());
+        }
+        self.add_last(now, clock, steps)
+    }
+
+    // The same, behind the others, each of which is counted.
+    #[inline(always)]
+    fn add_last<L: Ledger>(
+        &mut self,
+        now: &Epoch,
+        clock: &Clock,
+        steps: &mut Steps<L>,
+    ) -> Result<(), NoMemory>
         ensures ok { OnOk result (self.new ≡ unheard clock.now self.old ++ now.now ∷ []) }
         ensures err { OnErr result (self.new ≡ self.old) }
         ensures cost { steps.new ≤ steps.old + length self.old }
@@ -190,15 +203,7 @@ impl Reads {
     {
         let stays = stays(&self.first, clock, steps);
         if stays || !self.more.is_empty() {
-            return add_beside(
-                &mut self.first,
-                &mut self.more,
-                stays,
-                now,
-                clock,
-                learnt,
-                steps,
-            );
+            return add_beside(&mut self.first, &mut self.more, stays, now, clock, steps);
         }
         self.first = Some(*now);
         Ok(())

@@ -1,6 +1,6 @@
 //! What is kept of a variable.
 ghost use Rattle.std.specs.Prelude.{◌≡◌, ◌≢◌, ◌+◌, ◌≤◌, true, false, [], length, IfOk, OnOk, OnErr};
-ghost use Rattle.rd_epoch.specs.EpochParts.{AreStill, found_for, held_after, held_with};
+ghost use Rattle.rd_epoch.specs.EpochParts.{AreStill, IsLikeHeld, found_for, held_after, held_with};
 ghost use Rattle.rd_epoch.specs.Epochs.{no_access};
 
 use crate::kept::{Epoch, later_unheard};
@@ -67,7 +67,7 @@ impl Variable {
     ) -> Result<(), NoMemory>
         requires quiet { self.old.raced ≡ false }
         requires still { AreStill clock.now learnt now.now self.old.reads }
-        ensures held { OnOk result (self.new ≡ held_with clock.now write now.now self.old) }
+        ensures held { OnOk result (IsLikeHeld (held_with clock.now write now.now self.old) self.new) }
         ensures err { OnErr result (self.new ≡ self.old) }
         ensures cost { steps.new ≤ steps.old + length self.old.reads }
         ensures write { write ≡ true → steps.new ≡ steps.old }
@@ -95,7 +95,7 @@ impl Variable {
     ) -> Result<Option<u64>, NoMemory>
         requires still { self.old.raced ≡ false → AreStill clock.now learnt now.now self.old.reads }
         ensures found { IfOk result (λ found. found ≡ found_for clock.now write self.old) }
-        ensures held { IfOk result (λ found. self.new ≡ held_after clock.now write now.now self.old found) }
+        ensures held { IfOk result (λ found. IsLikeHeld (held_after clock.now write now.now self.old found) self.new) }
         ensures err { OnErr result (self.new ≡ self.old) }
         ensures cost { steps.new ≤ steps.old + (1 + length self.old.reads) }
         ensures raced { self.old.raced ≡ true → steps.new ≡ steps.old }
