@@ -36,6 +36,11 @@ judged_again named old new limits line refused.BadLine other takes = (takes.0, r
 judged_again named old new limits line (refused.Cause cause) other takes = (takes.0, (subst (λ roster. Forbids roster limits line cause) (sym takes.1.1) takes.1.0, refl))
 judged_again named old new limits line refused.NoMemory other takes = absurd (other refl)
 
+pub as_before : (named : Type 0) (old new : Roster) (limits : Limits) (line : Line) (e : BytesRefused) → e ≢ refused.NoMemory → TakesNames true named old new limits line (Err e) → new ≡ old
+as_before named old new limits line refused.BadLine other takes = takes.1
+as_before named old new limits line (refused.Cause cause) other takes = takes.1.1
+as_before named old new limits line refused.NoMemory other takes = absurd (other refl)
+
 -- and it stands for the same lines
 pub still_refused : (complete : Bool) (named : Type 0) (old new : Roster) (limits : Limits) (line : Line) (e : BytesRefused) → TakesNames complete named old new limits line (Err e)
     → (kinds : List Kind) (lines : List Line) → RosterStandsFor kinds old lines → RosterStandsFor kinds new lines

@@ -13,9 +13,8 @@ use Rattle.rd_event.specs.declared.items.Line.TheVariants.{Object}
 use Rattle.rd_event.specs.declared.items.Line.{Line}
 use Rattle.rd_memory.specs.MemoryLines.{access_of, memory_line_of}
 use Rattle.rd_memory.specs.MemoryTraces.{access_call, items_said, memory_says}
-use Rattle.rd_rules.proofs.FollowLemmas.{among_decides, broken_from_some, follows_from_none, met}
+use Rattle.rd_rules.proofs.FollowLemmas.{among_decides, follows_from_none, met}
 use Rattle.rd_rules.specs.MayFollow.{first_broken, is_among, objects_of}
-use Rattle.rd_rules.specs.declared.causes.WfCause.TheVariants.{UnknownObject}
 use Rattle.rd_wf.proofs.BytesLemmas.{names_at, names_none}
 
 -- the bytes of a line with these words behind its keyword say an access by them
@@ -54,19 +53,6 @@ module _ (bytes : List ℕ) (words : Words) (say : SayAccess bytes words) where
       (among_decides (objects_of before) words.variable.now).1 (met kinds limits before access (λ e. cc) (follows_from_none kinds limits before access unbroken)).known_object
 
 -- a test that isn't passed
-pub not_so : (a b : Bool) → a ≡ not b → a ≡ true → b ≡ false
-not_so a true is h = absurd (true≢false (sym h ∙ is))
-not_so a false is h = refl
-
 pub so : (a b : Bool) → a ≡ not b → a ≡ false → b ≡ true
 so a true is h = refl
 so a false is h = absurd (true≢false (sym is ∙ h))
-
--- an access that breaks the rule of objects first is one of a variable that was not declared
-pub undeclared_by : (kinds : List Kind) (limits : Limits) (before : List Line) (thread variable : List ℕ) (write : Bool) → first_broken kinds limits before (access_call thread variable write) ≡ Some UnknownObject
-    → is_among (objects_of before) variable ≡ false
-undeclared_by kinds limits before thread variable write is = by (is_among (objects_of before) variable) refl
-  where
-    by : (b : Bool) → is_among (objects_of before) variable ≡ b → is_among (objects_of before) variable ≡ false
-    by false e = e
-    by true e = absurd ((broken_from_some kinds limits before (access_call thread variable write) UnknownObject is).broken ((among_decides (objects_of before) variable).0 e))

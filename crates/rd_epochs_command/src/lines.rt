@@ -1,5 +1,5 @@
 //! The lines of a trace of reads and writes.
-ghost use Rattle.std.specs.Prelude.{◌≡◌, ◌≢◌, ◌∷◌, [], ◌++◌, List, ℕ, Ok, Err, Some, IfErr, IfNone, IfSome, codes, false, true, option_map};
+ghost use Rattle.std.specs.Prelude.{◌≡◌, ◌≢◌, ◌∷◌, [], ◌++◌, List, ℕ, Ok, Err, Some, IfErr, IfNone, IfSome, Option, codes, false, true, option_map};
 ghost use Rattle.rd_base.specs.Limits.{AreUsable};
 ghost use Rattle.rd_base.specs.Names.{IsName};
 ghost use Rattle.rd_base.specs.declared.values.Value.TheVariants.{Nil};
@@ -15,18 +15,18 @@ ghost use Rattle.rd_tables.specs.Tables.{found_method};
 ghost use Rattle.rd_walk.specs.Analysis.{AreBefore, TellsFault};
 ghost use Rattle.rd_walk.specs.Taking.{TakesGrammarLine};
 ghost use Rattle.rd_walk.specs.Walk.{Entry, items};
-ghost use Rattle.rd_wf.specs.Roster.{RosterStandsFor, TakesNames, kinds_in, with_values};
+ghost use Rattle.rd_wf.specs.Roster.{IsFoundObject, RosterStandsFor, TakesNames, kinds_in, with_values};
 
 use crate::watching::FirstRaces;
 use rd_base::{Limits, Name, Steps};
 use rd_event::is_skipped;
 use rd_io::Sink;
 use rd_memory::law_of_keywords;
-use rd_tables::{FoundMethod, cut_at_space};
+use rd_tables::{FoundMethod, FoundObject, cut_at_space};
 use rd_walk::{Analysis, Grammar, Halt, Taken, Walker, take_anywhere, take_keyword};
 use rd_wf::{
-    Accepted, AcquireLine, Anywhere, BytesRefused, CallNumbers, Finder, JoinLine, Judged,
-    KnownMethod, ReleaseLine, Roster, TraceCause, WfCause,
+    Accepted, AcquireLine, Anywhere, BytesRefused, CallNumbers, JoinLine, Judged, KnownMethod,
+    ReleaseLine, Roster, TraceCause,
 };
 use std::sync::ledger::Ledger;
 
@@ -63,19 +63,6 @@ fn refuse<A: Analysis>(walker: &mut Walker<A>, cause: TraceCause) -> Result<Take
 {
     walker.refused = Some(cause);
     Ok(Taken::Refused)
-}
-
-// Whether no object has this name.
-fn is_undeclared(roster: &Roster, name: &[u8]) -> bool
-    ensures undeclared { result ≡ true → (kinds : List Kind) (lines : List Item) →
-        RosterStandsFor kinds roster.now lines → is_among (objects_of lines) name.now ≡ false }
-    ensures declared { result ≡ false → IsName name.now → (kinds : List Kind) (lines : List Item) →
-        RosterStandsFor kinds roster.now lines → is_among (objects_of lines) name.now ≡ true }
-{
-    match Anywhere::object(roster, 0, name) {
-        Some(found) => found.unknown,
-        None => false,
-    }
 }
 
 // An item that the roster accepted is handed on.
@@ -171,6 +158,7 @@ fn hand_on_access<S: Sink, L: Ledger>(
 }
 
 // What the roster judged of an access, whose words are names, is done.
+#[inline(always)]
 fn finish_access<S: Sink, L: Ledger>(
     walker: &mut Walker<FirstRaces>,
     number: u64,
@@ -233,13 +221,79 @@ fn judge(roster: &mut Roster, words: Words, limits: &Limits) -> Result<CallNumbe
     )
 }
 
-// Takes the first access to a variable: it is declared, and then the access is judged.
+// The same of an access to a variable that was looked up before.
+#[inline(always)]
+fn judge_known(
+    roster: &mut Roster,
+    words: Words,
+    variable: FoundObject,
+    limits: &Limits,
+) -> Result<CallNumbers, BytesRefused>
+    requires kinds { kinds_in roster.old ≡ memory_kinds }
+    requires found { IsFoundObject roster.old words.variable.now variable }
+    requires named { IsName words.variable.now }
+    ensures takes { TakesNames true (IsName words.entry.thread.now × IsName words.entry.variable.now) roster.old roster.new limits.now
+        (access_call words.entry.thread.now words.entry.variable.now words.entry.write) (with_values (Nil ∷ []) result) }
+    ensures memory { IfErr result (λ refused. refused ≢ BytesRefused.NoMemory) }
+{
+    let known = KnownMethod {
+        kind: 0,
+        found: method_of(words.write),
+    };
+    roster.call_numbers_of(
+        words.thread,
+        words.variable,
+        variable,
+        keyword_of(words.write),
+        known,
+        limits,
+    )
+}
+
+// A line whose words aren't both names is refused.
 #[inline(never)]
+fn refuse_unnamed(walker: &mut Walker<FirstRaces>, words: Words) -> Result<Taken, Halt>
+    requires unnamed { ¬ (IsName words.thread.now × IsName words.variable.now) }
+    ensures limits { walker.new.limits ≡ walker.old.limits }
+    ensures refused { result ≡ Ok Taken.Refused }
+    ensures line { (bytes : List ℕ) (number : ℕ) (written : Option (List ℕ)) (steps : ℕ) → SayAccess bytes words.entry →
+        TakesMemoryLine number bytes walker.old walker.new written written steps steps result }
+{
+    refuse(walker, TraceCause::BadLine)
+}
+
+// An access to a known variable is refused, as the roster refused it.
+#[inline(never)]
+fn refuse_access(
+    walker: &mut Walker<FirstRaces>,
+    words: Words,
+    refused: BytesRefused,
+) -> Result<Taken, Halt>
+    requires judged { TakesNames true (IsName words.thread.now × IsName words.variable.now) walker.old.roster walker.old.roster walker.old.limits
+        (access_call words.thread.now words.variable.now words.write) (Err refused) }
+    requires declared { (kinds : List Kind) (lines : List Item) →
+        RosterStandsFor kinds walker.old.roster lines → is_among (objects_of lines) words.variable.now ≡ true }
+    requires memory { refused ≢ BytesRefused.NoMemory }
+    ensures limits { walker.new.limits ≡ walker.old.limits }
+    ensures refused { result ≡ Ok Taken.Refused }
+    ensures line { (bytes : List ℕ) (number : ℕ) (written : Option (List ℕ)) (steps : ℕ) → SayAccess bytes words.entry →
+        TakesMemoryLine number bytes walker.old walker.new written written steps steps result }
+{
+    match refused {
+        BytesRefused::BadLine => refuse_unnamed(walker, words),
+        BytesRefused::Cause(cause) => refuse(walker, TraceCause::Wf(cause)),
+        BytesRefused::NoMemory => unreachable!(),
+    }
+}
+
+// Takes the first access to a variable, whose words are names: it is declared, and then the access is judged.
+#[inline(always)]
 fn take_first<S: Sink, L: Ledger>(
     kind: &Name,
     walker: &mut Walker<FirstRaces>,
     number: u64,
     words: Words,
+    name: Name,
     out: &mut S,
     steps: &mut Steps<L>,
 ) -> Result<Taken, Halt>
@@ -249,6 +303,7 @@ fn take_first<S: Sink, L: Ledger>(
         × RosterStandsFor kinds walker.old.roster (items before)
         × WatchLeads kinds start before walker.old.analysis × AreBefore number before }
     requires named { IsName words.thread.now × IsName words.variable.now }
+    requires name { name ≡ words.variable.now }
     requires undeclared { (kinds : List Kind) (lines : List Item) →
         RosterStandsFor kinds walker.old.roster lines → is_among (objects_of lines) words.variable.now ≡ false }
     ensures limits { walker.new.limits ≡ walker.old.limits }
@@ -257,9 +312,7 @@ fn take_first<S: Sink, L: Ledger>(
     ensures fault { TellsFault (S.faults out.old) (S.faults out.new) (S.at_fault out.new)
         (S.written out.new) result }
 {
-    let declared = walker
-        .roster
-        .declare_new(words.variable, kind, &walker.limits);
+    let declared = walker.roster.declare_new(name, kind, &walker.limits);
     match finish(walker, number, declared, out, steps) {
         Ok(Taken::Accepted) => {}
         Ok(Taken::Refused) => return Ok(Taken::Refused),
@@ -269,14 +322,13 @@ fn take_first<S: Sink, L: Ledger>(
     finish_access(walker, number, judged, out, steps)
 }
 
-// Takes an access that the roster refused, of which it may be the first one to its variable.
+// Takes an access to a variable that was not declared.
 #[inline(never)]
-fn take_refused<S: Sink, L: Ledger>(
+fn take_new<S: Sink, L: Ledger>(
     kind: &Name,
     walker: &mut Walker<FirstRaces>,
     number: u64,
     words: Words,
-    refused: BytesRefused,
     out: &mut S,
     steps: &mut Steps<L>,
 ) -> Result<Taken, Halt>
@@ -285,29 +337,21 @@ fn take_refused<S: Sink, L: Ledger>(
     requires stands { (kinds : List Kind) × (start : FirstRaces) × (before : List Entry)
         × RosterStandsFor kinds walker.old.roster (items before)
         × WatchLeads kinds start before walker.old.analysis × AreBefore number before }
-    requires judged { TakesNames true (IsName words.thread.now × IsName words.variable.now) walker.old.roster walker.old.roster walker.old.limits
-        (access_call words.thread.now words.variable.now words.write) (Err refused) }
-    requires memory { refused ≢ BytesRefused.NoMemory }
+    requires undeclared { (kinds : List Kind) (lines : List Item) →
+        RosterStandsFor kinds walker.old.roster lines → is_among (objects_of lines) words.variable.now ≡ false }
     ensures limits { walker.new.limits ≡ walker.old.limits }
     ensures line { (bytes : List ℕ) → SayAccess bytes words.entry →
         TakesMemoryLine number bytes walker.old walker.new (S.written out.old) (S.written out.new) steps.old steps.new result }
     ensures fault { TellsFault (S.faults out.old) (S.faults out.new) (S.at_fault out.new)
         (S.written out.new) result }
 {
-    match refused {
-        BytesRefused::BadLine => refuse(walker, TraceCause::BadLine),
-        BytesRefused::Cause(cause) => {
-            if let WfCause::UnknownObject = cause {
-                return take_first(kind, walker, number, words, out, steps);
-            }
-            // an earlier cause says nothing of the variable
-            if is_undeclared(&walker.roster, words.variable) {
-                return take_first(kind, walker, number, words, out, steps);
-            }
-            refuse(walker, TraceCause::Wf(cause))
-        }
-        BytesRefused::NoMemory => unreachable!(),
-    }
+    let Ok(name) = Name::from_bytes(words.variable) else {
+        return refuse_unnamed(walker, words);
+    };
+    let Ok(_thread) = Name::from_bytes(words.thread) else {
+        return refuse_unnamed(walker, words);
+    };
+    take_first(kind, walker, number, words, name, out, steps)
 }
 
 // Takes an access with these names.
@@ -340,9 +384,12 @@ fn take_access<S: Sink, L: Ledger>(
         variable,
         write,
     };
-    match judge(&mut walker.roster, words, &walker.limits) {
+    let Some(found) = walker.roster.known_object(variable) else {
+        return take_new(kind, walker, number, words, out, steps);
+    };
+    match judge_known(&mut walker.roster, words, found, &walker.limits) {
         Ok(call) => hand_on_access(walker, number, call, out, steps),
-        Err(refused) => take_refused(kind, walker, number, words, refused, out, steps),
+        Err(refused) => refuse_access(walker, words, refused),
     }
 }
 

@@ -2,7 +2,9 @@
 
 use super::Roster;
 use rd_base::Name;
-use rd_tables::{FREE, FoundLock, FoundMethod, FoundObject, FoundThread, NEAR_LENGTH, NameBytes};
+use rd_tables::{
+    FREE, FoundLock, FoundMethod, FoundObject, FoundThread, NEAR_LENGTH, NameBytes, near_bytes,
+};
 
 /// A way to find names. There is no answer where the bytes are no name's, or where this way doesn't find them.
 pub trait Finder {
@@ -134,9 +136,12 @@ impl Finder for Anywhere {
 }
 
 impl Roster {
-    ghost use Rattle.std.specs.Prelude.{◌≡◌, ◌<◌, false, true, IfNone, IfSome, IsSome};
+    ghost use Rattle.std.specs.Prelude.{◌≡◌, ◌<◌, List, false, true, IfNone, IfSome, IsSome};
     ghost use Rattle.rd_base.specs.Names.{IsName};
-    ghost use Rattle.rd_wf.specs.Roster.{IsFoundLock, IsFoundMethod, IsFoundObject, IsFoundThread, lock_count, thread_count};
+    ghost use Rattle.rd_ecl.specs.Kinds.{Kind};
+    ghost use Rattle.rd_event.specs.declared.items.Line.{Line as LineOf};
+    ghost use Rattle.rd_rules.specs.MayFollow.{is_among, objects_of};
+    ghost use Rattle.rd_wf.specs.Roster.{IsFoundLock, IsFoundMethod, IsFoundObject, IsFoundThread, RosterStandsFor, lock_count, thread_count};
 
     #[inline(never)]
     fn look_up_thread(&self, name: &[u8]) -> Option<FoundThread>
@@ -226,6 +231,47 @@ impl Roster {
                     kind: self.kinds.len() as u32,
                 })
             }
+        }
+    }
+
+    /// What a look-up of the object with this name finds, where it was declared.
+    #[inline(always)]
+    pub fn known_object(&self, name: &[u8]) -> Option<FoundObject>
+        ensures found { IfSome result (IsFoundObject self.now name.now) }
+        ensures known { IfSome result (λ found. found.unknown ≡ false) }
+        ensures named { IsSome result → IsName name.now }
+        ensures none { IfNone result ((kinds : List Kind) (lines : List LineOf) →
+            RosterStandsFor kinds self.now lines → is_among (objects_of lines) name.now ≡ false) }
+    {
+        let near = near_bytes(name) % NEAR_LENGTH;
+        // no near one is unknown, which its finder doesn't say
+        if let Some(found) = Near::object(self, self.near_objects[near], name)
+            && !found.unknown
+        {
+            return Some(found);
+        }
+        self.hashed_object(name)
+    }
+
+    // The same by the hash of the name.
+    #[inline(never)]
+    fn hashed_object(&self, name: &[u8]) -> Option<FoundObject>
+        ensures found { IfSome result (IsFoundObject self.now name.now) }
+        ensures known { IfSome result (λ found. found.unknown ≡ false) }
+        ensures named { IsSome result → IsName name.now }
+        ensures none { IfNone result ((kinds : List Kind) (lines : List LineOf) →
+            RosterStandsFor kinds self.now lines → is_among (objects_of lines) name.now ≡ false) }
+    {
+        match self.objects.get_full(NameBytes { bytes: name }) {
+            Some((number, known, kind)) => {
+                let _name = known.items();
+                Some(FoundObject {
+                    number: number as u32,
+                    unknown: false,
+                    kind: *kind,
+                })
+            }
+            None => None,
         }
     }
 

@@ -101,15 +101,11 @@ impl Roster {
 
     /// The same of an object that was not declared.
     #[inline(never)]
-    pub fn declare_new(&mut self, name: &[u8], kind: &Name, limits: &Limits) -> Judged
-        requires named { IsName name.now }
-        requires new { (kinds : List Kind) × (lines : List LineOf) × RosterStandsFor kinds self.old lines
-            × (is_among (objects_of lines) name.now ≡ false) }
-        ensures { TakesNames true ⊤ self.old self.new limits.now (Line.Object name.now kind.now) result }
+    pub fn declare_new(&mut self, name: Name, kind: &Name, limits: &Limits) -> Judged
+        requires { (kinds : List Kind) × (lines : List LineOf) × RosterStandsFor kinds self.old lines
+            × (is_among (objects_of lines) name ≡ false) }
+        ensures { TakesNames true ⊤ self.old self.new limits.now (Line.Object name kind.now) result }
     {
-        let Ok(name) = Name::from_bytes(name) else {
-            unreachable!();
-        };
         self.put_object(name, kind, false, limits)
     }
 
@@ -507,6 +503,50 @@ impl Roster {
             return Err(BytesRefused::Cause(cause));
         }
         self.count::<F>(Called {
+            near,
+            object_near,
+            actor,
+            object,
+            method,
+        });
+        Ok(CallNumbers {
+            thread: actor.number,
+            object: object.number,
+            kind: object.kind,
+            method: method.number,
+        })
+    }
+
+    /// Accepts the call as `call_numbers` does, of an object that was looked up before, and of a thread that is looked for anywhere.
+    #[inline(always)]
+    pub fn call_numbers_of(
+        &mut self,
+        thread: &[u8],
+        name: &[u8],
+        object: FoundObject,
+        method: &[u8],
+        known: KnownMethod,
+        limits: &Limits,
+    ) -> Result<CallNumbers, BytesRefused>
+        requires named { IsName name.now × IsName method.now }
+        requires object { IsFoundObject self.old name.now object }
+        requires known { IsFoundMethod self.old known.kind method.now known.found }
+        ensures takes { (slots : List Value) → length slots ≡ known.found.slots →
+            TakesNames true (IsName thread.now × IsName name.now) self.old self.new limits.now
+            (Line.Event (LineEvent.Call thread.now name.now method.now slots)) (with_values slots result) }
+        ensures memory { IfErr result (λ refused. refused ≢ BytesRefused.NoMemory) }
+    {
+        let near = near_bytes(thread) % NEAR_LENGTH;
+        let object_near = near_bytes(name) % NEAR_LENGTH;
+        let Some(actor) = Anywhere::thread(self, self.near_threads[near], thread) else {
+            return Err(BytesRefused::BadLine);
+        };
+        let method = self.method_of(object, method, known);
+        let count = usize::from(known.found.slots);
+        if let Err(cause) = self.judge_call(actor, object, method, count, limits) {
+            return Err(BytesRefused::Cause(cause));
+        }
+        self.count::<Anywhere>(Called {
             near,
             object_near,
             actor,

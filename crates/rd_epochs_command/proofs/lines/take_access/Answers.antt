@@ -1,8 +1,8 @@
 use Rattle.std.proofs.Common.{true, ap, inl, inr, refl, subst, sym, ◌∙◌}
 use Rattle.std.specs.Prelude.{option_map}
 use Rattle.rd_epochs_command.proofs.ItemLemmas.{line_bad, line_of_one, lines_later}
-use Rattle.rd_epochs_command.proofs.JudgeLemmas.{judged_again, still_refused, surely}
-use Rattle.rd_epochs_command.proofs.SayingLemmas.{declared_then, says_call, words_say}
+use Rattle.rd_epochs_command.proofs.JudgeLemmas.{as_before, judged_again, still_refused, surely}
+use Rattle.rd_epochs_command.proofs.SayingLemmas.{declared_then, says_call, so, words_say}
 use Rattle.rd_epochs_command.specs.declared.lines.Words.{Words}
 use Rattle.rd_epochs_command.specs.Firsts.{epochs_bound, first_texts}
 use Rattle.rd_epochs_command.specs.Watching.{WatchLeads}
@@ -23,8 +23,15 @@ returns-in_default-clause-line g c = λ bytes is.
     (λ before. ap (option_map (items_said before)) (is ∙ ap (option_map (access_of c.args.write)) (no_second c.args.names.now c.in_default.ensures.none)))
     c.refuse.ensures.cause (λ kinds before stands. subst (λ roster. RosterStandsFor kinds roster before) (sym same.0) stands) same.1)
 
-pub judge-requires : goal.judge-requires
-judge-requires g c = let (kinds, start, before, stands, leads, behind) = c.requires.stands in stands.kind_entries ∙ leads.kinds_are
+pub judge_known-requires-clause-kinds : goal.judge_known-requires-clause-kinds
+judge_known-requires-clause-kinds g c = let (kinds, start, before, stands, leads, behind) = c.requires.stands in stands.kind_entries ∙ leads.kinds_are
+
+-- ---- its variable was not declared
+
+pub returns-in_default-known_object-clause-line : goal.returns-in_default-known_object-clause-line
+returns-in_default-known_object-clause-line g c = λ bytes is.
+    let words : Words = record { thread = c.in-Some.thread; variable = c.in-Some.variable; write = c.args.write } in
+    c.take_new.ensures.line bytes (words_say bytes c.args.names.now words is c.in-Some.ensures.before c.in-Some.ensures.after)
 
 -- ---- it may follow
 
@@ -57,17 +64,17 @@ returns-in-Ok-clause-line g c = λ bytes is.
 
 -- ---- it may not
 
-pub take_refused-requires-clause-stands : goal.take_refused-requires-clause-stands
-take_refused-requires-clause-stands g c =
-    let (kinds, start, before, stands, leads, behind) = c.requires.stands in
-    (kinds, start, before, still_refused true _ _ _ _ _ c.in-Err.refused c.in-Err.ensures.takes kinds _ stands, leads, behind)
+pub refuse_access-requires-clause-judged : goal.refuse_access-requires-clause-judged
+refuse_access-requires-clause-judged g c = judged_again _ _ _ _ _ c.in-Err.refused c.in-Err.ensures.memory c.in-Err.ensures.takes
 
-pub take_refused-requires-clause-judged : goal.take_refused-requires-clause-judged
-take_refused-requires-clause-judged g c = judged_again _ _ _ _ _ c.in-Err.refused c.in-Err.ensures.memory c.in-Err.ensures.takes
+pub refuse_access-requires-clause-declared : goal.refuse_access-requires-clause-declared
+refuse_access-requires-clause-declared g c = λ kinds lines stands.
+    let same = as_before _ _ _ _ _ c.in-Err.refused c.in-Err.ensures.memory c.in-Err.ensures.takes in
+    so _ _ (ap (λ found. found.unknown) (c.in-Some-known_object.ensures.found kinds lines (subst (λ roster. RosterStandsFor kinds roster lines) same stands))) c.in-Some-known_object.ensures.known
 
 pub returns-in-Err-clause-line : goal.returns-in-Err-clause-line
 returns-in-Err-clause-line g c = λ bytes is.
     let words : Words = record { thread = c.in-Some.thread; variable = c.in-Some.variable; write = c.args.write } in
-    lines_later memory_says _ _ _ c.args.number bytes c.args.walker.now _ c.take_refused.new.walker _ _ _ _ c.take_refused.result
+    lines_later memory_says _ _ _ c.args.number bytes c.args.walker.now _ c.refuse_access.new.walker _ _ _ _ c.refuse_access.result
     (still_refused true _ _ _ _ _ c.in-Err.refused c.in-Err.ensures.takes) refl refl
-    (c.take_refused.ensures.line bytes (words_say bytes c.args.names.now words is c.in-Some.ensures.before c.in-Some.ensures.after))
+    (c.refuse_access.ensures.line bytes _ _ _ (words_say bytes c.args.names.now words is c.in-Some.ensures.before c.in-Some.ensures.after))
