@@ -174,6 +174,7 @@ fn the_numbers_of_statuses(rt: HostRuntime) {
         Status::NoMemory,
         Status::LimitReached,
         Status::NotACall,
+        Status::LogRefused,
     ];
     for (number, status) in statuses.iter().enumerate() {
         assert!(rt; usize::from(status.code()) == number, "{number}");

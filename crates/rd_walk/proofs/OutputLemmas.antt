@@ -2,7 +2,7 @@
 use Rattle.rd_walk.specs.Output.{halted_with, HasOutcome, IsOutput, IsWell, Outcome, ended_status}
 use Rattle.rd_walk.specs.declared.analysis.Halt.TheVariants as halt
 use Rattle.rd_walk.specs.declared.analysis.Halt.{Halt}
-use Rattle.rd_walk.specs.declared.status.Status.TheVariants.{Clean, Raced, Usage, SpecRefused, TraceRefused, ReplayDiffers, InputFault, OutputFault, NoMemory, LimitReached, NotACall}
+use Rattle.rd_walk.specs.declared.status.Status.TheVariants.{Clean, Raced, Usage, SpecRefused, TraceRefused, ReplayDiffers, InputFault, OutputFault, NoMemory, LimitReached, NotACall, LogRefused}
 use Rattle.rd_walk.specs.declared.status.Status.{Status}
 use Rattle.rd_walk.specs.declared.status.Ended.{Ended}
 use Rattle.std.specs.Result.{IsErr, IsErrAnd}
@@ -22,6 +22,7 @@ whole OutputFault text = ([], sym (append-nil text))
 whole NoMemory text = ([], sym (append-nil text))
 whole LimitReached text = (refl, refl)
 whole NotACall text = (refl, refl)
+whole LogRefused text = (refl, refl)
 
 -- a front was written, and then it was cut short
 pub front_only : (halt : Halt) (part rest : List ℕ) (outcome : Outcome) → outcome.text ≡ part ++ rest → IsOutput (halted_with halt) part outcome
@@ -42,6 +43,7 @@ has_outcome Is OutputFault part outcome is output = (outcome, is, output)
 has_outcome Is NoMemory part outcome is output = inr (outcome, is, output)
 has_outcome Is LimitReached part outcome is output = (outcome, is, output)
 has_outcome Is NotACall part outcome is output = (outcome, is, output)
+has_outcome Is LogRefused part outcome is output = (outcome, is, output)
 
 -- what is written of one of these is written of one of those
 pub outcome_of : (Is Also : Outcome → Type 0) → ((outcome : Outcome) → Is outcome → Also outcome) → (status : Status) (part : List ℕ)
@@ -58,6 +60,7 @@ outcome_of Is Also all NoMemory part (inl none) = inl none
 outcome_of Is Also all NoMemory part (inr has) = inr (has.0, all has.0 has.1, has.2)
 outcome_of Is Also all LimitReached part has = (has.0, all has.0 has.1, has.2)
 outcome_of Is Also all NotACall part has = (has.0, all has.0 has.1, has.2)
+outcome_of Is Also all LogRefused part has = (has.0, all has.0 has.1, has.2)
 
 -- a text was written before
 pub behind : (status : Status) (front part text : List ℕ) (given : Status) → IsOutput status part (record { text = text; status = given })
@@ -73,6 +76,7 @@ behind OutputFault front part text given is = (is.0, ap (λ t. front ++ t) is.1 
 behind NoMemory front part text given is = (is.0, ap (λ t. front ++ t) is.1 ∙ sym (append_assoc front part is.0))
 behind LimitReached front part text given is = (ap (λ t. front ++ t) is.0, is.1)
 behind NotACall front part text given is = (ap (λ t. front ++ t) is.0, is.1)
+behind LogRefused front part text given is = (ap (λ t. front ++ t) is.0, is.1)
 
 -- no fault is such a status, nor is want of memory
 pub well_written : (status : Status) (part : List ℕ) (outcome : Outcome) → IsWell status → IsOutput status part outcome → IsWell outcome.status
@@ -87,6 +91,7 @@ well_written InputFault part outcome well output = absurd well
 well_written OutputFault part outcome well output = absurd well
 well_written NoMemory part outcome well output = absurd well
 well_written LimitReached part outcome well output = absurd well
+well_written LogRefused part outcome well output = absurd well
 
 pub halted_no_well : (halt : Halt) → ¬ (IsWell (halted_with halt))
 halted_no_well halt.OutputFault well = well

@@ -20,6 +20,7 @@ status_wrote before now point written (Ok ended.ReplayDiffers) tells = tells
 status_wrote before now point written (Ok ended.InputFault) tells = tells
 status_wrote before now point written (Ok ended.LimitReached) tells = tells
 status_wrote before now point written (Ok ended.NotACall) tells = tells
+status_wrote before now point written (Ok ended.LogRefused) tells = tells
 status_wrote before now point written (Err halt.OutputFault) tells = tells
 status_wrote before now point written (Err halt.NoMemory) tells = tells
 
@@ -34,6 +35,7 @@ status_failed (Ok ended.ReplayDiffers) e = cc
 status_failed (Ok ended.InputFault) e = refl
 status_failed (Ok ended.LimitReached) e = cc
 status_failed (Ok ended.NotACall) e = cc
+status_failed (Ok ended.LogRefused) e = cc
 status_failed (Err halt.OutputFault) e = cc
 status_failed (Err halt.NoMemory) e = cc
 
@@ -50,6 +52,7 @@ status_calm (Ok ended.ReplayDiffers) tells input output memory = tells.calm (λ 
 status_calm (Ok ended.InputFault) tells input output memory = absurd (input refl)
 status_calm (Ok ended.LimitReached) tells input output memory = tells.calm (λ e. cc)
 status_calm (Ok ended.NotACall) tells input output memory = tells.calm (λ e. cc)
+status_calm (Ok ended.LogRefused) tells input output memory = tells.calm (λ e. cc)
 status_calm (Err halt.OutputFault) tells input output memory = absurd (output refl)
 status_calm (Err halt.NoMemory) tells input output memory = absurd (memory refl)
 

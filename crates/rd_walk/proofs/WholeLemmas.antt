@@ -2,7 +2,7 @@
 use Rattle.rd_io.specs.Inputs.{Rose}
 use Rattle.rd_walk.specs.Output.{HasOutcome, IsWell, Outcome, StatusTellsFault}
 use Rattle.rd_walk.specs.Traces.{IsWholeOutput}
-use Rattle.rd_walk.specs.declared.status.Status.TheVariants.{Clean, Raced, Usage, SpecRefused, TraceRefused, ReplayDiffers, InputFault, OutputFault, NoMemory, LimitReached, NotACall}
+use Rattle.rd_walk.specs.declared.status.Status.TheVariants.{Clean, Raced, Usage, SpecRefused, TraceRefused, ReplayDiffers, InputFault, OutputFault, NoMemory, LimitReached, NotACall, LogRefused}
 use Rattle.rd_walk.specs.declared.status.Status.{Status}
 use Rattle.std.proofs.Common.{◌≡◌, ◌≢◌, ◌⊎◌, ◌<◌, ◌^◌, ℕ, false, arith, List, Option, refl, sym, ap, ◌∙◌, subst, inl, inr}
 use Rattle.std.proofs.lemmas.Bool.{le-ltb}
@@ -27,6 +27,7 @@ all_written Is OutputFault part has other = absurd (other refl)
 all_written Is NoMemory part has other = inl refl
 all_written Is LimitReached part has other = inr (record { outcome = has.0; is = has.1; text = has.2.0; told = has.2.1 })
 all_written Is NotACall part has other = inr (record { outcome = has.0; is = has.1; text = has.2.0; told = has.2.1 })
+all_written Is LogRefused part has other = inr (record { outcome = has.0; is = has.1; text = has.2.0; told = has.2.1 })
 
 pub whole_from : (whole outcome : Outcome) (part : List ℕ) (status : Status) → IsWell whole.status → outcome ≡ whole → part ≡ outcome.text → status ≡ outcome.status
     → IsWholeOutput whole part status

@@ -3,7 +3,7 @@ use Rattle.rd_base.specs.Bytes.{IsFront}
 use Rattle.rd_io.specs.Inputs.{Rose, fault_line}
 use Rattle.rd_walk.specs.declared.analysis.Halt.TheVariants as halt
 use Rattle.rd_walk.specs.declared.analysis.Halt.{Halt}
-use Rattle.rd_walk.specs.declared.status.Status.TheVariants.{Clean, Raced, Usage, SpecRefused, TraceRefused, ReplayDiffers, InputFault, OutputFault, NoMemory, LimitReached, NotACall}
+use Rattle.rd_walk.specs.declared.status.Status.TheVariants.{Clean, Raced, Usage, SpecRefused, TraceRefused, ReplayDiffers, InputFault, OutputFault, NoMemory, LimitReached, NotACall, LogRefused}
 use Rattle.rd_walk.specs.declared.status.Status.{Status}
 use Rattle.rd_walk.specs.declared.status.Ended.TheVariants as ended
 use Rattle.rd_walk.specs.declared.status.Ended.{Ended}
@@ -22,6 +22,7 @@ code_of OutputFault = 7
 code_of NoMemory = 8
 code_of LimitReached = 9
 code_of NotACall = 10
+code_of LogRefused = 11
 
 -- what is written, and the status
 pub record Outcome : Type 0 where
@@ -70,12 +71,14 @@ ended_status (Ok ended.ReplayDiffers) = ReplayDiffers
 ended_status (Ok ended.InputFault) = InputFault
 ended_status (Ok ended.LimitReached) = LimitReached
 ended_status (Ok ended.NotACall) = NotACall
+ended_status (Ok ended.LogRefused) = LogRefused
 ended_status (Err halt) = halted_with halt
 
 -- which ends a command on a trace may have, and one that writes a text of a specification
 abbrev pub IsTraceEnd : Ended → Type 0
 IsTraceEnd ended.Usage = ⊥
 IsTraceEnd ended.SpecRefused = ⊥
+IsTraceEnd ended.LogRefused = ⊥
 IsTraceEnd _ = ⊤
 
 abbrev pub IsSpecEnd : Ended → Type 0

@@ -30,13 +30,15 @@ pub enum Status {
     LimitReached,
     /// 10: the trace was read to its end, and a line that `adjacent` was given isn't the line of a call
     NotACall,
+    /// 11: a log that was to be woven is refused, or the logs are stuck
+    LogRefused,
 }
 
 impl Status {
     ghost use Rattle.std.specs.Prelude.{◌≡◌};
     ghost use Rattle.rd_walk.specs.Output.{code_of};
 
-    /// The number of the status, from 0 to 10. It takes no memory.
+    /// The number of the status, from 0 to 11. It takes no memory.
     pub fn code(&self) -> u8
         ensures { result ≡ code_of self.now }
     {
@@ -65,6 +67,8 @@ pub enum Ended {
     LimitReached,
     /// the trace was read to its end, and a line that `adjacent` was given isn't the line of a call
     NotACall,
+    /// a log that was to be woven is refused, or the logs are stuck
+    LogRefused,
 }
 
 /// The status of a command that ended so, or was cut short.
@@ -81,6 +85,7 @@ pub fn ended_status(ended: Result<Ended, Halt>) -> Status
         Ok(Ended::InputFault) => Status::InputFault,
         Ok(Ended::LimitReached) => Status::LimitReached,
         Ok(Ended::NotACall) => Status::NotACall,
+        Ok(Ended::LogRefused) => Status::LogRefused,
         Err(halt) => status_of(halt),
     }
 }
