@@ -1,5 +1,5 @@
 -- A whole log: its header and what its lines say, or the first line that says nothing. This project's profile.
-use Rattle.std.specs.Prelude.{ℕ, ◌+◌, if◌then◌else◌, List, [], ◌∷◌, ◌++◌, Option, Some, None, Result, Ok, Err}
+use Rattle.std.specs.Prelude.{ℕ, ◌+◌, if◌then◌else◌, List, [], ◌∷◌, ◌++◌, map, Option, Some, None, Result, Ok, Err}
 use Rattle.rd_event.specs.declared.items.LineEvent.TheVariants as event
 use Rattle.rd_event.specs.Items.{is_skipped}
 use Rattle.rd_io.specs.Lines.{Parts, part, parts_of, rest}
@@ -7,6 +7,7 @@ use Rattle.rd_logs.specs.declared.lines.LogEvent.{LogEvent}
 use Rattle.rd_logs.specs.declared.lines.LogLine.{LogLine}
 use Rattle.rd_logs.specs.declared.lines.LogLine.TheVariants.{Skip, Object, Event, Acquire}
 use Rattle.rd_logs.specs.declared.lines.LogObject.{LogObject}
+use Rattle.rd_logs.specs.declared.whole.Log.{Log}
 use Rattle.rd_logs.specs.declared.whole.ReadLog.{ReadLog}
 use Rattle.rd_logs.specs.declared.whole.Said.{Said}
 use Rattle.rd_logs.specs.LogLines.{log_header_of, log_line_of}
@@ -21,6 +22,10 @@ pub record LogRecord : Type 0 where
   pub thread : List ℕ
   pub objects : List LogObject
   pub events : List LogEvent
+
+-- the texts of logs
+abbrev pub log_texts : List Log → List (List ℕ)
+log_texts logs = map (λ log. log.bytes) logs
 
 -- what the code's values hold
 abbrev pub said_in : Said → SaidLines

@@ -11,4 +11,4 @@ mod whole;
 pub use laws::law_of_log_lines;
 pub use lines::{LogEvent, LogLine, LogObject};
 pub use reading::{read_log_header, read_log_line};
-pub use whole::{LogRefused, ReadLog, read_log};
+pub use whole::{Log, LogRefused, ReadLog, read_log};

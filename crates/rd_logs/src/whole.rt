@@ -6,9 +6,15 @@ ghost use Rattle.rd_logs.specs.WholeLogs.{added, log_lines_from, log_of, of_thre
 use crate::lines::{LogEvent, LogLine, LogObject};
 use crate::reading::{read_log_header, read_log_line};
 use memchr::memchr;
-use rd_base::{Name, NoMemory};
+use rd_base::{Bytes, Name, NoMemory};
 use rd_event::{LineEvent, LineRefused, is_skipped};
 use std::alloc::Global;
+
+/// The text of a log, with the line feeds of its lines.
+#[derive(Drop)]
+pub struct Log {
+    pub bytes: Bytes,
+}
 
 /// A log that was read: whose it is, the objects that it declares, and its events, each in the order of their lines.
 #[derive(Drop)]

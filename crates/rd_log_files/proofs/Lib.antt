@@ -1,0 +1,4 @@
+pub mod FileLemmas
+pub mod GatheredLemmas
+pub mod LineLemmas
+pub mod WithinLemmas
