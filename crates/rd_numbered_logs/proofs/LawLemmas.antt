@@ -13,7 +13,7 @@ use Rattle.rd_logs.specs.WholeLogs.{LogRecord}
 use Rattle.rd_numbered_logs.specs.LogNames.{IsMentioned, LogNames, are_new, begun_names, declared_names, have_own_names, log_threads, mentioning, mentioning_all, mentioning_in, log_names, with_name}
 use Rattle.rd_numbered_logs.specs.LogsUnder.{event_under, log_under, logs_under, noted_under, called_kind, thread_logs}
 use Rattle.rd_numbered_logs.specs.Numbering.{IsFrontOf}
-use Rattle.rd_numbered_logs.proofs.LogLemmas.{both_true, got_below, got_threads, own_number}
+use Rattle.rd_numbered_logs.proofs.LogLemmas.{both_true, got_below, got_threads, map_map, map_same, own_number, same_roots}
 use Rattle.rd_numbered_logs.proofs.StepLemmas.{front_all, front_in}
 use Rattle.rd_order.specs.Order.{Hold, call_in, exclusive, shared, hold_given, hold_taken, thread_of}
 use Rattle.rd_rules.specs.MayFollow.{is_among, place, same_name}
@@ -21,6 +21,7 @@ use Rattle.rd_rules.proofs.FollowLemmas.{among_decides}
 use Rattle.rd_rules.proofs.PlaceLemmas.{got_contained, not_known, place_named, place_new}
 use Rattle.rd_weavings.specs.declared.spots.Spot.{Spot}
 use Rattle.rd_weavings.specs.Logs.{AreLogs, IsSpot, Logs, Noted, ThreadLog, event_at, log_at, no_event, no_log}
+use Rattle.rd_weavings.specs.Alike.{AreAlike, plain_log, plain_noted}
 use Rattle.rd_weavings.specs.Weavings.{HaveOwnThreads}
 
 -- ---- numbers
@@ -214,3 +215,38 @@ module _ (kinds : List Kind) (logs : List LogRecord) where
       is new l below =
           let (log, at) = got_below logs l (subst (λ n. l < n) (length-map logs (log_under kinds logs (log_names logs))) below) in
           ap (λ (x : ThreadLog). x.thread) (log_read logs l log at) ∙ own_number logs new l log at
+
+-- under two specifications they are alike
+plain_under : (kinds other : List Kind) (logs : List LogRecord) (names : LogNames) (thread : ℕ) (noted : LogEvent)
+    → plain_noted (noted_under kinds logs names thread noted) ≡ plain_noted (noted_under other logs names thread noted)
+plain_under kinds other logs names thread noted = by noted.event
+  where
+    by : (e : LineEvent) → plain_noted (noted_under kinds logs names thread (record { event = e; number = noted.number })) ≡ plain_noted (noted_under other logs names thread (record { event = e; number = noted.number }))
+    by (line.Fork own child) = refl
+    by (line.Join own child) = refl
+    by (line.Acquire own lock) = refl
+    by (line.Release own lock) = refl
+    by (line.Share own lock) = refl
+    by (line.Unshare own lock) = refl
+    by (line.Call own object method slots) = refl
+
+plain_logs : (kinds other : List Kind) (logs : List LogRecord) → map plain_log (thread_logs kinds logs) ≡ map plain_log (thread_logs other logs)
+plain_logs kinds other logs =
+    map_map plain_log (log_under kinds logs (log_names logs)) logs
+    ∙ map_same (λ log. plain_log (log_under kinds logs (log_names logs) log)) (λ log. plain_log (log_under other logs (log_names logs) log)) one logs
+    ∙ sym (map_map plain_log (log_under other logs (log_names logs)) logs)
+  where
+    one : (log : LogRecord) → plain_log (log_under kinds logs (log_names logs) log) ≡ plain_log (log_under other logs (log_names logs) log)
+    one log =
+        let t = place (log_names logs).threads log.thread in
+        ap (λ es. record { thread = t; events = es })
+        (map_map plain_noted (noted_under kinds logs (log_names logs) t) log.events
+        ∙ map_same (λ noted. plain_noted (noted_under kinds logs (log_names logs) t noted)) (λ noted. plain_noted (noted_under other logs (log_names logs) t noted)) (plain_under kinds other logs (log_names logs) t) log.events
+        ∙ sym (map_map plain_noted (noted_under other logs (log_names logs) t) log.events))
+
+pub alike_under : (kinds other : List Kind) (logs : List LogRecord) → AreAlike (logs_under kinds logs) (logs_under other logs)
+alike_under kinds other logs = record {
+  logs = plain_logs kinds other logs;
+  roots = same_roots (thread_logs kinds logs) (thread_logs other logs) (plain_logs kinds other logs);
+  declared = λ object. refl;
+}

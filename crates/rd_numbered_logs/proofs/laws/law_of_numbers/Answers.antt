@@ -1,4 +1,4 @@
-use Rattle.rd_numbered_logs.proofs.LawLemmas.{are_logs, event_among, own_numbers, own_threads, thread_among}
+use Rattle.rd_numbered_logs.proofs.LawLemmas.{alike_under, are_logs, event_among, own_numbers, own_threads, thread_among}
 use Rattle.rd_numbered_logs.proofs.laws.law_of_numbers.Goals as goal
 
 pub returns-clause-apart : goal.returns-clause-apart
@@ -15,3 +15,6 @@ returns-clause-logs c = are_logs
 
 pub returns-clause-own : goal.returns-clause-own
 returns-clause-own c = own_threads
+
+pub returns-clause-alike : goal.returns-clause-alike
+returns-clause-alike c = alike_under
