@@ -27,11 +27,11 @@ abbrev pub log_limit_line : LogLimit → List ℕ
 log_limit_line passed = refused_at passed.log passed.line ++ codes " " ++ limit_cause_text passed.name passed.number ++ codes "\n"
 
 -- how many events of each log were placed, when no further one could be
-abbrev pub count_text : ℕ → List ℕ
-count_text count = codes " " ++ decimal count
+abbrev pub placed_text : ℕ → List ℕ
+placed_text count = codes " " ++ decimal count
 
 abbrev pub stuck_line : List ℕ → List ℕ
-stuck_line counts = codes "refused logs stuck" ++ flat_map count_text counts ++ codes "\n"
+stuck_line counts = codes "refused logs stuck" ++ flat_map placed_text counts ++ codes "\n"
 
 -- ---- the outcome
 

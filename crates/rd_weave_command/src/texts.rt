@@ -1,6 +1,6 @@
 //! The lines of refusals.
 ghost use Rattle.std.specs.Prelude.{◌≡◌, ◌++◌, decimal, flat_map, IfOk, OnOk};
-ghost use Rattle.rd_weave_command.specs.Outcomes.{bad_log_line, count_text, log_limit_line, refused_at, stuck_line};
+ghost use Rattle.rd_weave_command.specs.Outcomes.{bad_log_line, log_limit_line, placed_text, refused_at, stuck_line};
 
 use rd_base::{Bytes, NoMemory, append_limit, append_number};
 use rd_log_files::LogLimit;
@@ -46,7 +46,7 @@ pub(crate) fn log_limit_text(alloc: Global, passed: &LogLimit) -> Result<Bytes, 
 
 // Puts numbers behind the text, each behind a blank.
 fn append_counts(text: &mut Bytes, counts: &[u32]) -> Result<(), NoMemory>
-    ensures { OnOk result (text.new ≡ text.old ++ flat_map count_text counts.now) }
+    ensures { OnOk result (text.new ≡ text.old ++ flat_map placed_text counts.now) }
 {
     for count in counts {
         append_numbered(text, b" ", u64::from(*count))?;
