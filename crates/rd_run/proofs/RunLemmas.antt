@@ -17,7 +17,7 @@ use Rattle.rd_walk.specs.declared.status.Ended.{Ended}
 use Rattle.rd_walk.specs.declared.status.Status.TheVariants.{OutputFault, Usage}
 use Rattle.rd_walk.specs.declared.status.Status.{Status}
 use Rattle.std.proofs.Common.{◌≡◌, ◌≢◌, ℕ, ◌<◌, ◌≤◌, List, [], ◌∷◌, length, get_or, Option, Some, None, Result, Ok, Err, IfOk, IfErr, refl, ap, sym, subst, arith}
-use Rattle.std.specs.Prelude.{codes, position}
+use Rattle.std.specs.Prelude.{position}
 
 -- the kind with a name, and its number: the names that are taken are those of the kinds that are built in
 pub numbered : (name : List ℕ) → position (same_name name) reserved_names ≡ named_number name

@@ -19,11 +19,12 @@ use Rattle.rd_rules.specs.MayFollow.{same_name}
 use Rattle.rd_spec_command.specs.Meanings.{kind_meaning, said_meaning}
 use Rattle.rd_walk.specs.Output.{Outcome}
 use Rattle.rd_walk.specs.declared.status.Status.TheVariants.{Usage}
-use Rattle.rd_run.specs.declared.commands.Command.TheVariants.{Adjacent, Check, Epochs, Replay, Reorder, Spec, Points, Kind, Gen, GenText}
+use Rattle.rd_weave_command.specs.Meanings.{weave_meaning}
+use Rattle.rd_run.specs.declared.commands.Command.TheVariants.{Adjacent, Check, Epochs, Replay, Reorder, Spec, Points, Weave, Kind, Gen, GenText}
 use Rattle.rd_run.specs.declared.commands.Command.{Command}
 use Rattle.std.specs.List.{cons_option}
 use Rattle.std.specs.Option.{option_and_then}
-use Rattle.std.specs.Prelude.{◌≡◌, ◌<◌, ◌≤◌, ℕ, List, Option, Some, None, codes, length, nat_lt, option_map, position, slice_get, slice_index_or, if◌then◌else◌, [], ◌∷◌, ⊤}
+use Rattle.std.specs.Prelude.{◌≡◌, ◌<◌, ◌≤◌, ℕ, Bool, false, drop, List, Option, Some, None, codes, length, nat_lt, option_map, position, slice_get, slice_index_or, if◌then◌else◌, [], ◌∷◌, ⊤}
 
 -- ---- the words
 
@@ -43,9 +44,9 @@ abbrev pub lines_read : List ℕ → List ℕ → Option (ℕ × ℕ)
 lines_read first second =
     option_and_then (λ one. option_and_then (lesser_first one) (number_read 18446744073709551615 second)) (number_read 18446744073709551615 first)
 
--- the words are exactly those of a command
-abbrev pub command_of : List (List ℕ) → Option Command
-command_of (word ∷ name ∷ []) =
+-- the words are exactly those of a command other than `weave`
+abbrev pub other_command : List (List ℕ) → Option Command
+other_command (word ∷ name ∷ []) =
     if same_name word (codes "check") then Some (Check Text)
     else if same_name word (codes "check-json") then Some (Check Json)
     else if same_name word (codes "replay") then Some Replay
@@ -53,15 +54,24 @@ command_of (word ∷ name ∷ []) =
     else if same_name word (codes "spec") then Some Spec
     else if same_name word (codes "points") then Some Points
     else if same_name word (codes "kind") then option_map Kind (named_number name) else None
-command_of (word ∷ first ∷ second ∷ []) =
+other_command (word ∷ first ∷ second ∷ []) =
     if same_name word (codes "check") then Some (Check Text)
     else if same_name word (codes "check-json") then Some (Check Json)
     else if same_name word (codes "reorder") then option_map Reorder (number_read 18446744073709551615 second)
     else if same_name word (codes "gen") then option_map (λ numbers. Gen numbers.0 numbers.1) (numbers_read first second)
     else if same_name word (codes "gen-text") then option_map (λ numbers. GenText numbers.0 numbers.1) (numbers_read first second) else None
-command_of (word ∷ trace ∷ first ∷ second ∷ []) =
+other_command (word ∷ trace ∷ first ∷ second ∷ []) =
     if same_name word (codes "adjacent") then option_map (λ lines. Adjacent lines.0 lines.1) (lines_read first second) else None
-command_of _ = None
+other_command _ = None
+
+-- the words are `weave` and the names of files, one at least
+abbrev pub ask_to_weave : List (List ℕ) → Bool
+ask_to_weave (word ∷ name ∷ names) = same_name word (codes "weave")
+ask_to_weave _ = false
+
+-- the words are exactly those of a command
+abbrev pub command_of : List (List ℕ) → Option Command
+command_of words = if ask_to_weave words then Some Weave else other_command words
 
 -- its numbers are within their bounds: a built-in kind's, how many calls a generated trace has, and of two lines the lesser is the first
 abbrev pub IsWithinBounds : Command → Type 0
@@ -95,6 +105,7 @@ meaning_of words (Some (Reorder number)) = reorder_meaning (nth_word words 1) nu
 meaning_of words (Some (Adjacent first second)) = adjacent_meaning (nth_word words 1) first second
 meaning_of words (Some Spec) = said_meaning spec_text (nth_word words 1)
 meaning_of words (Some Points) = said_meaning points_text (nth_word words 1)
+meaning_of words (Some Weave) = weave_meaning (drop 1 words)
 meaning_of words (Some (Kind number)) = kind_meaning (kind_at shipped_kinds number)
 meaning_of words (Some (Gen number count)) = gen_check_meaning number count
 meaning_of words (Some (GenText number count)) = gen_text_meaning number count

@@ -1,9 +1,9 @@
 //! What the words of the command line ask for.
-ghost use Rattle.std.specs.Prelude.{◌≡◌, ◌<◌, ◌≤◌, List, ℕ, [], ◌∷◌, length, option_map, position, slice_get, IfSome};
+ghost use Rattle.std.specs.Prelude.{◌≡◌, ◌≢◌, ◌<◌, ◌≤◌, IsTrue, List, ℕ, [], ◌∷◌, drop, length, option_map, position, slice_get, IfSome};
 ghost use Rattle.rd_gen.specs.declared.counts.TheConstants.{MOST_CALLS};
 ghost use Rattle.rd_kinds.specs.Shipped.{shipped_kinds};
 ghost use Rattle.rd_rules.specs.MayFollow.{same_name};
-ghost use Rattle.rd_run.specs.Commands.{IsWithinBounds, command_of, lines_read, named_number, numbers_read, nth_word};
+ghost use Rattle.rd_run.specs.Commands.{IsWithinBounds, ask_to_weave, command_of, lines_read, named_number, numbers_read, nth_word, other_command};
 
 use rd_base::{Name, Word};
 use rd_decimals::read_number;
@@ -29,6 +29,8 @@ pub enum Command {
     Spec,
     /// `points SPEC`
     Points,
+    /// `weave FILE ..`, whose files are the words behind the first
+    Weave,
     /// `kind NAME`, where a kind that is built in has the name, by its number
     Kind(u32),
     /// `gen NUMBER COUNT`
@@ -73,7 +75,7 @@ fn trace_numbers(number: &Word, count: &Word) -> Option<(u64, u32)>
 
 /// The command that a word and a file, or a name, ask for, if they do for one.
 fn command_of_two(word: &Word, name: &Word) -> Option<Command>
-    ensures asked { result ≡ command_of (word.now ∷ name.now ∷ []) }
+    ensures asked { result ≡ other_command (word.now ∷ name.now ∷ []) }
     ensures within { IfSome result IsWithinBounds }
 {
     let word = word.items();
@@ -106,7 +108,7 @@ fn command_of_two(word: &Word, name: &Word) -> Option<Command>
 
 /// The command that a word, a file or a number, and another of these ask for, if they do for one.
 fn command_of_three(word: &Word, first: &Word, second: &Word) -> Option<Command>
-    ensures asked { result ≡ command_of (word.now ∷ first.now ∷ second.now ∷ []) }
+    ensures asked { result ≡ other_command (word.now ∷ first.now ∷ second.now ∷ []) }
     ensures within { IfSome result IsWithinBounds }
 {
     let word = word.items();
@@ -156,7 +158,7 @@ fn call_lines(first: &Word, second: &Word) -> Option<(u64, u64)>
 /// The command that a word, a file and two more words ask for, if they do for one.
 fn command_of_four(word: &Word, first: &Word, second: &Word) -> Option<Command>
     ensures asked { (trace : List ℕ) →
-        result ≡ command_of (word.now ∷ trace ∷ first.now ∷ second.now ∷ []) }
+        result ≡ other_command (word.now ∷ trace ∷ first.now ∷ second.now ∷ []) }
     ensures within { IfSome result IsWithinBounds }
 {
     if word.items() != b"adjacent".as_slice() {
@@ -168,9 +170,9 @@ fn command_of_four(word: &Word, first: &Word, second: &Word) -> Option<Command>
     }
 }
 
-/// The command that the words of the command line ask for, if they match one. They are two to four then.
-pub(crate) fn command_of(words: &[Word]) -> Option<Command>
-    ensures asked { result ≡ command_of words.now }
+/// The command other than `weave` that the words ask for, if they do for one. They are two to four then.
+fn other_command(words: &[Word]) -> Option<Command>
+    ensures asked { result ≡ other_command words.now }
     ensures within { IfSome result IsWithinBounds }
     ensures named { IfSome result (λ command. 1 < length words.now) }
 {
@@ -180,6 +182,38 @@ pub(crate) fn command_of(words: &[Word]) -> Option<Command>
         [word, _, first, second] => command_of_four(word, first, second),
         _ => None,
     }
+}
+
+/// Are the words `weave` and the names of files?
+fn ask_to_weave(words: &[Word]) -> bool
+    ensures asked { result ≡ ask_to_weave words.now }
+    ensures named { IsTrue result → 1 < length words.now }
+{
+    match words {
+        [word, _, ..] => word.items() == b"weave".as_slice(),
+        _ => false,
+    }
+}
+
+/// The command that the words of the command line ask for, if they match one. They are two at least then.
+pub(crate) fn command_of(words: &[Word]) -> Option<Command>
+    ensures asked { result ≡ command_of words.now }
+    ensures within { IfSome result IsWithinBounds }
+    ensures named { IfSome result (λ command. 1 < length words.now) }
+{
+    if ask_to_weave(words) {
+        return Some(Command::Weave);
+    }
+    other_command(words)
+}
+
+/// The words behind the first.
+pub(crate) fn file_words(words: &[Word]) -> &[Word]
+    requires { 1 < length words.now }
+    ensures files { result.now ≡ drop 1 words.now }
+    ensures some { result.now ≢ [] }
+{
+    &words[1..]
 }
 
 /// The word with this number.

@@ -17,7 +17,7 @@ ghost use Rattle.rd_walk.specs.Meanings.{Ran, seen, seen_alone};
 ghost use Rattle.rd_walk.specs.Output.{IsOutput, ended_status};
 ghost use Rattle.rd_walk.specs.Walk.{entries_of, step_bound, trace_of};
 
-use crate::commands::{Command, command_of, nth_word, third_word};
+use crate::commands::{Command, command_of, file_words, nth_word, third_word};
 use rd_adjacent_command::adjacent;
 use rd_base::{Limits, Steps, Word};
 use rd_check_command::{ToCheck, check};
@@ -29,6 +29,7 @@ use rd_reorder_command::reorder;
 use rd_replay_command::replay;
 use rd_spec_command::{kind, spec};
 use rd_walk::{Ended, Halt, Status, ended_status, write_line};
+use rd_weave_command::weave;
 use std::alloc::Global;
 use std::sync::ledger::Ledger;
 
@@ -91,6 +92,7 @@ fn obey<I: Inputs, S: Sink, L: Ledger>(
         }
         Command::Spec => spec(alloc, file, inputs, out),
         Command::Points => points(alloc, file, inputs, out),
+        Command::Weave => weave(alloc, file_words(words), inputs, out, limits),
         Command::Kind(number) => kind(alloc, number, out),
         Command::Gen(number, count) => generate(alloc, number, count, out, limits, steps),
         Command::GenText(number, count) => generate_text(alloc, number, count, out),
@@ -104,8 +106,9 @@ fn obey<I: Inputs, S: Sink, L: Ledger>(
 /// trace in the order of its events that the number picks; `adjacent TRACE LINE LINE`, which writes it with the calls of two lines side by side, or
 /// the path that orders them; `epochs TRACE`, which writes the first race of each variable of a trace of reads and writes;
 /// `spec SPEC`, which writes the canonical text of a specification, and `points SPEC`, which writes the access points of its kinds, or where
-/// and why it is refused; `kind NAME`, which writes the canonical text of a kind that is built in; `gen NUMBER COUNT`, which checks the
-/// trace of a number with so many calls and writes how many lines and calls it has and the ending of the report; or
+/// and why it is refused; `weave FILE ..`, which writes the trace that logs of threads are woven into, or why there is none; `kind NAME`,
+/// which writes the canonical text of a kind that is built in; `gen NUMBER COUNT`, which checks the trace of a number with so many calls and
+/// writes how many lines and calls it has and the ending of the report; or
 /// `gen-text NUMBER COUNT`, which writes that trace. Any other words write `refused usage`. Each line is handed to the output by itself, with its line feed.
 pub fn run<I: Inputs, S: Sink, L: Ledger>(
     alloc: Global,

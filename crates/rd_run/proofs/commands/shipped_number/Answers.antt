@@ -1,4 +1,4 @@
-use Rattle.std.proofs.Common.{◌≡◌, sym, ◌∙◌, position}
+use Rattle.std.proofs.Common.{sym, ◌∙◌, position}
 use Rattle.rd_rules.specs.MayFollow.{same_name}
 use Rattle.rd_run.proofs.RunLemmas.{numbered}
 use Rattle.rd_run.proofs.commands.shipped_number.Goals as goal

@@ -15,10 +15,11 @@ use Rattle.rd_replay_command.specs.Meanings.{replay_meaning}
 use Rattle.rd_spec_command.specs.Meanings.{kind_meaning, said_meaning}
 use Rattle.rd_run.proofs.RunLemmas.{asked_for}
 use Rattle.rd_run.specs.Commands.{IsWithinBounds, nth_word, usage_meaning}
-use Rattle.rd_run.specs.declared.commands.Command.TheVariants.{Adjacent, Check, Epochs, Replay, Reorder, Spec, Points, Kind, Gen, GenText}
+use Rattle.rd_run.specs.declared.commands.Command.TheVariants.{Adjacent, Check, Epochs, Replay, Reorder, Spec, Points, Weave, Kind, Gen, GenText}
 use Rattle.rd_walk.proofs.RanLemmas.{ran_beside}
 use Rattle.rd_walk.specs.Meanings.{Ran, seen}
 use Rattle.rd_walk.specs.Output.{ended_status}
+use Rattle.rd_weave_command.specs.Meanings.{weave_meaning}
 use Rattle.rd_run.proofs.top.obey.Goals as goal
 
 pub returns-in_default : goal.returns-in_default
@@ -91,6 +92,14 @@ returns-in-Points g c =
     asked_for c.args.words.now (Some Points) (ap Some (sym c.in-Points.is) ∙ c.in-Some.ensures.asked) c.args.limits.now before after status
     (subst (λ name. Ran (said_meaning points_text name) c.args.limits.now before after status) c.nth_word-file.ensures
     (c.points.ensures c.args.limits.now before.steps))
+
+pub returns-in-Weave : goal.returns-in-Weave
+returns-in-Weave g c =
+    let before = seen g.I.Inputs.told g.I.Inputs.faults c.args.inputs.now g.S.Sink.written g.S.Sink.faults g.S.Sink.at_fault c.args.out.now c.args.steps.now in
+    let after = seen g.I.Inputs.told g.I.Inputs.faults c.weave.new.inputs g.S.Sink.written g.S.Sink.faults g.S.Sink.at_fault c.weave.new.out c.args.steps.now in
+    let status = ended_status c.weave.result in
+    asked_for c.args.words.now (Some Weave) (ap Some (sym c.in-Weave.is) ∙ c.in-Some.ensures.asked) c.args.limits.now before after status
+    (subst (λ names. Ran (weave_meaning names) c.args.limits.now before after status) c.file_words.ensures.files (c.weave.ensures before.steps))
 
 pub returns-in-Kind : goal.returns-in-Kind
 returns-in-Kind g c =
