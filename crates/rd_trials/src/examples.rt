@@ -89,7 +89,8 @@ const EXAMPLES: &str = "\
     check account_race.trace account.spec account_race.out\n\
     check account_race.trace refused_header.spec refused_header.spec.out\n\
     check four_writes.trace account.spec four_writes.out\n\
-    check queue_race.trace bounded_queue.spec queue_race.out\n";
+    check queue_race.trace bounded_queue.spec queue_race.out\n\
+    weave hits.main.log hits.worker.log hits.out\n";
 
 /// Reads a file of the examples. None where it can't be read or memory runs out.
 fn read_into<R: Files + Alloc<A = Global>>(rt: &R, name: &str, bytes: &mut Vec<u8>) -> Option<()> {

@@ -19,7 +19,8 @@ const RUNS: &str = "\
     5 check examples/replay_differs.trace\n\
     6 check examples/no_such_file.trace\n\
     9 check long_line.trace\n\
-    10 adjacent examples/dictionary_update.trace 9 4\n";
+    10 adjacent examples/dictionary_update.trace 9 4\n\
+    11 weave examples/hits.main.log\n";
 
 /// The words of a line, one blank apart. None where memory runs out.
 fn words_of(alloc: Global, line: &str) -> Option<Vec<Word>> {
