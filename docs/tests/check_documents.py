@@ -146,7 +146,10 @@ def usages(formats):
         row = re.match(r'\| `rd2 (\w[\w-]*)([^`]*)` \|', line)
         words = row[2].split() if row else []
         tries = ['set' if word.strip('[]') in ('TRACE', 'SPEC', 'FILE', 'NAME') else str(place) for place, word in enumerate(words, 1)]
-        for count in range(len([word for word in words if word[0] != '[']), len(words) + 1) if row else ():
+        least, most = len([word for word in words if word[0] not in '[.']), len(words)
+        if '..' in words:                         # as many as one likes
+            tries, most = tries[:least] * 4, least + 3
+        for count in range(least, most + 1) if row else ():
             known[row[1], count] = tries[:count]
     return known
 

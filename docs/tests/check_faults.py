@@ -149,12 +149,25 @@ write main v
 write main w
 read b w
 '''
+LOG = '''rdlog 1 main
+object d dictionary
+fork a
+acquire l 2
+call d put "x" 1 -> nil
+release l
+join a
+'''
+OTHER = '''rdlog 1 a
+acquire l 1
+call d size -> 0
+release l
+'''
 COMMANDS = [
     ['check', 'trace'], ['check', 'flags', 'kinds'], ['check', 'quiet'], ['check-json', 'flags', 'kinds'], ['replay', 'quiet'], ['reorder', 'quiet', '7'],
     ['spec', 'kinds'], ['points', 'kinds'], ['kind', 'dictionary'], ['gen', '2', '40'], ['gen-text', '2', '40'], ['check', 'wrong'], ['epochs', 'accesses'],
-    ['no-command'],
+    ['weave', 'log', 'other'], ['no-command'],
 ]
-FILES = {'trace': TRACE, 'flags': FLAGS, 'kinds': KINDS, 'quiet': QUIET, 'accesses': ACCESSES, 'wrong': 'rdtrace 1\nthread p\njoin p p\n'}
+FILES = {'trace': TRACE, 'flags': FLAGS, 'kinds': KINDS, 'quiet': QUIET, 'accesses': ACCESSES, 'log': LOG, 'other': OTHER, 'wrong': 'rdtrace 1\nthread p\njoin p p\n'}
 
 RACES = [
     'race line 6 b d put "k" 2 -> 1 clock b:1\nwith line 5 a d put "k" 1 -> nil clock a:1\n'
