@@ -22,7 +22,7 @@ use Rattle.rd_logs.specs.declared.lines.LogLine.TheVariants.{Skip, Object, Event
 use Rattle.rd_logs.specs.declared.lines.LogObject.{LogObject}
 use Rattle.rd_numbered_logs.specs.LogNames.{declared_objects, have_own_names}
 use Rattle.rd_numbered_logs.specs.LogsUnder.{logs_under}
-use Rattle.rd_weave.specs.Answers.{BadLine, answer_by, event_lines, events_of_log, log_then, object_lines, records_from, root_lines, weave_answer, woven_lines, woven_spots}
+use Rattle.rd_weave.specs.Answers.{BadLine, answer_by, placed_lines, events_of_log, log_then, object_lines, records_from, root_lines, weave_answer, woven_lines, woven_spots}
 use Rattle.rd_weave.specs.Answers.WeaveAnswer.{Stuck, Woven}
 use Rattle.rd_weavings.specs.WeaveTests.{counts_of, turns_left}
 use Rattle.rd_weavings.specs.declared.spots.Spot.{Spot}
@@ -149,20 +149,20 @@ found_few (one ∷ events) few zero = All-head Few one events few
 found_few (one ∷ events) few (suc place) = found_few events (All-tail Few one events few) place
 
 module _ (logs : List LogRecord) (few : LogsFew logs) where
-  event_spelled : (spots : List Spot) → All IsSpellable (event_lines logs spots)
+  event_spelled : (spots : List Spot) → All IsSpellable (placed_lines logs spots)
   event_spelled [] = All-nil IsSpellable
   event_spelled (spot ∷ spots) =
       by (slice_get (events_of_log logs spot.log) spot.place) (found_few (events_of_log logs spot.log) (log_at_few logs few spot.log) spot.place) (event_spelled spots)
     where
-      by : (found : Option LogEvent) → IfSome found Few → All IsSpellable (event_lines logs spots)
-          → All IsSpellable (cons_option (option_map (λ noted. item.Event noted.event) found) (event_lines logs spots))
+      by : (found : Option LogEvent) → IfSome found Few → All IsSpellable (placed_lines logs spots)
+          → All IsSpellable (cons_option (option_map (λ noted. item.Event noted.event) found) (placed_lines logs spots))
       by None here more = more
-      by (Some noted) here more = All-cons IsSpellable (item.Event noted.event) (event_lines logs spots) here more
+      by (Some noted) here more = All-cons IsSpellable (item.Event noted.event) (placed_lines logs spots) here more
 
   woven_spelled : (spots : List Spot) → All IsSpellable (woven_lines logs spots)
   woven_spelled spots =
       let roots = root_lines (logs_under [] logs).roots 0 logs in
-      All-append IsSpellable (item.Header 1 ∷ roots ++ object_lines logs) (event_lines logs spots)
+      All-append IsSpellable (item.Header 1 ∷ roots ++ object_lines logs) (placed_lines logs spots)
       (All-append IsSpellable (item.Header 1 ∷ roots) (object_lines logs)
       (All-cons IsSpellable (item.Header 1) roots (inl refl) (root_spelled (logs_under [] logs).roots 0 logs)) (object_spelled (declared_objects logs)))
       (event_spelled spots)
