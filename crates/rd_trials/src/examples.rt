@@ -28,6 +28,8 @@ const EXAMPLES: &str = "\
     check message.trace message.out\n\
     check message_by_a_lock.trace message_by_a_lock.out\n\
     check name_twice.trace name_twice.out\n\
+    check page.trace page.out\n\
+    check page_behind_one_lock.trace page_behind_one_lock.out\n\
     check parts_bag.trace parts_bag.out\n\
     check put_under_a_share.trace put_under_a_share.out\n\
     check read_after_join.trace read_after_join.out\n\
@@ -90,7 +92,8 @@ const EXAMPLES: &str = "\
     check account_race.trace refused_header.spec refused_header.spec.out\n\
     check four_writes.trace account.spec four_writes.out\n\
     check queue_race.trace bounded_queue.spec queue_race.out\n\
-    weave hits.main.log hits.worker.log hits.out\n";
+    weave hits.main.log hits.worker.log hits.out\n\
+    weave page.main.log page.worker.log page.trace\n";
 
 /// Reads a file of the examples. None where it can't be read or memory runs out.
 fn read_into<R: Files + Alloc<A = Global>>(rt: &R, name: &str, bytes: &mut Vec<u8>) -> Option<()> {
