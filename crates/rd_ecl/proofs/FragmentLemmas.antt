@@ -85,7 +85,7 @@ none_clean : (f : Tree) → is_none (first_offence 0 (post_order f)) ≡ clean f
 none_clean f = quiet_first 0 (post_order f) ∙ quiet_clean f
 
 -- without a relation between the sides it is on one side
-sided_if : (f : Tree) → crosses_sides f ≡ false → IsSided f
+pub sided_if : (f : Tree) → crosses_sides f ≡ false → IsSided f
 sided_if (truth value) e = sided_truth
 sided_if (atom side rel left right) e = sided_atom
 sided_if (cross first second) e = absurd (cc)

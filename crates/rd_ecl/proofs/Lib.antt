@@ -7,6 +7,7 @@ pub mod PairLemmas
 pub mod ReducedPairLemmas
 pub mod ReductionLemmas
 pub mod RoomLemmas
+pub mod SideLemmas
 pub mod SlotPairLemmas
 pub mod TestLemmas
 pub mod VariableLemmas

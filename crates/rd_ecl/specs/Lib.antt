@@ -3,6 +3,7 @@ pub mod Formulas
 pub mod Kinds
 pub mod Reduction
 pub mod Relations
+pub mod Sides
 pub mod SlotPairs
 pub mod Specified
 pub mod Variables

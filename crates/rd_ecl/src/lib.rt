@@ -7,6 +7,7 @@ mod names;
 mod predicates;
 mod reduction;
 mod relations;
+mod sides;
 mod slot_pairs;
 mod specifications;
 
@@ -20,5 +21,6 @@ pub use kinds::{
 pub use names::Names;
 pub use predicates::Predicates;
 pub use reduction::{Reduced, Valuation, law_of_reductions, reduce};
+pub use sides::law_of_sides;
 pub use slot_pairs::SlotPairs;
 pub use specifications::{AppendRefused, Spec};
