@@ -8,8 +8,8 @@ use Rattle.std.proofs.lemmas.List.Elements.{filter-append}
 use Rattle.rd_grammar.specs.declared.marks.Mark.{Mark}
 use Rattle.rd_grammar.specs.declared.marks.Sign.{Sign}
 use Rattle.rd_grammar.specs.declared.marks.Symbol.{Symbol}
-use Rattle.rd_grammar.specs.declared.marks.Symbol.TheVariants.{Open, Close, Not, And, Or, Truth, Sign as SignOf, Term}
-use Rattle.rd_grammar.specs.Grammar.{ParsedTree, relation, is_term, Level, disj, MarksSay, disj_one, disj_or, conj_one, conj_and, neg_one, neg_not, prim_truth, prim_in, prim_relation}
+use Rattle.rd_grammar.specs.declared.marks.Symbol.TheVariants.{Open, Close, Not, And, Or, Leaf as LeafOf, Sign as SignOf, Term}
+use Rattle.rd_grammar.specs.Grammar.{ParsedTree, relation, is_term, Level, disj, MarksSay, disj_one, disj_or, conj_one, conj_and, neg_one, neg_not, prim_leaf, prim_in, prim_relation}
 use Rattle.rd_grammar.specs.Numbers.{AreNumbered, StandsAt, TermAt, NamesMarks, is_parenthesis, numbers_of, named_by}
 
 -- a mark behind others
@@ -66,7 +66,7 @@ names (neg_not {ms = ms} m is says) all numbered front back same = (
   stands_at all front m Not (placed all numbered front (ms ++ back) m same) is,
   names says all numbered (front ++ m ∷ []) back (rw same (simp append_assoc)),
 )
-names (prim_truth m value is) all numbered front back same = stands_at all front m (Truth value) (placed all numbered front back m same) is
+names (prim_leaf m word is) all numbered front back same = stands_at all front m (LeafOf word) (placed all numbered front back m same) is
 names (prim_in {ms = ms} opening closing opens says closes) all numbered front back same =
     names says all numbered (front ++ opening ∷ []) (closing ∷ back) (rw same (simp append_assoc))
 names (prim_relation l m r sign first signs second) all numbered front back same =
@@ -94,7 +94,7 @@ left_out : (m : Mark) (ms : List Mark) → is_parenthesis m.symbol ≡ true → 
 left_out m ms is = ap (numbers_with m ms) is
 
 term_counted : (x : Symbol) → is_term x ≡ true → is_parenthesis x ≡ false
-term_counted (Truth value) is = refl
+term_counted (LeafOf word) is = refl
 term_counted Term is = refl
 term_counted _ is = absurd (cc)
 
@@ -119,7 +119,7 @@ in_order (conj_one says) = in_order says
 in_order (conj_and {ms = ms} {ns = ns} {f = f} {g = g} left m is right) = of_two ms ns f g m (ap is_parenthesis is) (in_order left) (in_order right)
 in_order (neg_one says) = in_order says
 in_order (neg_not {ms = ms} {f = f} m is says) = counted m ms (ap is_parenthesis is) ∙ ap (λ x. m.token ∷ x) (in_order says)
-in_order (prim_truth m value is) = counted m [] (ap is_parenthesis is)
+in_order (prim_leaf m word is) = counted m [] (ap is_parenthesis is)
 in_order (prim_in {ms = ms} {f = f} opening closing opens says closes) = in_parentheses ms f opening closing opens closes (in_order says)
 in_order (prim_relation l m r sign first signs second) =
     counted l (m ∷ r ∷ []) (term_counted l.symbol first)

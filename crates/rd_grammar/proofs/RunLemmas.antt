@@ -1,10 +1,11 @@
 -- What the grammar says is read so: the machine reads each right list of marks to its end, with the tree that it says.
-use Rattle.std.proofs.Common.{◌≡◌, ℕ, Bool, true, false, Option, Some, None, List, [], ◌∷◌, ◌++◌, refl, sym, ◌∙◌, ap, append_assoc, append-nil}
+use Rattle.std.proofs.Common.{◌≡◌, ℕ, true, false, Option, Some, None, List, [], ◌∷◌, ◌++◌, refl, sym, ◌∙◌, ap, append_assoc, append-nil}
+use Rattle.rd_grammar.specs.declared.marks.Leaf.{Leaf}
 use Rattle.rd_grammar.specs.declared.marks.Mark.{Mark}
 use Rattle.rd_grammar.specs.declared.marks.Sign.{Sign}
 use Rattle.rd_grammar.specs.declared.marks.Symbol.{Symbol}
-use Rattle.rd_grammar.specs.declared.marks.Symbol.TheVariants.{Open, Close, Not, And, Or, Truth, Sign as SignOf, Term}
-use Rattle.rd_grammar.specs.Grammar.{ParsedTree, truth, relation, negation, both, either, is_term, Level, disj, conj, neg, prim, MarksSay, disj_one, disj_or, conj_one, conj_and, neg_one, neg_not, prim_truth, prim_in, prim_relation}
+use Rattle.rd_grammar.specs.declared.marks.Symbol.TheVariants.{Open, Close, Not, And, Or, Leaf as LeafOf, Sign as SignOf, Term}
+use Rattle.rd_grammar.specs.Grammar.{ParsedTree, leaf, relation, negation, both, either, is_term, Level, disj, conj, neg, prim, MarksSay, disj_one, disj_or, conj_one, conj_and, neg_one, neg_not, prim_leaf, prim_in, prim_relation}
 use Rattle.rd_grammar.specs.Machine.{Left, Pending, State, want, lead, sided, signed, have, empty, start, or_with, behind_operand, with_not, behind_and, is_sign, step_on, step, formula_at_end}
 use Rattle.rd_grammar.proofs.FirstWrong.{Outcome, correct, walk, onward, walk_on}
 
@@ -22,16 +23,16 @@ Free (m ∷ ms) = is_sign m.symbol ≡ false
 free_before : (m : Mark) (ms : List Mark) (x : Symbol) → m.symbol ≡ x → is_sign x ≡ false → Free (m ∷ ms)
 free_before m ms x is sign = ap is_sign is ∙ sign
 
--- a truth value before which and behind which no sign stands is a formula
-steps_alike : (value : Bool) (n : ℕ) (p : Pending) (st : List Pending) (x : Symbol) (t : ℕ) → is_sign x ≡ false
-    → step_on (lead value n p st) x t ≡ step_on (behind_operand (truth value n) p st) x t
-steps_alike value n p st (SignOf sign) t free = absurd (cc)
-steps_alike value n p st _ t free = refl
+-- a word that is a formula or a term before which and behind which no sign stands is a formula
+steps_alike : (word : Leaf) (n : ℕ) (p : Pending) (st : List Pending) (x : Symbol) (t : ℕ) → is_sign x ≡ false
+    → step_on (lead word n p st) x t ≡ step_on (behind_operand (leaf word n) p st) x t
+steps_alike word n p st (SignOf sign) t free = absurd (cc)
+steps_alike word n p st _ t free = refl
 
-pub lead_is_have : (value : Bool) (n : ℕ) (p : Pending) (st : List Pending) (rest : List Mark) → Free rest
-    → run (lead value n p st) rest ≡ run (behind_operand (truth value n) p st) rest
-lead_is_have value n p st [] free = refl
-lead_is_have value n p st (m ∷ ms) free = ap (onward step formula_at_end m ms) (steps_alike value n p st m.symbol m.token free)
+pub lead_is_have : (word : Leaf) (n : ℕ) (p : Pending) (st : List Pending) (rest : List Mark) → Free rest
+    → run (lead word n p st) rest ≡ run (behind_operand (leaf word n) p st) rest
+lead_is_have word n p st [] free = refl
+lead_is_have word n p st (m ∷ ms) free = ap (onward step formula_at_end m ms) (steps_alike word n p st m.symbol m.token free)
 
 -- an operand
 abbrev pub RunsOperand : List Mark → ParsedTree → Type 0
@@ -82,9 +83,9 @@ operand_of_not : (ms : List Mark) (f : ParsedTree) (m : Mark) → m.symbol ≡ N
 operand_of_not ms f m is runs p st rest free =
     on_symbol (want p st) (want (with_not p m.token) st) m Not (ms ++ rest) is refl ∙ runs (with_not p m.token) st rest free
 
-operand_of_truth : (m : Mark) (value : Bool) → m.symbol ≡ Truth value → RunsOperand (m ∷ []) (truth value m.token)
-operand_of_truth m value is p st rest free =
-    on_symbol (want p st) (lead value m.token p st) m (Truth value) rest is refl ∙ lead_is_have value m.token p st rest free
+operand_of_leaf : (m : Mark) (word : Leaf) → m.symbol ≡ LeafOf word → RunsOperand (m ∷ []) (leaf word m.token)
+operand_of_leaf m word is p st rest free =
+    on_symbol (want p st) (lead word m.token p st) m (LeafOf word) rest is refl ∙ lead_is_have word m.token p st rest free
 
 operand_in : (ms : List Mark) (f : ParsedTree) (opening closing : Mark) → opening.symbol ≡ Open → closing.symbol ≡ Close → RunsDisj ms f
     → RunsOperand (opening ∷ ms ++ closing ∷ []) f
@@ -99,17 +100,17 @@ operand_in ms f opening closing opens closes runs p st rest free =
 -- behind a term and a sign
 second_term : (n : ℕ) (sign : Sign) (k : ℕ) (p : Pending) (st : List Pending) (r : Mark) (x : Symbol) (rest : List Mark) → r.symbol ≡ x → is_term x ≡ true
     → run (signed n sign k p st) (r ∷ rest) ≡ run (behind_operand (relation n sign k r.token) p st) rest
-second_term n sign k p st r (Truth value) rest is term =
-    on_symbol (signed n sign k p st) (behind_operand (relation n sign k r.token) p st) r (Truth value) rest is refl
+second_term n sign k p st r (LeafOf word) rest is term =
+    on_symbol (signed n sign k p st) (behind_operand (relation n sign k r.token) p st) r (LeafOf word) rest is refl
 second_term n sign k p st r Term rest is term =
     on_symbol (signed n sign k p st) (behind_operand (relation n sign k r.token) p st) r Term rest is refl
 second_term n sign k p st r _ rest is term = absurd (cc)
 
 first_term : (p : Pending) (st : List Pending) (l m : Mark) (x : Symbol) (sign : Sign) (rest : List Mark) → l.symbol ≡ x → is_term x ≡ true → m.symbol ≡ SignOf sign
     → run (want p st) (l ∷ m ∷ rest) ≡ run (signed l.token sign m.token p st) rest
-first_term p st l m (Truth value) sign rest is term signs =
-    on_symbol (want p st) (lead value l.token p st) l (Truth value) (m ∷ rest) is refl
-    ∙ on_symbol (lead value l.token p st) (signed l.token sign m.token p st) m (SignOf sign) rest signs refl
+first_term p st l m (LeafOf word) sign rest is term signs =
+    on_symbol (want p st) (lead word l.token p st) l (LeafOf word) (m ∷ rest) is refl
+    ∙ on_symbol (lead word l.token p st) (signed l.token sign m.token p st) m (SignOf sign) rest signs refl
 first_term p st l m Term sign rest is term signs =
     on_symbol (want p st) (sided l.token p st) l Term (m ∷ rest) is refl
     ∙ on_symbol (sided l.token p st) (signed l.token sign m.token p st) m (SignOf sign) rest signs refl
@@ -133,7 +134,7 @@ runs (conj_one {ms = ms} {f = f} says) = conj_of_operand ms f (runs says)
 runs (conj_and {ms = ms} {ns = ns} {f = f} {g = g} left m is right) = conj_of_and ms ns f g m is (runs left) (runs right)
 runs (neg_one says) = runs says
 runs (neg_not {ms = ms} {f = f} m is says) = operand_of_not ms f m is (runs says)
-runs (prim_truth m value is) = operand_of_truth m value is
+runs (prim_leaf m word is) = operand_of_leaf m word is
 runs (prim_in {ms = ms} {f = f} opening closing opens says closes) = operand_in ms f opening closing opens closes (runs says)
 runs (prim_relation l m r sign left signs right) = operand_of_relation l m r sign left signs right
 

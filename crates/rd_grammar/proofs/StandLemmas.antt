@@ -1,11 +1,13 @@
 -- What the machine reads is what the grammar says: what the marks in front of each state are, mark by mark.
-use Rattle.std.proofs.Common.{◌≡◌, ℕ, Bool, true, Option, Some, None, List, [], ◌∷◌, ◌++◌, refl, sym, ◌∙◌, ap, subst, append_assoc, append-nil}
+use Rattle.std.proofs.Common.{◌≡◌, ℕ, true, Option, Some, None, List, [], ◌∷◌, ◌++◌, refl, sym, ◌∙◌, ap, subst, append_assoc, append-nil}
+use Rattle.rd_grammar.specs.declared.marks.Leaf.{Leaf}
+use Rattle.rd_grammar.specs.declared.marks.Leaf.TheVariants.{Truth}
 use Rattle.rd_grammar.specs.declared.marks.Mark.{Mark}
 use Rattle.rd_grammar.specs.declared.marks.Sign.{Sign}
 use Rattle.rd_grammar.specs.declared.marks.Sign.TheVariants.{Equal}
 use Rattle.rd_grammar.specs.declared.marks.Symbol.{Symbol}
-use Rattle.rd_grammar.specs.declared.marks.Symbol.TheVariants.{Open, Close, Not, And, Or, Truth, Sign as SignOf, Term}
-use Rattle.rd_grammar.specs.Grammar.{ParsedTree, truth, relation, negation, either, is_term, disj, conj, neg, prim, MarksSay, disj_one, disj_or, conj_one, conj_and, neg_one, neg_not, prim_truth, prim_in, prim_relation}
+use Rattle.rd_grammar.specs.declared.marks.Symbol.TheVariants.{Open, Close, Not, And, Or, Leaf as LeafOf, Sign as SignOf, Term}
+use Rattle.rd_grammar.specs.Grammar.{ParsedTree, leaf, relation, negation, either, is_term, disj, conj, neg, prim, MarksSay, disj_one, disj_or, conj_one, conj_and, neg_one, neg_not, prim_leaf, prim_in, prim_relation}
 use Rattle.rd_grammar.specs.Machine.{Left, Pending, State, want, lead, sided, signed, have, empty, start, nots_of, and_with, or_with, behind_operand, with_not, behind_and, behind_or, behind_parenthesis, from_want, from_lead, from_sided, from_signed, from_have, step, whole_formula, formula_at_end}
 use Rattle.rd_grammar.proofs.FirstWrong.{correct, ended, onward}
 use Rattle.rd_grammar.proofs.RunLemmas.{run, Free, lead_is_have}
@@ -39,11 +41,11 @@ HasRead f o st ms = Joined (Behind st) (Fills f o) ms
 abbrev Takes : Pending → List Pending → List Mark → Type 0
 Takes p st ms = (ns : List Mark) (f : ParsedTree) → MarksSay neg ns f → HasRead (and_with p.ands (nots_of p.nots f)) p.ors st (ms ++ ns)
 
-record LeadStands (value : Bool) (n : ℕ) (p : Pending) (st : List Pending) (ms : List Mark) : Type 0 where
+record LeadStands (word : Leaf) (n : ℕ) (p : Pending) (st : List Pending) (ms : List Mark) : Type 0 where
   front : List Mark
   mark : Mark
   parts : ms ≡ front ++ mark ∷ []
-  is : mark.symbol ≡ Truth value
+  is : mark.symbol ≡ LeafOf word
   number : mark.token ≡ n
   takes : Takes p st front
 
@@ -68,7 +70,7 @@ record SignedStands (n : ℕ) (sign : Sign) (k : ℕ) (p : Pending) (st : List P
 
 abbrev Stands : State → List Mark → Type 0
 Stands (want p st) ms = Takes p st ms
-Stands (lead value n p st) ms = LeadStands value n p st ms
+Stands (lead word n p st) ms = LeadStands word n p st ms
 Stands (sided n p st) ms = SidedStands n p st ms
 Stands (signed n sign k p st) ms = SignedStands n sign k p st ms
 Stands (have f o st) ms = HasRead f o st ms
@@ -155,7 +157,7 @@ next_want : (p : Pending) (st : List Pending) (ms : List Mark) (m : Mark) (x : S
     → Next (λ u. Stands u (ms ++ m ∷ [])) (from_want p st x m.token)
 next_want p st ms m Open is takes = open_takes p st ms m is takes
 next_want p st ms m Not is takes = not_takes p st ms m is takes
-next_want p st ms m (Truth value) is takes = record { front = ms; mark = m; parts = refl; is = is; number = refl; takes = takes }
+next_want p st ms m (LeafOf word) is takes = record { front = ms; mark = m; parts = refl; is = is; number = refl; takes = takes }
 next_want p st ms m Term is takes = record { front = ms; mark = m; parts = refl; is = ap is_term is; number = refl; takes = takes }
 next_want p st ms m _ is takes = tt
 
@@ -171,22 +173,22 @@ next_have f o st ms m And is read = and_takes f o st ms m is read
 next_have f o st ms m Or is read = or_takes f o st ms m is read
 next_have f o st ms m _ is read = tt
 
--- a truth value that is a formula
-lead_reads : (value : Bool) (n : ℕ) (p : Pending) (st : List Pending) (ms : List Mark) → LeadStands value n p st ms
-    → HasRead (and_with p.ands (nots_of p.nots (truth value n))) p.ors st ms
-lead_reads value n p st ms stands =
+-- a word that is a formula or a term that is a formula
+lead_reads : (word : Leaf) (n : ℕ) (p : Pending) (st : List Pending) (ms : List Mark) → LeadStands word n p st ms
+    → HasRead (and_with p.ands (nots_of p.nots (leaf word n))) p.ors st ms
+lead_reads word n p st ms stands =
     let parts = stands.parts in
     let number = stands.number in
-    let says : MarksSay neg (stands.mark ∷ []) (truth value n) =
-    subst (λ k. MarksSay neg (stands.mark ∷ []) (truth value k)) number (neg_one (prim_truth stands.mark value stands.is)) in
-    subst (HasRead (and_with p.ands (nots_of p.nots (truth value n))) p.ors st) (sym parts) (stands.takes (stands.mark ∷ []) (truth value n) says)
+    let says : MarksSay neg (stands.mark ∷ []) (leaf word n) =
+    subst (λ k. MarksSay neg (stands.mark ∷ []) (leaf word k)) number (neg_one (prim_leaf stands.mark word stands.is)) in
+    subst (HasRead (and_with p.ands (nots_of p.nots (leaf word n))) p.ors st) (sym parts) (stands.takes (stands.mark ∷ []) (leaf word n) says)
 
-next_lead : (value : Bool) (n : ℕ) (p : Pending) (st : List Pending) (ms : List Mark) (m : Mark) (x : Symbol) → m.symbol ≡ x → LeadStands value n p st ms
-    → Next (λ u. Stands u (ms ++ m ∷ [])) (from_lead value n p st x m.token)
-next_lead value n p st ms m Close is stands = next_closed _ p.ors st ms m is (lead_reads value n p st ms stands)
-next_lead value n p st ms m And is stands = and_takes _ p.ors st ms m is (lead_reads value n p st ms stands)
-next_lead value n p st ms m Or is stands = or_takes _ p.ors st ms m is (lead_reads value n p st ms stands)
-next_lead value n p st ms m (SignOf sign) is stands =
+next_lead : (word : Leaf) (n : ℕ) (p : Pending) (st : List Pending) (ms : List Mark) (m : Mark) (x : Symbol) → m.symbol ≡ x → LeadStands word n p st ms
+    → Next (λ u. Stands u (ms ++ m ∷ [])) (from_lead word n p st x m.token)
+next_lead word n p st ms m Close is stands = next_closed _ p.ors st ms m is (lead_reads word n p st ms stands)
+next_lead word n p st ms m And is stands = and_takes _ p.ors st ms m is (lead_reads word n p st ms stands)
+next_lead word n p st ms m Or is stands = or_takes _ p.ors st ms m is (lead_reads word n p st ms stands)
+next_lead word n p st ms m (SignOf sign) is stands =
     let parts = stands.parts in
     record {
       front = stands.front;
@@ -199,7 +201,7 @@ next_lead value n p st ms m (SignOf sign) is stands =
       sign_number = refl;
       takes = stands.takes;
     }
-next_lead value n p st ms m _ is stands = tt
+next_lead word n p st ms m _ is stands = tt
 
 next_sided : (n : ℕ) (p : Pending) (st : List Pending) (ms : List Mark) (m : Mark) (x : Symbol) → m.symbol ≡ x → SidedStands n p st ms
     → Next (λ u. Stands u (ms ++ m ∷ [])) (from_sided n p st x m.token)
@@ -234,13 +236,13 @@ relation_reads n sign k p st ms m is stands =
 
 next_signed : (n : ℕ) (sign : Sign) (k : ℕ) (p : Pending) (st : List Pending) (ms : List Mark) (m : Mark) (x : Symbol) → m.symbol ≡ x → SignedStands n sign k p st ms
     → Next (λ u. Stands u (ms ++ m ∷ [])) (from_signed (relation n sign k m.token) p st x)
-next_signed n sign k p st ms m (Truth value) is stands = relation_reads n sign k p st ms m (ap is_term is) stands
+next_signed n sign k p st ms m (LeafOf word) is stands = relation_reads n sign k p st ms m (ap is_term is) stands
 next_signed n sign k p st ms m Term is stands = relation_reads n sign k p st ms m (ap is_term is) stands
 next_signed n sign k p st ms m _ is stands = tt
 
 step_stands : (s : State) (ms : List Mark) (m : Mark) → Stands s ms → Next (λ u. Stands u (ms ++ m ∷ [])) (step s m)
 step_stands (want p st) ms m stands = next_want p st ms m m.symbol refl stands
-step_stands (lead value n p st) ms m stands = next_lead value n p st ms m m.symbol refl stands
+step_stands (lead word n p st) ms m stands = next_lead word n p st ms m m.symbol refl stands
 step_stands (sided n p st) ms m stands = next_sided n p st ms m m.symbol refl stands
 step_stands (signed n sign k p st) ms m stands = next_signed n sign k p st ms m m.symbol refl stands
 step_stands (have f o st) ms m stands = next_have f o st ms m m.symbol refl stands
@@ -260,7 +262,7 @@ whole_says f o (p ∷ st) ms read = tt
 
 result_says : (s : State) (ms : List Mark) → Stands s ms → Says_result ms (formula_at_end s)
 result_says (want p st) ms stands = tt
-result_says (lead value n p st) ms stands = whole_says _ p.ors st ms (lead_reads value n p st ms stands)
+result_says (lead word n p st) ms stands = whole_says _ p.ors st ms (lead_reads word n p st ms stands)
 result_says (sided n p st) ms stands = tt
 result_says (signed n sign k p st) ms stands = tt
 result_says (have f o st) ms stands = whole_says f o st ms stands
@@ -303,11 +305,11 @@ have_finishes f o (p ∷ st) = have_finishes (and_with p.ands (nots_of p.nots (o
 
 pub finishes : (s : State) → (more : List Mark) × (f : ParsedTree) × (run s more ≡ correct f)
 finishes (want p st) =
-    let end = have_finishes (and_with p.ands (nots_of p.nots (truth true 0))) p.ors st in
-    (record { symbol = Truth true; token = 0 } ∷ closers st, end.0, lead_is_have true 0 p st (closers st) (free_closers st) ∙ end.1)
-finishes (lead value n p st) =
-    let end = have_finishes (and_with p.ands (nots_of p.nots (truth value n))) p.ors st in
-    (closers st, end.0, lead_is_have value n p st (closers st) (free_closers st) ∙ end.1)
+    let end = have_finishes (and_with p.ands (nots_of p.nots (leaf (Truth true) 0))) p.ors st in
+    (record { symbol = LeafOf (Truth true); token = 0 } ∷ closers st, end.0, lead_is_have (Truth true) 0 p st (closers st) (free_closers st) ∙ end.1)
+finishes (lead word n p st) =
+    let end = have_finishes (and_with p.ands (nots_of p.nots (leaf word n))) p.ors st in
+    (closers st, end.0, lead_is_have word n p st (closers st) (free_closers st) ∙ end.1)
 finishes (sided n p st) =
     let end = have_finishes (and_with p.ands (nots_of p.nots (relation n Equal 0 0))) p.ors st in
     (record { symbol = SignOf Equal; token = 0 } ∷ record { symbol = Term; token = 0 } ∷ closers st, end.0, end.1)

@@ -2,8 +2,8 @@
 use Rattle.std.specs.Prelude.{◌≡◌, ℕ, Bool, true, false, List, [], ◌∷◌, ◌++◌}
 use Rattle.rd_grammar.specs.declared.marks.Mark.{Mark}
 use Rattle.rd_grammar.specs.declared.marks.Symbol.{Symbol}
-use Rattle.rd_grammar.specs.declared.marks.Symbol.TheVariants.{Open, Close, Not, And, Or, Truth, Sign as SignOf}
-use Rattle.rd_grammar.specs.Grammar.{ParsedTree, truth, relation, negation, both, either, is_term}
+use Rattle.rd_grammar.specs.declared.marks.Symbol.TheVariants.{Open, Close, Not, And, Or, Leaf as LeafOf, Sign as SignOf}
+use Rattle.rd_grammar.specs.Grammar.{ParsedTree, leaf, relation, negation, both, either, is_term}
 
 -- the mark of a symbol with a number
 abbrev pub mark : Symbol → ℕ → Mark
@@ -27,7 +27,7 @@ ArePart true Are ms = (inner : List Mark) × (i : ℕ) × (k : ℕ) × (ms ≡ m
 
 -- the marks are the canonical ones of the formula; the terms of a relation may be any terms with their numbers
 abbrev pub AreCanonical : ParsedTree → List Mark → Type 0
-AreCanonical (truth value token) ms = ms ≡ mark (Truth value) token ∷ []
+AreCanonical (leaf word token) ms = ms ≡ mark (LeafOf word) token ∷ []
 AreCanonical (relation left sign token right) ms =
     (x : Symbol) × (y : Symbol) × (is_term x ≡ true) × (is_term y ≡ true) × (ms ≡ mark x left ∷ mark (SignOf sign) token ∷ mark y right ∷ [])
 AreCanonical (negation token f) ms = (inner : List Mark) × (ms ≡ mark Not token ∷ inner) × ArePart (is_of_two f) (AreCanonical f) inner

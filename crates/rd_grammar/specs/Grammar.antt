@@ -1,18 +1,19 @@
 -- The grammar of formulas: this project's profile.
 use Rattle.std.specs.Prelude.{◌≡◌, ◌≤◌, ℕ, Bool, true, false, List, [], ◌∷◌, ◌++◌, length, take, drop}
 use Rattle.rd_grammar.specs.FirstWrong.{WrongAt}
+use Rattle.rd_grammar.specs.declared.marks.Leaf.{Leaf}
 use Rattle.rd_grammar.specs.declared.marks.Mark.{Mark}
 use Rattle.rd_grammar.specs.declared.marks.Sign.{Sign}
 use Rattle.rd_grammar.specs.declared.marks.Symbol.{Symbol}
-use Rattle.rd_grammar.specs.declared.marks.Symbol.TheVariants.{Open, Close, Not, And, Or, Truth, Sign as SignOf, Term}
-use Rattle.rd_grammar.specs.declared.parsed.Parsed.{Parsed, Truth as ParsedTruth, Relation, Not', And', Or'}
+use Rattle.rd_grammar.specs.declared.marks.Symbol.TheVariants.{Open, Close, Not, And, Or, Leaf as LeafOf, Sign as SignOf, Term}
+use Rattle.rd_grammar.specs.declared.parsed.Parsed.{Parsed, Leaf as ParsedLeaf, Relation, Not', And', Or'}
 use Rattle.rd_grammar.specs.declared.parsed.MarksRefused.{MarksRefused}
 use Rattle.rd_grammar.specs.declared.parsed.MarksRefused.TheVariants.{Syntax, NoMemory}
 
 -- a formula; each number is that of a token: of the node's own, and of a relation's two terms
 pub data ParsedTree : Type 0 where
-  -- true or false
-  truth : Bool → ℕ → ParsedTree
+  -- true, false or a name
+  leaf : Leaf → ℕ → ParsedTree
   -- the first term, the sign and its number, the second term
   relation : ℕ → Sign → ℕ → ℕ → ParsedTree
   -- not, and, or
@@ -20,9 +21,9 @@ pub data ParsedTree : Type 0 where
   both : ParsedTree → ℕ → ParsedTree → ParsedTree
   either : ParsedTree → ℕ → ParsedTree → ParsedTree
 
--- is it a term beside a sign? The words true and false are, and each is a formula where no sign stands beside it
+-- is it a term beside a sign? A leaf is one there, and a formula where no sign stands beside it
 abbrev pub is_term : Symbol → Bool
-is_term (Truth value) = true
+is_term (LeafOf word) = true
 is_term Term = true
 is_term _ = false
 
@@ -46,8 +47,8 @@ pub data MarksSay : Level → List Mark → ParsedTree → Type 0 where
   -- neg := prim | not neg
   neg_one : {ms : List Mark} {f : ParsedTree} → MarksSay prim ms f → MarksSay neg ms f
   neg_not : {ms : List Mark} {f : ParsedTree} → (m : Mark) → m.symbol ≡ Not → MarksSay neg ms f → MarksSay neg (m ∷ ms) (negation m.token f)
-  -- prim := true | false | ( disj ) | term sign term
-  prim_truth : (m : Mark) (value : Bool) → m.symbol ≡ Truth value → MarksSay prim (m ∷ []) (truth value m.token)
+  -- prim := leaf | ( disj ) | term sign term
+  prim_leaf : (m : Mark) (word : Leaf) → m.symbol ≡ LeafOf word → MarksSay prim (m ∷ []) (leaf word m.token)
   prim_in : {ms : List Mark} {f : ParsedTree} → (opening closing : Mark) → opening.symbol ≡ Open → MarksSay disj ms f
       → closing.symbol ≡ Close
       → MarksSay prim (opening ∷ ms ++ closing ∷ []) f
@@ -56,7 +57,7 @@ pub data MarksSay : Level → List Mark → ParsedTree → Type 0 where
 
 -- the tree of a formula that was read
 abbrev pub parsed_tree : Parsed → ParsedTree
-parsed_tree (ParsedTruth value token) = truth value token
+parsed_tree (ParsedLeaf word token) = leaf word token
 parsed_tree (Relation left sign token right) = relation left sign token right
 parsed_tree (Not' token p inner) = negation token (parsed_tree inner)
 parsed_tree (And' p left token q right) = both (parsed_tree left) token (parsed_tree right)

@@ -1,10 +1,11 @@
 -- The machine that the reader runs. Nobody has to believe it: the reader's contract speaks of the grammar alone.
 use Rattle.std.specs.Prelude.{ℕ, Bool, true, false, Option, Some, None, List, [], ◌∷◌, map, reverse, option_map}
-use Rattle.rd_grammar.specs.Grammar.{ParsedTree, truth, relation, negation, both, either, parsed_tree}
+use Rattle.rd_grammar.specs.Grammar.{ParsedTree, leaf, relation, negation, both, either, parsed_tree}
+use Rattle.rd_grammar.specs.declared.marks.Leaf.{Leaf}
 use Rattle.rd_grammar.specs.declared.marks.Mark.{Mark}
 use Rattle.rd_grammar.specs.declared.marks.Sign.{Sign}
 use Rattle.rd_grammar.specs.declared.marks.Symbol.{Symbol}
-use Rattle.rd_grammar.specs.declared.marks.Symbol.TheVariants.{Open, Close, Not, And, Or, Truth, Sign as SignOf, Term}
+use Rattle.rd_grammar.specs.declared.marks.Symbol.TheVariants.{Open, Close, Not, And, Or, Leaf as LeafOf, Sign as SignOf, Term}
 use Rattle.rd_grammar.specs.declared.reader.LeftPart.{LeftPart}
 use Rattle.rd_grammar.specs.declared.reader.Pending.{Pending as PendingCode}
 use Rattle.rd_grammar.specs.declared.reader.Mode.{Mode}
@@ -25,8 +26,8 @@ pub record Pending : Type 0 where
 pub data State : Type 0 where
   -- an operand is due
   want : Pending → List Pending → State
-  -- a truth value, which is a term where a sign follows
-  lead : Bool → ℕ → Pending → List Pending → State
+  -- a word that is a formula or a term, which is a term where a sign follows
+  lead : Leaf → ℕ → Pending → List Pending → State
   -- a term, whose sign is due
   sided : ℕ → Pending → List Pending → State
   -- a term and a sign
@@ -80,7 +81,7 @@ behind_parenthesis f o (p ∷ st) = Some (behind_operand (or_with o f) p st)
 abbrev pub from_want : Pending → List Pending → Symbol → ℕ → Option State
 from_want p st Open token = Some (want empty (p ∷ st))
 from_want p st Not token = Some (want (with_not p token) st)
-from_want p st (Truth value) token = Some (lead value token p st)
+from_want p st (LeafOf word) token = Some (lead word token p st)
 from_want p st Term token = Some (sided token p st)
 from_want p st _ token = None
 
@@ -91,10 +92,10 @@ from_have f o st And token = Some (want (behind_and f o token) st)
 from_have f o st Or token = Some (want (behind_or f o token) st)
 from_have f o st _ token = None
 
--- behind a truth value: as behind a formula, but for a sign
-abbrev pub from_lead : Bool → ℕ → Pending → List Pending → Symbol → ℕ → Option State
-from_lead value n p st (SignOf sign) token = Some (signed n sign token p st)
-from_lead value n p st symbol token = from_have (and_with p.ands (nots_of p.nots (truth value n))) p.ors st symbol token
+-- behind such a word: as behind a formula, but for a sign
+abbrev pub from_lead : Leaf → ℕ → Pending → List Pending → Symbol → ℕ → Option State
+from_lead word n p st (SignOf sign) token = Some (signed n sign token p st)
+from_lead word n p st symbol token = from_have (and_with p.ands (nots_of p.nots (leaf word n))) p.ors st symbol token
 
 -- behind a term
 abbrev pub from_sided : ℕ → Pending → List Pending → Symbol → ℕ → Option State
@@ -103,7 +104,7 @@ from_sided n p st _ token = None
 
 -- behind a term and a sign, of which a further term makes this relation
 abbrev pub from_signed : ParsedTree → Pending → List Pending → Symbol → Option State
-from_signed f p st (Truth value) = Some (behind_operand f p st)
+from_signed f p st (LeafOf word) = Some (behind_operand f p st)
 from_signed f p st Term = Some (behind_operand f p st)
 from_signed f p st _ = None
 
@@ -115,7 +116,7 @@ is_sign _ = false
 -- the state behind a mark of this symbol and number, if it may come
 abbrev pub step_on : State → Symbol → ℕ → Option State
 step_on (want p st) symbol token = from_want p st symbol token
-step_on (lead value n p st) symbol token = from_lead value n p st symbol token
+step_on (lead word n p st) symbol token = from_lead word n p st symbol token
 step_on (sided n p st) symbol token = from_sided n p st symbol token
 step_on (signed n sign k p st) symbol token = from_signed (relation n sign k token) p st symbol
 step_on (have f o st) symbol token = from_have f o st symbol token
@@ -131,7 +132,7 @@ whole_formula f o (p ∷ st) = None
 
 -- the formula that was read, if the marks may end in this state
 abbrev pub formula_at_end : State → Option ParsedTree
-formula_at_end (lead value n p st) = whole_formula (and_with p.ands (nots_of p.nots (truth value n))) p.ors st
+formula_at_end (lead word n p st) = whole_formula (and_with p.ands (nots_of p.nots (leaf word n))) p.ors st
 formula_at_end (have f o st) = whole_formula f o st
 formula_at_end _ = None
 
@@ -147,7 +148,7 @@ stack_of stack = reverse (map pending_of stack)
 
 abbrev pub state_in : Mode → List PendingCode → State
 state_in (Wanting pending) stack = want (pending_of pending) (stack_of stack)
-state_in (Lead value token pending) stack = lead value token (pending_of pending) (stack_of stack)
+state_in (Lead word token pending) stack = lead word token (pending_of pending) (stack_of stack)
 state_in (Sided left pending) stack = sided left (pending_of pending) (stack_of stack)
 state_in (Signed left sign token pending) stack = signed left sign token (pending_of pending) (stack_of stack)
 state_in (Complete right) stack = have (parsed_tree right.formula) (option_map left_of right.or) (stack_of stack)

@@ -2,8 +2,8 @@
 use Rattle.std.specs.Prelude.{◌≡◌, ◌+◌, ℕ, Bool, true, false, not, Some, List, [], ◌∷◌, ◌++◌, map, filter, slice_get}
 use Rattle.rd_grammar.specs.declared.marks.Mark.{Mark}
 use Rattle.rd_grammar.specs.declared.marks.Symbol.{Symbol}
-use Rattle.rd_grammar.specs.declared.marks.Symbol.TheVariants.{Open, Close, Not, And, Or, Truth, Sign as SignOf}
-use Rattle.rd_grammar.specs.Grammar.{ParsedTree, truth, relation, negation, both, either, is_term}
+use Rattle.rd_grammar.specs.declared.marks.Symbol.TheVariants.{Open, Close, Not, And, Or, Leaf as LeafOf, Sign as SignOf}
+use Rattle.rd_grammar.specs.Grammar.{ParsedTree, leaf, relation, negation, both, either, is_term}
 
 -- each mark's number is its place
 abbrev pub AreNumbered : List Mark → Type 0
@@ -19,7 +19,7 @@ TermAt marks place = (symbol : Symbol) × (is_term symbol ≡ true) × StandsAt 
 
 -- each node names the place of its own mark, and a relation's terms are the marks beside its sign
 abbrev pub NamesMarks : List Mark → ParsedTree → Type 0
-NamesMarks marks (truth value token) = StandsAt marks (Truth value) token
+NamesMarks marks (leaf word token) = StandsAt marks (LeafOf word) token
 NamesMarks marks (relation left sign token right) =
     TermAt marks left × StandsAt marks (SignOf sign) token × TermAt marks right × (left + 1 ≡ token) × (token + 1 ≡ right)
 NamesMarks marks (negation token f) = StandsAt marks Not token × NamesMarks marks f
@@ -38,7 +38,7 @@ numbers_of marks = map (λ m. m.token) (filter (λ m. not (is_parenthesis m.symb
 
 -- the numbers that a formula names, from left to right
 abbrev pub named_by : ParsedTree → List ℕ
-named_by (truth value token) = token ∷ []
+named_by (leaf word token) = token ∷ []
 named_by (relation left sign token right) = left ∷ token ∷ right ∷ []
 named_by (negation token f) = token ∷ named_by f
 named_by (both f token g) = named_by f ++ token ∷ named_by g

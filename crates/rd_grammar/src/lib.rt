@@ -7,6 +7,6 @@ mod parsed;
 mod reader;
 
 pub use laws::{law_of_grammar, law_of_numbers};
-pub use marks::{Mark, Sign, Symbol};
+pub use marks::{Leaf, Mark, Sign, Symbol};
 pub use parsed::{MarksRefused, Parsed};
 pub use reader::parse_formula;

@@ -13,6 +13,15 @@ pub enum Sign {
     AtMost,
 }
 
+/// A word that is a formula where no sign stands beside it, and else a term.
+#[derive(Clone, Copy, Debug, PartialEq, Eq)]
+pub enum Leaf {
+    /// `true` or `false`
+    Truth(bool),
+    /// a variable with its side, which may be the name of a definition
+    Name,
+}
+
 /// What a token is for the grammar.
 #[derive(Clone, Copy, Debug, PartialEq, Eq)]
 pub enum Symbol {
@@ -26,11 +35,11 @@ pub enum Symbol {
     And,
     /// the word `or`
     Or,
-    /// the word `true` or `false`: a formula, or beside a sign a term
-    Truth(bool),
+    /// a formula, or beside a sign a term
+    Leaf(Leaf),
     /// a sign of a relation
     Sign(Sign),
-    /// a variable, or a value other than `true` and `false`
+    /// a term that is no formula: a variable, or a value other than `true` and `false`
     Term,
     /// nothing that a formula has
     Other,

@@ -2,16 +2,16 @@
 ghost use Rattle.std.specs.Prelude.{◌≡◌};
 ghost use Rattle.rd_grammar.specs.declared.parsed.MarksRefused.TheVariants.{NoMemory as MemoryRefused};
 
-use crate::marks::Sign;
+use crate::marks::{Leaf, Sign};
 use rd_base::NoMemory;
 use thiserror::Error;
 
 /// A formula as it was read. Each node has the number of its token, and a relation those of its two terms as well.
 #[derive(Drop)]
 pub enum Parsed {
-    /// `true` or `false`
-    Truth {
-        value: bool,
+    /// a word by itself: `true`, `false`, or a name
+    Leaf {
+        leaf: Leaf,
         token: u32,
     },
     /// two terms and the sign between them, whose number is the token

@@ -4,7 +4,7 @@ ghost use Rattle.rd_grammar.specs.Grammar.{ParsedTree, MarksSay, disj, is_term, 
 ghost use Rattle.rd_grammar.specs.Machine.{start, is_sign, step, from_want, from_lead, from_sided, from_signed, from_have, formula_at_end, whole_formula, behind_parenthesis, empty, nots_of, and_with, or_with, left_of, pending_of, stack_of, state_of};
 ghost use Rattle.rd_grammar.specs.declared.parsed.MarksRefused.TheVariants.{Syntax};
 
-use crate::marks::{Mark, Sign, Symbol};
+use crate::marks::{Leaf, Mark, Sign, Symbol};
 use crate::parsed::{MarksRefused, Parsed};
 use rd_base::{MOST_TOKENS, NoMemory};
 use std::alloc::Global;
@@ -36,9 +36,9 @@ struct RightPart {
 enum Mode {
     // an operand is due
     Wanting(Pending),
-    // a truth value, which is a term where a sign follows
+    // a word that is a formula, or a term where a sign follows
     Lead {
-        value: bool,
+        leaf: Leaf,
         token: u32,
         pending: Pending,
     },
@@ -171,9 +171,9 @@ fn wanting(
                 stack,
             }))
         }
-        Symbol::Truth(value) => Ok(Some(Reader {
+        Symbol::Leaf(leaf) => Ok(Some(Reader {
             mode: Mode::Lead {
-                value,
+                leaf,
                 token,
                 pending,
             },
@@ -246,7 +246,7 @@ fn complete(
         Symbol::Close => closed(alloc, right, stack),
         Symbol::Open
         | Symbol::Not
-        | Symbol::Truth(_)
+        | Symbol::Leaf(_)
         | Symbol::Sign(_)
         | Symbol::Term
         | Symbol::Other => Ok(None),
@@ -279,23 +279,23 @@ fn is_sign(symbol: Symbol) -> bool
     matches!(symbol, Symbol::Sign(_))
 }
 
-// A mark behind a truth value, which a sign makes a term.
+// A mark behind a word that is a formula, or a term where this mark is a sign.
 fn lead(
     alloc: Global,
-    value: bool,
+    leaf: Leaf,
     token: u32,
     pending: Pending,
     stack: Vec<Pending>,
     mark: Mark,
 ) -> Result<Option<Reader>, NoMemory>
     ensures { IfOk result
-        (λ next. option_map state_of next ≡ from_lead value token (pending_of pending)
+        (λ next. option_map state_of next ≡ from_lead leaf token (pending_of pending)
         (stack_of stack.items) mark.symbol mark.token) }
 {
     if is_sign(mark.symbol) {
         return Ok(sided(token, pending, stack, mark));
     }
-    let right = pending.filled(alloc, Parsed::Truth { value, token })?;
+    let right = pending.filled(alloc, Parsed::Leaf { leaf, token })?;
     complete(alloc, right, stack, mark)
 }
 
@@ -303,7 +303,7 @@ fn lead(
 fn is_term(symbol: Symbol) -> bool
     ensures { result ≡ is_term symbol }
 {
-    matches!(symbol, Symbol::Truth(_) | Symbol::Term)
+    matches!(symbol, Symbol::Leaf(_) | Symbol::Term)
 }
 
 // A mark behind a term and a sign, which a term makes this relation.
@@ -360,10 +360,10 @@ impl Reader {
         match mode {
             Mode::Wanting(pending) => wanting(alloc, pending, stack, mark),
             Mode::Lead {
-                value,
+                leaf,
                 token,
                 pending,
-            } => lead(alloc, value, token, pending, stack, mark),
+            } => lead(alloc, leaf, token, pending, stack, mark),
             Mode::Sided { left, pending } => Ok(sided(left, pending, stack, mark)),
             Mode::Signed {
                 left,
@@ -390,11 +390,11 @@ impl Reader {
         let Reader { mode, stack } = self;
         match mode {
             Mode::Lead {
-                value,
+                leaf,
                 token,
                 pending,
             } => {
-                let right = pending.filled(alloc, Parsed::Truth { value, token })?;
+                let right = pending.filled(alloc, Parsed::Leaf { leaf, token })?;
                 ended(alloc, right, stack)
             }
             Mode::Complete(right) => ended(alloc, right, stack),

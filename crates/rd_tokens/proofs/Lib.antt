@@ -1,4 +1,5 @@
 pub mod CutLemmas
+pub mod DialectLemmas
 pub mod FirstLemmas
 pub mod InsideLemmas
 pub mod LoopLemmas

@@ -1,12 +1,14 @@
 -- `term_of` finds a term exactly in its bytes.
-use Rattle.std.proofs.Common.{◌≡◌, ◌≢◌, ℕ, ◌-◌, ◌<◌, ◌≤◌, Bool, true, false, List, [], ◌∷◌, ◌++◌, length, get_or, codes, ℤ, pos, negsuc, refl, sym, ◌∙◌, ap, subst, Option, Some, None, IfSome, IfNone, IfOk, Result, option_map, arith, length-append, take_at, drop_at, FitsSigned, w64, bytes_eq}
+use Rattle.std.proofs.Common.{◌≡◌, ◌≢◌, ℕ, ◌-◌, ◌<◌, ◌≤◌, Bool, true, false, List, [], ◌∷◌, ◌++◌, length, get_or, codes, ℤ, pos, negsuc, refl, sym, ◌∙◌, ap, subst, Option, Some, None, IfSome, IfNone, IfOk, Result, option_map, arith, length-append, take_at, drop_at, FitsSigned, w64, bytes_eq, is_some, ◌⊎◌, inl, inr}
 use Rattle.std.specs.Prelude.{⊤, ◌||◌, ◌&&◌, ◌==◌, not, nat_lt, slice_index, IsTrue}
 use Rattle.std.specs.Fmt.{signed_decimal}
 use Rattle.std.specs.Cmp.Lexicographic.{bytes_decides}
-use Rattle.std.proofs.lemmas.Bool.{and_parts}
+use Rattle.std.specs.List.{list_all}
+use Rattle.std.proofs.lemmas.Bool.{and_parts, false_from_ne_true}
 use Rattle.std.proofs.lemmas.Bool.Decides.{nat_tests}
 use Rattle.std.proofs.lemmas.List.{take-append-drop}
 use Rattle.std.proofs.lemmas.List.Elements.{All-weaker}
+use Rattle.std.proofs.lemmas.List.Sums.{list_all-from_AllPass}
 use Rattle.std.proofs.lemmas.Option.{same_Some, none-some, MatchOption-at_some}
 use Rattle.std.proofs.lemmas.Result.{IfOk-weaker}
 use Rattle.rd_base.specs.declared.values.Value.{Value}
@@ -22,10 +24,12 @@ use Rattle.rd_ecl.specs.declared.formulas.Side.TheVariants.{First, Second}
 use Rattle.rd_ecl.specs.Variables.{IsVariable, is_variable, is_letter, is_variable_byte}
 use Rattle.rd_ecl.proofs.VariableLemmas.{variable_decides}
 use Rattle.rd_tokens.specs.Tokens.{SpellsText}
+use Rattle.rd_tokens.specs.declared.words.dialects.Dialect.{Dialect}
+use Rattle.rd_tokens.specs.declared.words.dialects.Dialect.TheVariants.{Sided, Named, Unsided}
 use Rattle.rd_tokens.specs.declared.words.terms.Said.{Said}
 use Rattle.rd_tokens.specs.declared.words.terms.Said.TheVariants.{Variable, Value as ValueTerm}
-use Rattle.rd_tokens.specs.ReadingWords.{name_before, mark_behind, side_of, variable_of, term_of}
-use Rattle.rd_tokens.specs.Words.{side_mark, SaysTerm, IsTerm}
+use Rattle.rd_tokens.specs.ReadingWords.{name_before, mark_behind, side_of, variable_of, term_of, unsided_term_of, term_in}
+use Rattle.rd_tokens.specs.Words.{side_mark, SaysTerm, IsTerm, SaysUnsided, SaysTermIn}
 
 -- a variable's bytes are those of a name
 byte_of_name : (b : ℕ) → is_variable_byte b ≡ true → is_name_byte b ≡ true
@@ -150,9 +154,6 @@ said_term bytes said found = MatchOption-at_some ⊤ (SaysTerm bytes) said found
 pub one_term : (bytes : List ℕ) (s t : Said) → SaysTerm bytes s → SaysTerm bytes t → s ≡ t
 one_term bytes s t first second = same_Some s t (sym (term_found bytes s first) ∙ term_found bytes t second)
 
-none_says : (bytes : List ℕ) → term_of bytes ≡ None → (said : Said) → ¬ (SaysTerm bytes said)
-none_says bytes none said says = none-some said (sym none ∙ term_found bytes said says)
-
 -- a variable is found in its bytes alone
 pub variable_says : (bytes name : List ℕ) (side : Side) → variable_of bytes ≡ Some (Variable side name) → SaysTerm bytes (Variable side name)
 variable_says bytes name side found = MatchOption-at_some ⊤ (SaysVariable bytes) (Variable side name) found (variable_said bytes)
@@ -160,6 +161,97 @@ variable_says bytes name side found = MatchOption-at_some ⊤ (SaysVariable byte
 pub no_variable : (bytes : List ℕ) → variable_of bytes ≡ None → (side : Side) (name : List ℕ) → ¬ (SaysTerm bytes (Variable side name))
 no_variable bytes none side name says =
     none-some (Variable side name) (sym none ∙ ap variable_of says.1 ∙ variable_found side name says.0)
+
+-- the test of a variable with its side tells it
+pub sided_told : (bytes : List ℕ)
+    → ((is_some (variable_of bytes) ≡ true) × ((side : Side) × (name : List ℕ) × SaysTerm bytes (Variable side name)))
+    ⊎ ((is_some (variable_of bytes) ≡ false) × ((side : Side) (name : List ℕ) → ¬ (SaysTerm bytes (Variable side name))))
+sided_told bytes = told (variable_of bytes) refl (variable_said bytes) where
+  told : (found : Option Said) → variable_of bytes ≡ found → IfSome found (SaysVariable bytes)
+      → ((is_some (variable_of bytes) ≡ true) × ((side : Side) × (name : List ℕ) × SaysTerm bytes (Variable side name)))
+      ⊎ ((is_some (variable_of bytes) ≡ false) × ((side : Side) (name : List ℕ) → ¬ (SaysTerm bytes (Variable side name))))
+  told None is says = inr (ap is_some is, no_variable bytes is)
+  told (Some (Variable side name)) is says = inl (ap is_some is, (side, name, says))
+  told (Some (ValueTerm value)) is says = absurd says
+
+-- where variables have no side
+
+-- no variable is a kept word, and its first byte is that of no other value
+kept_word : (bytes word : List ℕ) → IsVariable bytes → is_variable word ≡ false → bytes ≢ word
+kept_word bytes word is kept same =
+    let clash : false ≡ true = sym kept ∙ ap is_variable (sym same) ∙ (variable_decides bytes).1 is in cc
+
+pub bare_no_value : (bytes : List ℕ) → IsVariable bytes → (value : Value) → IsValue value → bytes ≢ value_spelling value
+bare_no_value bytes is Nil range same = kept_word bytes (codes "nil") is refl same
+bare_no_value bytes is (Truth true) range same = kept_word bytes (codes "true") is refl same
+bare_no_value bytes is (Truth false) range same = kept_word bytes (codes "false") is refl same
+bare_no_value bytes is (Int z) range same =
+    let first = ap (λ (xs : List ℕ). get_or xs 0 0) same in
+    omega (arith, letter_range (get_or bytes 0 0) is.letter, (integer_range z range).1, first)
+bare_no_value bytes is (Text text) range same =
+    let first : get_or bytes 0 0 ≡ 34 = ap (λ (xs : List ℕ). get_or xs 0 0) same in
+    omega (arith, letter_range (get_or bytes 0 0) is.letter, first)
+
+-- nor is it one with its side
+mark_refused : (name : List ℕ) (side : Side) → list_all is_variable_byte (name ++ side_mark side) ≡ true → ⊥
+mark_refused [] First all = cc
+mark_refused [] Second all = cc
+mark_refused (b ∷ name) side all = mark_refused name side (and_parts _ _ all).1
+
+pub bare_no_side : (bytes : List ℕ) → IsVariable bytes → (side : Side) (name : List ℕ) → ¬ (SaysTerm bytes (Variable side name))
+bare_no_side bytes is side name says =
+    mark_refused name side (subst (λ xs. list_all is_variable_byte xs ≡ true) says.1 (list_all-from_AllPass is_variable_byte bytes is.each))
+
+pub bare_told : (bytes : List ℕ)
+    → ((is_variable bytes ≡ true) × IsVariable bytes) ⊎ ((is_variable bytes ≡ false) × ¬ (IsVariable bytes))
+bare_told bytes = told (is_variable bytes) refl where
+  told : (test : Bool) → is_variable bytes ≡ test
+      → ((is_variable bytes ≡ true) × IsVariable bytes) ⊎ ((is_variable bytes ≡ false) × ¬ (IsVariable bytes))
+  told true is = inl (is, (variable_decides bytes).0 is)
+  told false is = inr (is, λ variable. kept_word bytes bytes variable is refl)
+
+pub bare_of_test : (bytes : List ℕ) → is_variable bytes ≡ true → IsVariable bytes
+bare_of_test bytes test = (variable_decides bytes).0 test
+
+pub no_bare : (bytes : List ℕ) → is_variable bytes ≡ false → (side : Side) (name : List ℕ) → ¬ (SaysUnsided bytes (Variable side name))
+no_bare bytes none First name says = kept_word name bytes says.0 none (sym says.1)
+no_bare bytes none Second name says = absurd says
+
+unsided_found : (bytes : List ℕ) (said : Said) → SaysUnsided bytes said → unsided_term_of bytes ≡ Some said
+unfolding unsided_term_of
+unsided_found bytes (Variable First name) says =
+    let found : is_variable bytes ≡ true = ap is_variable says.1 ∙ (variable_decides name).1 says.0 in
+    rw found (ap (λ xs. Some (Variable First xs)) says.1)
+unsided_found bytes (Variable Second name) says = absurd says
+unsided_found bytes (ValueTerm value) says =
+    let none : is_variable bytes ≡ false =
+    false_from_ne_true _ (λ test. bare_no_value bytes ((variable_decides bytes).0 test) value says.0 says.1) in
+    rw none (ap (option_map (λ value. ValueTerm value)) (ap value_of says.1 ∙ value_found value says.0))
+
+unsided_said : (bytes : List ℕ) → IfSome (unsided_term_of bytes) (SaysUnsided bytes)
+unfolding unsided_term_of
+unsided_said bytes =
+    if_some (SaysUnsided bytes) _ (Some (Variable First bytes)) _ (λ test. ((variable_decides bytes).0 test, refl))
+    (map_found (SaysUnsided bytes) (λ value. ValueTerm value) (value_of bytes) (found_said bytes))
+
+-- terms by what the words may speak of
+pub term_found_in : (dialect : Dialect) (bytes : List ℕ) (said : Said) → SaysTermIn dialect bytes said → term_in dialect bytes ≡ Some said
+term_found_in Sided bytes said says = term_found bytes said says
+term_found_in Named bytes said says = term_found bytes said says
+term_found_in Unsided bytes said says = unsided_found bytes said says
+
+term_said_in : (dialect : Dialect) (bytes : List ℕ) → IfSome (term_in dialect bytes) (SaysTermIn dialect bytes)
+term_said_in Sided bytes = term_said bytes
+term_said_in Named bytes = term_said bytes
+term_said_in Unsided bytes = unsided_said bytes
+
+pub said_term_in : (dialect : Dialect) (bytes : List ℕ) (said : Said) → term_in dialect bytes ≡ Some said → SaysTermIn dialect bytes said
+said_term_in dialect bytes said found =
+    MatchOption-at_some ⊤ (SaysTermIn dialect bytes) said found (term_said_in dialect bytes)
+
+pub one_term_in : (dialect : Dialect) (bytes : List ℕ) (s t : Said) → SaysTermIn dialect bytes s → SaysTermIn dialect bytes t → s ≡ t
+one_term_in dialect bytes s t first second =
+    same_Some s t (sym (term_found_in dialect bytes s first) ∙ term_found_in dialect bytes t second)
 
 -- words that are no terms: no variable with its side, and a first byte that no other value has
 abbrev has_other_first : ℕ → Bool
@@ -192,20 +284,31 @@ pub no_term : (bytes word : List ℕ) → IsNoTerm word → IsTerm bytes → byt
 no_term bytes word none is same = says_none word none is.0 (subst (λ bytes. SaysTerm bytes is.0) same is.1)
 
 -- the same of what a call answers
-some_of : (bytes : List ℕ) (found : Option Said) → found ≡ term_of bytes → IfSome found (SaysTerm bytes)
-some_of bytes found is = subst (λ found. IfSome found (SaysTerm bytes)) (sym is) (term_said bytes)
+some_of : (dialect : Dialect) (bytes : List ℕ) (found : Option Said) → found ≡ term_in dialect bytes → IfSome found (SaysTermIn dialect bytes)
+some_of dialect bytes found is = subst (λ found. IfSome found (SaysTermIn dialect bytes)) (sym is) (term_said_in dialect bytes)
 
-none_of : (bytes : List ℕ) (found : Option Said) → found ≡ term_of bytes → IfNone found ((said : Said) → ¬ (SaysTerm bytes said))
-none_of bytes (Some said) is = tt
-none_of bytes None is = none_says bytes (sym is)
+none_of : (dialect : Dialect) (bytes : List ℕ) (found : Option Said) → found ≡ term_in dialect bytes
+    → IfNone found ((said : Said) → ¬ (SaysTermIn dialect bytes said))
+none_of dialect bytes (Some said) is = tt
+none_of dialect bytes None is = λ said says. none-some said (is ∙ term_found_in dialect bytes said says)
 
-pub ok_some : {E : Type 0} (bytes : List ℕ) (result : Result (Option Said) E) → IfOk result (λ found. found ≡ term_of bytes)
-    → IfOk result (λ found. IfSome found (SaysTerm bytes))
-ok_some bytes result = IfOk-weaker result _ _ (some_of bytes)
+pub ok_some : {E : Type 0} (dialect : Dialect) (bytes : List ℕ) (result : Result (Option Said) E)
+    → IfOk result (λ found. found ≡ term_in dialect bytes) → IfOk result (λ found. IfSome found (SaysTermIn dialect bytes))
+ok_some dialect bytes result = IfOk-weaker result _ _ (some_of dialect bytes)
 
-pub ok_none : {E : Type 0} (bytes : List ℕ) (result : Result (Option Said) E) → IfOk result (λ found. found ≡ term_of bytes)
-    → IfOk result (λ found. IfNone found ((said : Said) → ¬ (SaysTerm bytes said)))
-ok_none bytes result = IfOk-weaker result _ _ (none_of bytes)
+pub ok_none : {E : Type 0} (dialect : Dialect) (bytes : List ℕ) (result : Result (Option Said) E)
+    → IfOk result (λ found. found ≡ term_in dialect bytes) → IfOk result (λ found. IfNone found ((said : Said) → ¬ (SaysTermIn dialect bytes said)))
+ok_none dialect bytes result = IfOk-weaker result _ _ (none_of dialect bytes)
+
+-- where the dialect is told
+pub found_in : {E : Type 0} (dialect told : Dialect) (bytes : List ℕ) (result : Result (Option Said) E) → dialect ≡ told
+    → IfOk result (λ found. found ≡ term_in told bytes) → IfOk result (λ found. found ≡ term_in dialect bytes)
+found_in dialect told bytes result is found = subst (λ dialect. IfOk result (λ found. found ≡ term_in dialect bytes)) (sym is) found
+
+pub found_sided : {E : Type 0} (dialect : Dialect) (bytes : List ℕ) (result : Result (Option Said) E) → (dialect ≡ Sided) ⊎ (dialect ≡ Named)
+    → IfOk result (λ found. found ≡ term_of bytes) → IfOk result (λ found. found ≡ term_in dialect bytes)
+found_sided dialect bytes result (inl sided) found = found_in dialect Sided bytes result sided found
+found_sided dialect bytes result (inr named) found = found_in dialect Named bytes result named found
 
 pub text_spelled : (bytes : List ℕ) → (text : List ℕ) × (value_of bytes ≡ Some (Text text)) → SpellsText bytes
 text_spelled bytes found = let said = found_said bytes (Text found.0) found.1 in (found.0, said.0, said.1)

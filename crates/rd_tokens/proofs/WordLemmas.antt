@@ -6,9 +6,10 @@ use Rattle.rd_base.specs.declared.values.Value.TheVariants.{Bool as TruthValue, 
 use Rattle.rd_tokens.specs.declared.sorts.Sort.{Sort}
 use Rattle.rd_tokens.specs.declared.sorts.Sort.TheVariants.{Open as OpenToken, Close as CloseToken, Word, Text, Wrong}
 use Rattle.rd_tokens.specs.Tokens.{IsToken}
+use Rattle.rd_grammar.specs.declared.marks.Leaf.TheVariants.{Name, Truth}
 use Rattle.rd_grammar.specs.declared.marks.Sign.TheVariants.{Equal, Different, Less, AtMost}
 use Rattle.rd_grammar.specs.declared.marks.Symbol.{Symbol}
-use Rattle.rd_grammar.specs.declared.marks.Symbol.TheVariants.{Open, Close, Not, And, Or, Truth, Sign as SignOf, Term, Other}
+use Rattle.rd_grammar.specs.declared.marks.Symbol.TheVariants.{Open, Close, Not, And, Or, Leaf as LeafOf, Sign as SignOf, Term, Other}
 use Rattle.rd_grammar.specs.Grammar.{is_term}
 use Rattle.rd_tokens.specs.declared.words.terms.Said.{Said}
 use Rattle.rd_tokens.specs.declared.words.terms.Said.TheVariants.{Value as ValueTerm}
@@ -63,8 +64,9 @@ word_found bytes Close is = absurd is
 word_found bytes Not is = ap word_of is
 word_found bytes And is = ap word_of is
 word_found bytes Or is = ap word_of is
-word_found bytes (Truth true) is = ap word_of is
-word_found bytes (Truth false) is = ap word_of is
+word_found bytes (LeafOf (Truth true)) is = ap word_of is
+word_found bytes (LeafOf (Truth false)) is = ap word_of is
+word_found bytes (LeafOf Name) is = absurd is
 word_found bytes (SignOf Equal) is = ap word_of is
 word_found bytes (SignOf Different) is = ap word_of is
 word_found bytes (SignOf Less) is = ap word_of is
@@ -112,8 +114,8 @@ judged bytes =
     if_word bytes (codes "not") Not _ (λ is. inr is) (λ _.
     if_word bytes (codes "and") And _ (λ is. inr is) (λ _.
     if_word bytes (codes "or") Or _ (λ is. inr is) (λ _.
-    if_word bytes (codes "true") (Truth true) _ (λ is. inr is) (λ no_true.
-    if_word bytes (codes "false") (Truth false) _ (λ is. inr is) (λ no_false.
+    if_word bytes (codes "true") (LeafOf (Truth true)) _ (λ is. inr is) (λ no_true.
+    if_word bytes (codes "false") (LeafOf (Truth false)) _ (λ is. inr is) (λ no_false.
     if_word bytes (codes "=") (SignOf Equal) _ (λ is. inr is) (λ _.
     if_word bytes (codes "!=") (SignOf Different) _ (λ is. inr is) (λ _.
     if_word bytes (codes "<") (SignOf Less) _ (λ is. inr is) (λ _.
@@ -127,7 +129,8 @@ known_word bytes Close is = is
 known_word bytes Not is = is
 known_word bytes And is = is
 known_word bytes Or is = is
-known_word bytes (Truth value) is = is
+known_word bytes (LeafOf (Truth value)) is = is
+known_word bytes (LeafOf Name) is = absurd is
 known_word bytes (SignOf sign) is = is
 known_word bytes Term is = is
 known_word bytes Other is = absurd is
@@ -147,7 +150,8 @@ one_word bytes Close is = absurd is
 one_word bytes Not is = word_found bytes Not is
 one_word bytes And is = word_found bytes And is
 one_word bytes Or is = word_found bytes Or is
-one_word bytes (Truth value) is = word_found bytes (Truth value) is
+one_word bytes (LeafOf (Truth value)) is = word_found bytes (LeafOf (Truth value)) is
+one_word bytes (LeafOf Name) is = absurd is
 one_word bytes (SignOf sign) is = word_found bytes (SignOf sign) is
 one_word bytes Term is = word_found bytes Term is
 one_word bytes Other is = elim (judged bytes) [
@@ -177,12 +181,13 @@ pub one_symbol : (sort : Sort) (bytes : List ℕ) (x y : Symbol) → IsSymbol so
 one_symbol sort bytes x y first second = sym (symbol_found sort bytes x first) ∙ symbol_found sort bytes y second
 
 -- a token that is a term says one
-no_sort : (x y : Symbol) → x ≡ y → is_term y ≡ false → is_term x ≡ true → ⊥
+pub no_sort : (x y : Symbol) → x ≡ y → is_term y ≡ false → is_term x ≡ true → ⊥
 no_sort x y same none term = let clash : false ≡ true = sym none ∙ ap is_term (sym same) ∙ term in cc
 
 word_said : (bytes : List ℕ) (x : Symbol) → IsWord bytes x → is_term x ≡ true → IsTerm bytes
-word_said bytes (Truth true) is term = (ValueTerm (TruthValue true), (tt, is))
-word_said bytes (Truth false) is term = (ValueTerm (TruthValue false), (tt, is))
+word_said bytes (LeafOf (Truth true)) is term = (ValueTerm (TruthValue true), (tt, is))
+word_said bytes (LeafOf (Truth false)) is term = (ValueTerm (TruthValue false), (tt, is))
+word_said bytes (LeafOf Name) is term = absurd is
 word_said bytes Term is term = is.0
 word_said bytes Open is term = absurd is
 word_said bytes Close is term = absurd is
@@ -201,7 +206,8 @@ token_said Wrong bytes behind x token is term = absurd (no_sort x Other is refl 
 
 -- a word that says a term is one
 pub term_word : (bytes : List ℕ) (x : Symbol) → IsTerm bytes → IsWord bytes x → is_term x ≡ true
-term_word bytes (Truth value) term is = refl
+term_word bytes (LeafOf (Truth value)) term is = refl
+term_word bytes (LeafOf Name) term is = absurd is
 term_word bytes Term term is = refl
 term_word bytes Open term is = absurd is
 term_word bytes Close term is = absurd is
@@ -212,10 +218,10 @@ term_word bytes (SignOf Equal) term is = absurd (no_term bytes _ no_equal term i
 term_word bytes (SignOf Different) term is = absurd (no_term bytes _ no_different term is)
 term_word bytes (SignOf Less) term is = absurd (no_term bytes _ no_less term is)
 term_word bytes (SignOf AtMost) term is = absurd (no_term bytes _ no_at_most term is)
-term_word bytes Other term is = absurd (is Term (term, is (Truth true), is (Truth false)))
+term_word bytes Other term is = absurd (is Term (term, is (LeafOf (Truth true)), is (LeafOf (Truth false))))
 
 -- the words true and false say their values
 pub truth_said : (bytes : List ℕ) (value : Bool)
-    → (IsSymbol Word bytes (Truth value) → SaysTerm bytes (ValueTerm (TruthValue value))) × (SaysTerm bytes (ValueTerm (TruthValue value)) → IsSymbol Word bytes (Truth value))
+    → (IsSymbol Word bytes (LeafOf (Truth value)) → SaysTerm bytes (ValueTerm (TruthValue value))) × (SaysTerm bytes (ValueTerm (TruthValue value)) → IsSymbol Word bytes (LeafOf (Truth value)))
 truth_said bytes true = (λ is. (tt, is), λ says. says.1)
 truth_said bytes false = (λ is. (tt, is), λ says. says.1)

@@ -8,10 +8,13 @@ use Rattle.rd_ecl.specs.declared.formulas.Side.TheVariants.{First, Second}
 use Rattle.rd_ecl.specs.Variables.{is_variable}
 use Rattle.rd_tokens.specs.declared.sorts.Sort.{Sort}
 use Rattle.rd_tokens.specs.declared.sorts.Sort.TheVariants.{Open as OpenToken, Close as CloseToken, Word, Text, Wrong}
+use Rattle.rd_grammar.specs.declared.marks.Leaf.TheVariants.{Name, Truth}
 use Rattle.rd_grammar.specs.declared.marks.Sign.{Sign}
 use Rattle.rd_grammar.specs.declared.marks.Sign.TheVariants.{Equal, Different, Less, AtMost}
 use Rattle.rd_grammar.specs.declared.marks.Symbol.{Symbol}
-use Rattle.rd_grammar.specs.declared.marks.Symbol.TheVariants.{Open, Close, Not, And, Or, Truth, Sign as SignOf, Term, Other}
+use Rattle.rd_grammar.specs.declared.marks.Symbol.TheVariants.{Open, Close, Not, And, Or, Leaf as LeafOf, Sign as SignOf, Term, Other}
+use Rattle.rd_tokens.specs.declared.words.dialects.Dialect.{Dialect}
+use Rattle.rd_tokens.specs.declared.words.dialects.Dialect.TheVariants.{Sided, Named, Unsided}
 use Rattle.rd_tokens.specs.declared.words.terms.Said.{Said}
 use Rattle.rd_tokens.specs.declared.words.terms.Said.TheVariants.{Variable, Value as ValueTerm}
 
@@ -60,8 +63,8 @@ word_of bytes =
     if bytes_eq bytes (codes "not") then Not
     else if bytes_eq bytes (codes "and") then And
     else if bytes_eq bytes (codes "or") then Or
-    else if bytes_eq bytes (codes "true") then Truth true
-    else if bytes_eq bytes (codes "false") then Truth false
+    else if bytes_eq bytes (codes "true") then LeafOf (Truth true)
+    else if bytes_eq bytes (codes "false") then LeafOf (Truth false)
     else if bytes_eq bytes (codes "=") then SignOf Equal
     else if bytes_eq bytes (codes "!=") then SignOf Different
     else if bytes_eq bytes (codes "<") then SignOf Less
@@ -75,3 +78,39 @@ symbol_of CloseToken bytes = Close
 symbol_of Word bytes = word_of bytes
 symbol_of Text bytes = Term
 symbol_of Wrong bytes = Other
+
+-- the same by what the words may speak of
+
+-- the term that the bytes say where variables have no side
+unfoldable pub unsided_term_of : List ℕ → Option Said
+unsided_term_of bytes =
+    if is_variable bytes then Some (Variable First bytes)
+    else option_map (λ value. ValueTerm value) (value_of bytes)
+
+abbrev pub term_in : Dialect → List ℕ → Option Said
+term_in Sided bytes = term_of bytes
+term_in Named bytes = term_of bytes
+term_in Unsided bytes = unsided_term_of bytes
+
+-- the symbol of a word
+unfoldable pub named_word : List ℕ → Symbol
+named_word bytes = if is_some (variable_of bytes) then LeafOf Name else word_of bytes
+
+unfoldable pub unsided_word : List ℕ → Symbol
+unsided_word bytes =
+    if is_variable bytes then Term
+    else if is_some (variable_of bytes) then Other
+    else word_of bytes
+
+abbrev pub word_in : Dialect → List ℕ → Symbol
+word_in Sided bytes = word_of bytes
+word_in Named bytes = named_word bytes
+word_in Unsided bytes = unsided_word bytes
+
+-- the symbol of a token
+abbrev pub symbol_in : Dialect → Sort → List ℕ → Symbol
+symbol_in dialect OpenToken bytes = Open
+symbol_in dialect CloseToken bytes = Close
+symbol_in dialect Word bytes = word_in dialect bytes
+symbol_in dialect Text bytes = Term
+symbol_in dialect Wrong bytes = Other

@@ -1,5 +1,5 @@
 -- The words of a formula: this project's profile.
-use Rattle.std.specs.Prelude.{◌≡◌, ◌≢◌, ℕ, Bool, true, false, Some, List, ◌++◌, length, codes, slice_get}
+use Rattle.std.specs.Prelude.{◌≡◌, ◌≢◌, ◌⊎◌, ℕ, Bool, true, false, Some, List, ◌++◌, length, codes, slice_get}
 use Rattle.rd_base.specs.Spelling.{value_spelling, IsValue}
 use Rattle.rd_ecl.specs.declared.formulas.Side.{Side}
 use Rattle.rd_ecl.specs.declared.formulas.Side.TheVariants.{First, Second}
@@ -8,11 +8,14 @@ use Rattle.rd_tokens.specs.declared.sorts.Sort.{Sort}
 use Rattle.rd_tokens.specs.declared.sorts.Sort.TheVariants.{Open as OpenToken, Close as CloseToken, Word, Text, Wrong}
 use Rattle.rd_tokens.specs.declared.sorts.Token.{Token}
 use Rattle.rd_tokens.specs.Tokens.{bytes_of}
+use Rattle.rd_grammar.specs.declared.marks.Leaf.TheVariants.{Name, Truth}
 use Rattle.rd_grammar.specs.declared.marks.Mark.{Mark}
 use Rattle.rd_grammar.specs.declared.marks.Sign.{Sign}
 use Rattle.rd_grammar.specs.declared.marks.Sign.TheVariants.{Equal, Different, Less, AtMost}
 use Rattle.rd_grammar.specs.declared.marks.Symbol.{Symbol}
-use Rattle.rd_grammar.specs.declared.marks.Symbol.TheVariants.{Open, Close, Not, And, Or, Truth, Sign as SignOf, Term, Other}
+use Rattle.rd_grammar.specs.declared.marks.Symbol.TheVariants.{Open, Close, Not, And, Or, Leaf as LeafOf, Sign as SignOf, Term, Other}
+use Rattle.rd_tokens.specs.declared.words.dialects.Dialect.{Dialect}
+use Rattle.rd_tokens.specs.declared.words.dialects.Dialect.TheVariants.{Sided, Named, Unsided}
 use Rattle.rd_tokens.specs.declared.words.terms.Said.{Said}
 use Rattle.rd_tokens.specs.declared.words.terms.Said.TheVariants.{Variable, Value as ValueTerm}
 
@@ -49,7 +52,8 @@ IsKnown bytes Close = ⊥
 IsKnown bytes Not = bytes ≡ codes "not"
 IsKnown bytes And = bytes ≡ codes "and"
 IsKnown bytes Or = bytes ≡ codes "or"
-IsKnown bytes (Truth value) = bytes ≡ truth_word value
+IsKnown bytes (LeafOf (Truth value)) = bytes ≡ truth_word value
+IsKnown bytes (LeafOf Name) = ⊥
 IsKnown bytes (SignOf sign) = bytes ≡ sign_word sign
 IsKnown bytes Term = IsTerm bytes × (bytes ≢ truth_word true) × (bytes ≢ truth_word false)
 IsKnown bytes Other = ⊥
@@ -67,13 +71,48 @@ IsSymbol Word bytes symbol = IsWord bytes symbol
 IsSymbol Text bytes symbol = symbol ≡ Term
 IsSymbol Wrong bytes symbol = symbol ≡ Other
 
+-- ---- by what the words may speak of
+
+-- the bytes say the term where variables have no side: each is of side 1
+abbrev pub SaysUnsided : List ℕ → Said → Type 0
+SaysUnsided bytes (Variable First name) = IsVariable name × (bytes ≡ name)
+SaysUnsided bytes (Variable Second name) = ⊥
+SaysUnsided bytes (ValueTerm value) = IsValue value × (bytes ≡ value_spelling value)
+
+abbrev pub SaysTermIn : Dialect → List ℕ → Said → Type 0
+SaysTermIn Sided bytes said = SaysTerm bytes said
+SaysTermIn Named bytes said = SaysTerm bytes said
+SaysTermIn Unsided bytes said = SaysUnsided bytes said
+
+abbrev pub IsTermIn : Dialect → List ℕ → Type 0
+IsTermIn dialect bytes = (said : Said) × SaysTermIn dialect bytes said
+
+-- the token is a variable with its side
+abbrev pub IsSidedWord : Sort → List ℕ → Type 0
+IsSidedWord sort bytes = (sort ≡ Word) × ((side : Side) × (name : List ℕ) × SaysTerm bytes (Variable side name))
+
+-- it is a variable without one
+abbrev pub IsBareWord : Sort → List ℕ → Type 0
+IsBareWord sort bytes = (sort ≡ Word) × IsVariable bytes
+
+-- a token with these bytes is this symbol. Where names may be used, a variable with its side is a leaf, since it may be a name; in a
+-- definition a variable without a side is a term, and one with a side is nothing that a formula has; all else is as it is above
+abbrev pub IsSymbolIn : Dialect → Sort → List ℕ → Symbol → Type 0
+IsSymbolIn Sided sort bytes symbol = IsSymbol sort bytes symbol
+IsSymbolIn Named sort bytes symbol =
+    (IsSidedWord sort bytes × (symbol ≡ LeafOf Name)) ⊎ (¬ (IsSidedWord sort bytes) × IsSymbol sort bytes symbol)
+IsSymbolIn Unsided sort bytes symbol =
+    (IsBareWord sort bytes × (symbol ≡ Term))
+    ⊎ ((IsSidedWord sort bytes × (symbol ≡ Other))
+    ⊎ (¬ (IsBareWord sort bytes) × ¬ (IsSidedWord sort bytes) × IsSymbol sort bytes symbol))
+
 -- the mark of a token of the line, the token's number being its place
-pub record IsMark (line : List ℕ) (place : ℕ) (token : Token) (mark : Mark) : Type 0 where
-  pub symbol : IsSymbol token.sort (bytes_of line token) mark.symbol
+pub record IsMark (dialect : Dialect) (line : List ℕ) (place : ℕ) (token : Token) (mark : Mark) : Type 0 where
+  pub symbol : IsSymbolIn dialect token.sort (bytes_of line token) mark.symbol
   pub number : mark.token ≡ place
 
 -- the marks of tokens of the line: as many, and at each place the mark of the token there
-pub record AreMarks (line : List ℕ) (tokens : List Token) (marks : List Mark) : Type 0 where
+pub record AreMarks (dialect : Dialect) (line : List ℕ) (tokens : List Token) (marks : List Mark) : Type 0 where
   pub count : length marks ≡ length tokens
   pub each : (place : ℕ) (token : Token) (mark : Mark) → slice_get tokens place ≡ Some token → slice_get marks place ≡ Some mark
-      → IsMark line place token mark
+      → IsMark dialect line place token mark

@@ -16,4 +16,6 @@ mod words;
 
 pub use cutting::{law_of_tokens, tokens};
 pub use sorts::{Sort, Token, Tokens};
-pub use words::{Marks, Said, is_variable, law_of_words, marks, read_term, read_variable, symbol};
+pub use words::{
+    Dialect, Marks, Said, is_variable, law_of_words, marks, read_term, read_variable, symbol,
+};

@@ -6,15 +6,19 @@
 //! a formula has, and so is each token that is wrong where it stands: `a@1=1` is one such word, and `x`, `a@3`, `when@1`,
 //! `07`, `-0`, `@1` and `a@@1` are others.
 //!
+//! In version 2 a variable with its side may also be a name that stands for a formula. In a definition a variable has no side.
+//!
 //! A variable has 1 to 64 letters, digits and `_`, begins with a letter, and is none of `true`, `false`, `nil`, `not`,
 //! `and`, `or` and `when`.
 
+mod dialects;
 mod laws;
 mod mark_list;
 mod marking;
 mod symbols;
 mod terms;
 
+pub use dialects::Dialect;
 pub use laws::law_of_words;
 pub use mark_list::Marks;
 pub use marking::marks;

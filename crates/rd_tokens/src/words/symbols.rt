@@ -1,11 +1,12 @@
 //! What a token is for the grammar.
 ghost use Rattle.std.specs.Prelude.{◌≡◌};
-ghost use Rattle.rd_tokens.specs.ReadingWords.{other_word, word_of};
-ghost use Rattle.rd_tokens.specs.Words.{IsSymbol};
+ghost use Rattle.rd_tokens.specs.ReadingWords.{named_word, other_word, unsided_word, word_of};
+ghost use Rattle.rd_tokens.specs.Words.{IsSymbolIn};
 
 use crate::Sort;
-use crate::words::terms::{bytes_are, is_term};
-use rd_grammar::{Sign, Symbol};
+use crate::words::dialects::Dialect;
+use crate::words::terms::{bytes_are, is_sided_variable, is_term, is_variable};
+use rd_grammar::{Leaf, Sign, Symbol};
 
 // The symbol of a word that is neither a keyword nor a sign.
 #[tactic(auto, unfolding(crate::specs::ReadingWords::other_word))]
@@ -34,10 +35,10 @@ fn word(bytes: &[u8]) -> Symbol
         return Symbol::Or;
     }
     if bytes_are(bytes, "true") {
-        return Symbol::Truth(true);
+        return Symbol::Leaf(Leaf::Truth(true));
     }
     if bytes_are(bytes, "false") {
-        return Symbol::Truth(false);
+        return Symbol::Leaf(Leaf::Truth(false));
     }
     if bytes_are(bytes, "=") {
         return Symbol::Sign(Sign::Equal);
@@ -54,14 +55,44 @@ fn word(bytes: &[u8]) -> Symbol
     other_word(bytes)
 }
 
+// The symbol of a word where names may be used.
+#[tactic(auto, unfolding(crate::specs::ReadingWords::named_word))]
+fn named_word(bytes: &[u8]) -> Symbol
+    ensures { result ≡ named_word bytes.now }
+{
+    if is_sided_variable(bytes) {
+        Symbol::Leaf(Leaf::Name)
+    } else {
+        word(bytes)
+    }
+}
+
+// The symbol of a word where variables have no side.
+#[tactic(auto, unfolding(crate::specs::ReadingWords::unsided_word))]
+fn unsided_word(bytes: &[u8]) -> Symbol
+    ensures { result ≡ unsided_word bytes.now }
+{
+    if is_variable(bytes) {
+        Symbol::Term
+    } else if is_sided_variable(bytes) {
+        Symbol::Other
+    } else {
+        word(bytes)
+    }
+}
+
 /// What a token with these bytes is for the grammar. It takes no memory.
-pub fn symbol(sort: Sort, bytes: &[u8]) -> Symbol
-    ensures { IsSymbol sort bytes.now result }
+pub fn symbol(dialect: Dialect, sort: Sort, bytes: &[u8]) -> Symbol
+    ensures { IsSymbolIn dialect sort bytes.now result }
 {
     match sort {
         Sort::Open => Symbol::Open,
         Sort::Close => Symbol::Close,
-        Sort::Word => word(bytes),
+        Sort::Word => match dialect {
+            Dialect::Sided => word(bytes),
+            Dialect::Named => named_word(bytes),
+            Dialect::Unsided => unsided_word(bytes),
+        },
         Sort::Text => Symbol::Term,
         Sort::Wrong => Symbol::Other,
     }

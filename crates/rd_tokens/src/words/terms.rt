@@ -7,9 +7,10 @@ ghost use Rattle.rd_ecl.specs.declared.formulas.Side.{Side};
 ghost use Rattle.rd_tokens.specs.Tokens.{SpellsText};
 ghost use Rattle.rd_tokens.specs.declared.words.terms.Said.{Said};
 ghost use Rattle.rd_tokens.specs.declared.words.terms.Said.TheVariants.{Variable};
-ghost use Rattle.rd_tokens.specs.ReadingWords.{side_of, variable_of, term_of};
-ghost use Rattle.rd_tokens.specs.Words.{SaysTerm};
+ghost use Rattle.rd_tokens.specs.ReadingWords.{side_of, variable_of, term_of, unsided_term_of};
+ghost use Rattle.rd_tokens.specs.Words.{SaysTerm, SaysTermIn, SaysUnsided};
 
+use crate::words::dialects::Dialect;
 use rd_base::{MOST_NAME_BYTES, Name, NoMemory, Value, ValueRefused, is_value, read_value};
 use rd_ecl::Side;
 use std::alloc::Global;
@@ -104,14 +105,47 @@ fn variable(bytes: &[u8]) -> Option<(Side, &[u8])>
     Some((side, name))
 }
 
-/// The variable that the bytes are, with its side; None where they are none. It takes no memory.
+// The variable that the bytes are, with its side.
 #[tactic(auto, using(crate::proofs::TermLemmas::variable_says, crate::proofs::TermLemmas::no_variable))]
-pub fn read_variable(bytes: &[u8]) -> Option<(Side, &[u8])>
+fn sided_variable(bytes: &[u8]) -> Option<(Side, &[u8])>
     ensures some { IfSome result (λ found. SaysTerm bytes.now (Variable found.0 found.1.now)) }
     ensures none { IfNone result
         ((side : Side) (name : List ℕ) → ¬ (SaysTerm bytes.now (Variable side name))) }
 {
     variable(bytes)
+}
+
+// The variable that the bytes are without a side.
+#[tactic(auto, using(crate::proofs::TermLemmas::bare_of_test, crate::proofs::TermLemmas::no_bare))]
+fn unsided_variable(bytes: &[u8]) -> Option<(Side, &[u8])>
+    ensures some { IfSome result (λ found. SaysUnsided bytes.now (Variable found.0 found.1.now)) }
+    ensures none { IfNone result
+        ((side : Side) (name : List ℕ) → ¬ (SaysUnsided bytes.now (Variable side name))) }
+{
+    if !is_variable(bytes) {
+        return None;
+    }
+    Some((Side::First, bytes))
+}
+
+/// The variable that the bytes are, with its side; None where they are none. A variable without a side is of side 1. It takes
+/// no memory.
+pub fn read_variable(dialect: Dialect, bytes: &[u8]) -> Option<(Side, &[u8])>
+    ensures some { IfSome result (λ found. SaysTermIn dialect bytes.now (Variable found.0 found.1.now)) }
+    ensures none { IfNone result
+        ((side : Side) (name : List ℕ) → ¬ (SaysTermIn dialect bytes.now (Variable side name))) }
+{
+    match dialect {
+        Dialect::Sided | Dialect::Named => sided_variable(bytes),
+        Dialect::Unsided => unsided_variable(bytes),
+    }
+}
+
+// Are the bytes a variable with its side?
+pub(crate) fn is_sided_variable(bytes: &[u8]) -> bool
+    ensures { result ≡ is_some (variable_of bytes.now) }
+{
+    variable(bytes).is_some()
 }
 
 // Do the bytes say a term?
@@ -156,12 +190,34 @@ fn term(alloc: Global, bytes: &[u8]) -> Result<Option<Said>, NoMemory>
     }
 }
 
-/// What a term says; None where the bytes are no term. Only a text takes memory.
-pub fn read_term(alloc: Global, bytes: &[u8]) -> Result<Option<Said>, NoMemory>
-    ensures some { IfOk result (λ found. IfSome found (SaysTerm bytes.now)) }
-    ensures none { IfOk result
-        (λ found. IfNone found ((said : Said) → ¬ (SaysTerm bytes.now said))) }
+// The term that the bytes say where variables have no side.
+#[tactic(auto, using(crate::proofs::TermLemmas::text_spelled), unfolding(crate::specs::ReadingWords::unsided_term_of))]
+fn unsided_term(alloc: Global, bytes: &[u8]) -> Result<Option<Said>, NoMemory>
+    ensures found { IfOk result (λ found. found ≡ unsided_term_of bytes.now) }
     ensures memory { OnErr result (SpellsText bytes.now) }
 {
-    term(alloc, bytes)
+    if is_variable(bytes) {
+        return Ok(Some(Said::Variable {
+            side: Side::First,
+            name: variable_name(bytes),
+        }));
+    }
+    match read_value(alloc, bytes) {
+        Ok(value) => Ok(Some(Said::Value(value))),
+        Err(ValueRefused::NotAValue) => Ok(None),
+        Err(ValueRefused::NoMemory) => Err(NoMemory),
+    }
+}
+
+/// What a term says; None where the bytes are no term. Only a text takes memory.
+pub fn read_term(alloc: Global, dialect: Dialect, bytes: &[u8]) -> Result<Option<Said>, NoMemory>
+    ensures some { IfOk result (λ found. IfSome found (SaysTermIn dialect bytes.now)) }
+    ensures none { IfOk result
+        (λ found. IfNone found ((said : Said) → ¬ (SaysTermIn dialect bytes.now said))) }
+    ensures memory { OnErr result (SpellsText bytes.now) }
+{
+    match dialect {
+        Dialect::Sided | Dialect::Named => term(alloc, bytes),
+        Dialect::Unsided => unsided_term(alloc, bytes),
+    }
 }
