@@ -1,52 +1,60 @@
 -- What was read gives a formula of the slots that there are, and each of its nodes has a token.
 use Rattle.std.proofs.Common.{◌≡◌, ℕ, ◌<◌, Bool, true, false, ◌||◌, List, [], ◌∷◌, ◌++◌, length, length-append, Option, Some, None, refl, sym, ◌∙◌, subst, arith, true≢false}
 use Rattle.std.specs.Prelude.{slice_get, Contains, IfNone, IfSome, IsSome, IsTrue, not, is_some}
+use Rattle.std.proofs.lemmas.List.{length-replicate}
 use Rattle.std.proofs.lemmas.Option.{slice_get_within, get_or_from_slice_get, same_Some}
 use Rattle.rd_base.specs.declared.values.Value.{Value}
 use Rattle.rd_ecl.specs.declared.formulas.Side.{Side}
 use Rattle.rd_ecl.specs.declared.formulas.Side.TheVariants.{First, Second}
 use Rattle.rd_ecl.specs.declared.formulas.Term.{Term}
 use Rattle.rd_ecl.specs.declared.formulas.Term.TheVariants.{Slot, Const}
-use Rattle.rd_ecl.specs.Formulas.{Tree, negation, both, either, Fits, FitsTerm, of_side, has_slots, is_slot, nodes, post_order}
+use Rattle.rd_definitions.specs.Definitions.{IsDefined, formula_of}
+use Rattle.rd_definitions.proofs.DefinitionLemmas.{defined_found}
+use Rattle.rd_ecl.specs.Formulas.{Tree, negation, both, either, Fits, FitsTerm, of_side, has_slots, is_slot, nodes, post_order, crosses_sides}
+use Rattle.rd_ecl.specs.Sides.{on_side}
+use Rattle.rd_ecl.specs.Specified.{IsPair}
+use Rattle.rd_ecl.proofs.SideLemmas.{fits_there, slots_there}
 use Rattle.rd_formulas.specs.declared.scope.Scope.{Scope}
 use Rattle.rd_formulas.specs.declared.terms.Meant.{Meant}
 use Rattle.rd_formulas.specs.declared.terms.Meant.TheVariants.{Slot as SlotOf, Value as ValueOf}
-use Rattle.rd_formulas.specs.Meaning.{Gives, NoneOf, cross_relation, node_tokens, relation_of_terms, relations_in, sided_relation, terms_in}
-use Rattle.rd_formulas.specs.Scope.{IsBare, IsReady, IsUnknown, IsVariableAt, MeansAt, variables_of, token_bytes_at}
+use Rattle.rd_formulas.specs.Meaning.{Gives, NoneOf, cross_relation, node_tokens, relation_of_terms, relations_in, sided_relation, uses_in}
+use Rattle.rd_formulas.specs.Scope.{IsBare, IsReady, IsScope, IsTruth, IsUnknown, IsUnknownUse, IsVariableAt, MeansAt, Outlines, SaysTree, NameStandsFor, definitions_of, variables_of, token_bytes_at}
 use Rattle.rd_formulas.proofs.FindingLemmas.{none_left, none_right}
+use Rattle.rd_grammar.specs.declared.marks.Leaf.TheVariants.{Name, Truth}
 use Rattle.rd_grammar.specs.declared.marks.Sign.{Sign}
 use Rattle.rd_grammar.specs.declared.marks.Sign.TheVariants.{Equal, Different, Less, AtMost}
-use Rattle.rd_grammar.specs.Grammar.{ParsedTree, truth as read_truth, relation, negation as read_not, both as read_and, either as read_or}
+use Rattle.rd_grammar.specs.Grammar.{ParsedTree, leaf, relation, negation as read_not, both as read_and, either as read_or}
 use Rattle.rd_tokens.specs.declared.words.terms.Said.TheVariants.{Variable, Value as ValueSaid}
-use Rattle.rd_tokens.specs.Words.{SaysTerm}
-use Rattle.rd_tokens.proofs.TermLemmas.{one_term}
+use Rattle.rd_tokens.specs.Words.{SaysTermIn}
+use Rattle.rd_tokens.proofs.TermLemmas.{one_term_in}
 use Rattle.std.proofs.lemmas.Bool.{and_from}
 
-pub ready : (scope : Scope) (read : ParsedTree) → NoneOf (IsUnknown scope) (terms_in read) → NoneOf (IsBare scope) (relations_in read) → IsReady scope read
-ready scope (read_truth value token) h k = tt
+pub ready : (scope : Scope) (read : ParsedTree) → NoneOf (IsUnknownUse scope) (uses_in read) → NoneOf (IsBare scope) (relations_in read) → IsReady scope read
+ready scope (leaf (Truth value) token) h k = tt
+ready scope (leaf Name token) h k = h.0
 ready scope (relation left sign token right) h k = (h.0, h.1.0, k.0)
 ready scope (read_not token f) h k = ready scope f h k
 ready scope (read_and f token g) h k = (
-  ready scope f (none_left (IsUnknown scope) (terms_in f) (terms_in g) h) (none_left (IsBare scope) (relations_in f) (relations_in g) k),
-  ready scope g (none_right (IsUnknown scope) (terms_in f) (terms_in g) h) (none_right (IsBare scope) (relations_in f) (relations_in g) k),
+  ready scope f (none_left (IsUnknownUse scope) (uses_in f) (uses_in g) h) (none_left (IsBare scope) (relations_in f) (relations_in g) k),
+  ready scope g (none_right (IsUnknownUse scope) (uses_in f) (uses_in g) h) (none_right (IsBare scope) (relations_in f) (relations_in g) k),
 )
 ready scope (read_or f token g) h k = (
-  ready scope f (none_left (IsUnknown scope) (terms_in f) (terms_in g) h) (none_left (IsBare scope) (relations_in f) (relations_in g) k),
-  ready scope g (none_right (IsUnknown scope) (terms_in f) (terms_in g) h) (none_right (IsBare scope) (relations_in f) (relations_in g) k),
+  ready scope f (none_left (IsUnknownUse scope) (uses_in f) (uses_in g) h) (none_left (IsBare scope) (relations_in f) (relations_in g) k),
+  ready scope g (none_right (IsUnknownUse scope) (uses_in f) (uses_in g) h) (none_right (IsBare scope) (relations_in f) (relations_in g) k),
 )
 
 -- a value is no variable
-no_value : (scope : Scope) (number : ℕ) (value : Value) → IsVariableAt scope number → SaysTerm (token_bytes_at scope number) (ValueSaid value) → ⊥
+pub no_value : (scope : Scope) (number : ℕ) (value : Value) → IsVariableAt scope number → SaysTermIn scope.dialect (token_bytes_at scope number) (ValueSaid value) → ⊥
 no_value scope number value (side, name, says) other =
     let bytes = token_bytes_at scope number in
-    let same : Variable side name ≡ ValueSaid value = one_term bytes (Variable side name) (ValueSaid value) says other in
+    let same : Variable side name ≡ ValueSaid value = one_term_in scope.dialect bytes (Variable side name) (ValueSaid value) says other in
     absurd (cc)
 
 -- a variable that has a slot is known
-known_is : (scope : Scope) (number : ℕ) (side other : Side) (name word : List ℕ) (slot : ℕ) → SaysTerm (token_bytes_at scope number) (Variable side name)
-    → SaysTerm (token_bytes_at scope number) (Variable other word) → slice_get (variables_of scope side) slot ≡ Some name → ¬ (Contains (variables_of scope other) word) → ⊥
+known_is : (scope : Scope) (number : ℕ) (side other : Side) (name word : List ℕ) (slot : ℕ) → SaysTermIn scope.dialect (token_bytes_at scope number) (Variable side name)
+    → SaysTermIn scope.dialect (token_bytes_at scope number) (Variable other word) → slice_get (variables_of scope side) slot ≡ Some name → ¬ (Contains (variables_of scope other) word) → ⊥
 known_is scope number side other name word slot says is found lacks =
-    let same : Variable side name ≡ Variable other word = one_term (token_bytes_at scope number) (Variable side name) (Variable other word) says is in
+    let same : Variable side name ≡ Variable other word = one_term_in scope.dialect (token_bytes_at scope number) (Variable side name) (Variable other word) says is in
     let sides : side ≡ other = cc in
     let names : name ≡ word = cc in
     let within = slice_get_within (variables_of scope side) slot name found in
@@ -54,7 +62,7 @@ known_is scope number side other name word slot says is found lacks =
     lacks (subst (λ (s : Side). Contains (variables_of scope s) word) sides (subst (λ (n : List ℕ). Contains (variables_of scope side) n) names (slot, within, at)))
 
 -- a variable is unknown where no slot is found for it
-unknown_at : (scope : Scope) (number : ℕ) (side : Side) (name : List ℕ) (o : Option ℕ) → SaysTerm (token_bytes_at scope number) (Variable side name)
+unknown_at : (scope : Scope) (number : ℕ) (side : Side) (name : List ℕ) (o : Option ℕ) → SaysTermIn scope.dialect (token_bytes_at scope number) (Variable side name)
     → IfSome o (λ slot. slice_get (variables_of scope side) slot ≡ Some name) → IfNone o (¬ (Contains (variables_of scope side) name))
     → (is_some o ≡ false → IsUnknown scope number) × (IsUnknown scope number → is_some o ≡ false)
 unknown_at scope number side name None says found none = ((λ h. (side, name, says, none)), (λ h. refl))
@@ -62,7 +70,7 @@ unknown_at scope number side name (Some slot) says found none =
     ((λ h. absurd (cc)), λ (other, word, is, lacks). absurd (known_is scope number side other name word slot says is found lacks))
 
 pub unknown_by : (scope : Scope) (number : ℕ) (side : Side) (name : List ℕ) (o : Option ℕ) (r : Bool) → is_some o ≡ not r
-    → SaysTerm (token_bytes_at scope number) (Variable side name) → IfSome o (λ slot. slice_get (variables_of scope side) slot ≡ Some name)
+    → SaysTermIn scope.dialect (token_bytes_at scope number) (Variable side name) → IfSome o (λ slot. slice_get (variables_of scope side) slot ≡ Some name)
     → IfNone o (¬ (Contains (variables_of scope side) name)) → (IsTrue r → IsUnknown scope number) × (IsUnknown scope number → IsTrue r)
 unknown_by scope number side name o true e says found none =
     let h = unknown_at scope number side name o says found none in
@@ -135,18 +143,44 @@ related_of scope sign left right (ValueOf v) (SlotOf Second j) f h (b, t, k) e =
     subst (IsOf _ _) (same_Some _ _ e) (sided_fits sign Second (Const v) (Slot j) _ _ tt (slice_get_within _ j b k), sided_slots sign Second (Const v) (Slot j) refl)
 related_of scope sign left right (ValueOf v) (ValueOf w) f h k e = absurd (cc)
 
-pub given_of : (scope : Scope) (read : ParsedTree) (f : Tree) → Gives (MeansAt scope) read f → IsOf (length scope.first.now) (length scope.second.now) f
-given_of scope (read_truth value token) f e = rw e (tt, refl)
-given_of scope (relation left sign token right) f (x, y, h, k, e) = related_of scope sign left right x y f h k e
-given_of scope (read_not token g) f (h, e, given) = rw e (given_of scope g h given)
-given_of scope (read_and g token h) f (k, l, e, left, right) =
-    let a = given_of scope g k left in
-    let b = given_of scope h l right in
+-- what was read is one, where each used name stands for one
+gives_of : (scope : Scope) (Stands : ℕ → Tree → Type 0) (read : ParsedTree) (f : Tree)
+    → ((token : ℕ) (g : Tree) → Stands token g → IsOf (length scope.first.now) (length scope.second.now) g)
+    → Gives (MeansAt scope) Stands read f → IsOf (length scope.first.now) (length scope.second.now) f
+gives_of scope Stands (leaf (Truth value) token) f names e = rw e (tt, refl)
+gives_of scope Stands (leaf Name token) f names given = names token f given
+gives_of scope Stands (relation left sign token right) f names (x, y, h, k, e) = related_of scope sign left right x y f h k e
+gives_of scope Stands (read_not token g) f names (h, e, given) = rw e (gives_of scope Stands g h names given)
+gives_of scope Stands (read_and g token h) f names (k, l, e, left, right) =
+    let a = gives_of scope Stands g k names left in
+    let b = gives_of scope Stands h l names right in
     rw e ((a.0, b.0), and_from (has_slots k) (has_slots l) a.1 b.1)
-given_of scope (read_or g token h) f (k, l, e, left, right) =
-    let a = given_of scope g k left in
-    let b = given_of scope h l right in
+gives_of scope Stands (read_or g token h) f names (k, l, e, left, right) =
+    let a = gives_of scope Stands g k names left in
+    let b = gives_of scope Stands h l names right in
     rw e ((a.0, b.0), and_from (has_slots k) (has_slots l) a.1 b.1)
+
+pub outlined_of : (scope : Scope) (read : ParsedTree) (f : Tree) → Outlines scope read f → IsOf (length scope.first.now) (length scope.second.now) f
+outlined_of scope read f given = gives_of scope IsTruth read f (λ token g e. rw e (tt, refl)) given
+
+-- what a name stands for is a formula of its side's slots
+on_a_side : (m n : ℕ) (side : Side) (f : Tree) → IsPair f (of_side side m n) (of_side side m n) → crosses_sides f ≡ false → IsOf m n (on_side side f)
+on_a_side m n First f pair alone = ((fits_there f m n alone pair.fits).0, slots_there First f ∙ pair.slots)
+on_a_side m n Second f pair alone = ((fits_there f n m alone pair.fits).1, slots_there Second f ∙ pair.slots)
+
+-- what a definition of a side's method says
+pub defined_is : (scope : Scope) (side : Side) (name : List ℕ) (f : Tree) → IsScope scope → formula_of (definitions_of scope side) name ≡ Some f
+    → IsDefined (of_side side (length scope.first.now) (length scope.second.now)) (record { name = name; formula = f })
+defined_is scope First name f is found = defined_found (length scope.first.now) scope.first_definitions.now name f is.first_defined found
+defined_is scope Second name f is found = defined_found (length scope.second.now) scope.second_definitions.now name f is.second_defined found
+
+standing_of : (scope : Scope) (token : ℕ) (f : Tree) → IsScope scope → NameStandsFor scope token f → IsOf (length scope.first.now) (length scope.second.now) f
+standing_of scope token f is (side, name, defined, says, found, e) =
+    let has = defined_is scope side name defined is found in
+    rw e (on_a_side (length scope.first.now) (length scope.second.now) side defined has.pair has.alone)
+
+pub given_of : (scope : Scope) (read : ParsedTree) (f : Tree) → IsScope scope → SaysTree scope read f → IsOf (length scope.first.now) (length scope.second.now) f
+given_of scope read f is given = gives_of scope (NameStandsFor scope) read f (λ token g stands. standing_of scope token g is stands) given
 
 -- each node has a token
 sided_nodes : (sign : Sign) (side : Side) (x y : Term) (left token right : ℕ)
@@ -177,26 +211,27 @@ related_nodes sign left token right (ValueOf v) (SlotOf First j) f e = subst (Ha
 related_nodes sign left token right (ValueOf v) (SlotOf Second j) f e = subst (HasNodes (relation left sign token right)) (same_Some _ _ e) (sided_nodes sign Second (Const v) (Slot j) left token right)
 related_nodes sign left token right (ValueOf v) (ValueOf w) f e = absurd (cc)
 
-pub given_nodes : (Means : ℕ → Meant → Type 0) (read : ParsedTree) (f : Tree) → Gives Means read f → HasNodes read f
-given_nodes Means (read_truth value token) f e = rw e refl
-given_nodes Means (relation left sign token right) f (x, y, h, k, e) = related_nodes sign left token right x y f e
-given_nodes Means (read_not token g) f (h, e, given) =
-    rw e (omega (arith, given_nodes Means g h given, length-append (node_tokens g h) (token ∷ []), length-append (post_order h) (negation h ∷ [])))
-given_nodes Means (read_and g token h) f (k, l, e, left, right) =
+pub given_nodes : (Means : ℕ → Meant → Type 0) (Stands : ℕ → Tree → Type 0) (read : ParsedTree) (f : Tree) → Gives Means Stands read f → HasNodes read f
+given_nodes Means Stands (leaf (Truth value) token) f e = rw e refl
+given_nodes Means Stands (leaf Name token) f given = length-replicate (nodes f) token
+given_nodes Means Stands (relation left sign token right) f (x, y, h, k, e) = related_nodes sign left token right x y f e
+given_nodes Means Stands (read_not token g) f (h, e, given) =
+    rw e (omega (arith, given_nodes Means Stands g h given, length-append (node_tokens g h) (token ∷ []), length-append (post_order h) (negation h ∷ [])))
+given_nodes Means Stands (read_and g token h) f (k, l, e, left, right) =
     rw e (omega (
       arith,
-      given_nodes Means g k left,
-      given_nodes Means h l right,
+      given_nodes Means Stands g k left,
+      given_nodes Means Stands h l right,
       length-append (node_tokens g k ++ node_tokens h l) (token ∷ []),
       length-append (node_tokens g k) (node_tokens h l),
       length-append (post_order k ++ post_order l) (both k l ∷ []),
       length-append (post_order k) (post_order l),
     ))
-given_nodes Means (read_or g token h) f (k, l, e, left, right) =
+given_nodes Means Stands (read_or g token h) f (k, l, e, left, right) =
     rw e (omega (
       arith,
-      given_nodes Means g k left,
-      given_nodes Means h l right,
+      given_nodes Means Stands g k left,
+      given_nodes Means Stands h l right,
       length-append (node_tokens g k ++ node_tokens h l) (token ∷ []),
       length-append (node_tokens g k) (node_tokens h l),
       length-append (post_order k ++ post_order l) (either k l ∷ []),

@@ -1,17 +1,18 @@
 -- What the text of a formula says of two calls: this project's profile.
-use Rattle.std.specs.Prelude.{◌≡◌, ℕ, Bool, true, false, List, [], ◌∷◌, ◌++◌, Option, Some, None, option_map}
+use Rattle.std.specs.Prelude.{◌≡◌, ℕ, Bool, true, false, List, [], ◌∷◌, ◌++◌, Option, Some, None, option_map, replicate}
 use Rattle.std.specs.List.{AllByRecursion}
 use Rattle.rd_ecl.specs.declared.formulas.Rel.TheVariants.{Eq, Lt, Le}
 use Rattle.rd_ecl.specs.declared.formulas.Side.{Side}
 use Rattle.rd_ecl.specs.declared.formulas.Side.TheVariants.{First, Second}
 use Rattle.rd_ecl.specs.declared.formulas.Term.{Term}
 use Rattle.rd_ecl.specs.declared.formulas.Term.TheVariants.{Slot, Const}
-use Rattle.rd_ecl.specs.Formulas.{Tree, truth, atom, cross, mixed, negation, both, either}
+use Rattle.rd_ecl.specs.Formulas.{Tree, nodes, truth, atom, cross, mixed, negation, both, either}
 use Rattle.rd_formulas.specs.declared.terms.Meant.{Meant}
 use Rattle.rd_formulas.specs.declared.terms.Meant.TheVariants.{Slot as SlotOf, Value as ValueOf}
+use Rattle.rd_grammar.specs.declared.marks.Leaf.TheVariants.{Name, Truth}
 use Rattle.rd_grammar.specs.declared.marks.Sign.{Sign}
 use Rattle.rd_grammar.specs.declared.marks.Sign.TheVariants.{Equal, Different, Less, AtMost}
-use Rattle.rd_grammar.specs.Grammar.{ParsedTree, truth as read_truth, relation, negation as read_not, both as read_and, either as read_or}
+use Rattle.rd_grammar.specs.Grammar.{ParsedTree, leaf, relation, negation as read_not, both as read_and, either as read_or}
 
 -- a relation on one side
 abbrev pub sided_relation : Sign → Side → Term → Term → Tree
@@ -37,22 +38,34 @@ relation_of_terms sign (SlotOf side left) (ValueOf value) = Some (sided_relation
 relation_of_terms sign (ValueOf value) (SlotOf side right) = Some (sided_relation sign side (Const value) (Slot right))
 relation_of_terms sign (ValueOf left) (ValueOf right) = None
 
--- the formula that was read, where the terms have these meanings by the numbers of their tokens
-abbrev pub Gives : (ℕ → Meant → Type 0) → ParsedTree → Tree → Type 0
-Gives Means (read_truth value token) formula = formula ≡ truth value
-Gives Means (relation left sign token right) formula =
+-- the formula that was read, where by the numbers of their tokens the terms have these meanings and the used names stand for these formulas
+abbrev pub Gives : (ℕ → Meant → Type 0) → (ℕ → Tree → Type 0) → ParsedTree → Tree → Type 0
+Gives Means Stands (leaf (Truth value) token) formula = formula ≡ truth value
+Gives Means Stands (leaf Name token) formula = Stands token formula
+Gives Means Stands (relation left sign token right) formula =
     (x : Meant) × (y : Meant) × Means left x × Means right y × (relation_of_terms sign x y ≡ Some formula)
-Gives Means (read_not token f) formula = (g : Tree) × (formula ≡ negation g) × Gives Means f g
-Gives Means (read_and f token g) formula = (h : Tree) × (k : Tree) × (formula ≡ both h k) × Gives Means f h × Gives Means g k
-Gives Means (read_or f token g) formula = (h : Tree) × (k : Tree) × (formula ≡ either h k) × Gives Means f h × Gives Means g k
+Gives Means Stands (read_not token f) formula = (g : Tree) × (formula ≡ negation g) × Gives Means Stands f g
+Gives Means Stands (read_and f token g) formula =
+    (h : Tree) × (k : Tree) × (formula ≡ both h k) × Gives Means Stands f h × Gives Means Stands g k
+Gives Means Stands (read_or f token g) formula =
+    (h : Tree) × (k : Tree) × (formula ≡ either h k) × Gives Means Stands f h × Gives Means Stands g k
 
--- the numbers of its terms, from left to right
-abbrev pub terms_in : ParsedTree → List ℕ
-terms_in (read_truth value token) = []
-terms_in (relation left sign token right) = left ∷ right ∷ []
-terms_in (read_not token f) = terms_in f
-terms_in (read_and f token g) = terms_in f ++ terms_in g
-terms_in (read_or f token g) = terms_in f ++ terms_in g
+-- what a formula uses, from left to right: the terms of its relations, and names; each by the number of its token
+pub data Use : Type 0 where
+  of_term : ℕ → Use
+  of_name : ℕ → Use
+
+abbrev pub use_token : Use → ℕ
+use_token (of_term token) = token
+use_token (of_name token) = token
+
+abbrev pub uses_in : ParsedTree → List Use
+uses_in (leaf (Truth value) token) = []
+uses_in (leaf Name token) = of_name token ∷ []
+uses_in (relation left sign token right) = of_term left ∷ of_term right ∷ []
+uses_in (read_not token f) = uses_in f
+uses_in (read_and f token g) = uses_in f ++ uses_in g
+uses_in (read_or f token g) = uses_in f ++ uses_in g
 
 -- a relation that was read: the numbers of its sign and of its two terms
 pub record Related : Type 0 where
@@ -62,7 +75,7 @@ pub record Related : Type 0 where
 
 -- its relations, from left to right
 abbrev pub relations_in : ParsedTree → List Related
-relations_in (read_truth value token) = []
+relations_in (leaf word token) = []
 relations_in (relation left sign token right) = record { sign = token; left = left; right = right } ∷ []
 relations_in (read_not token f) = relations_in f
 relations_in (read_and f token g) = relations_in f ++ relations_in g
@@ -85,12 +98,18 @@ earlier None second = second
 abbrev pub IsFirstSign : (Related → Type 0) → List Related → Option ℕ → Type 0
 IsFirstSign P asked sign = (first : Option Related) × IsFirst P asked first × (sign ≡ option_map (λ it. it.sign) first)
 
--- the numbers of the tokens of a formula's nodes, in post-order; a relation with `!=` on one side is two nodes of one sign
+-- the token of the first of these uses with the property
+abbrev pub IsFirstUse : (Use → Type 0) → List Use → Option ℕ → Type 0
+IsFirstUse P uses token = (first : Option Use) × IsFirst P uses first × (token ≡ option_map use_token first)
+
+-- the numbers of the tokens of a formula's nodes, in post-order; a relation with `!=` on one side is two nodes of one sign, and each
+-- node of what a name stands for is one of the name
 abbrev pub node_tokens : ParsedTree → Tree → List ℕ
+node_tokens (leaf Name token) formula = replicate (nodes formula) token
 node_tokens (relation left sign token right) (negation f) = token ∷ token ∷ []
 node_tokens (relation left sign token right) formula = token ∷ []
 node_tokens (read_not token f) (negation g) = node_tokens f g ++ token ∷ []
 node_tokens (read_and f token g) (both h k) = (node_tokens f h ++ node_tokens g k) ++ token ∷ []
 node_tokens (read_or f token g) (either h k) = (node_tokens f h ++ node_tokens g k) ++ token ∷ []
-node_tokens (read_truth value token) formula = token ∷ []
+node_tokens (leaf (Truth value) token) formula = token ∷ []
 node_tokens read formula = []

@@ -1,8 +1,8 @@
 //! The formula of what was read, and the tokens of its nodes.
 ghost use Rattle.std.specs.Prelude.{◌≡◌, ◌<◌, ◌≤◌, ◌^◌, ℕ, length, IfOk, IfSome, IfNone, Some, None, slice_get};
 ghost use Rattle.rd_ecl.specs.Formulas.{both, either, negation, tree_of, truth};
-ghost use Rattle.rd_formulas.specs.Meaning.{Gives, node_tokens};
-ghost use Rattle.rd_formulas.specs.Scope.{HasTerms, IsReady, IsScope, MeansAt};
+ghost use Rattle.rd_formulas.specs.Meaning.{node_tokens};
+ghost use Rattle.rd_formulas.specs.Scope.{HasTerms, IsReady, IsScope, Outlines};
 ghost use Rattle.rd_grammar.specs.Grammar.{relation, parsed_tree};
 ghost use Rattle.rd_grammar.specs.Numbers.{named_by};
 
@@ -10,7 +10,7 @@ use crate::scope::Scope;
 use crate::terms::{meaning, related};
 use rd_base::{MOST_TOKENS, NoMemory};
 use rd_ecl::Formula;
-use rd_grammar::{Parsed, Sign};
+use rd_grammar::{Leaf, Parsed, Sign};
 use std::alloc::Global;
 
 // A relation of two terms, by their tokens' numbers.
@@ -26,7 +26,7 @@ fn relation(
     requires { IsScope scope.now × HasTerms scope.now (relation left sign token right)
         × IsReady scope.now (relation left sign token right) }
     ensures { IfOk result
-        (λ formula. Gives (MeansAt scope.now) (relation left sign token right)
+        (λ formula. Outlines scope.now (relation left sign token right)
         (tree_of formula)) }
 {
     let left = meaning(alloc, scope, left)?;
@@ -56,7 +56,7 @@ fn boxed_relation(
     requires { IsScope scope.now × HasTerms scope.now (relation left sign token right)
         × IsReady scope.now (relation left sign token right) }
     ensures { IfOk result
-        (λ formula. Gives (MeansAt scope.now) (relation left sign token right)
+        (λ formula. Outlines scope.now (relation left sign token right)
         (tree_of formula.value)) }
 {
     let formula = relation(alloc, scope, left, sign, token, right)?;
@@ -64,14 +64,18 @@ fn boxed_relation(
 }
 
 #[inline(never)]
-fn negated(alloc: Global, inner: Box<Formula>) -> Result<Box<Formula>, NoMemory>
+pub(crate) fn negated(alloc: Global, inner: Box<Formula>) -> Result<Box<Formula>, NoMemory>
     ensures { IfOk result (λ formula. tree_of formula.value ≡ negation (tree_of inner.value)) }
 {
     Ok(Box::new(alloc, Formula::Not(inner))?)
 }
 
 #[inline(never)]
-fn both(alloc: Global, left: Box<Formula>, right: Box<Formula>) -> Result<Box<Formula>, NoMemory>
+pub(crate) fn both(
+    alloc: Global,
+    left: Box<Formula>,
+    right: Box<Formula>,
+) -> Result<Box<Formula>, NoMemory>
     ensures { IfOk result
         (λ formula. tree_of formula.value ≡ both (tree_of left.value) (tree_of right.value)) }
 {
@@ -79,23 +83,30 @@ fn both(alloc: Global, left: Box<Formula>, right: Box<Formula>) -> Result<Box<Fo
 }
 
 #[inline(never)]
-fn either(alloc: Global, left: Box<Formula>, right: Box<Formula>) -> Result<Box<Formula>, NoMemory>
+pub(crate) fn either(
+    alloc: Global,
+    left: Box<Formula>,
+    right: Box<Formula>,
+) -> Result<Box<Formula>, NoMemory>
     ensures { IfOk result
         (λ formula. tree_of formula.value ≡ either (tree_of left.value) (tree_of right.value)) }
 {
     Ok(Box::new(alloc, Formula::Or(left, right))?)
 }
 
-// The formula of what was read, in memory of its own.
+// The formula of what was read, in memory of its own, with `true` where a name is used.
 fn boxed(alloc: Global, scope: &Scope, parsed: &Parsed) -> Result<Box<Formula>, NoMemory>
     requires ready { IsScope scope.now × HasTerms scope.now (parsed_tree parsed.now)
         × IsReady scope.now (parsed_tree parsed.now) }
     requires few { length (named_by (parsed_tree parsed.now)) ≤ MOST_TOKENS }
     ensures { IfOk result
-        (λ formula. Gives (MeansAt scope.now) (parsed_tree parsed.now) (tree_of formula.value)) }
+        (λ formula. Outlines scope.now (parsed_tree parsed.now) (tree_of formula.value)) }
 {
     match parsed {
-        Parsed::Truth { value, .. } => truth(alloc, *value),
+        Parsed::Leaf { leaf, .. } => match leaf {
+            Leaf::Truth(value) => truth(alloc, *value),
+            Leaf::Name => truth(alloc, true),
+        },
         Parsed::Relation {
             left,
             sign,
@@ -119,13 +130,13 @@ fn boxed(alloc: Global, scope: &Scope, parsed: &Parsed) -> Result<Box<Formula>, 
     }
 }
 
-/// The formula of what was read, of at most 512 tokens.
+/// The formula of what was read, of at most 512 tokens, with `true` where a name is used.
 pub fn build(alloc: Global, scope: &Scope, parsed: &Parsed) -> Result<Formula, NoMemory>
     requires ready { IsScope scope.now × HasTerms scope.now (parsed_tree parsed.now)
         × IsReady scope.now (parsed_tree parsed.now) }
     requires few { length (named_by (parsed_tree parsed.now)) ≤ MOST_TOKENS }
     ensures { IfOk result
-        (λ formula. Gives (MeansAt scope.now) (parsed_tree parsed.now) (tree_of formula)) }
+        (λ formula. Outlines scope.now (parsed_tree parsed.now) (tree_of formula)) }
 {
     let formula = boxed(alloc, scope, parsed)?;
     Ok(Box::into_inner(formula))

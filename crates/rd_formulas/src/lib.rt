@@ -2,6 +2,7 @@
 #![tactic(auto)]
 
 mod building;
+mod expansion;
 mod finding;
 mod places;
 mod reading;
@@ -9,6 +10,7 @@ mod scope;
 mod terms;
 
 pub use building::build;
+pub use expansion::{Size, expand, expanded_size};
 pub use finding::{first_bare, first_unknown};
 pub use places::token_of_node;
 pub use reading::{FormulaRefused, read_formula, resolve};

@@ -1,11 +1,11 @@
 //! Reading a formula.
-ghost use Rattle.std.specs.Prelude.{◌≡◌, ◌≤◌, ◌<◌, ◌-◌, ◌^◌, ℕ, length, IfOk, IfErr, Some};
+ghost use Rattle.std.specs.Prelude.{◌≡◌, ◌≢◌, ◌≤◌, ◌<◌, ◌-◌, ◌^◌, ℕ, length, IfOk, IfErr, Some};
 ghost use Rattle.rd_ecl.specs.Formulas.{first_offence, post_order, tree_of};
 ghost use Rattle.rd_formulas.specs.declared.reading.FormulaRefused.TheVariants.{NoMemory as MemoryRefused};
-ghost use Rattle.rd_formulas.specs.Meaning.{Gives};
-ghost use Rattle.rd_formulas.specs.Reading.{IsFormula, IsFormulaRefused, IsTroubled, SaysFormula};
-ghost use Rattle.rd_formulas.specs.Scope.{HasTerms, IsReady, IsScope, MeansAt};
+ghost use Rattle.rd_formulas.specs.Reading.{IsFormula, IsFormulaRefused, IsTroubled, OutlinesFormula, SaysFormula};
+ghost use Rattle.rd_formulas.specs.Scope.{HasTerms, IsReady, IsScope, Outlines};
 ghost use Rattle.rd_grammar.specs.Grammar.{parsed_tree};
+ghost use Rattle.rd_tokens.specs.declared.words.dialects.Dialect.TheVariants.{Named};
 ghost use Rattle.rd_grammar.specs.Numbers.{named_by};
 
 use crate::building::build;
@@ -25,7 +25,7 @@ pub enum FormulaRefused {
     /// the first wrong token; behind the line, where it ends too early
     #[error("wrong at byte {place}")]
     Syntax { place: u32 },
-    /// the first variable that isn't one of its side's method
+    /// the first variable that isn't one of its side's method, or used name that isn't a definition of it
     #[error("unknown variable at byte {place}")]
     UnknownVariable { place: u32 },
     /// the sign of the first relation that has no variable
@@ -54,10 +54,12 @@ fn refused_outside(
     formula: &Formula,
     outside: Outside,
 ) -> FormulaRefused
-    requires scope { length scope.now.line.now < 2 ^ 32 - 1 }
+    requires scope { IsScope scope.now × (length scope.now.line.now < 2 ^ 32 - 1) }
+    requires ready { HasTerms scope.now (parsed_tree parsed.now)
+        × IsReady scope.now (parsed_tree parsed.now) }
     requires few { length (named_by (parsed_tree parsed.now)) ≤ MOST_TOKENS }
     requires outside { first_offence 0 (post_order (tree_of formula.now)) ≡ Some outside }
-    requires gives { Gives (MeansAt scope.now) (parsed_tree parsed.now) (tree_of formula.now) }
+    requires outlines { Outlines scope.now (parsed_tree parsed.now) (tree_of formula.now) }
     ensures { IsTroubled scope.now (parsed_tree parsed.now) result }
 {
     let number = token_of_node(parsed, formula, outside.node).unwrap();
@@ -67,14 +69,14 @@ fn refused_outside(
     }
 }
 
-// The formula of what was read whose terms all have a meaning.
+// The formula of what was read whose terms and names all have a meaning, with `true` where a name is used.
 fn built(alloc: Global, scope: &Scope, parsed: &Parsed) -> Result<Formula, FormulaRefused>
     requires scope { IsScope scope.now × (length scope.now.line.now < 2 ^ 32 - 1) }
     requires ready { HasTerms scope.now (parsed_tree parsed.now)
         × IsReady scope.now (parsed_tree parsed.now) }
     requires few { length (named_by (parsed_tree parsed.now)) ≤ MOST_TOKENS }
-    ensures gives { IfOk result
-        (λ formula. Gives (MeansAt scope.now) (parsed_tree parsed.now) (tree_of formula)) }
+    ensures outlines { IfOk result
+        (λ formula. Outlines scope.now (parsed_tree parsed.now) (tree_of formula)) }
     ensures formula { IfOk result (λ formula. IsFormula scope.now (tree_of formula)) }
     ensures refused { IfErr result (IsTroubled scope.now (parsed_tree parsed.now)) }
 {
@@ -85,14 +87,15 @@ fn built(alloc: Global, scope: &Scope, parsed: &Parsed) -> Result<Formula, Formu
     }
 }
 
-/// The formula of what was read, or the first thing that is wrong with it.
+/// The formula of what was read, with `true` where a name is used, or the first thing that is wrong with what was read.
 pub fn resolve(alloc: Global, scope: &Scope, parsed: &Parsed) -> Result<Formula, FormulaRefused>
     requires scope { IsScope scope.now × (length scope.now.line.now < 2 ^ 32 - 1) }
     requires terms { HasTerms scope.now (parsed_tree parsed.now) }
     requires few { length (named_by (parsed_tree parsed.now)) ≤ MOST_TOKENS }
-    ensures gives { IfOk result
-        (λ formula. Gives (MeansAt scope.now) (parsed_tree parsed.now) (tree_of formula)) }
+    ensures outlines { IfOk result
+        (λ formula. Outlines scope.now (parsed_tree parsed.now) (tree_of formula)) }
     ensures formula { IfOk result (λ formula. IsFormula scope.now (tree_of formula)) }
+    ensures ready { IfOk result (λ formula. IsReady scope.now (parsed_tree parsed.now)) }
     ensures refused { IfErr result (IsTroubled scope.now (parsed_tree parsed.now)) }
 {
     if let Some(number) = first_unknown(scope, parsed) {
@@ -108,15 +111,17 @@ pub fn resolve(alloc: Global, scope: &Scope, parsed: &Parsed) -> Result<Formula,
     built(alloc, scope, parsed)
 }
 
-/// The formula that tokens say, at most 512 of them; else the first thing that is wrong with them.
+/// The formula that tokens say, at most 512 of them, with `true` where a name is used; else the first thing that is wrong with them.
 pub fn read_formula(alloc: Global, scope: &Scope) -> Result<Formula, FormulaRefused>
     requires scope { IsScope scope.now × (length scope.now.line.now < 2 ^ 32 - 1) }
     requires few { length scope.now.tokens.now ≤ MOST_TOKENS }
-    ensures says { IfOk result (λ formula. SaysFormula scope.now (tree_of formula)) }
+    ensures outlines { IfOk result (λ formula. OutlinesFormula scope.now (tree_of formula)) }
+    ensures says { IfOk result
+        (λ formula. scope.now.dialect ≢ Named → SaysFormula scope.now (tree_of formula)) }
     ensures formula { IfOk result (λ formula. IsFormula scope.now (tree_of formula)) }
     ensures refused { IfErr result (IsFormulaRefused scope.now) }
 {
-    let marks = marks(alloc, scope.line, scope.tokens)?;
+    let marks = marks(alloc, scope.dialect, scope.line, scope.tokens)?;
     match parse_formula(alloc, marks.items()) {
         Ok(parsed) => resolve(alloc, scope, &parsed),
         Err(MarksRefused::Syntax(number)) => Err(FormulaRefused::Syntax {

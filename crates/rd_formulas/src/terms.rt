@@ -25,7 +25,7 @@ pub fn meaning(alloc: Global, scope: &Scope, number: u32) -> Result<Meant, NoMem
     requires { IsScope scope.now × IsTermAt scope.now number × (¬ (IsUnknown scope.now number)) }
     ensures { IfOk result (MeansAt scope.now number) }
 {
-    match read_term(alloc, scope.word(number))? {
+    match read_term(alloc, scope.dialect, scope.word(number))? {
         Some(Said::Variable { side, name }) => Ok(Meant::Slot {
             side,
             slot: scope.slot(side, name.items()).unwrap(),

@@ -3,7 +3,10 @@ pub mod LiftLemmas
 pub mod KindLemmas
 pub mod MethodLemmas
 pub mod OrderLemmas
+pub mod SpokenLemmas
 pub mod FormulaLemmas
 pub mod CommuteLemmas
+pub mod DefineLemmas
+pub mod DefaultLemmas
 pub mod LineLemmas
 pub mod WordLemmas

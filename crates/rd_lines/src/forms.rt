@@ -7,13 +7,24 @@ use rd_ecl::Names;
 use rd_grammar::Parsed;
 use thiserror::Error;
 
+/// The version of a text, which its header tells. Version 2 has definitions and a default.
+#[derive(Clone, Copy, Debug, PartialEq, Eq)]
+pub enum Version {
+    One,
+    Two,
+}
+
 /// Where a line stands.
-#[derive(Clone, Copy, PartialEq, Eq)]
+#[derive(Clone, Copy, Debug, PartialEq, Eq)]
 pub enum Stage {
     /// before the first kind
     Outside,
-    /// in a kind, before its first pair
+    /// in a kind, behind its methods alone
     Methods,
+    /// in a kind, behind a definition
+    Definitions,
+    /// in a kind, behind its default
+    Defaulted,
     /// in a kind, behind a pair
     Pairs,
 }
@@ -35,6 +46,14 @@ pub enum Form {
         second: Name,
         formula: Parsed,
     },
+    /// a name, the third token, stands for a formula of a method, whose name is the second; its tokens are numbered from 0
+    Define {
+        method: Name,
+        name: Name,
+        formula: Parsed,
+    },
+    /// each pair without a line of its own commutes always, or never
+    Default(bool),
 }
 
 /// Why a line says nothing.

@@ -2,6 +2,7 @@
 ghost use Rattle.std.specs.Prelude.{◌≡◌, ◌≤◌, ◌<◌, ◌+◌, ◌^◌, ◌∷◌, ℕ, List, All, IfOk, IfErr, codes, length};
 ghost use Rattle.rd_tokens.specs.Tokens.{LiesIn};
 ghost use Rattle.rd_lines.specs.declared.forms.Stage.TheVariants.{Methods};
+ghost use Rattle.rd_lines.specs.declared.forms.Version.{Version};
 ghost use Rattle.rd_lines.specs.Lines.{IsFormRefused, IsWrongBehind, RightLine, plain, said_of, words_of};
 ghost use Rattle.rd_lines.specs.Reading.{AreInFront, SaysResult};
 
@@ -62,11 +63,11 @@ fn read_result(line: &[u8], tokens: &[Token]) -> Result<Name, u32>
 pub(crate) fn read_method(alloc: Global, line: &[u8], tokens: &[Token]) -> Result<Form, FormRefused>
     requires within { All (LiesIn line.now) tokens.now }
     requires few { length tokens.now + 2 < 2 ^ 32 }
-    ensures ok { IfOk result (λ form. (methods : List (List ℕ))
-        → RightLine Methods methods (plain (codes "method") ∷ words_of line.now tokens.now)
+    ensures ok { IfOk result (λ form. (version : Version) (methods : List (List ℕ))
+        → RightLine version Methods methods (plain (codes "method") ∷ words_of line.now tokens.now)
         (said_of form)) }
-    ensures refused { IfErr result (λ refused. (methods : List (List ℕ))
-        → IsFormRefused Methods methods
+    ensures refused { IfErr result (λ refused. (version : Version) (methods : List (List ℕ))
+        → IsFormRefused version Methods methods
         (plain (codes "method") ∷ words_of line.now tokens.now) refused) }
 {
     let Some((second, rest)) = tokens.split_first() else {

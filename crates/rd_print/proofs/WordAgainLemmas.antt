@@ -18,20 +18,24 @@ use Rattle.rd_ecl.specs.Variables.{IsVariable}
 use Rattle.rd_formulas.specs.declared.scope.Scope.{Scope}
 use Rattle.rd_formulas.specs.declared.terms.Meant.{Meant}
 use Rattle.rd_formulas.specs.declared.terms.Meant.TheVariants.{Slot as SlotOf, Value as ValueOf}
-use Rattle.rd_formulas.specs.Meaning.{Gives, cross_relation, relation_of_terms, sided_relation}
+use Rattle.rd_formulas.specs.Meaning.{cross_relation, relation_of_terms, sided_relation}
 use Rattle.rd_formulas.specs.Reading.{SaysFormula}
-use Rattle.rd_formulas.specs.Scope.{MeansAt, variables_of, token_bytes_at}
+use Rattle.rd_formulas.specs.Scope.{MeansAt, SaysTree, token_bytes_at, variables_of}
 use Rattle.rd_grammar.specs.declared.marks.Mark.{Mark}
 use Rattle.rd_grammar.specs.declared.marks.Sign.{Sign}
 use Rattle.rd_grammar.specs.declared.marks.Sign.TheVariants.{Different}
 use Rattle.rd_grammar.specs.declared.marks.Symbol.{Symbol}
-use Rattle.rd_grammar.specs.declared.marks.Symbol.TheVariants.{Open, Close, Not, And, Or, Truth as TruthMark, Sign as SignOf, Term as TermMark}
+use Rattle.rd_grammar.specs.declared.marks.Leaf.TheVariants.{Truth as TruthLeaf}
+use Rattle.rd_grammar.specs.declared.marks.Symbol.TheVariants.{Open, Close, Not, And, Or, Leaf as LeafMark, Sign as SignOf, Term as TermMark}
 use Rattle.rd_grammar.specs.Canonical.{AreCanonical, ArePart, is_either, is_of_two as reads_two, mark}
-use Rattle.rd_grammar.specs.Grammar.{ParsedTree, truth as read_truth, relation, negation as read_not, both as read_and, either as read_or, is_term}
+use Rattle.rd_grammar.specs.Grammar.{ParsedTree, leaf, relation, negation as read_not, both as read_and, either as read_or, is_term}
 use Rattle.rd_grammar.proofs.CanonicalLemmas.{canonical_are_read}
 use Rattle.rd_tokens.specs.declared.sorts.Sort.TheVariants.{Word as Plain}
+use Rattle.rd_tokens.specs.declared.words.dialects.Dialect.{Dialect}
+use Rattle.rd_tokens.specs.declared.words.dialects.Dialect.TheVariants.{Sided}
+use Rattle.rd_tokens.specs.declared.words.terms.Said.{Said}
 use Rattle.rd_tokens.specs.declared.words.terms.Said.TheVariants.{Variable, Value as ValueSaid}
-use Rattle.rd_tokens.specs.Words.{IsSymbol, IsTerm, side_mark}
+use Rattle.rd_tokens.specs.Words.{AreMarks, IsSymbol, IsTerm, SaysTerm, SaysTermIn, side_mark}
 use Rattle.rd_tokens.proofs.WordLemmas.{some_symbol, term_word as word_of_term}
 use Rattle.rd_print.specs.declared.canonical.word_list.PrintedWord.{PrintedWord}
 use Rattle.rd_print.specs.Canonical.{AreWords, has_two_parts, is_or, not_words, part_words, plain_word, relation_words, relation_sign, slot_word, term_word, value_word, canonical_words}
@@ -72,16 +76,20 @@ abbrev meant : Side → Term → Meant
 meant side (Slot slot) = SlotOf side slot
 meant side (Const value) = ValueOf value
 
-slot_means : (scope : Scope) (n : ℕ) (side : Side) (slot : ℕ) → All IsVariable (variables_of scope side) → slot < length (variables_of scope side)
-    → token_bytes_at scope n ≡ (slot_word side (variables_of scope side) slot).bytes → MeansAt scope n (SlotOf side slot)
-slot_means scope n side slot each within here =
-    let names = variables_of scope side in
-    (get_or names slot [], (All-get_or IsVariable names slot [] within each, here ∙ slot_bytes side names slot within), slice_get-get_or names slot [] within)
+sided_means : (scope : Scope) (n : ℕ) (said : Said) → scope.dialect ≡ Sided → SaysTerm (token_bytes_at scope n) said → SaysTermIn scope.dialect (token_bytes_at scope n) said
+sided_means scope n said sided says = subst (λ (dialect : Dialect). SaysTermIn dialect (token_bytes_at scope n) said) (sym sided) says
 
-term_means : (scope : Scope) (n : ℕ) (side : Side) (term : Term) → All IsVariable (variables_of scope side) → FitsTerm term (length (variables_of scope side))
+slot_means : (scope : Scope) (n : ℕ) (side : Side) (slot : ℕ) → scope.dialect ≡ Sided → All IsVariable (variables_of scope side) → slot < length (variables_of scope side)
+    → token_bytes_at scope n ≡ (slot_word side (variables_of scope side) slot).bytes → MeansAt scope n (SlotOf side slot)
+slot_means scope n side slot sided each within here =
+    let names = variables_of scope side in
+    let says = sided_means scope n (Variable side (get_or names slot [])) sided (All-get_or IsVariable names slot [] within each, here ∙ slot_bytes side names slot within) in
+    (get_or names slot [], says, slice_get-get_or names slot [] within)
+
+term_means : (scope : Scope) (n : ℕ) (side : Side) (term : Term) → scope.dialect ≡ Sided → All IsVariable (variables_of scope side) → FitsTerm term (length (variables_of scope side))
     → IsConstant term → token_bytes_at scope n ≡ (term_word side (variables_of scope side) term).bytes → MeansAt scope n (meant side term)
-term_means scope n side (Slot slot) each fits is here = slot_means scope n side slot each fits here
-term_means scope n side (Const value) each fits is here = (is, here)
+term_means scope n side (Slot slot) sided each fits is here = slot_means scope n side slot sided each fits here
+term_means scope n side (Const value) sided each fits is here = sided_means scope n (ValueSaid value) sided (is, here)
 
 -- Relations
 
@@ -114,7 +122,7 @@ record IsShown (scope : Scope) (n : ℕ) (words : List PrintedWord) (f : Tree) :
   marks : List Mark
   canonical : AreCanonical read marks
   from : AreFrom n words marks
-  gives : Gives (MeansAt scope) read f
+  gives : SaysTree scope read f
   of_two : reads_two read ≡ has_two_parts f
   of_or : is_either read ≡ is_or f
 
@@ -124,7 +132,7 @@ record IsPart (scope : Scope) (n : ℕ) (words : List PrintedWord) (f : Tree) (n
   marks : List Mark
   part : ArePart needs (AreCanonical read) marks
   from : AreFrom n words marks
-  gives : Gives (MeansAt scope) read f
+  gives : SaysTree scope read f
   of_two : reads_two read ≡ has_two_parts f
   of_or : is_either read ≡ is_or f
 
@@ -163,8 +171,9 @@ relation_shown scope n left right sign x y f first second here there same two or
       of_or = sym or;
     }
 
--- the variables of each side
+-- the variables of each side, which are written with it
 record AreNames (scope : Scope) : Type 0 where
+  sided : scope.dialect ≡ Sided
   first : All IsVariable scope.first.now
   second : All IsVariable scope.second.now
 
@@ -182,7 +191,7 @@ side_shown scope n side sign left right f names fits more is be some same two or
     let each = named scope side names in
     relation_shown scope n (term_word side vars left) (term_word side vars right) sign (meant side left) (meant side right) f
     (term_is side vars left each fits is) (term_is side vars right each more be)
-    (term_means scope n side left each fits is stand.0) (term_means scope (suc (suc n)) side right each more be stand.1.1.0)
+    (term_means scope n side left names.sided each fits is stand.0) (term_means scope (suc (suc n)) side right names.sided each more be stand.1.1.0)
     (related_sided sign side left right some ∙ ap (λ (t : Tree). Some t) same) two or
 
 across_shown : (scope : Scope) (n : ℕ) (left right : Side) (sign : Sign) (i j : ℕ) (f : Tree) → AreNames scope
@@ -194,8 +203,8 @@ across_shown scope n left right sign i j f names within below same two or stand 
     relation_shown scope n (slot_word left (variables_of scope left) i) (slot_word right (variables_of scope right) j) sign (SlotOf left i) (SlotOf right j) f
     (slot_term left (variables_of scope left) i (named scope left names) within)
     (slot_term right (variables_of scope right) j (named scope right names) below)
-    (slot_means scope n left i (named scope left names) within stand.0)
-    (slot_means scope (suc (suc n)) right j (named scope right names) below stand.1.1.0) same two or
+    (slot_means scope n left i names.sided (named scope left names) within stand.0)
+    (slot_means scope (suc (suc n)) right j names.sided (named scope right names) below stand.1.1.0) same two or
 
 -- Formulas
 
@@ -292,8 +301,8 @@ right_good scope f g good = record { fits = good.fits.1; slots = (and_parts _ _ 
 shown : (scope : Scope) (f : Tree) → AreNames scope → IsGood scope f → Shows scope (words_in scope f) f
 shown scope (truth value) names good n stand =
     record {
-      read = read_truth value n;
-      marks = mark (TruthMark value) n ∷ [];
+      read = leaf (TruthLeaf value) n;
+      marks = mark (LeafMark (TruthLeaf value)) n ∷ [];
       canonical = refl;
       from = (refl, refl, tt);
       gives = refl;
@@ -323,12 +332,16 @@ shown scope (either f g) names good n stand =
     let pair : IsGood scope (both f g) = record { fits = good.fits; slots = good.slots; values = good.values } in
     either_shown scope f g (shown scope f names (left_good scope f g pair)) (shown scope g names (right_good scope f g pair)) n stand
 
-pub says_again : (scope : Scope) (f : Tree) → All IsVariable scope.first.now → All IsVariable scope.second.now
+pub says_again : (scope : Scope) (f : Tree) → scope.dialect ≡ Sided → All IsVariable scope.first.now → All IsVariable scope.second.now
     → Fits f (length scope.first.now) (length scope.second.now) → has_slots f ≡ true → AreValues f
     → AreWords scope.line.now scope.tokens.now (words_in scope f) → SaysFormula scope f
-says_again scope f first second fits slots values are =
-    let s = shown scope f (record { first = first; second = second }) (record { fits = fits; slots = slots; values = values }) 0 (stand_all scope (words_in scope f) are) in (
+says_again scope f sided first second fits slots values are =
+    let s = shown scope f (record { sided = sided; first = first; second = second }) (record { fits = fits; slots = slots; values = values }) 0 (stand_all scope (words_in scope f) are) in (
       s.read,
-      (s.marks, are_marks scope.line.now scope.tokens.now (words_in scope f) s.marks are s.from, canonical_are_read s.read s.marks s.canonical),
+      (
+        s.marks,
+        subst (λ (dialect : Dialect). AreMarks dialect scope.line.now scope.tokens.now s.marks) (sym sided) (are_marks scope.line.now scope.tokens.now (words_in scope f) s.marks are s.from),
+        canonical_are_read s.read s.marks s.canonical,
+      ),
       s.gives,
     )

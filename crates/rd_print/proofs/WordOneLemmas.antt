@@ -9,17 +9,19 @@ use Rattle.rd_ecl.specs.Formulas.{Tree}
 use Rattle.rd_formulas.specs.declared.scope.Scope.{Scope}
 use Rattle.rd_formulas.specs.declared.terms.Meant.{Meant}
 use Rattle.rd_formulas.specs.declared.terms.Meant.TheVariants.{Slot, Value}
-use Rattle.rd_formulas.specs.Meaning.{Gives, relation_of_terms}
+use Rattle.rd_formulas.specs.Meaning.{relation_of_terms}
 use Rattle.rd_formulas.specs.Reading.{SaysFormula}
-use Rattle.rd_formulas.specs.Scope.{MeansAt, variables_of, token_bytes_at}
-use Rattle.rd_grammar.specs.Grammar.{ParsedTree, truth, relation, negation, both, either, MarksSay, disj}
+use Rattle.rd_formulas.specs.Scope.{MeansAt, SaysTree, token_bytes_at, variables_of}
+use Rattle.rd_formulas.proofs.OutlineLemmas.{one_standing}
+use Rattle.rd_grammar.specs.declared.marks.Leaf.TheVariants.{Name, Truth}
+use Rattle.rd_grammar.specs.Grammar.{ParsedTree, leaf, relation, negation, both, either, MarksSay, disj}
 use Rattle.rd_grammar.specs.declared.marks.Mark.{Mark}
 use Rattle.rd_grammar.proofs.ReadLemmas.{one_tree}
 use Rattle.rd_tokens.specs.declared.words.terms.Said.{Said}
 use Rattle.rd_tokens.specs.declared.words.terms.Said.TheVariants.{Variable, Value as ValueSaid}
-use Rattle.rd_tokens.specs.Words.{SaysTerm}
+use Rattle.rd_tokens.specs.Words.{SaysTermIn}
 use Rattle.rd_tokens.proofs.MarkLemmas.{one_list}
-use Rattle.rd_tokens.proofs.TermLemmas.{one_term}
+use Rattle.rd_tokens.proofs.TermLemmas.{one_term_in}
 
 abbrev pub AreDifferent : List (List ℕ) → Type 0
 AreDifferent names = AllPairs (λ x y. x ≢ y) names
@@ -45,8 +47,8 @@ module _ (scope : Scope) (first : AreDifferent scope.first.now) (second : AreDif
   different First = first
   different Second = second
 
-  one_said : (number : ℕ) (s t : Said) → SaysTerm (token_bytes_at scope number) s → SaysTerm (token_bytes_at scope number) t → s ≡ t
-  one_said number s t = one_term (token_bytes_at scope number) s t
+  one_said : (number : ℕ) (s t : Said) → SaysTermIn scope.dialect (token_bytes_at scope number) s → SaysTermIn scope.dialect (token_bytes_at scope number) t → s ≡ t
+  one_said number s t = one_term_in scope.dialect (token_bytes_at scope number) s t
 
   one_slot : (side other : Side) (name word : List ℕ) (i j : ℕ) → Variable side name ≡ Variable other word → slice_get (variables_of scope side) i ≡ Some name
       → slice_get (variables_of scope other) j ≡ Some word → Slot side i ≡ Slot other j
@@ -68,8 +70,9 @@ module _ (scope : Scope) (first : AreDifferent scope.first.now) (second : AreDif
       let same = one_said number (ValueSaid value) (ValueSaid other) says is in
       let values : value ≡ other = cc in cc
 
-  one_formula : (read : ParsedTree) (f g : Tree) → Gives (MeansAt scope) read f → Gives (MeansAt scope) read g → f ≡ g
-  one_formula (truth value token) f g e k = e ∙ sym k
+  one_formula : (read : ParsedTree) (f g : Tree) → SaysTree scope read f → SaysTree scope read g → f ≡ g
+  one_formula (leaf (Truth value) token) f g e k = e ∙ sym k
+  one_formula (leaf Name token) f g e k = one_standing scope token f g e k
   one_formula (relation left sign token right) f g (x, y, h, k, e) (z, w, p, q, r) =
       let xs : x ≡ z = one_meaning left x z h p in
       let ys : y ≡ w = one_meaning right y w k q in
@@ -86,6 +89,6 @@ module _ (scope : Scope) (first : AreDifferent scope.first.now) (second : AreDif
 
   pub says_one : (f g : Tree) → SaysFormula scope f → SaysFormula scope g → f ≡ g
   says_one f g (read, (marks, are, says), given) (other, (others, be, tells), gives) =
-      let same : marks ≡ others = one_list scope.line.now scope.tokens.now marks others are be in
+      let same : marks ≡ others = one_list scope.dialect scope.line.now scope.tokens.now marks others are be in
       let trees : read ≡ other = one_tree others read other (subst (λ (ms : List Mark). MarksSay disj ms read) same says) tells in
-      one_formula other f g (subst (λ (r : ParsedTree). Gives (MeansAt scope) r f) trees given) gives
+      one_formula other f g (subst (λ (r : ParsedTree). SaysTree scope r f) trees given) gives

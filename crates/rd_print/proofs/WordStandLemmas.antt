@@ -6,6 +6,7 @@ use Rattle.rd_formulas.specs.declared.scope.Scope.{Scope}
 use Rattle.rd_formulas.specs.Scope.{token_bytes_at}
 use Rattle.rd_grammar.specs.declared.marks.Mark.{Mark}
 use Rattle.rd_tokens.specs.declared.sorts.Token.{Token}
+use Rattle.rd_tokens.specs.declared.words.dialects.Dialect.TheVariants.{Sided}
 use Rattle.rd_tokens.specs.Tokens.{bytes_of}
 use Rattle.rd_tokens.specs.Words.{IsSymbol, IsMark, AreMarks}
 use Rattle.rd_print.specs.declared.canonical.word_list.PrintedWord.{PrintedWord}
@@ -67,26 +68,26 @@ count_from line n (t ∷ tokens) [] are = absurd are
 count_from line n (t ∷ tokens) (m ∷ marks) are = ap suc (count_from line (suc n) tokens marks are.2)
 
 each_from : (line : List ℕ) (n : ℕ) (tokens : List Token) (marks : List Mark) → AreFrom n (map (shown line) tokens) marks
-    → (place : ℕ) (token : Token) (mark : Mark) → slice_get tokens place ≡ Some token → slice_get marks place ≡ Some mark → IsMark line (n + place) token mark
+    → (place : ℕ) (token : Token) (mark : Mark) → slice_get tokens place ≡ Some token → slice_get marks place ≡ Some mark → IsMark Sided line (n + place) token mark
 each_from line n [] marks are place token mark there here = absurd (none-some token there)
 each_from line n (t ∷ tokens) [] are place token mark there here = absurd are
 each_from line n (t ∷ tokens) (m ∷ marks) are zero token mark there here =
     let first : t ≡ token = same_Some t token there in
     let second : m ≡ mark = same_Some m mark here in
     let same : n ≡ n + 0 = omega arith in
-    subst (λ (x : Token). IsMark line (n + 0) x mark) first
-    (subst (λ (x : Mark). IsMark line (n + 0) t x) second (record { symbol = are.0; number = are.1 ∙ same }))
+    subst (λ (x : Token). IsMark Sided line (n + 0) x mark) first
+    (subst (λ (x : Mark). IsMark Sided line (n + 0) t x) second (record { symbol = are.0; number = are.1 ∙ same }))
 each_from line n (t ∷ tokens) (m ∷ marks) are (suc place) token mark there here =
     let same : suc n + place ≡ n + suc place = omega arith in
-    subst (λ (k : ℕ). IsMark line k token mark) same (each_from line (suc n) tokens marks are.2 place token mark there here)
+    subst (λ (k : ℕ). IsMark Sided line k token mark) same (each_from line (suc n) tokens marks are.2 place token mark there here)
 
 pub are_marks : (line : List ℕ) (tokens : List Token) (words : List PrintedWord) (marks : List Mark) → AreWords line tokens words → AreFrom 0 words marks
-    → AreMarks line tokens marks
+    → AreMarks Sided line tokens marks
 are_marks line tokens words marks are from =
     let moved = subst (λ (ws : List PrintedWord). AreFrom 0 ws marks) (sym are) from in
     record {
       count = count_from line 0 tokens marks moved;
       each = λ place token mark there here.
           let same : 0 + place ≡ place = omega arith in
-          subst (λ (k : ℕ). IsMark line k token mark) same (each_from line 0 tokens marks moved place token mark there here);
+          subst (λ (k : ℕ). IsMark Sided line k token mark) same (each_from line 0 tokens marks moved place token mark there here);
     }

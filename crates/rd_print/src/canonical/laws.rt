@@ -4,12 +4,14 @@ ghost use Rattle.rd_ecl.specs.Formulas.{Tree, Fits, has_slots, nodes, AreValues}
 ghost use Rattle.rd_ecl.specs.Variables.{IsVariable};
 ghost use Rattle.rd_formulas.specs.declared.scope.Scope.{Scope};
 ghost use Rattle.rd_formulas.specs.Reading.{SaysFormula};
+ghost use Rattle.rd_tokens.specs.declared.words.dialects.Dialect.TheVariants.{Sided};
 ghost use Rattle.rd_print.specs.Canonical.{AreWords, canonical_words};
 
-/// The law of the canonical words: tokens that are the canonical words of a formula say that formula, and tokens say at most
+/// The law of the canonical words: tokens that are the canonical words of a formula, where variables have their sides and no name is
+/// used, say that formula, and tokens say at most
 /// one. A formula has at most three canonical words for each of its nodes.
 pub fn law_of_canonical_words()
-    ensures again { (scope : Scope) (f : Tree) → All IsVariable scope.first.now →
+    ensures again { (scope : Scope) (f : Tree) → scope.dialect ≡ Sided → All IsVariable scope.first.now →
         All IsVariable scope.second.now
         → Fits f (length scope.first.now) (length scope.second.now) → has_slots f ≡ true →
         AreValues f

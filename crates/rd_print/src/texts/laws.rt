@@ -8,6 +8,7 @@ ghost use Rattle.rd_formulas.specs.declared.scope.Scope.{Scope};
 ghost use Rattle.rd_formulas.specs.Reading.{SaysFormula};
 ghost use Rattle.rd_tokens.specs.Tokens.{AreTokens};
 ghost use Rattle.rd_tokens.specs.declared.sorts.Token.{Token};
+ghost use Rattle.rd_tokens.specs.declared.words.dialects.Dialect.TheVariants.{Sided};
 ghost use Rattle.rd_print.specs.declared.canonical.word_list.PrintedWord.{PrintedWord};
 ghost use Rattle.rd_print.specs.Canonical.{AreWords, canonical_words};
 ghost use Rattle.rd_print.specs.Text.{IsRightWord, words_text};
@@ -30,7 +31,7 @@ pub fn law_of_texts()
         → Fits f (length first) (length second) → AreValues f →
         All IsRightWord (canonical_words first second f) }
     ensures formula { (front : List PrintedWord) (tokens : List Token) (scope : Scope) (f : Tree) →
-        All IsRightWord front → All IsVariable scope.first.now
+        scope.dialect ≡ Sided → All IsRightWord front → All IsVariable scope.first.now
         → All IsVariable scope.second.now →
         Fits f (length scope.first.now) (length scope.second.now) → has_slots f ≡ true → AreValues f
         → scope.line.now ≡ words_text (front ++ canonical_words scope.first.now scope.second.now f) →

@@ -5,18 +5,18 @@ use Rattle.rd_lines.proofs.WordLemmas.{no_words, first_word, second_too, rest_to
 use Rattle.rd_lines.proofs.pairs.read_pair.Goals as goal
 
 pub returns-in_default-clause-refused : goal.returns-in_default-clause-refused
-returns-in_default-clause-refused c = λ stage in_kind.
-    commute_alone stage in_kind (names_of c.args.methods.now) _ (no_words c.args.line.now c.args.tokens.now c.in_default.ensures.cases)
+returns-in_default-clause-refused c = λ version stage in_kind.
+    commute_alone version stage in_kind (names_of c.args.methods.now) _ (no_words c.args.line.now c.args.tokens.now c.in_default.ensures.cases)
 
 pub returns-in_default-token_name-clause-refused : goal.returns-in_default-token_name-clause-refused
-returns-in_default-token_name-clause-refused c = λ stage in_kind.
-    first_unnamed stage in_kind (names_of c.args.methods.now) _ _ _
+returns-in_default-token_name-clause-refused c = λ version stage in_kind.
+    first_unnamed version stage in_kind (names_of c.args.methods.now) _ _ _
     (first_word c.args.line.now c.args.tokens.now c.in-Some.behind.now c.in-Some.second.now c.in-Some.ensures.cases.0) c.in_default-token_name.ensures.none
 
 pub returns-in_default-split_first-clause-refused :
     goal.returns-in_default-split_first-clause-refused
-returns-in_default-split_first-clause-refused c = λ stage in_kind.
-    first_alone stage in_kind (names_of c.args.methods.now) _ _ _ c.in-Some-token_name.one
+returns-in_default-split_first-clause-refused c = λ version stage in_kind.
+    first_alone version stage in_kind (names_of c.args.methods.now) _ _ _ c.in-Some-token_name.one
     (first_word c.args.line.now c.args.tokens.now c.in-Some.behind.now c.in-Some.second.now c.in-Some.ensures.cases.0)
     c.in-Some-token_name.ensures.some c.in-Some-token_name.ensures.named (no_words c.args.line.now c.in-Some.behind.now c.in_default-split_first.ensures.cases)
 
@@ -24,16 +24,16 @@ pub token_name-requires-2 : goal.token_name-requires-2
 token_name-requires-2 c = second_too (LiesIn c.args.line.now) _ _ _ _ _ c.requires c.in-Some.ensures.cases.0 c.in-Some-split_first.ensures.cases.0
 
 pub returns-in_default-token_name-2-clause-refused : goal.returns-in_default-token_name-2-clause-refused
-returns-in_default-token_name-2-clause-refused c = λ stage in_kind.
-    second_unnamed stage in_kind (names_of c.args.methods.now) _ _ _ _ _ c.in-Some-token_name.one
+returns-in_default-token_name-2-clause-refused c = λ version stage in_kind.
+    second_unnamed version stage in_kind (names_of c.args.methods.now) _ _ _ _ _ c.in-Some-token_name.one
     (first_word c.args.line.now c.args.tokens.now c.in-Some.behind.now c.in-Some.second.now c.in-Some.ensures.cases.0)
     c.in-Some-token_name.ensures.some c.in-Some-token_name.ensures.named
     (first_word c.args.line.now c.in-Some.behind.now c.in-Some-split_first.rest.now c.in-Some-split_first.third.now c.in-Some-split_first.ensures.cases.0)
     c.in_default-token_name-2.ensures.none
 
 pub returns-then-is_out_of_order-clause-refused : goal.returns-then-is_out_of_order-clause-refused
-returns-then-is_out_of_order-clause-refused c = λ stage in_kind.
-    second_out_of_order stage in_kind (names_of c.args.methods.now) _ _ _ _ _ c.in-Some-token_name.one c.in-Some-token_name-2.other
+returns-then-is_out_of_order-clause-refused c = λ version stage in_kind.
+    second_out_of_order version stage in_kind (names_of c.args.methods.now) _ _ _ _ _ c.in-Some-token_name.one c.in-Some-token_name-2.other
     (first_word c.args.line.now c.args.tokens.now c.in-Some.behind.now c.in-Some.second.now c.in-Some.ensures.cases.0)
     c.in-Some-token_name.ensures.some c.in-Some-token_name.ensures.named
     (first_word c.args.line.now c.in-Some.behind.now c.in-Some-split_first.rest.now c.in-Some-split_first.third.now c.in-Some-split_first.ensures.cases.0)
@@ -41,8 +41,8 @@ returns-then-is_out_of_order-clause-refused c = λ stage in_kind.
 
 pub returns-in_default-split_first-2-clause-refused :
     goal.returns-in_default-split_first-2-clause-refused
-returns-in_default-split_first-2-clause-refused c = λ stage in_kind.
-    second_last stage in_kind (names_of c.args.methods.now) _ _ _ _ _ c.in-Some-token_name.one c.in-Some-token_name-2.other
+returns-in_default-split_first-2-clause-refused c = λ version stage in_kind.
+    second_last version stage in_kind (names_of c.args.methods.now) _ _ _ _ _ c.in-Some-token_name.one c.in-Some-token_name-2.other
     (first_word c.args.line.now c.args.tokens.now c.in-Some.behind.now c.in-Some.second.now c.in-Some.ensures.cases.0)
     c.in-Some-token_name.ensures.some c.in-Some-token_name.ensures.named
     (first_word c.args.line.now c.in-Some.behind.now c.in-Some-split_first.rest.now c.in-Some-split_first.third.now c.in-Some-split_first.ensures.cases.0)
@@ -55,8 +55,8 @@ token_is-requires c =
     c.in-Some-split_first.ensures.cases.0 c.in-Some-split_first-2.ensures.cases.0
 
 pub returns-then-not-token_is-clause-refused : goal.returns-then-not-token_is-clause-refused
-returns-then-not-token_is-clause-refused c = λ stage in_kind.
-    no_when stage in_kind (names_of c.args.methods.now) _ _ _ _ _ _ _ c.in-Some-token_name.one c.in-Some-token_name-2.other
+returns-then-not-token_is-clause-refused c = λ version stage in_kind.
+    no_when version stage in_kind (names_of c.args.methods.now) _ _ _ _ _ _ _ c.in-Some-token_name.one c.in-Some-token_name-2.other
     (first_word c.args.line.now c.args.tokens.now c.in-Some.behind.now c.in-Some.second.now c.in-Some.ensures.cases.0)
     c.in-Some-token_name.ensures.some c.in-Some-token_name.ensures.named
     (first_word c.args.line.now c.in-Some.behind.now c.in-Some-split_first.rest.now c.in-Some-split_first.third.now c.in-Some-split_first.ensures.cases.0)
