@@ -1,39 +1,64 @@
--- The first thing that is wrong with the line of a pair.
-use Rattle.std.proofs.Common.{◌≡◌, ℕ, ◌<◌, ◌≤◌, List, length, Option, Some, None, refl, sym, ◌∙◌, ap, subst, arith, inl, inr}
-use Rattle.std.specs.Prelude.{IsNone, IsSome, slice_get}
+-- The first thing that is wrong with a line that has a formula.
+use Rattle.std.proofs.Common.{◌≡◌, ℕ, ◌<◌, ◌≤◌, Bool, false, true≢false, List, Option, Some, None, refl, sym, ◌∙◌, ap, subst, arith, inl, inr}
+use Rattle.std.specs.Prelude.{Err, IfErr, IsErrAnd, IsSome, IsTrue, Ok, Result, slice_get}
 use Rattle.std.proofs.lemmas.Bool.{cases_lt}
 use Rattle.rd_base.specs.declared.limits.LimitName.TheVariants.{Nodes, FormulaDepth, Predicates}
-use Rattle.rd_pairs.specs.declared.spec_causes.Fault.{Fault}
-use Rattle.rd_pairs.specs.declared.spec_causes.SpecCause.{SpecCause}
-use Rattle.rd_pairs.specs.declared.spec_causes.SpecCause.TheVariants.{UnknownMethod, UnknownVariable, NoVariable, OutsideFragment, Duplicate, Limit}
-use Rattle.rd_pairs.specs.PairCauses.{AreNumbers, FormulaHas, FormulaPasses, HasManyPredicates, PairHas, SaysPair, scope_of, variables_of_method}
-use Rattle.rd_pairs.specs.Causes.{HasNone, IsFirstOf, place_at, rank, IsSpecLineRefused}
+use Rattle.rd_base.specs.declared.limits.TheConstants.{MOST_LEVELS, MOST_NODES, MOST_PREDICATES}
 use Rattle.rd_ecl.specs.declared.formulas.Outside.{Outside}
-use Rattle.rd_ecl.specs.declared.kinds.Method.{Method}
+use Rattle.rd_ecl.specs.declared.formulas.Reason.{Reason}
 use Rattle.rd_ecl.specs.Formulas.{InFragment, Tree, first_offence, levels, nodes, post_order}
-use Rattle.rd_ecl.specs.Specified.{IsDraft, MayPair, SpecifiedKind, formula_at, names_of}
-use Rattle.rd_ecl.proofs.FragmentLemmas.{fragment_is}
+use Rattle.rd_ecl.proofs.FragmentLemmas.{none_is}
 use Rattle.rd_formulas.specs.declared.reading.FormulaRefused.{FormulaRefused}
 use Rattle.rd_formulas.specs.declared.reading.FormulaRefused.TheVariants as formula
-use Rattle.rd_formulas.specs.Meaning.{Gives, NoneOf, relations_in, terms_in}
-use Rattle.rd_formulas.specs.Reading.{IsFormula, IsTroubled}
-use Rattle.rd_formulas.specs.Scope.{IsBare, IsUnknown, MeansAt}
+use Rattle.rd_formulas.specs.declared.scope.Scope.{Scope}
+use Rattle.rd_formulas.specs.Meaning.{NoneOf, node_tokens, relations_in, uses_in}
+use Rattle.rd_formulas.specs.Reading.{IsTroubled}
+use Rattle.rd_formulas.specs.Scope.{IsBare, IsUnknownUse, MeansAt, SaysTree, NameStandsFor, place_in_scope}
+use Rattle.rd_formulas.proofs.ReadingLemmas.{token_there}
 use Rattle.rd_grammar.specs.Grammar.{ParsedTree}
+use Rattle.rd_pairs.specs.declared.refused.SpecLineRefused.{SpecLineRefused}
+use Rattle.rd_pairs.specs.declared.refused.SpecLineRefused.TheVariants.{Fault as Faulted, NoMemory}
+use Rattle.rd_pairs.specs.declared.spec_causes.SpecCause.{SpecCause}
+use Rattle.rd_pairs.specs.declared.spec_causes.SpecCause.TheVariants.{UnknownMethod, UnknownVariable, NoVariable, OutsideFragment, Duplicate, Limit}
+use Rattle.rd_pairs.specs.Causes.{HasNone, IsFirstOf, IsSpecLineRefused, place_at, rank}
+use Rattle.rd_pairs.specs.PairCauses.{FormulaHas, FormulaLineHas, FormulaPasses}
+use Rattle.rd_pairs.specs.PairJudging.{IsFirstLarge, IsRefusedLarge, refusal_of}
+use Rattle.rd_pairs.proofs.MeaningLemmas.{known_relations, known_terms, no_first_sign, no_first_use}
 use Rattle.rd_tokens.specs.declared.sorts.Token.{Token}
-use Rattle.rd_pairs.specs.PairJudging.{IsUnknownFault, LateHas, refusal_of}
-use Rattle.rd_pairs.proofs.MeaningLemmas.{given_values, known_relations, known_terms, no_first, no_first_sign, one_formula}
-use Rattle.rd_pairs.proofs.NumberLemmas.{AreDifferent, contained, number_within, one_pair}
-use Rattle.rd_pairs.proofs.ScopeLemmas.{slots_are, variables_are}
-use Rattle.rd_base.specs.declared.limits.TheConstants.{MOST_LEVELS, MOST_NODES, MOST_PREDICATES}
 
-no_offence : (o : Option Outside) (found : Outside) → IsNone o → o ≡ Some found → ⊥
-no_offence None found none is = absurd (cc)
-no_offence (Some other) found none is = absurd (cc)
+-- no method is unknown, and the methods have these numbers alone
+pub record HasNumbers (Unknown : ℕ → Type 0) (Methods : ℕ → ℕ → Type 0) (m n : ℕ) : Type 0 where
+  pub known : (place : ℕ) → ¬ (Unknown place)
+  pub are : Methods m n
+  pub one : (i j : ℕ) → Methods i j → (i ≡ m) × (j ≡ n)
 
-module _ (kind : SpecifiedKind) (line : List ℕ) (tokens : List Token) (first second : List ℕ) (read : ParsedTree) where
+-- the formula alone is right, and this is it
+pub record IsRight (scope : Scope) (read : ParsedTree) (f : Tree) : Type 0 where
+  pub says : SaysTree scope read f
+  pub inside : InFragment f
+  pub one : (g : Tree) → SaysTree scope read g → g ≡ f
+
+none_some : (o : Option Outside) (found : Outside) → o ≡ None → o ≡ Some found → ⊥
+none_some o found none some = let same : None ≡ Some found = sym none ∙ some in absurd (cc)
+
+-- a refusal that is handed on
+pub refused_as : {X : Type 0} (result : Result X SpecLineRefused) (refused : SpecLineRefused) (P : SpecLineRefused → Type 0)
+    → IsErrAnd result (λ other. other ≡ refused) → P refused → IfErr result P
+refused_as (Ok x) refused P same h = tt
+refused_as (Err other) refused P same h = subst P (sym same) h
+
+-- what a test says isn't so
+pub refuted : {P : Type 0} (test : Bool) → (P → IsTrue test) → test ≡ false → ¬ P
+refuted test holds is p = true≢false (sym (holds p) ∙ is)
+
+pub at_most : (x y : ℕ) → ¬ (x < y) → y ≤ x
+at_most x y h = elim (cases_lt x y) [ inl above ↦ absurd (h above) | inr rest ↦ omega arith ]
+
+module _ (Unknown : ℕ → Type 0) (Methods : ℕ → ℕ → Type 0) (scope : ℕ → ℕ → Scope) (Taken : ℕ → ℕ → ℕ → Type 0) (Many : ℕ → ℕ → Tree → Type 0)
+    (line : List ℕ) (tokens : List Token) (read : ParsedTree) where
   -- the line has the cause at the place
   abbrev Wrong : SpecCause → ℕ → Type 0
-  Wrong cause place = PairHas kind line tokens first second read cause place
+  Wrong cause place = FormulaLineHas Unknown Methods scope Taken Many line tokens read cause place
 
   least_method : (cause : SpecCause) (place : ℕ) → Wrong cause place → 3 ≤ rank cause
   least_method UnknownMethod place h = omega arith
@@ -47,26 +72,42 @@ module _ (kind : SpecifiedKind) (line : List ℕ) (tokens : List Token) (first s
   least_method cause place h = absurd h
 
   -- a method that is unknown is told first
-  pub unknown_method : (fault : Fault) → IsUnknownFault kind.methods first second line tokens fault → IsFirstOf Wrong fault.cause fault.place
-  unknown_method fault (is, unknown) =
-      subst (λ (cause : SpecCause). IsFirstOf Wrong cause fault.place) (sym is) (record { has = unknown; first = least_method })
+  pub unknown_first : (place : ℕ) → Unknown place → IsFirstOf Wrong UnknownMethod place
+  unknown_first place unknown = record { has = unknown; first = least_method }
 
-  module _ (different : AreDifferent (names_of kind.methods)) (m n : ℕ) (are : AreNumbers kind first second m n) where
-    no_method : (place : ℕ) → ¬ (Wrong UnknownMethod place)
-    no_method place (inl (lacks, is)) = lacks (contained (names_of kind.methods) first m are.first_name)
-    no_method place (inr (known, lacks, is)) = lacks (contained (names_of kind.methods) second n are.second_name)
+  -- a formula of a line without a cause is right, and small
+  module _ (clean : HasNone Wrong) (m n : ℕ) (are : Methods m n) (f : Tree) (says : SaysTree (scope m n) read f) where
+    told : (o : Outside) (t : Option ℕ) → first_offence 0 (post_order f) ≡ Some o → slice_get (node_tokens read f) o.node ≡ t → IsSome t → ⊥
+    told o None found is some = absurd (cc)
+    told o (Some number) found is some =
+        clean (OutsideFragment o.reason) (place_in_scope (scope m n) number) (m, n, are, (f, o.node, number, says, found, is, refl))
 
-    -- what is said of the numbers of the two names is said of these
-    here : (P : ℕ → ℕ → Type 0) (i j : ℕ) → AreNumbers kind first second i j → P i j → P m n
+    pub clean_inside : InFragment f
+    clean_inside = by (first_offence 0 (post_order f)) refl where
+      by : (o : Option Outside) → first_offence 0 (post_order f) ≡ o → InFragment f
+      by None is = (none_is f).0 is
+      by (Some o) is =
+          absurd (told o (slice_get (node_tokens read f) o.node) is refl (token_there (MeansAt (scope m n)) (NameStandsFor (scope m n)) read f o says is))
+
+    pub clean_few : nodes f ≤ MOST_NODES
+    clean_few = at_most MOST_NODES (nodes f) (λ large. clean (Limit Nodes MOST_NODES) (place_at line tokens 3) ((m, n, f, are, says, large, refl), refl))
+
+    pub clean_shallow : levels f ≤ MOST_LEVELS
+    clean_shallow =
+        at_most MOST_LEVELS (levels f) (λ large. clean (Limit FormulaDepth MOST_LEVELS) (place_at line tokens 3) ((m, n, f, are, says, large, refl), refl))
+
+  module _ (m n : ℕ) (numbers : HasNumbers Unknown Methods m n) where
+    -- what is said of the numbers of the methods is said of these
+    here : (P : ℕ → ℕ → Type 0) (i j : ℕ) → Methods i j → P i j → P m n
     here P i j others h =
-        let same = one_pair kind first second m n i j different are others in
+        let same = numbers.one i j others in
         subst (λ (y : ℕ). P m y) same.1 (subst (λ (x : ℕ). P x j) same.0 h)
 
-    troubled_here : (refused : FormulaRefused) → FormulaHas kind line tokens first second read refused → IsTroubled (scope_of kind line tokens m n) read refused
-    troubled_here refused (i, j, others, troubled) = here (λ x y. IsTroubled (scope_of kind line tokens x y) read refused) i j others troubled
+    troubled_here : (refused : FormulaRefused) → FormulaHas Unknown Methods scope Taken Many line tokens read refused → IsTroubled (scope m n) read refused
+    troubled_here refused (i, j, others, troubled) = here (λ x y. IsTroubled (scope x y) read refused) i j others troubled
 
     least_variable : (cause : SpecCause) (place : ℕ) → Wrong cause place → 4 ≤ rank cause
-    least_variable UnknownMethod place h = absurd (no_method place h)
+    least_variable UnknownMethod place h = absurd (numbers.known place h)
     least_variable UnknownVariable place h = omega arith
     least_variable NoVariable place h = omega arith
     least_variable (OutsideFragment reason) place h = omega arith
@@ -76,15 +117,15 @@ module _ (kind : SpecifiedKind) (line : List ℕ) (tokens : List Token) (first s
     least_variable (Limit Predicates number) place h = omega arith
     least_variable cause place h = absurd h
 
-    -- each variable is known
-    module _ (none : NoneOf (IsUnknown (scope_of kind line tokens m n)) (terms_in read)) where
+    -- each variable and each used name is known
+    module _ (none : NoneOf (IsUnknownUse (scope m n)) (uses_in read)) where
       no_variable : (place : ℕ) → ¬ (Wrong UnknownVariable place)
       no_variable place h =
           let troubled = troubled_here (formula.UnknownVariable place) h in
-          no_first (IsUnknown (scope_of kind line tokens m n)) (terms_in read) troubled.0 none troubled.1
+          no_first_use (IsUnknownUse (scope m n)) (uses_in read) troubled.0 none troubled.1
 
       least_bare : (cause : SpecCause) (place : ℕ) → Wrong cause place → 5 ≤ rank cause
-      least_bare UnknownMethod place h = absurd (no_method place h)
+      least_bare UnknownMethod place h = absurd (numbers.known place h)
       least_bare UnknownVariable place h = absurd (no_variable place h)
       least_bare NoVariable place h = omega arith
       least_bare (OutsideFragment reason) place h = omega arith
@@ -95,14 +136,14 @@ module _ (kind : SpecifiedKind) (line : List ℕ) (tokens : List Token) (first s
       least_bare cause place h = absurd h
 
       -- each relation has a variable
-      module _ (bare : NoneOf (IsBare (scope_of kind line tokens m n)) (relations_in read)) where
+      module _ (bare : NoneOf (IsBare (scope m n)) (relations_in read)) where
         no_bare : (place : ℕ) → ¬ (Wrong NoVariable place)
         no_bare place h =
             let troubled = troubled_here (formula.NoVariable place) h in
-            no_first_sign (IsBare (scope_of kind line tokens m n)) (relations_in read) troubled.0 bare troubled.2
+            no_first_sign (IsBare (scope m n)) (relations_in read) troubled.0 bare troubled.2
 
         least_outside : (cause : SpecCause) (place : ℕ) → Wrong cause place → 6 ≤ rank cause
-        least_outside UnknownMethod place h = absurd (no_method place h)
+        least_outside UnknownMethod place h = absurd (numbers.known place h)
         least_outside UnknownVariable place h = absurd (no_variable place h)
         least_outside NoVariable place h = absurd (no_bare place h)
         least_outside (OutsideFragment reason) place h = omega arith
@@ -113,118 +154,134 @@ module _ (kind : SpecifiedKind) (line : List ℕ) (tokens : List Token) (first s
         least_outside cause place h = absurd h
 
     -- what is wrong with the formula is told first
-    pub troubled_first : (refused : FormulaRefused) → IsTroubled (scope_of kind line tokens m n) read refused → IsSpecLineRefused Wrong (refusal_of refused)
-    troubled_first (formula.Syntax place) troubled = absurd troubled
-    troubled_first (formula.UnknownVariable place) troubled = record { has = (m, n, are, troubled); first = least_variable }
-    troubled_first (formula.NoVariable place) troubled = record { has = (m, n, are, troubled); first = least_bare troubled.1 }
-    troubled_first (formula.OutsideFragment place reason) troubled = record {
-      has = (m, n, are, troubled);
-      first = least_outside (known_terms (scope_of kind line tokens m n) read troubled.0 troubled.3)
-          (known_relations (scope_of kind line tokens m n) read troubled.0 troubled.3);
+    pub refused_first : (refused : FormulaRefused) → IsTroubled (scope m n) read refused → IsSpecLineRefused Wrong (refusal_of refused)
+    refused_first (formula.Syntax place) troubled = absurd troubled
+    refused_first (formula.UnknownVariable place) troubled = record { has = (m, n, numbers.are, troubled); first = least_variable }
+    refused_first (formula.NoVariable place) troubled = record { has = (m, n, numbers.are, troubled); first = least_bare troubled.1 }
+    refused_first (formula.OutsideFragment place reason) troubled = record {
+      has = (m, n, numbers.are, troubled);
+      first = least_outside (known_terms (scope m n) read troubled.0 troubled.3) (known_relations (scope m n) read troubled.0 troubled.3);
     }
-    troubled_first formula.NoMemory troubled = tt
+    refused_first formula.NoMemory troubled = tt
 
     -- nothing is wrong with the formula alone
-    module _ (left : AreDifferent (variables_of_method kind m)) (right : AreDifferent (variables_of_method kind n)) (f : Tree)
-        (gives : Gives (MeansAt (scope_of kind line tokens m n)) read f) (inside : InFragment f) where
-      same_formula : (g : Tree) → Gives (MeansAt (scope_of kind line tokens m n)) read g → g ≡ f
-      same_formula g given = one_formula (scope_of kind line tokens m n) left right read g f given gives
-
-      passes_here : (Large : ℕ → ℕ → Tree → Type 0) (place : ℕ) → FormulaPasses Large kind line tokens first second read place
-          → Large m n f × (place ≡ place_at line tokens 3)
-      passes_here Large place (i, j, g, says, large, is) =
-          let given = here (λ x y. Gives (MeansAt (scope_of kind line tokens x y)) read g) i j says.numbers says.gives in
-          (subst (λ (t : Tree). Large m n t) (same_formula g given) (here (λ x y. Large x y g) i j says.numbers large), is)
-
-      late : (cause : SpecCause) (place : ℕ) → Wrong cause place → LateHas kind line tokens m n f cause place
-      late UnknownMethod place h = absurd (no_method place h)
-      late UnknownVariable place h = absurd (no_variable (known_terms (scope_of kind line tokens m n) read f gives) place h)
-      late NoVariable place h =
-          absurd (no_bare (known_terms (scope_of kind line tokens m n) read f gives) (known_relations (scope_of kind line tokens m n) read f gives) place h)
-      late (OutsideFragment reason) place h =
+    module _ (f : Tree) (right : IsRight (scope m n) read f) where
+      no_outside : (reason : Reason) (place : ℕ) → ¬ (Wrong (OutsideFragment reason) place)
+      no_outside reason place h =
           let troubled = troubled_here (formula.OutsideFragment place reason) h in
-          let same = same_formula troubled.0 troubled.3 in
+          let same = right.one troubled.0 troubled.3 in
           let found = sym (ap (λ (t : Tree). first_offence 0 (post_order t)) same) ∙ troubled.4 in
-          absurd (no_offence (first_offence 0 (post_order f)) _ ((fragment_is f).1 inside) found)
-      late Duplicate place (i, j, others, some, is) = (here (λ x y. IsSome (formula_at kind x y)) i j others some, is)
-      late (Limit Nodes number) place (h, is) = let passes = passes_here (λ x y g. MOST_NODES < nodes g) place h in ((passes.0, is), passes.1)
-      late (Limit FormulaDepth number) place (h, is) = let passes = passes_here (λ x y g. MOST_LEVELS < levels g) place h in ((passes.0, is), passes.1)
-      late (Limit Predicates number) place (h, is) = let passes = passes_here (HasManyPredicates kind) place h in ((passes.0, is), passes.1)
-      late cause place h = absurd h
+          none_some (first_offence 0 (post_order f)) _ ((none_is f).1 right.inside) found
 
-      says_pair : SaysPair kind line tokens first second read m n f
-      says_pair = record { numbers = are; gives = gives }
+      passes_here : (Large : ℕ → ℕ → Tree → Type 0) (place : ℕ) → FormulaPasses Unknown Methods scope Taken Many line tokens read Large place
+          → Large m n f
+      passes_here Large place (i, j, g, others, says, large, is) =
+          let same = right.one g (here (λ x y. SaysTree (scope x y) read g) i j others says) in
+          subst (λ (t : Tree). Large m n t) same (here (λ x y. Large x y g) i j others large)
 
-      back : (cause : SpecCause) (place : ℕ) → LateHas kind line tokens m n f cause place → Wrong cause place
-      back Duplicate place (some, is) = (m, n, are, some, is)
-      back (Limit Nodes number) place ((large, number_is), is) = ((m, n, f, says_pair, large, is), number_is)
-      back (Limit FormulaDepth number) place ((large, number_is), is) = ((m, n, f, says_pair, large, is), number_is)
-      back (Limit Predicates number) place ((large, number_is), is) = ((m, n, f, says_pair, large, is), number_is)
-      back cause place h = absurd h.0
+      passes : (Large : ℕ → ℕ → Tree → Type 0) → Large m n f → FormulaPasses Unknown Methods scope Taken Many line tokens read Large (place_at line tokens 3)
+      passes Large large = (m, n, f, numbers.are, right.says, large, refl)
 
-      pub late_first : (fault : Fault) → IsFirstOf (LateHas kind line tokens m n f) fault.cause fault.place → IsFirstOf Wrong fault.cause fault.place
-      late_first fault h = record {
-        has = back fault.cause fault.place h.has;
-        first = λ other elsewhere wrong. h.first other elsewhere (late other elsewhere wrong);
-      }
+      none_unknown : (place : ℕ) → ¬ (Wrong UnknownVariable place)
+      none_unknown place h = no_variable (known_terms (scope m n) read f right.says) place h
 
-      pub late_none : HasNone (LateHas kind line tokens m n f) → HasNone Wrong
-      late_none none cause place wrong = none cause place (late cause place wrong)
+      none_bare : (place : ℕ) → ¬ (Wrong NoVariable place)
+      none_bare place h = no_bare (known_terms (scope m n) read f right.says) (known_relations (scope m n) read f right.says) place h
 
--- a pair without such a cause may be set
-unset : (o : Option Tree) → ¬ (IsSome o) → o ≡ None
-unset None h = refl
-unset (Some f) h = absurd (h refl)
+      least_taken : (cause : SpecCause) (place : ℕ) → Wrong cause place → 7 ≤ rank cause
+      least_taken UnknownMethod place h = absurd (numbers.known place h)
+      least_taken UnknownVariable place h = absurd (none_unknown place h)
+      least_taken NoVariable place h = absurd (none_bare place h)
+      least_taken (OutsideFragment reason) place h = absurd (no_outside reason place h)
+      least_taken Duplicate place h = omega arith
+      least_taken (Limit Nodes number) place h = omega arith
+      least_taken (Limit FormulaDepth number) place h = omega arith
+      least_taken (Limit Predicates number) place h = omega arith
+      least_taken cause place h = absurd h
 
-at_most : (x y : ℕ) → ¬ (x < y) → y ≤ x
-at_most x y h = elim (cases_lt x y) [ inl above ↦ absurd (h above) | inr rest ↦ omega arith ]
+      -- what is there already is told before what is too large
+      pub taken_first : (place : ℕ) → Taken m n place → IsFirstOf Wrong Duplicate place
+      taken_first place taken = record { has = (m, n, numbers.are, taken); first = least_taken }
 
-pub may_pair : (kind : SpecifiedKind) (line : List ℕ) (tokens : List Token) (m n : ℕ) (read : ParsedTree) (f : Tree) → m ≤ n → n < length kind.methods
-    → Gives (MeansAt (scope_of kind line tokens m n)) read f → IsFormula (scope_of kind line tokens m n) f → HasNone (LateHas kind line tokens m n f) → MayPair kind m n f
-may_pair kind line tokens m n read f ordered known given is none = record {
-  ordered = ordered;
-  known = known;
-  unset = unset (formula_at kind m n) (λ some. none Duplicate (place_at line tokens 1) (some, refl));
-  pair = record {
-    fits = rw (← slots_are kind m, ← slots_are kind n) is.fits;
-    slots = is.slots;
-    values = given_values (scope_of kind line tokens m n) read f given;
-    inside = is.inside;
-    few = at_most MOST_NODES (nodes f) (λ large. none (Limit Nodes MOST_NODES) (place_at line tokens 3) ((large, refl), refl));
-    shallow = at_most MOST_LEVELS (levels f) (λ large. none (Limit FormulaDepth MOST_LEVELS) (place_at line tokens 3) ((large, refl), refl));
-  };
-  few_first = at_most MOST_PREDICATES _ (λ large. none (Limit Predicates MOST_PREDICATES) (place_at line tokens 3) ((inl large, refl), refl));
-  few_second = at_most MOST_PREDICATES _ (λ large. none (Limit Predicates MOST_PREDICATES) (place_at line tokens 3) ((inr large, refl), refl));
-}
+      -- nothing is there already
+      module _ (free : (place : ℕ) → ¬ (Taken m n place)) where
+        no_taken : (place : ℕ) → ¬ (Wrong Duplicate place)
+        no_taken place (i, j, others, taken) = free place (here (λ x y. Taken x y place) i j others taken)
 
--- the same, of a kind that is being made
-pub numbers_are : (kind : SpecifiedKind) (methods : List Method) (first second : List ℕ) (m n : ℕ) → methods ≡ kind.methods
-    → slice_get (names_of methods) m ≡ Some first → slice_get (names_of methods) n ≡ Some second → AreNumbers kind first second m n
-numbers_are kind methods first second m n same one other = record {
-  first_name = subst (λ (ms : List Method). slice_get (names_of ms) m ≡ Some first) same one;
-  second_name = subst (λ (ms : List Method). slice_get (names_of ms) n ≡ Some second) same other;
-}
+        least_nodes : (cause : SpecCause) (place : ℕ) → Wrong cause place → 13 ≤ rank cause
+        least_nodes UnknownMethod place h = absurd (numbers.known place h)
+        least_nodes UnknownVariable place h = absurd (none_unknown place h)
+        least_nodes NoVariable place h = absurd (none_bare place h)
+        least_nodes (OutsideFragment reason) place h = absurd (no_outside reason place h)
+        least_nodes Duplicate place h = absurd (no_taken place h)
+        least_nodes (Limit Nodes number) place h = omega arith
+        least_nodes (Limit FormulaDepth number) place h = omega arith
+        least_nodes (Limit Predicates number) place h = omega arith
+        least_nodes cause place h = absurd h
 
-module _ (kind : SpecifiedKind) (line : List ℕ) (tokens : List Token) (first second : List ℕ) (read : ParsedTree) (draft : IsDraft kind) (m n : ℕ)
-    (are : AreNumbers kind first second m n) where
-  pub left_known : m < length kind.methods
-  left_known = number_within kind.methods first m are.first_name
+        pub nodes_first : MOST_NODES < nodes f → IsFirstOf Wrong (Limit Nodes MOST_NODES) (place_at line tokens 3)
+        nodes_first many = record { has = (passes (λ i j g. MOST_NODES < nodes g) many, refl); first = least_nodes }
 
-  pub right_known : n < length kind.methods
-  right_known = number_within kind.methods second n are.second_name
+        module _ (few : nodes f ≤ MOST_NODES) where
+          no_nodes : (number place : ℕ) → ¬ (Wrong (Limit Nodes number) place)
+          no_nodes number place h = let many = passes_here (λ i j g. MOST_NODES < nodes g) place h.0 in omega (arith, many, few)
 
-  pub refused_first : (refused : FormulaRefused) → IsTroubled (scope_of kind line tokens m n) read refused
-      → IsSpecLineRefused (PairHas kind line tokens first second read) (refusal_of refused)
-  refused_first refused troubled = troubled_first kind line tokens first second read draft.methods.different m n are refused troubled
+          least_levels : (cause : SpecCause) (place : ℕ) → Wrong cause place → 14 ≤ rank cause
+          least_levels UnknownMethod place h = absurd (numbers.known place h)
+          least_levels UnknownVariable place h = absurd (none_unknown place h)
+          least_levels NoVariable place h = absurd (none_bare place h)
+          least_levels (OutsideFragment reason) place h = absurd (no_outside reason place h)
+          least_levels Duplicate place h = absurd (no_taken place h)
+          least_levels (Limit Nodes number) place h = absurd (no_nodes number place h)
+          least_levels (Limit FormulaDepth number) place h = omega arith
+          least_levels (Limit Predicates number) place h = omega arith
+          least_levels cause place h = absurd h
 
-  module _ (f : Tree) (gives : Gives (MeansAt (scope_of kind line tokens m n)) read f) (is : IsFormula (scope_of kind line tokens m n) f) where
-    pub fault_first : (fault : Fault) → IsFirstOf (LateHas kind line tokens m n f) fault.cause fault.place
-        → IsFirstOf (PairHas kind line tokens first second read) fault.cause fault.place
-    fault_first fault h =
-        late_first kind line tokens first second read draft.methods.different m n are (variables_are kind.methods m draft.methods left_known).different
-        (variables_are kind.methods n draft.methods right_known).different f gives is.inside fault h
+          pub levels_first : MOST_LEVELS < levels f → IsFirstOf Wrong (Limit FormulaDepth MOST_LEVELS) (place_at line tokens 3)
+          levels_first many = record { has = (passes (λ i j g. MOST_LEVELS < levels g) many, refl); first = least_levels }
 
-    pub fault_none : HasNone (LateHas kind line tokens m n f) → HasNone (PairHas kind line tokens first second read)
-    fault_none none =
-        late_none kind line tokens first second read draft.methods.different m n are (variables_are kind.methods m draft.methods left_known).different
-        (variables_are kind.methods n draft.methods right_known).different f gives is.inside none
+          module _ (shallow : levels f ≤ MOST_LEVELS) where
+            no_levels : (number place : ℕ) → ¬ (Wrong (Limit FormulaDepth number) place)
+            no_levels number place h = let many = passes_here (λ i j g. MOST_LEVELS < levels g) place h.0 in omega (arith, many, shallow)
+
+            least_many : (cause : SpecCause) (place : ℕ) → Wrong cause place → 15 ≤ rank cause
+            least_many UnknownMethod place h = absurd (numbers.known place h)
+            least_many UnknownVariable place h = absurd (none_unknown place h)
+            least_many NoVariable place h = absurd (none_bare place h)
+            least_many (OutsideFragment reason) place h = absurd (no_outside reason place h)
+            least_many Duplicate place h = absurd (no_taken place h)
+            least_many (Limit Nodes number) place h = absurd (no_nodes number place h)
+            least_many (Limit FormulaDepth number) place h = absurd (no_levels number place h)
+            least_many (Limit Predicates number) place h = omega arith
+            least_many cause place h = absurd h
+
+            pub many_first : Many m n f → IsFirstOf Wrong (Limit Predicates MOST_PREDICATES) (place_at line tokens 3)
+            many_first many = record { has = (passes Many many, refl); first = least_many }
+
+            -- nothing is wrong
+            pub none_wrong : ¬ (Many m n f) → HasNone Wrong
+            none_wrong room UnknownMethod place h = numbers.known place h
+            none_wrong room UnknownVariable place h = none_unknown place h
+            none_wrong room NoVariable place h = none_bare place h
+            none_wrong room (OutsideFragment reason) place h = no_outside reason place h
+            none_wrong room Duplicate place h = no_taken place h
+            none_wrong room (Limit Nodes number) place h = no_nodes number place h
+            none_wrong room (Limit FormulaDepth number) place h = no_levels number place h
+            none_wrong room (Limit Predicates number) place h = room (passes_here Many place h.0)
+            none_wrong room cause place h = h
+
+        -- the first limit that it passes is told
+        limit_first : (cause : SpecCause) (place : ℕ) → IsFirstLarge (scope m n) read cause → place ≡ place_at line tokens 3 → IsFirstOf Wrong cause place
+        limit_first (Limit Nodes number) place (large, is) at =
+            let found = nodes_first (large f right.says) in
+            subst (λ (p : ℕ). IsFirstOf Wrong (Limit Nodes number) p) (sym at)
+            (subst (λ (k : ℕ). IsFirstOf Wrong (Limit Nodes k) (place_at line tokens 3)) (sym is) found)
+        limit_first (Limit FormulaDepth number) place (large, is) at =
+            let found = levels_first (large f right.says).0 (large f right.says).1 in
+            subst (λ (p : ℕ). IsFirstOf Wrong (Limit FormulaDepth number) p) (sym at)
+            (subst (λ (k : ℕ). IsFirstOf Wrong (Limit FormulaDepth k) (place_at line tokens 3)) (sym is) found)
+        limit_first cause place large at = absurd large
+
+        pub large_first : (refused : SpecLineRefused) → IsRefusedLarge (scope m n) line tokens read refused → IsSpecLineRefused Wrong refused
+        large_first (Faulted fault) (large, at) = limit_first fault.cause fault.place large at
+        large_first NoMemory h = tt

@@ -1,7 +1,8 @@
+pub mod DefinitionLemmas
+pub mod FormLemmas
 pub mod JudgeLemmas
-pub mod LimitLemmas
 pub mod MarkLemmas
 pub mod MeaningLemmas
 pub mod NumberLemmas
-pub mod PairLineLemmas
+pub mod PairLemmas
 pub mod ScopeLemmas

@@ -1,21 +1,30 @@
-//! Judging the line of a pair.
-ghost use Rattle.std.specs.Prelude.{◌<◌, ◌-◌, ◌^◌, length, All, IfOk, IfErr};
-ghost use Rattle.rd_tokens.specs.Tokens.{IsTokenOf, LiesIn};
-ghost use Rattle.rd_pairs.specs.Causes.{HasNone, IsSpecLineRefused};
-ghost use Rattle.rd_pairs.specs.PairCauses.{PairHas, SaysPair};
+//! Judging the line of a pair, and that of a definition.
+ghost use Rattle.std.specs.Prelude.{◌≡◌, ◌<◌, ◌-◌, ◌^◌, length, All, IfOk, IfErr, None};
+ghost use Rattle.rd_definitions.specs.Definitions.{IsDefined, formula_of};
 ghost use Rattle.rd_ecl.specs.Formulas.{tree_of};
-ghost use Rattle.rd_ecl.specs.Specified.{MayPair, names_of};
+ghost use Rattle.rd_ecl.specs.Specified.{MayPair, names_of, slots_at};
 ghost use Rattle.rd_grammar.specs.Grammar.{parsed_tree};
 ghost use Rattle.rd_lines.specs.declared.forms.Stage.{Stage};
-ghost use Rattle.rd_lines.specs.Lines.{IsCommuteLine, HasFewWords, words_of};
+ghost use Rattle.rd_lines.specs.declared.forms.Version.{Version};
+ghost use Rattle.rd_lines.specs.Lines.{HasFewWords, IsCommuteLine, IsDefineLine, words_of};
+ghost use Rattle.rd_open_kind.specs.Opened.{definitions_at};
+ghost use Rattle.rd_pairs.specs.Causes.{HasNone, IsSpecLineRefused};
+ghost use Rattle.rd_pairs.specs.PairCauses.{DefinitionHas, PairHas, SaysDefinition, SaysPair};
+ghost use Rattle.rd_tokens.specs.Tokens.{IsTokenOf, LiesIn};
 
-use crate::SpecLineRefused;
-use crate::limits::judge_right;
+use crate::formulas::{expanded, refusal_of};
+use crate::limits::{has_room, is_set};
 use crate::methods::numbers_of;
-use crate::pair_formulas::{formula_of, refusal_of};
-use rd_base::Name;
-use rd_ecl::{Formula, KindDraft};
+use crate::numbers::number_of;
+use crate::scopes::{definition_scope, is_defined, pair_scope};
+use crate::{Fault, SpecCause, SpecLineRefused, place_at};
+use rd_base::{LimitName, MOST_PREDICATES, Name};
+use rd_definitions::Definitions;
+use rd_ecl::Formula;
+use rd_formulas::resolve;
 use rd_grammar::Parsed;
+use rd_lines::Version;
+use rd_open_kind::OpenKind;
 use rd_tokens::Token;
 use std::alloc::Global;
 
@@ -27,53 +36,128 @@ pub struct Pair {
     pub formula: Formula,
 }
 
-/// The pair that a line of these two methods and this formula says of a kind, ready for `KindDraft::pair`; else the first thing
-/// that is wrong with the line. It is right by its form, with at most 512 tokens behind `when`. Only the formula takes memory.
+/// What a name stands for: a formula of the method with this number.
+#[derive(Drop)]
+pub struct Defined {
+    pub method: u8,
+    pub formula: Formula,
+}
+
+/// The pair that a line of these two methods and this formula says of a kind, ready for `OpenKind::pair`; else the first thing that is
+/// wrong with the line. It is right by its form, with at most 512 tokens behind `when`. Only the formula takes memory.
 pub fn judge_pair(
     alloc: Global,
-    kind: &KindDraft,
+    version: Version,
+    opened: &OpenKind,
     line: &[u8],
     tokens: &[Token],
-    first: &Name,
-    second: &Name,
+    names: (&Name, &Name),
     parsed: &Parsed,
 ) -> Result<Pair, SpecLineRefused>
     requires within { All (LiesIn line.now) tokens.now }
     requires sorts { All (IsTokenOf line.now) tokens.now }
     requires short { length line.now < 2 ^ 32 - 1 }
-    requires few { HasFewWords (words_of line.now tokens.now) }
+    requires few { HasFewWords version (words_of line.now tokens.now) }
     requires right { (stage : Stage)
-        × IsCommuteLine stage (names_of kind.now.methods)
-        (words_of line.now tokens.now) first.now second.now (parsed_tree parsed.now) }
+        × IsCommuteLine version stage (names_of opened.now.kind.methods)
+        (words_of line.now tokens.now) names.0.now names.1.now (parsed_tree parsed.now) }
 
     // the pair is clean, is what the line says and may stand, or it is refused
     ensures clean { IfOk result
         (λ pair. HasNone
-        (PairHas kind.now line.now tokens.now first.now second.now (parsed_tree parsed.now))) }
+        (PairHas version opened.now line.now tokens.now names.entry.0.now names.entry.1.now (parsed_tree parsed.now))) }
     ensures says { IfOk result
-        (λ pair. SaysPair kind.now line.now tokens.now first.now second.now
+        (λ pair. SaysPair version opened.now line.now tokens.now names.entry.0.now names.entry.1.now
         (parsed_tree parsed.now) pair.first pair.second (tree_of pair.formula)) }
     ensures may { IfOk result
-        (λ pair. MayPair kind.now pair.first pair.second (tree_of pair.formula)) }
+        (λ pair. MayPair opened.now.kind pair.first pair.second (tree_of pair.formula)) }
     ensures refused { IfErr result
-        (IsSpecLineRefused (PairHas kind.now line.now tokens.now first.now second.now
+        (IsSpecLineRefused (PairHas version opened.now line.now tokens.now names.entry.0.now names.entry.1.now
         (parsed_tree parsed.now))) }
 {
-    let methods = kind.methods();
-    let (one, other) = match numbers_of(methods, line, tokens, first, second) {
+    let kind = opened.draft();
+    let (one, other) = match numbers_of(kind.methods(), line, tokens, names.0, names.1) {
         Ok(numbers) => numbers,
         Err(fault) => return Err(SpecLineRefused::Fault(fault)),
     };
-    let formula = match formula_of(alloc, methods, line, tokens, one, other, parsed) {
-        Ok(formula) => formula,
+    let scope = pair_scope(version, opened, line, tokens, one, other);
+    let outline = match resolve(alloc, &scope, parsed) {
+        Ok(outline) => outline,
         Err(refused) => return Err(refusal_of(refused)),
     };
-    match judge_right(kind, line, tokens, one, other, &formula) {
-        Some(fault) => Err(SpecLineRefused::Fault(fault)),
-        None => Ok(Pair {
-            first: one,
-            second: other,
-            formula,
-        }),
+    if is_set(kind, one, other) {
+        return Err(SpecLineRefused::Fault(Fault {
+            place: place_at(line, tokens, 1),
+            cause: SpecCause::Duplicate,
+        }));
     }
+    let formula = expanded(alloc, &scope, line, tokens, parsed, outline)?;
+    if !has_room(kind, one, other, &formula) {
+        return Err(SpecLineRefused::Fault(Fault {
+            place: place_at(line, tokens, 3),
+            cause: SpecCause::Limit(LimitName::Predicates, MOST_PREDICATES as u32),
+        }));
+    }
+    Ok(Pair {
+        first: one,
+        second: other,
+        formula,
+    })
+}
+
+/// What the line of a definition of a method, with this name and this formula, says of a kind, ready for `OpenKind::define`; else the
+/// first thing that is wrong with the line. It is right by its form, with at most 512 tokens behind `when`. Only the formula takes
+/// memory.
+pub fn judge_definition(
+    alloc: Global,
+    opened: &OpenKind,
+    line: &[u8],
+    tokens: &[Token],
+    names: (&Name, &Name),
+    parsed: &Parsed,
+) -> Result<Defined, SpecLineRefused>
+    requires within { All (LiesIn line.now) tokens.now }
+    requires sorts { All (IsTokenOf line.now) tokens.now }
+    requires short { length line.now < 2 ^ 32 - 1 }
+    requires right { (version : Version) × (stage : Stage) × HasFewWords version (words_of line.now tokens.now)
+        × IsDefineLine version stage
+        (words_of line.now tokens.now) names.0.now names.1.now (parsed_tree parsed.now) }
+
+    // the definition is clean, is what the line says and may stand, or it is refused
+    ensures clean { IfOk result
+        (λ defined. HasNone
+        (DefinitionHas opened.now line.now tokens.now names.entry.0.now names.entry.1.now (parsed_tree parsed.now))) }
+    ensures says { IfOk result
+        (λ defined. SaysDefinition opened.now.kind line.now tokens.now names.entry.0.now
+        (parsed_tree parsed.now) defined.method (tree_of defined.formula)) }
+    ensures known { IfOk result (λ defined. defined.method < length opened.now.kind.methods) }
+    ensures unknown { IfOk result
+        (λ defined. formula_of (definitions_at opened.now.defined defined.method) names.entry.1.now ≡ None) }
+    ensures may { IfOk result
+        (λ defined. IsDefined (slots_at opened.now.kind.methods defined.method)
+        (record { name = names.entry.1.now; formula = tree_of defined.formula })) }
+    ensures refused { IfErr result
+        (IsSpecLineRefused (DefinitionHas opened.now line.now tokens.now names.entry.0.now names.entry.1.now
+        (parsed_tree parsed.now))) }
+{
+    let Some(method) = number_of(opened.draft().methods(), names.0) else {
+        return Err(SpecLineRefused::Fault(Fault {
+            place: place_at(line, tokens, 1),
+            cause: SpecCause::UnknownMethod,
+        }));
+    };
+    let none = Definitions::new(alloc);
+    let scope = definition_scope(opened, &none, line, tokens, method);
+    let outline = match resolve(alloc, &scope, parsed) {
+        Ok(outline) => outline,
+        Err(refused) => return Err(refusal_of(refused)),
+    };
+    if is_defined(opened, method, names.1) {
+        return Err(SpecLineRefused::Fault(Fault {
+            place: place_at(line, tokens, 2),
+            cause: SpecCause::Duplicate,
+        }));
+    }
+    let formula = expanded(alloc, &scope, line, tokens, parsed, outline)?;
+    Ok(Defined { method, formula })
 }

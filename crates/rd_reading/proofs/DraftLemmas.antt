@@ -1,49 +1,49 @@
 -- Each kind that a text says is one: its methods, and a formula in the fragment for each pair of them.
-use Rattle.std.proofs.Common.{◌≡◌, ◌≢◌, ℕ, ◌<◌, ◌≤◌, Bool, true, false, not, List, [], ◌∷◌, ◌++◌, length, Option, Some, None, refl, sym, ap, subst, arith, ◌∙◌, inl, inr, length-append}
-use Rattle.std.specs.Prelude.{All, Contains, IsNone, IsSome, IsTrue, slice_get}
+use Rattle.std.proofs.Common.{◌≡◌, ◌≢◌, ℕ, ◌<◌, ◌≤◌, Bool, true, false, not, List, [], ◌∷◌, ◌++◌, length, Option, Some, None, refl, sym, ap, subst, arith, ◌∙◌, ◌⊎◌, inl, inr, length-append}
+use Rattle.std.specs.Prelude.{All, Contains, IsTrue}
 use Rattle.std.specs.List.{AllByRecursion, list_all}
 use Rattle.std.proofs.lemmas.Bool.{and_from, cases_lt}
 use Rattle.std.proofs.lemmas.List.{append-nil}
 use Rattle.std.proofs.lemmas.List.Elements.{All-nil, All-push}
-use Rattle.rd_base.specs.declared.limits.LimitName.TheVariants.{Arguments, FormulaDepth, Methods as MethodLimit, Nodes, Predicates}
-use Rattle.rd_base.specs.declared.limits.TheConstants.{MOST_ARGUMENTS, MOST_LEVELS, MOST_METHODS, MOST_NODES, MOST_PREDICATES}
-use Rattle.rd_ecl.specs.declared.formulas.Outside.{Outside}
-use Rattle.rd_ecl.specs.Formulas.{InFragment, Tree, first_offence, levels, nodes, post_order}
-use Rattle.rd_ecl.specs.Specified.{IsDraft, IsKind, IsWhole, MayAdd, MayPair, SpecifiedKind, formula_at, names_of}
+use Rattle.rd_base.specs.declared.limits.LimitName.TheVariants.{Arguments, Methods as MethodLimit}
+use Rattle.rd_base.specs.declared.limits.TheConstants.{MOST_ARGUMENTS, MOST_METHODS}
+use Rattle.rd_ecl.specs.Formulas.{Tree}
+use Rattle.rd_ecl.specs.declared.kinds.Method.{Method}
+use Rattle.rd_ecl.specs.Specified.{IsDraft, IsKind, IsWhole, MayAdd, MayPair, SpecifiedKind, names_of, slots_at}
+use Rattle.rd_definitions.specs.Definitions.{IsDefined}
+use Rattle.rd_open_kind.specs.Opened.{AreItsDefinitions, Opened, filled, kind_named}
+use Rattle.rd_open_kind.proofs.FilledLemmas.{filled_draft}
+use Rattle.rd_open_kind.proofs.OpenedLemmas.{method_undefined, one_more_defined}
 use Rattle.rd_ecl.specs.Variables.{IsVariable, is_one_of, is_variable}
-use Rattle.rd_ecl.proofs.FragmentLemmas.{fragment_is}
 use Rattle.rd_ecl.proofs.PairLemmas.{draft_more, draft_set, no_draft}
 use Rattle.rd_ecl.proofs.VariableLemmas.{among_decides, different_decides, variable_decides}
-use Rattle.rd_formulas.specs.Meaning.{node_tokens}
-use Rattle.rd_formulas.specs.Scope.{MeansAt, place_in_scope}
-use Rattle.rd_formulas.proofs.BuildingLemmas.{given_of}
-use Rattle.rd_formulas.proofs.ReadingLemmas.{token_there}
 use Rattle.rd_grammar.specs.Grammar.{ParsedTree}
-use Rattle.rd_lines.specs.declared.forms.Stage.TheVariants.{Outside as OutsideStage, Methods}
-use Rattle.rd_lines.specs.Lines.{IsOutOfOrder, RightLine, SaidForm, words_of}
-use Rattle.rd_lines.specs.Lines.{kind as kind_said, method as method_said, commute as commute_said}
+use Rattle.rd_lines.specs.declared.forms.Stage.{Stage}
+use Rattle.rd_lines.specs.declared.forms.Stage.TheVariants.{Outside as OutsideStage, Methods, Definitions, Defaulted}
+use Rattle.rd_lines.specs.declared.forms.Version.{Version}
+use Rattle.rd_lines.specs.Lines.{IsCommuteLine, IsDefineLine, RightLine, SaidForm, words_of}
+use Rattle.rd_lines.specs.Lines.{kind as kind_said, method as method_said, commute as commute_said, default as default_said, define as define_said}
 use Rattle.rd_reading.specs.Adding.{AcceptsSpecLine, Adds, FormAdds, adds_form, adds_header}
 use Rattle.rd_reading.specs.Causes.{FormHas, MethodHas, form_has}
 use Rattle.rd_pairs.specs.Causes.{HasNone}
-use Rattle.rd_pairs.specs.PairCauses.{PairHas, SaysPair, scope_of}
-use Rattle.rd_reading.specs.Known.{kind_in, nothing, open_kinds, open_method_names, stage_in, stage_of}
+use Rattle.rd_pairs.specs.PairCauses.{DefinitionHas, PairHas, SaysDefinition, SaysPair}
+use Rattle.rd_reading.specs.Known.{kind_in, nothing, open_kinds, open_method_names, opened_in, stage_in, stage_of}
 use Rattle.rd_reading.specs.Texts.{ReadsLines, SpecSays, no_more, skips, takes}
 use Rattle.rd_reading.specs.declared.known.Block.{Block}
 use Rattle.rd_reading.specs.declared.known.Known.{Known}
-use Rattle.rd_pairs.specs.declared.spec_causes.SpecCause.TheVariants.{Duplicate, Limit, MissingPair, OutsideFragment}
-use Rattle.rd_pairs.proofs.MeaningLemmas.{given_values}
-use Rattle.rd_pairs.proofs.NumberLemmas.{AreDifferent, in_order, number_within}
+use Rattle.rd_pairs.specs.declared.spec_causes.SpecCause.TheVariants.{Duplicate, Limit, MissingPair}
+use Rattle.rd_pairs.proofs.NumberLemmas.{AreDifferent, number_within}
 use Rattle.rd_reading.proofs.OneLemmas.{never_repeated, none_apart}
-use Rattle.rd_pairs.proofs.ScopeLemmas.{slots_are}
+use Rattle.rd_pairs.proofs.DefinitionLemmas.{definition_may}
+use Rattle.rd_pairs.proofs.FormLemmas.{definition_formula, pair_formula}
+use Rattle.rd_pairs.proofs.PairLemmas.{pair_may}
 use Rattle.rd_reading.proofs.SearchLemmas.{whole_of}
 use Rattle.rd_tokens.specs.declared.sorts.Token.{Token}
+use Rattle.rd_tokens.specs.Tokens.{AreTokens}
+use Rattle.rd_tokens.proofs.CutLemmas.{each_is, each_lies}
 
 at_most : (x y : ℕ) → ¬ (x < y) → y ≤ x
 at_most x y h = elim (cases_lt x y) [ inl above ↦ absurd (h above) | inr rest ↦ omega arith ]
-
-unset : (o : Option Tree) → ¬ (IsSome o) → o ≡ None
-unset None h = refl
-unset (Some f) h = absurd (h refl)
 
 -- ---- the methods
 
@@ -81,100 +81,121 @@ may_add kind line tokens name arguments result each gives clean =
 
 -- ---- the pairs
 
--- a formula that isn't told as outside of it is in the fragment
-inside : (kind : SpecifiedKind) (line : List ℕ) (tokens : List Token) (first second : List ℕ) (read : ParsedTree) (m n : ℕ) (f : Tree)
-    → SaysPair kind line tokens first second read m n f → HasNone (PairHas kind line tokens first second read) → InFragment f
-inside kind line tokens first second read m n f says clean = by (first_offence 0 (post_order f)) refl where
-  told : (o : Outside) (t : Option ℕ) → first_offence 0 (post_order f) ≡ Some o → slice_get (node_tokens read f) o.node ≡ t → IsSome t → ⊥
-  told o None found is some = absurd (cc)
-  told o (Some number) found is some =
-      clean (OutsideFragment o.reason) (place_in_scope (scope_of kind line tokens m n) number) (m, n, says.numbers, (f, o.node, number, says.gives, found, is, refl))
-
-  by : (o : Option Outside) → first_offence 0 (post_order f) ≡ o → InFragment f
-  by None is = (fragment_is f).0 (subst IsNone (sym is) refl)
-  by (Some o) is =
-      absurd (told o (slice_get (node_tokens read f) o.node) is refl (token_there (MeansAt (scope_of kind line tokens m n)) read f o says.gives is))
-
 -- a clean line of a pair sets one that may be set
-pub may_set : (kind : SpecifiedKind) (line : List ℕ) (tokens : List Token) (first second : List ℕ) (read : ParsedTree) (m n : ℕ) (f : Tree) → IsDraft kind
-    → ¬ (IsOutOfOrder (names_of kind.methods) first second) → SaysPair kind line tokens first second read m n f
-    → HasNone (PairHas kind line tokens first second read) → MayPair kind m n f
-may_set kind line tokens first second read m n f draft order says clean =
-    let numbers = says.numbers in
-    let of = given_of (scope_of kind line tokens m n) read f says.gives in
-    record {
-      ordered = in_order (names_of kind.methods) first second m n draft.methods.different order numbers.first_name numbers.second_name;
-      known = number_within kind.methods second n numbers.second_name;
-      unset = unset (formula_at kind m n) (λ some. clean Duplicate _ (m, n, numbers, some, refl));
-      pair = record {
-        fits = rw (← slots_are kind m, ← slots_are kind n) of.0;
-        slots = of.1;
-        values = given_values (scope_of kind line tokens m n) read f says.gives;
-        inside = inside kind line tokens first second read m n f says clean;
-        few = at_most MOST_NODES (nodes f) (λ large. clean (Limit Nodes MOST_NODES) _ ((m, n, f, says, large, refl), refl));
-        shallow = at_most MOST_LEVELS (levels f) (λ large. clean (Limit FormulaDepth MOST_LEVELS) _ ((m, n, f, says, large, refl), refl));
-      };
-      few_first = at_most MOST_PREDICATES _ (λ large. clean (Limit Predicates MOST_PREDICATES) _ ((m, n, f, says, inl large, refl), refl));
-      few_second = at_most MOST_PREDICATES _ (λ large. clean (Limit Predicates MOST_PREDICATES) _ ((m, n, f, says, inr large, refl), refl));
-    }
+pub may_set : (version : Version) (stage : Stage) (opened : Opened) (line : List ℕ) (tokens : List Token) (first second : List ℕ) (read : ParsedTree) (m n : ℕ) (f : Tree)
+    → AreTokens line tokens → IsDraft opened.kind → AreItsDefinitions opened.kind opened.defined
+    → IsCommuteLine version stage (names_of opened.kind.methods) (words_of line tokens) first second read → SaysPair version opened line tokens first second read m n f
+    → HasNone (PairHas version opened line tokens first second read) → MayPair opened.kind m n f
+may_set version stage opened line tokens first second read m n f cut draft are right says clean =
+    let form = pair_formula version stage (names_of opened.kind.methods) line tokens first second read (each_lies line tokens cut) (each_is line tokens cut) right in
+    pair_may version opened line tokens first second read draft m n says.numbers are form f right.order says.says clean
+
+-- a clean line of a definition defines a formula of its method
+pub may_define : (version : Version) (stage : Stage) (opened : Opened) (line : List ℕ) (tokens : List Token) (owner name : List ℕ) (read : ParsedTree) (m : ℕ) (f : Tree)
+    → AreTokens line tokens → IsDraft opened.kind → IsDefineLine version stage (words_of line tokens) owner name read → SaysDefinition opened.kind line tokens owner read m f
+    → HasNone (DefinitionHas opened line tokens owner name read) → IsDefined (slots_at opened.kind.methods m) (record { name = name; formula = f })
+may_define version stage opened line tokens owner name read m f cut draft right says clean =
+    let form = definition_formula version stage line tokens owner name read (each_lies line tokens cut) (each_is line tokens cut) right in
+    definition_may opened line tokens owner name read draft m says.number form f says.says clean
 
 -- ---- what is known
 
--- the open kind is one that is being made
+-- the open kind is one that is being made, and its definitions are of its methods
 abbrev pub IsOpenDraft : Option Block → Type 0
 IsOpenDraft None = Unit {0}
-IsOpenDraft (Some block) = IsDraft block.draft
+IsOpenDraft (Some block) = IsDraft block.opened.kind × AreItsDefinitions block.opened.kind block.opened.defined
 
 -- the kinds before the open one are whole
 pub record AreDrafts (known : Known) : Type 0 where
   pub closed : All IsKind known.closed
   pub draft : IsOpenDraft known.block
 
+none_defined : (name : List ℕ) → AreItsDefinitions (kind_named name).kind (kind_named name).defined
+none_defined name = record { count = refl; each = λ number within. absurd (omega (arith, within)) }
+
 pub open_draft : (block : Option Block) → stage_in block ≢ OutsideStage → IsOpenDraft block → IsDraft (kind_in block)
 open_draft None inside draft = absurd (inside refl)
-open_draft (Some block) inside draft = draft
+open_draft (Some block) inside draft = draft.0
+
+pub open_defined : (block : Option Block) → stage_in block ≢ OutsideStage → IsOpenDraft block → AreItsDefinitions (kind_in block) (opened_in block).defined
+open_defined None inside draft = absurd (inside refl)
+open_defined (Some block) inside draft = draft.1
 
 -- the kinds so far, where the open one is whole
-all_kinds : (closed : List SpecifiedKind) (block : Option Block) → All IsKind closed → IsOpenDraft block → IsWhole (kind_in block)
+all_kinds : (closed : List SpecifiedKind) (block : Option Block) → All IsKind closed → IsOpenDraft block → IsWhole (filled (opened_in block))
     → All IsKind (closed ++ open_kinds block)
 all_kinds closed None kinds draft whole = subst (All IsKind) (sym (append-nil closed)) kinds
-all_kinds closed (Some block) kinds draft whole = All-push IsKind closed block.draft kinds (record { draft = draft; whole = whole })
+all_kinds closed (Some block) kinds draft whole =
+    All-push IsKind closed (filled block.opened) kinds (record { draft = filled_draft block.opened.kind block.opened.default draft.0; whole = whole })
 
-not_outside : Methods ≢ OutsideStage
-not_outside e = cc
+pub not_outside : (stage : Stage) → stage ≢ OutsideStage → (other : Stage) → other ≡ stage → other ≢ OutsideStage
+not_outside stage differ other same outside = differ (sym same ∙ outside)
+
+pub may_stand : (stage : Stage) → (stage ≡ Methods) ⊎ (stage ≡ Definitions) → stage ≢ OutsideStage
+may_stand stage (inl is) = not_outside Methods (λ e. cc) stage is
+may_stand stage (inr is) = not_outside Definitions (λ e. cc) stage is
+
+pub may_default : (stage : Stage) → (stage ≡ Methods) ⊎ ((stage ≡ Definitions) ⊎ (stage ≡ Defaulted)) → stage ≢ OutsideStage
+may_default stage (inl is) = not_outside Methods (λ e. cc) stage is
+may_default stage (inr (inl is)) = not_outside Definitions (λ e. cc) stage is
+may_default stage (inr (inr is)) = not_outside Defaulted (λ e. cc) stage is
 
 -- an accepted line keeps them so
-form_drafts : (taken : List (List ℕ)) (known next : Known) (line : List ℕ) (tokens : List Token) (form : SaidForm) → AreDrafts known
-    → RightLine (stage_of known) (open_method_names known) (words_of line tokens) form → HasNone (FormHas taken known line tokens form)
-    → FormAdds known line tokens form next → AreDrafts next
-form_drafts taken known next line tokens (kind_said name) are right clean adds =
+form_drafts : (taken : List (List ℕ)) (version : Version) (known next : Known) (line : List ℕ) (tokens : List Token) (form : SaidForm) → AreTokens line tokens → AreDrafts known
+    → RightLine version (stage_of known) (open_method_names known) (words_of line tokens) form → HasNone (FormHas taken version known line tokens form)
+    → FormAdds version known line tokens form next → AreDrafts next
+form_drafts taken version known next line tokens (kind_said name) cut are right clean adds =
     subst AreDrafts (sym adds) (record {
       closed = all_kinds known.closed known.block are.closed are.draft
-          (whole_of (kind_in known.block) (λ first second lacks. clean (MissingPair first second) 0 (lacks, refl)));
-      draft = no_draft name right.named;
+          (whole_of (filled (opened_in known.block)) (λ first second lacks. clean (MissingPair first second) 0 (lacks, refl)));
+      draft = (no_draft name right.named, none_defined name);
     })
-form_drafts taken known next line tokens (method_said name arguments result) are right clean adds =
-    let stands : stage_of known ≢ OutsideStage = λ outside. not_outside (sym right.stands ∙ outside) in
+form_drafts taken version known next line tokens (method_said name arguments result) cut are right clean adds =
+    let stands : stage_of known ≢ OutsideStage = not_outside Methods (λ e. cc) (stage_of known) right.stands in
+    let draft = open_draft known.block stands are.draft in
+    let one : Method = record { name = name; variables = arguments ++ result ∷ [] } in
+    let may = may_add (kind_in known.block) line tokens name arguments result right.each_argument right.gives clean in
     subst AreDrafts (sym adds) (record {
       closed = are.closed;
-      draft = draft_more (kind_in known.block) (record { name = name; variables = arguments ++ result ∷ [] })
-          (open_draft known.block stands are.draft) right.named
-          (may_add (kind_in known.block) line tokens name arguments result right.each_argument right.gives clean);
+      draft = (
+        draft_more (kind_in known.block) one draft right.named may,
+        method_undefined (kind_in known.block) one (opened_in known.block).defined (open_defined known.block stands are.draft),
+      );
     })
-form_drafts taken known next line tokens (commute_said first second read) are right clean (m, n, f, says, same) =
+form_drafts taken version known next line tokens (commute_said first second read) cut are right clean (m, n, f, says, same) =
     let draft = open_draft known.block right.stands are.draft in
+    let defined = open_defined known.block right.stands are.draft in
+    let opened = opened_in known.block in
     subst AreDrafts (sym same) (record {
       closed = are.closed;
-      draft = draft_set (kind_in known.block) m n f draft
-          (may_set (kind_in known.block) line tokens first second read m n f draft right.order says clean);
+      draft = (
+        draft_set (kind_in known.block) m n f draft (may_set version (stage_of known) opened line tokens first second read m n f cut draft defined right says clean),
+        record { count = defined.count; each = defined.each },
+      );
+    })
+form_drafts taken version known next line tokens (define_said owner name read) cut are right clean (m, f, says, same) =
+    let stands = may_stand (stage_of known) right.stands in
+    let draft = open_draft known.block stands are.draft in
+    let defined = open_defined known.block stands are.draft in
+    let opened = opened_in known.block in
+    let is = may_define version (stage_of known) opened line tokens owner name read m f cut draft right says clean in
+    subst AreDrafts (sym same) (record {
+      closed = are.closed;
+      draft = (draft, one_more_defined opened.kind opened.defined m (record { name = name; formula = f }) defined (number_within (kind_in known.block).methods owner m says.number) is);
+    })
+form_drafts taken version known next line tokens (default_said value) cut are right clean same =
+    let stands = may_default (stage_of known) right.stands in
+    subst AreDrafts (sym same) (record {
+      closed = are.closed;
+      draft = (open_draft known.block stands are.draft, open_defined known.block stands are.draft);
     })
 
 pub accepted_drafts : (taken : List (List ℕ)) (known next : Known) (line : List ℕ) → AreDrafts known → AcceptsSpecLine taken known line next → AreDrafts next
 accepted_drafts taken known next line are accepts = by accepts.adds where
   by : Adds known line accepts.tokens next → AreDrafts next
-  by (adds_header fresh header same) = subst AreDrafts (sym same) (record { closed = are.closed; draft = are.draft })
-  by (adds_form begun form right adds) =
-      form_drafts taken known next line accepts.tokens form are right (λ cause place has. accepts.clean cause place (form_has form right has)) adds
+  by (adds_header version fresh header same) = subst AreDrafts (sym same) (record { closed = are.closed; draft = are.draft })
+  by (adds_form version begun form right adds) =
+      form_drafts taken version known next line accepts.tokens form accepts.cut are right (λ cause place has. accepts.clean cause place (form_has version begun form right has)) adds
 
 -- so do lines, one after another
 reads_drafts : (taken : List (List ℕ)) (known last : Known) (lines : List (List ℕ)) → AreDrafts known → ReadsLines taken known lines last → AreDrafts last
@@ -191,4 +212,4 @@ said_kinds text taken kinds says =
     let are = reads_drafts taken nothing says.known says.lines none_drafted says.reads in
     subst (All IsKind) (sym says.said)
     (all_kinds says.known.closed says.known.block are.closed are.draft
-    (whole_of (kind_in says.known.block) (λ first second lacks. says.whole (MissingPair first second) 0 (lacks, refl))))
+    (whole_of (filled (opened_in says.known.block)) (λ first second lacks. says.whole (MissingPair first second) 0 (lacks, refl))))

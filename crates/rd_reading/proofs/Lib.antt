@@ -1,9 +1,10 @@
 pub mod AddLemmas
-pub mod BlockLemmas
 pub mod CauseLemmas
 pub mod CuttingLemmas
+pub mod DefaultLemmas
 pub mod DraftLemmas
 pub mod FormLemmas
+pub mod JudgedLemmas
 pub mod KindLemmas
 pub mod LineLemmas
 pub mod MethodLemmas

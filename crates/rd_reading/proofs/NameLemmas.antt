@@ -1,20 +1,25 @@
 -- The kinds that a text says are few, and each has a name of its own.
-use Rattle.std.proofs.Common.{◌≡◌, ◌≢◌, ℕ, ◌<◌, ◌≤◌, Bool, true, false, List, [], ◌∷◌, ◌++◌, length, Option, Some, None, refl, sym, ap, subst, arith, ◌∙◌, length-append}
+use Rattle.std.proofs.Common.{◌≡◌, ◌≢◌, ℕ, ◌<◌, ◌≤◌, List, [], ◌∷◌, ◌++◌, length, Option, Some, None, refl, sym, ap, subst, arith, ◌∙◌, length-append}
 use Rattle.std.specs.Prelude.{All, Contains}
 use Rattle.std.proofs.lemmas.List.{get_or-map, length-map, map-append}
 use Rattle.std.proofs.lemmas.List.Elements.{All-push}
 use Rattle.rd_reading.specs.Adding.{AcceptsSpecLine, Adds, FormAdds, adds_form, adds_header, with_kind, with_open}
 use Rattle.rd_reading.specs.Causes.{FormHas, KindHas, form_has}
 use Rattle.rd_pairs.specs.Causes.{HasNone}
-use Rattle.rd_reading.specs.Known.{kind_in, specified_kind_names, kind_without, kinds_so_far, open_method_names, nothing, open_kinds, stage_in, stage_of}
+use Rattle.rd_reading.specs.Known.{kind_in, kinds_so_far, nothing, open_kinds, open_method_names, opened_in, specified_kind_names, stage_in, stage_of}
 use Rattle.rd_pairs.specs.declared.spec_causes.SpecCause.TheVariants.{Duplicate, KindTaken, Limit}
 use Rattle.rd_reading.specs.declared.known.Block.{Block}
 use Rattle.rd_reading.specs.declared.known.Known.{Known}
 use Rattle.rd_base.specs.declared.limits.LimitName.TheVariants.{Kinds}
-use Rattle.rd_ecl.specs.Specified.{SpecifiedKind, with_method, with_pair}
+use Rattle.rd_ecl.specs.Specified.{SpecifiedKind}
+use Rattle.rd_open_kind.specs.Opened.{Opened, filled, kind_named, with_default, with_definition, with_method_in, with_pair_in}
+use Rattle.rd_open_kind.proofs.FilledLemmas.{filled_name}
 use Rattle.rd_lines.specs.Lines.{RightLine, SaidForm, words_of}
-use Rattle.rd_lines.specs.Lines.{kind as kind_said, method as method_said, commute as commute_said}
-use Rattle.rd_lines.specs.declared.forms.Stage.TheVariants.{Outside, Methods}
+use Rattle.rd_lines.specs.Lines.{kind as kind_said, method as method_said, commute as commute_said, default as default_said, define as define_said}
+use Rattle.rd_lines.specs.declared.forms.Stage.{Stage}
+use Rattle.rd_lines.specs.declared.forms.Stage.TheVariants.{Outside, Methods, Definitions, Defaulted, Pairs}
+use Rattle.rd_lines.specs.declared.forms.Version.{Version}
+use Rattle.rd_reading.proofs.DraftLemmas.{may_default, may_stand, not_outside}
 use Rattle.rd_pairs.proofs.NumberLemmas.{AreDifferent}
 use Rattle.rd_tokens.specs.declared.sorts.Token.{Token}
 use Rattle.rd_reading.specs.Texts.{HasNewNames, ReadsLines, SpecSays, no_more, skips, takes}
@@ -54,23 +59,24 @@ count_names : (kinds : List SpecifiedKind) → length (specified_kind_names kind
 count_names kinds = length-map kinds (λ (kind : SpecifiedKind). kind.name)
 
 -- where a kind is open, another one of its name leaves the names
-names_kept : (known : Known) (kind : SpecifiedKind) (paired : Bool) → stage_of known ≢ Outside → kind.name ≡ (kind_in known.block).name
-    → names_so_far (with_open known kind paired) ≡ names_so_far known
-names_kept known kind paired stands named = names_last known.closed kind ∙ by known.block stands named where
-  by : (block : Option Block) → stage_in block ≢ Outside → kind.name ≡ (kind_in block).name
-      → specified_kind_names known.closed ++ kind.name ∷ [] ≡ specified_kind_names (known.closed ++ open_kinds block)
-  by None inside same = absurd (inside refl)
-  by (Some block) inside same =
-      ap (λ (name : List ℕ). specified_kind_names known.closed ++ name ∷ []) same ∙ sym (names_last known.closed block.draft)
-
-not_outside : Methods ≢ Outside
-not_outside e = cc
+names_kept : (known : Known) (opened : Opened) (stage : Stage) → stage_of known ≢ Outside → opened.kind.name ≡ (kind_in known.block).name
+    → names_so_far (with_open known opened stage) ≡ names_so_far known
+names_kept known opened stage stands named =
+    names_last known.closed (filled opened)
+    ∙ ap (λ (name : List ℕ). specified_kind_names known.closed ++ name ∷ []) (filled_name opened.kind opened.default) ∙ by known.block stands named where
+      by : (block : Option Block) → stage_in block ≢ Outside → opened.kind.name ≡ (kind_in block).name
+          → specified_kind_names known.closed ++ opened.kind.name ∷ [] ≡ specified_kind_names (known.closed ++ open_kinds block)
+      by None inside same = absurd (inside refl)
+      by (Some block) inside same =
+          ap (λ (name : List ℕ). specified_kind_names known.closed ++ name ∷ []) (same ∙ sym (filled_name block.opened.kind block.opened.default))
+          ∙ sym (names_last known.closed (filled block.opened))
 
 -- a clean line of a kind brings a new name
 kind_new : (taken : List (List ℕ)) (known : Known) (line : List ℕ) (tokens : List Token) (name : List ℕ) → AreNew taken (names_so_far known)
     → HasNone (KindHas taken known line tokens name) → AreNew taken (names_so_far (with_kind known name))
 kind_new taken known line tokens name new clean =
-    subst (AreNew taken) (sym (names_last (kinds_so_far known) (kind_without name)))
+    subst (AreNew taken) (sym (names_last (kinds_so_far known) (filled (kind_named name))
+    ∙ ap (λ (n : List ℕ). names_so_far known ++ n ∷ []) (filled_name (kind_named name).kind None)))
     (new_more taken (names_so_far known) name new room (λ among. clean Duplicate _ (among, refl)) (λ reserved. clean KindTaken _ (reserved, refl))) where
       room : length (names_so_far known) < MOST_KINDS
       room =
@@ -79,26 +85,32 @@ kind_new taken known line tokens name new clean =
           omega (arith, count, never)
 
 -- an accepted line keeps the names new
-form_new : (taken : List (List ℕ)) (known next : Known) (line : List ℕ) (tokens : List Token) (form : SaidForm) → AreNew taken (names_so_far known)
-    → RightLine (stage_of known) (open_method_names known) (words_of line tokens) form → HasNone (FormHas taken known line tokens form)
-    → FormAdds known line tokens form next → AreNew taken (names_so_far next)
-form_new taken known next line tokens (kind_said name) new right clean adds =
+form_new : (taken : List (List ℕ)) (version : Version) (known next : Known) (line : List ℕ) (tokens : List Token) (form : SaidForm) → AreNew taken (names_so_far known)
+    → RightLine version (stage_of known) (open_method_names known) (words_of line tokens) form → HasNone (FormHas taken version known line tokens form)
+    → FormAdds version known line tokens form next → AreNew taken (names_so_far next)
+form_new taken version known next line tokens (kind_said name) new right clean adds =
     subst (λ (k : Known). AreNew taken (names_so_far k)) (sym adds) (kind_new taken known line tokens name new clean)
-form_new taken known next line tokens (method_said name arguments result) new right clean adds =
-    let longer : SpecifiedKind = with_method (kind_in known.block) (record { name = name; variables = arguments ++ result ∷ [] }) in
-    let inside : stage_of known ≢ Outside = λ outside. not_outside (sym right.stands ∙ outside) in
-    subst (AreNew taken) (sym (ap names_so_far adds ∙ names_kept known longer false inside refl)) new
-form_new taken known next line tokens (commute_said first second read) new right clean (m, n, f, says, same) =
-    let fuller : SpecifiedKind = with_pair (kind_in known.block) m n f in
-    subst (AreNew taken) (sym (ap names_so_far same ∙ names_kept known fuller true right.stands refl)) new
+form_new taken version known next line tokens (method_said name arguments result) new right clean adds =
+    let longer : Opened = with_method_in (opened_in known.block) (record { name = name; variables = arguments ++ result ∷ [] }) in
+    let inside : stage_of known ≢ Outside = not_outside Methods (λ e. cc) (stage_of known) right.stands in
+    subst (AreNew taken) (sym (ap names_so_far adds ∙ names_kept known longer Methods inside refl)) new
+form_new taken version known next line tokens (commute_said first second read) new right clean (m, n, f, says, same) =
+    let fuller : Opened = with_pair_in (opened_in known.block) m n f in
+    subst (AreNew taken) (sym (ap names_so_far same ∙ names_kept known fuller Pairs right.stands refl)) new
+form_new taken version known next line tokens (define_said owner name read) new right clean (m, f, says, same) =
+    let more : Opened = with_definition (opened_in known.block) m (record { name = name; formula = f }) in
+    subst (AreNew taken) (sym (ap names_so_far same ∙ names_kept known more Definitions (may_stand (stage_of known) right.stands) refl)) new
+form_new taken version known next line tokens (default_said value) new right clean same =
+    let given : Opened = with_default (opened_in known.block) value in
+    subst (AreNew taken) (sym (ap names_so_far same ∙ names_kept known given Defaulted (may_default (stage_of known) right.stands) refl)) new
 
 accepted_new : (taken : List (List ℕ)) (known next : Known) (line : List ℕ) → AreNew taken (names_so_far known) → AcceptsSpecLine taken known line next
     → AreNew taken (names_so_far next)
 accepted_new taken known next line new accepts = by accepts.adds where
   by : Adds known line accepts.tokens next → AreNew taken (names_so_far next)
-  by (adds_header fresh header same) = subst (λ (k : Known). AreNew taken (names_so_far k)) (sym same) new
-  by (adds_form begun form right adds) =
-      form_new taken known next line accepts.tokens form new right (λ cause place has. accepts.clean cause place (form_has form right has)) adds
+  by (adds_header version fresh header same) = subst (λ (k : Known). AreNew taken (names_so_far k)) (sym same) new
+  by (adds_form version begun form right adds) =
+      form_new taken version known next line accepts.tokens form new right (λ cause place has. accepts.clean cause place (form_has version begun form right has)) adds
 
 -- so do lines, one after another
 reads_new : (taken : List (List ℕ)) (known last : Known) (lines : List (List ℕ)) → AreNew taken (names_so_far known) → ReadsLines taken known lines last

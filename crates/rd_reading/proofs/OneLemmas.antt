@@ -1,31 +1,35 @@
 -- A text says one specification at most, and is refused nowhere if it says one.
-use Rattle.std.proofs.Common.{◌≡◌, ℕ, zero, suc, Bool, true, false, List, [], ◌∷◌, ◌++◌, length, take, Some, refl, sym, ap, subst, arith, inl, inr, ◌∙◌}
+use Rattle.std.proofs.Common.{◌≡◌, ℕ, zero, suc, Bool, true, false, List, [], ◌∷◌, ◌++◌, get_or, length, take, Some, refl, sym, ap, subst, arith, inl, inr, ◌∙◌}
 use Rattle.std.specs.Prelude.{slice_get, option_map, unwrap_or, Contains, ◌⊎◌}
 use Rattle.std.specs.Cmp.Lexicographic.{bytes_decides, nat_list_eq_equiv}
 use Rattle.std.proofs.lemmas.List.{append_assoc, append-nil}
+use Rattle.std.proofs.lemmas.Option.{none-some, same_Some}
 use Rattle.std.proofs.lemmas.Map.Keys.{IsDistinct-push}
 use Rattle.std.proofs.lemmas.Map.Made.{AllPairs-from_IsDistinct, IsDistinct-from_AllPairs}
-use Rattle.rd_reading.specs.Adding.{AcceptsSpecLine, Adds, FormAdds, adds_form, adds_header, with_open}
-use Rattle.rd_reading.specs.Causes.{EndHas, FormHas, Has, IsFirstRepeated, form_has}
+use Rattle.rd_reading.specs.Adding.{AcceptsSpecLine, Adds, FormAdds, adds_form, adds_header, with_header, with_open}
+use Rattle.rd_reading.specs.Causes.{EndHas, FormHas, Has, IsFirstRepeated, form_has, header_words}
 use Rattle.rd_pairs.specs.Causes.{HasNone}
-use Rattle.rd_pairs.specs.PairCauses.{scope_of, variables_of_method}
-use Rattle.rd_reading.specs.Known.{kind_in, kind_without, kinds_so_far, open_method_names, nothing, stage_of}
+use Rattle.rd_pairs.specs.PairCauses.{definition_scope, scope_of, variables_of_method}
+use Rattle.rd_reading.specs.Known.{kind_in, kinds_so_far, nothing, open_method_names, opened_in, stage_of}
+use Rattle.rd_open_kind.specs.Opened.{Opened, kind_named, with_definition, with_pair_in}
+use Rattle.rd_lines.specs.declared.forms.Stage.TheVariants.{Definitions, Pairs}
+use Rattle.rd_lines.specs.declared.forms.Version.{Version}
+use Rattle.rd_lines.specs.declared.forms.Version.TheVariants.{One, Two}
 use Rattle.rd_pairs.specs.declared.spec_causes.SpecCause.TheVariants.{Duplicate}
 use Rattle.rd_reading.specs.declared.known.Known.{Known}
 use Rattle.rd_ecl.specs.declared.kinds.Method.{Method}
 use Rattle.rd_ecl.specs.Formulas.{Tree}
-use Rattle.rd_ecl.specs.Specified.{SpecifiedKind, names_of, with_method, with_pair}
+use Rattle.rd_ecl.specs.Specified.{SpecifiedKind, names_of, with_method}
 use Rattle.rd_ecl.specs.Variables.{is_one_of}
 use Rattle.rd_ecl.proofs.VariableLemmas.{among_decides}
-use Rattle.rd_formulas.specs.Meaning.{Gives}
-use Rattle.rd_formulas.specs.Scope.{MeansAt}
+use Rattle.rd_formulas.specs.Scope.{SaysTree}
 use Rattle.rd_grammar.specs.Grammar.{ParsedTree}
 use Rattle.rd_lines.proofs.LawLemmas.{one_form}
 use Rattle.rd_tokens.proofs.CutLemmas.{one_list}
 use Rattle.rd_reading.specs.declared.parsing.SpecRefused.{SpecRefused}
-use Rattle.rd_lines.specs.Lines.{SaidForm, words_of}
-use Rattle.rd_lines.specs.Lines.{kind as kind_said, method as method_said, commute as commute_said}
-use Rattle.rd_pairs.proofs.NumberLemmas.{AreDifferent, one_pair}
+use Rattle.rd_lines.specs.Lines.{LineWord, RightLine, SaidForm, words_of}
+use Rattle.rd_lines.specs.Lines.{kind as kind_said, method as method_said, commute as commute_said, default as default_said, define as define_said}
+use Rattle.rd_pairs.proofs.NumberLemmas.{AreDifferent, one_pair, one_place}
 use Rattle.rd_pairs.proofs.MeaningLemmas.{one_formula}
 use Rattle.rd_tokens.specs.declared.sorts.Token.{Token}
 use Rattle.rd_reading.specs.Texts.{AreLines, ReadsLines, IsLine, IsSkipped, SpecSays, IsRefusedAtLine, IsRefusedAtEnd, IsSpecRefused, no_line, last_line, line_first, no_more, skips, takes}
@@ -77,7 +81,7 @@ pub record AreApart (kind : SpecifiedKind) : Type 0 where
 pub none_apart : AreDifferent []
 none_apart i j d less within = absurd (omega (arith, within))
 
-pub apart_without : (name : List ℕ) → AreApart (kind_without name)
+pub apart_without : (name : List ℕ) → AreApart (kind_named name).kind
 apart_without name = record { names = none_apart; variables = λ n. none_apart }
 
 -- a name more
@@ -138,54 +142,87 @@ abbrev pub IsApart : Known → Type 0
 IsApart known = AreApart (kind_in known.block)
 
 -- an accepted line keeps them apart
-form_apart : (taken : List (List ℕ)) (known next : Known) (line : List ℕ) (tokens : List Token) (form : SaidForm) → IsApart known
-    → HasNone (FormHas taken known line tokens form) → FormAdds known line tokens form next → IsApart next
-form_apart taken known next line tokens (kind_said name) apart clean adds = subst IsApart (sym adds) (apart_without name)
-form_apart taken known next line tokens (method_said name arguments result) apart clean adds =
+form_apart : (taken : List (List ℕ)) (version : Version) (known next : Known) (line : List ℕ) (tokens : List Token) (form : SaidForm) → IsApart known
+    → HasNone (FormHas taken version known line tokens form) → FormAdds version known line tokens form next → IsApart next
+form_apart taken version known next line tokens (kind_said name) apart clean adds = subst IsApart (sym adds) (apart_without name)
+form_apart taken version known next line tokens (method_said name arguments result) apart clean adds =
     subst IsApart (sym adds)
     (apart_more (kind_in known.block) (record { name = name; variables = arguments ++ result ∷ [] }) apart fresh
     (never_repeated (arguments ++ result ∷ []) [] (arguments ++ result ∷ []) refl (λ n repeats. clean Duplicate _ (inr (n, fresh, repeats, refl))) none_apart)) where
       fresh : ¬ (Contains (names_of (kind_in known.block).methods) name)
       fresh among = clean Duplicate _ (inl (among, refl))
-form_apart taken known next line tokens (commute_said first second read) apart clean (m, n, f, says, same) =
+form_apart taken version known next line tokens (commute_said first second read) apart clean (m, n, f, says, same) =
+    subst IsApart (sym same) (record { names = apart.names; variables = apart.variables })
+form_apart taken version known next line tokens (define_said owner name read) apart clean (m, f, says, same) =
+    subst IsApart (sym same) (record { names = apart.names; variables = apart.variables })
+form_apart taken version known next line tokens (default_said value) apart clean same =
     subst IsApart (sym same) (record { names = apart.names; variables = apart.variables })
 
 pub accepted_apart : (taken : List (List ℕ)) (known next : Known) (line : List ℕ) → IsApart known → AcceptsSpecLine taken known line next → IsApart next
 accepted_apart taken known next line apart accepts = by accepts.adds where
   by : Adds known line accepts.tokens next → IsApart next
-  by (adds_header fresh header same) = subst IsApart (sym same) apart
-  by (adds_form begun form right adds) =
-      form_apart taken known next line accepts.tokens form apart (λ cause place has. accepts.clean cause place (form_has form right has)) adds
+  by (adds_header version fresh header same) = subst IsApart (sym same) apart
+  by (adds_form version begun form right adds) =
+      form_apart taken version known next line accepts.tokens form apart (λ cause place has. accepts.clean cause place (form_has version begun form right has)) adds
 
 -- ---- an accepted line adds one thing
 
-same_numbers : (kind : SpecifiedKind) (line : List ℕ) (tokens : List Token) (m n i j : ℕ) (read : ParsedTree) (f : Tree) → i ≡ m → j ≡ n
-    → Gives (MeansAt (scope_of kind line tokens i j)) read f → Gives (MeansAt (scope_of kind line tokens m n)) read f
-same_numbers kind line tokens m n i j read f first second gives =
-    subst (λ (x : ℕ). Gives (MeansAt (scope_of kind line tokens x n)) read f) first
-    (subst (λ (y : ℕ). Gives (MeansAt (scope_of kind line tokens i y)) read f) second gives)
+same_numbers : (version : Version) (opened : Opened) (line : List ℕ) (tokens : List Token) (m n i j : ℕ) (read : ParsedTree) (f : Tree) → i ≡ m → j ≡ n
+    → SaysTree (scope_of version opened line tokens i j) read f → SaysTree (scope_of version opened line tokens m n) read f
+same_numbers version opened line tokens m n i j read f first second says =
+    subst (λ (x : ℕ). SaysTree (scope_of version opened line tokens x n) read f) first
+    (subst (λ (y : ℕ). SaysTree (scope_of version opened line tokens i y) read f) second says)
 
-one_added : (known a b : Known) (line : List ℕ) (tokens : List Token) (form : SaidForm) → IsApart known → FormAdds known line tokens form a → FormAdds known line tokens form b → a ≡ b
-one_added known a b line tokens (kind_said name) apart one other = one ∙ sym other
-one_added known a b line tokens (method_said name arguments result) apart one other = one ∙ sym other
-one_added known a b line tokens (commute_said first second read) apart (m, n, f, says, same) (i, j, g, also, equal) =
-    let kind_here : SpecifiedKind = kind_in known.block in
-    let (firsts, seconds) = one_pair kind_here first second m n i j apart.names says.numbers also.numbers in
-    let formulas : f ≡ g = one_formula (scope_of kind_here line tokens m n) (apart.variables m) (apart.variables n) read f g says.gives
-    (same_numbers kind_here line tokens m n i j read g firsts seconds also.gives) in
-    let pairs : with_open known (with_pair kind_here m n f) true ≡ with_open known (with_pair kind_here i j g) true =
-    ap (λ (x : ℕ). with_open known (with_pair kind_here x n f) true) (sym firsts)
-    ∙ ap (λ (y : ℕ). with_open known (with_pair kind_here i y f) true) (sym seconds)
-    ∙ ap (λ (h : Tree). with_open known (with_pair kind_here i j h) true) formulas in
+one_added : (version : Version) (known a b : Known) (line : List ℕ) (tokens : List Token) (form : SaidForm) → IsApart known → FormAdds version known line tokens form a
+    → FormAdds version known line tokens form b → a ≡ b
+one_added version known a b line tokens (kind_said name) apart one other = one ∙ sym other
+one_added version known a b line tokens (method_said name arguments result) apart one other = one ∙ sym other
+one_added version known a b line tokens (commute_said first second read) apart (m, n, f, says, same) (i, j, g, also, equal) =
+    let opened : Opened = opened_in known.block in
+    let (firsts, seconds) = one_pair opened.kind first second m n i j apart.names says.numbers also.numbers in
+    let formulas : f ≡ g = one_formula (scope_of version opened line tokens m n) (apart.variables m) (apart.variables n) read f g says.says
+    (same_numbers version opened line tokens m n i j read g firsts seconds also.says) in
+    let pairs : with_open known (with_pair_in opened m n f) Pairs ≡ with_open known (with_pair_in opened i j g) Pairs =
+    ap (λ (x : ℕ). with_open known (with_pair_in opened x n f) Pairs) (sym firsts)
+    ∙ ap (λ (y : ℕ). with_open known (with_pair_in opened i y f) Pairs) (sym seconds)
+    ∙ ap (λ (h : Tree). with_open known (with_pair_in opened i j h) Pairs) formulas in
     same ∙ pairs ∙ sym equal
+one_added version known a b line tokens (define_said owner name read) apart (m, f, says, same) (i, g, also, equal) =
+    let opened : Opened = opened_in known.block in
+    let numbers : i ≡ m = one_place (names_of opened.kind.methods) owner i m apart.names also.number says.number in
+    let formulas : f ≡ g = one_formula (definition_scope opened.kind line tokens m) (apart.variables m) (apart.variables m) read f g says.says
+    (subst (λ (x : ℕ). SaysTree (definition_scope opened.kind line tokens x) read g) numbers also.says) in
+    let both : with_open known (with_definition opened m (record { name = name; formula = f })) Definitions
+    ≡ with_open known (with_definition opened i (record { name = name; formula = g })) Definitions =
+    ap (λ (x : ℕ). with_open known (with_definition opened x (record { name = name; formula = f })) Definitions) (sym numbers)
+    ∙ ap (λ (h : Tree). with_open known (with_definition opened i (record { name = name; formula = h })) Definitions) formulas in
+    same ∙ both ∙ sym equal
+one_added version known a b line tokens (default_said value) apart one other = one ∙ sym other
+
+-- a header tells one version, and there is one
+abbrev version_byte : List LineWord → ℕ
+version_byte (first ∷ second ∷ words) = get_or second.bytes 0 0
+version_byte words = 0
+
+pub one_version : (v w : Version) → header_words v ≡ header_words w → v ≡ w
+one_version One One same = refl
+one_version One Two same = let byte : 49 ≡ 50 = ap version_byte same in absurd (omega (arith, byte))
+one_version Two One same = let byte : 50 ≡ 49 = ap version_byte same in absurd (omega (arith, byte))
+one_version Two Two same = refl
 
 one_next : (known a b : Known) (line : List ℕ) (tokens : List Token) → IsApart known → Adds known line tokens a → Adds known line tokens b → a ≡ b
-one_next known a b line tokens apart (adds_header fresh header same) (adds_header new also equal) = same ∙ sym equal
-one_next known a b line tokens apart (adds_header fresh header same) (adds_form begun form right adds) = absurd (cc)
-one_next known a b line tokens apart (adds_form begun form right adds) (adds_header fresh header same) = absurd (cc)
-one_next known a b line tokens apart (adds_form begun form right adds) (adds_form also other fit more) =
-    let forms : other ≡ form = one_form (stage_of known) (open_method_names known) (words_of line tokens) other form fit right in
-    one_added known a b line tokens form apart adds (subst (λ (f : SaidForm). FormAdds known line tokens f b) forms more)
+one_next known a b line tokens apart (adds_header v fresh header same) (adds_header w new also equal) =
+    let versions : v ≡ w = one_version v w (sym header ∙ also) in
+    same ∙ ap (λ (x : Version). with_header known x) versions ∙ sym equal
+one_next known a b line tokens apart (adds_header v fresh header same) (adds_form w begun form right adds) = absurd (none-some w (sym fresh ∙ begun))
+one_next known a b line tokens apart (adds_form v begun form right adds) (adds_header w fresh header same) = absurd (none-some v (sym fresh ∙ begun))
+one_next known a b line tokens apart (adds_form v begun form right adds) (adds_form w also other fit more) =
+    let versions : w ≡ v = same_Some w v (sym also ∙ begun) in
+    let fits : RightLine v (stage_of known) (open_method_names known) (words_of line tokens) other =
+    subst (λ (x : Version). RightLine x (stage_of known) (open_method_names known) (words_of line tokens) other) versions fit in
+    let here : FormAdds v known line tokens other b = subst (λ (x : Version). FormAdds x known line tokens other b) versions more in
+    let forms : other ≡ form = one_form v (stage_of known) (open_method_names known) (words_of line tokens) other form fits right in
+    one_added v known a b line tokens form apart adds (subst (λ (f : SaidForm). FormAdds v known line tokens f b) forms here)
 
 pub one_accepted : (taken : List (List ℕ)) (known a b : Known) (line : List ℕ) → IsApart known → AcceptsSpecLine taken known line a → AcceptsSpecLine taken known line b → a ≡ b
 one_accepted taken known a b line apart one other =

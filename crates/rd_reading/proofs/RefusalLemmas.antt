@@ -12,22 +12,24 @@ use Rattle.rd_ecl.specs.Specified.{SpecifiedKind, formula_at, names_of}
 use Rattle.rd_formulas.specs.declared.reading.FormulaRefused.{FormulaRefused}
 use Rattle.rd_formulas.specs.declared.reading.FormulaRefused.TheVariants as formula
 use Rattle.rd_formulas.specs.declared.scope.Scope.{Scope}
-use Rattle.rd_formulas.specs.Meaning.{IsFirst, IsFirstSign, NoneOf, Related, node_tokens, relations_in, terms_in}
+use Rattle.rd_formulas.specs.Meaning.{IsFirst, IsFirstSign, IsFirstUse, NoneOf, Related, Use, node_tokens, relations_in, use_token, uses_in}
 use Rattle.rd_formulas.specs.Reading.{IsTroubled}
-use Rattle.rd_formulas.specs.Scope.{IsBare, IsUnknown, place_in_scope}
+use Rattle.rd_formulas.specs.Scope.{IsBare, IsUnknownUse, place_in_scope}
 use Rattle.rd_grammar.proofs.FirstWrong.{one_place}
 use Rattle.rd_grammar.specs.Grammar.{ParsedTree}
 use Rattle.rd_lines.specs.Lines.{IsWrongBehind, LineWord, RightLine, SaidForm, words_of}
-use Rattle.rd_lines.specs.Lines.{kind as kind_said, method as method_said, commute as commute_said}
+use Rattle.rd_lines.specs.declared.forms.Version.{Version}
+use Rattle.rd_lines.specs.Lines.{kind as kind_said, method as method_said, commute as commute_said, default as default_said, define as define_said}
 use Rattle.rd_lines.proofs.LawLemmas.{one_form}
 use Rattle.rd_tokens.proofs.CutLemmas.{one_list}
 use Rattle.rd_tokens.specs.declared.sorts.Token.{Token}
 use Rattle.rd_tokens.specs.Tokens.{AreTokens}
 use Rattle.rd_reading.specs.Adding.{AcceptsSpecLine}
-use Rattle.rd_reading.specs.Causes.{EndHas, FormHas, Has, IsFirstMissing, IsFirstRepeated, KindHas, LacksPair, LineHas, MethodHas, RepeatsAt, form_has, line_has, variable_token}
-use Rattle.rd_pairs.specs.PairCauses.{AreNumbers, IsUnknownAt, PairHas, scope_of}
+use Rattle.rd_reading.specs.Causes.{DefaultHas, EndHas, FormHas, Has, IsFirstMissing, IsFirstRepeated, KindHas, LacksPair, LineHas, MethodHas, RepeatsAt, form_has, line_has, variable_token}
+use Rattle.rd_pairs.specs.PairCauses.{AreNumbers, DefinitionHas, FormulaLineHas, HasManyPredicates, IsDefinedAt, IsNumberOf, IsPaired, IsUnknownAt, IsUnknownOwner, PairHas, definition_scope, scope_of}
 use Rattle.rd_pairs.specs.Causes.{IsFirstOf, place_at, rank}
-use Rattle.rd_reading.specs.Known.{kind_in, nothing, open_method_names, stage_of}
+use Rattle.rd_reading.specs.Known.{kind_in, nothing, open_method_names, opened_in, stage_of}
+use Rattle.rd_open_kind.specs.Opened.{Opened, filled}
 use Rattle.rd_reading.specs.Texts.{IsRefusedAtEnd, IsRefusedAtLine, IsSkipped, IsSpecRefused, ReadsLines, no_more, skips, takes}
 use Rattle.rd_reading.specs.declared.known.Known.{Known}
 use Rattle.rd_reading.specs.declared.parsing.SpecRefused.{SpecRefused}
@@ -35,7 +37,7 @@ use Rattle.rd_pairs.specs.declared.spec_causes.SpecCause.{SpecCause}
 use Rattle.rd_pairs.specs.declared.spec_causes.SpecCause.TheVariants.{Duplicate, Header, KindTaken, Limit, MissingPair, NoVariable, OutsideFragment, Syntax, UnknownMethod, UnknownVariable}
 use Rattle.rd_reading.proofs.LineLemmas.{least_form}
 use Rattle.rd_pairs.proofs.MeaningLemmas.{one_formula}
-use Rattle.rd_pairs.proofs.NumberLemmas.{AreDifferent, one_pair}
+use Rattle.rd_pairs.proofs.NumberLemmas.{AreDifferent, one_pair, one_place as one_number}
 use Rattle.rd_reading.proofs.OneLemmas.{AreApart, IsApart, accepted_apart, apart_without, line_fine, lines_one, one_accepted, one_read}
 
 -- of causes of one rank there is one, at one place
@@ -90,7 +92,7 @@ one_kind taken known line tokens name Duplicate Duplicate p q h k e = (refl, h.1
 one_kind taken known line tokens name Duplicate (Limit Kinds n) p q h k e = absurd (omega (arith, e))
 one_kind taken known line tokens name Duplicate d p q h k e = absurd (omega (arith, e))
 one_kind taken known line tokens name (MissingPair a b) (MissingPair c d) p q h k e =
-    let names = one_lacks (kind_in known.block) a b c d h.0 k.0 in
+    let names = one_lacks (filled (opened_in known.block)) a b c d h.0 k.0 in
     let firsts : a ≡ c = names.0 in
     let seconds : b ≡ d = names.1 in
     (cc, h.1 ∙ sym k.1)
@@ -180,11 +182,18 @@ sign_is_one P xs m n (Some x, first, is) (Some y, also, same) =
 sign_is_one P xs m n (None, first, is) other = absurd (cc)
 sign_is_one P xs m n (Some x, first, is) (None, also, same) = absurd (cc)
 
+use_is_one : (P : Use → Type 0) (xs : List Use) (m n : ℕ) → IsFirstUse P xs (Some m) → IsFirstUse P xs (Some n) → m ≡ n
+use_is_one P xs m n (Some x, first, is) (Some y, also, same) =
+    let one : x ≡ y = first_is_one P xs x y first also in
+    same_Some m n (is ∙ ap (λ (u : Use). Some (use_token u)) one ∙ sym same)
+use_is_one P xs m n (None, first, is) other = absurd (cc)
+use_is_one P xs m n (Some x, first, is) (None, also, same) = absurd (cc)
+
 -- a formula that was read is troubled at one place by each cause
 module _ (scope : Scope) (read : ParsedTree) where
   one_variable : (p q : ℕ) → IsTroubled scope read (formula.UnknownVariable p) → IsTroubled scope read (formula.UnknownVariable q) → p ≡ q
   one_variable p q (number, first, at) (other, also, there) =
-      at ∙ ap (place_in_scope scope) (first_is_one (IsUnknown scope) (terms_in read) number other first also) ∙ sym there
+      at ∙ ap (place_in_scope scope) (use_is_one (IsUnknownUse scope) (uses_in read) number other first also) ∙ sym there
 
   one_bare : (p q : ℕ) → IsTroubled scope read (formula.NoVariable p) → IsTroubled scope read (formula.NoVariable q) → p ≡ q
   one_bare p q (number, none, first, at) (other, free, also, there) =
@@ -208,46 +217,73 @@ module _ (scope : Scope) (read : ParsedTree) where
       let nodes : i ≡ j = ap (λ (o : Outside). o.node) same in
       (ap (λ (o : Outside). o.reason) same, one_token f g i j x y p q formulas nodes here there at is)
 
-module _ (kind : SpecifiedKind) (line : List ℕ) (tokens : List Token) (first second : List ℕ) (read : ParsedTree) (apart : AreApart kind) where
+-- a line with a formula has one cause of each rank
+module _ (Unknown : ℕ → Type 0) (Methods : ℕ → ℕ → Type 0) (scope : ℕ → ℕ → Scope) (Taken : ℕ → ℕ → ℕ → Type 0) (Many : ℕ → ℕ → Tree → Type 0) (line : List ℕ)
+    (tokens : List Token) (read : ParsedTree) (one_unknown : (p q : ℕ) → Unknown p → Unknown q → p ≡ q)
+    (one_methods : (m n i j : ℕ) → Methods m n → Methods i j → (i ≡ m) × (j ≡ n))
+    (apart : (m n : ℕ) → Methods m n → AreDifferent (scope m n).first.now × AreDifferent (scope m n).second.now)
+    (one_taken : (m n i j p q : ℕ) → Taken m n p → Taken i j q → p ≡ q) where
   -- what troubles the formula, with the numbers of the two methods
-  troubled_at : (m n i j : ℕ) (refused : FormulaRefused) → AreNumbers kind first second m n → AreNumbers kind first second i j
-      → IsTroubled (scope_of kind line tokens i j) read refused → IsTroubled (scope_of kind line tokens m n) read refused
+  troubled_at : (m n i j : ℕ) (refused : FormulaRefused) → Methods m n → Methods i j → IsTroubled (scope i j) read refused → IsTroubled (scope m n) read refused
   troubled_at m n i j refused are also troubled =
-      let same = one_pair kind first second m n i j apart.names are also in
-      subst (λ (y : ℕ). IsTroubled (scope_of kind line tokens m y) read refused) same.1
-      (subst (λ (x : ℕ). IsTroubled (scope_of kind line tokens x j) read refused) same.0 troubled)
+      let same = one_methods m n i j are also in
+      subst (λ (y : ℕ). IsTroubled (scope m y) read refused) same.1 (subst (λ (x : ℕ). IsTroubled (scope x j) read refused) same.0 troubled)
 
-  one_pair_cause : HasOne (PairHas kind line tokens first second read)
-  one_pair_cause UnknownMethod UnknownMethod p q h k e = (refl, one_unknown (names_of kind.methods) first second line tokens p q h k)
-  one_pair_cause UnknownMethod (Limit Nodes n) p q h k e = absurd (omega (arith, e))
-  one_pair_cause UnknownMethod d p q h k e = absurd (omega (arith, e))
-  one_pair_cause UnknownVariable UnknownVariable p q (m, n, are, troubled) (i, j, also, other) e =
-      (refl, one_variable (scope_of kind line tokens m n) read p q troubled (troubled_at m n i j (formula.UnknownVariable q) are also other))
-  one_pair_cause UnknownVariable (Limit Nodes n) p q h k e = absurd (omega (arith, e))
-  one_pair_cause UnknownVariable d p q h k e = absurd (omega (arith, e))
-  one_pair_cause NoVariable NoVariable p q (m, n, are, troubled) (i, j, also, other) e =
-      (refl, one_bare (scope_of kind line tokens m n) read p q troubled (troubled_at m n i j (formula.NoVariable q) are also other))
-  one_pair_cause NoVariable (Limit Nodes n) p q h k e = absurd (omega (arith, e))
-  one_pair_cause NoVariable d p q h k e = absurd (omega (arith, e))
-  one_pair_cause (OutsideFragment r) (OutsideFragment s) p q (m, n, are, troubled) (i, j, also, other) e =
-      let (reasons, places) = one_outside (scope_of kind line tokens m n) read (apart.variables m) (apart.variables n) r s p q troubled
+  one_formula_cause : HasOne (FormulaLineHas Unknown Methods scope Taken Many line tokens read)
+  one_formula_cause UnknownMethod UnknownMethod p q h k e = (refl, one_unknown p q h k)
+  one_formula_cause UnknownMethod (Limit Nodes n) p q h k e = absurd (omega (arith, e))
+  one_formula_cause UnknownMethod d p q h k e = absurd (omega (arith, e))
+  one_formula_cause UnknownVariable UnknownVariable p q (m, n, are, troubled) (i, j, also, other) e =
+      (refl, one_variable (scope m n) read p q troubled (troubled_at m n i j (formula.UnknownVariable q) are also other))
+  one_formula_cause UnknownVariable (Limit Nodes n) p q h k e = absurd (omega (arith, e))
+  one_formula_cause UnknownVariable d p q h k e = absurd (omega (arith, e))
+  one_formula_cause NoVariable NoVariable p q (m, n, are, troubled) (i, j, also, other) e =
+      (refl, one_bare (scope m n) read p q troubled (troubled_at m n i j (formula.NoVariable q) are also other))
+  one_formula_cause NoVariable (Limit Nodes n) p q h k e = absurd (omega (arith, e))
+  one_formula_cause NoVariable d p q h k e = absurd (omega (arith, e))
+  one_formula_cause (OutsideFragment r) (OutsideFragment s) p q (m, n, are, troubled) (i, j, also, other) e =
+      let (reasons, places) = one_outside (scope m n) read (apart m n are).0 (apart m n are).1 r s p q troubled
       (troubled_at m n i j (formula.OutsideFragment q s) are also other) in
       (ap OutsideFragment reasons, places)
-  one_pair_cause (OutsideFragment r) (Limit Nodes n) p q h k e = absurd (omega (arith, e))
-  one_pair_cause (OutsideFragment r) d p q h k e = absurd (omega (arith, e))
-  one_pair_cause Duplicate Duplicate p q h k e = (refl, h.4 ∙ sym k.4)
-  one_pair_cause Duplicate (Limit Nodes n) p q h k e = absurd (omega (arith, e))
-  one_pair_cause Duplicate d p q h k e = absurd (omega (arith, e))
-  one_pair_cause (Limit Nodes n) (Limit Nodes m) p q h k e = let numbers : n ≡ m = h.1 ∙ sym k.1 in (cc, h.0.5 ∙ sym k.0.5)
-  one_pair_cause (Limit Nodes n) d p q h k e = absurd (omega (arith, e))
-  one_pair_cause (Limit FormulaDepth n) (Limit FormulaDepth m) p q h k e = let numbers : n ≡ m = h.1 ∙ sym k.1 in (cc, h.0.5 ∙ sym k.0.5)
-  one_pair_cause (Limit FormulaDepth n) d p q h k e = absurd (omega (arith, e))
-  one_pair_cause (Limit Predicates n) (Limit Predicates m) p q h k e = let numbers : n ≡ m = h.1 ∙ sym k.1 in (cc, h.0.5 ∙ sym k.0.5)
-  one_pair_cause (Limit Predicates n) (Limit Nodes m) p q h k e = absurd (omega (arith, e))
-  one_pair_cause (Limit Predicates n) (Limit FormulaDepth m) p q h k e = absurd (omega (arith, e))
-  one_pair_cause (Limit Predicates n) (Limit name m) p q h k e = absurd k
-  one_pair_cause (Limit Predicates n) d p q h k e = absurd (omega (arith, e))
-  one_pair_cause c d p q h k e = absurd h
+  one_formula_cause (OutsideFragment r) (Limit Nodes n) p q h k e = absurd (omega (arith, e))
+  one_formula_cause (OutsideFragment r) d p q h k e = absurd (omega (arith, e))
+  one_formula_cause Duplicate Duplicate p q (m, n, are, taken) (i, j, also, other) e = (refl, one_taken m n i j p q taken other)
+  one_formula_cause Duplicate (Limit Nodes n) p q h k e = absurd (omega (arith, e))
+  one_formula_cause Duplicate d p q h k e = absurd (omega (arith, e))
+  one_formula_cause (Limit Nodes n) (Limit Nodes m) p q h k e = let numbers : n ≡ m = h.1 ∙ sym k.1 in (cc, h.0.6 ∙ sym k.0.6)
+  one_formula_cause (Limit Nodes n) d p q h k e = absurd (omega (arith, e))
+  one_formula_cause (Limit FormulaDepth n) (Limit FormulaDepth m) p q h k e = let numbers : n ≡ m = h.1 ∙ sym k.1 in (cc, h.0.6 ∙ sym k.0.6)
+  one_formula_cause (Limit FormulaDepth n) d p q h k e = absurd (omega (arith, e))
+  one_formula_cause (Limit Predicates n) (Limit Predicates m) p q h k e = let numbers : n ≡ m = h.1 ∙ sym k.1 in (cc, h.0.6 ∙ sym k.0.6)
+  one_formula_cause (Limit Predicates n) (Limit Nodes m) p q h k e = absurd (omega (arith, e))
+  one_formula_cause (Limit Predicates n) (Limit FormulaDepth m) p q h k e = absurd (omega (arith, e))
+  one_formula_cause (Limit Predicates n) (Limit name m) p q h k e = absurd k
+  one_formula_cause (Limit Predicates n) d p q h k e = absurd (omega (arith, e))
+  one_formula_cause c d p q h k e = absurd h
+
+one_pair_cause : (version : Version) (opened : Opened) (line : List ℕ) (tokens : List Token) (first second : List ℕ) (read : ParsedTree) → AreApart opened.kind
+    → HasOne (PairHas version opened line tokens first second read)
+one_pair_cause version opened line tokens first second read apart =
+    one_formula_cause (IsUnknownAt (names_of opened.kind.methods) first second line tokens) (AreNumbers opened.kind first second) (scope_of version opened line tokens)
+    (IsPaired opened.kind line tokens) (HasManyPredicates opened.kind) line tokens read (one_unknown (names_of opened.kind.methods) first second line tokens)
+    (λ m n i j are also. one_pair opened.kind first second m n i j apart.names are also) (λ m n are. (apart.variables m, apart.variables n))
+    (λ m n i j p q taken other. taken.1 ∙ sym other.1)
+
+one_definition_cause : (opened : Opened) (line : List ℕ) (tokens : List Token) (owner name : List ℕ) (read : ParsedTree) → AreApart opened.kind
+    → HasOne (DefinitionHas opened line tokens owner name read)
+one_definition_cause opened line tokens owner name read apart =
+    one_formula_cause (IsUnknownOwner opened.kind owner line tokens) (IsNumberOf opened.kind owner) (λ m n. definition_scope opened.kind line tokens m)
+    (IsDefinedAt opened line tokens name) (λ m n f. ⊥) line tokens read (λ p q unknown other. unknown.1 ∙ sym other.1)
+    (λ m n i j are also.
+    let numbers : i ≡ m = one_number (names_of opened.kind.methods) owner i m apart.names also.0 are.0 in
+    (numbers, also.1 ∙ numbers ∙ sym are.1))
+    (λ m n are. (apart.variables m, apart.variables m)) (λ m n i j p q taken other. taken.1 ∙ sym other.1)
+
+-- a default
+one_default : (known : Known) (line : List ℕ) (tokens : List Token) → HasOne (DefaultHas known line tokens)
+one_default known line tokens Duplicate Duplicate p q h k e = (refl, h.1 ∙ sym k.1)
+one_default known line tokens Duplicate d p q h k e = absurd k
+one_default known line tokens c d p q h k e = absurd h
 
 -- ---- any line
 
@@ -265,10 +301,12 @@ one_line : (known : Known) (line : List ℕ) (tokens : List Token) → HasOne (L
 one_line known line tokens Header Header p q h k e = (refl, h.2 ∙ sym k.2)
 one_line known line tokens Header (Limit Tokens n) p q h k e = absurd (omega (arith, e))
 one_line known line tokens Header d p q h k e = absurd (omega (arith, e))
-one_line known line tokens (Limit Tokens n) (Limit Tokens m) p q h k e = let numbers : n ≡ m = h.1 ∙ sym k.1 in (cc, h.2 ∙ sym k.2)
+one_line known line tokens (Limit Tokens n) (Limit Tokens m) p q h k e = let numbers : n ≡ m = h.3 ∙ sym k.3 in (cc, h.4 ∙ sym k.4)
 one_line known line tokens (Limit Tokens n) d p q h k e = absurd (omega (arith, e))
-one_line known line tokens Syntax Syntax p q (m, begun, wrong, at) (n, also, other, there) e =
-    let counts : m ≡ n = one_count (RightLine (stage_of known) (open_method_names known)) (words_of line tokens) m n wrong other in
+one_line known line tokens Syntax Syntax p q (v, m, begun, wrong, at) (w, n, also, other, there) e =
+    let versions : w ≡ v = same_Some w v (sym also ∙ begun) in
+    let here = subst (λ (x : Version). IsWrongBehind (RightLine x (stage_of known) (open_method_names known)) (words_of line tokens) n) versions other in
+    let counts : m ≡ n = one_count (RightLine v (stage_of known) (open_method_names known)) (words_of line tokens) m n wrong here in
     (refl, at ∙ ap (place_at line tokens) counts ∙ sym there)
 one_line known line tokens Syntax (Limit Tokens n) p q h k e = absurd (omega (arith, e))
 one_line known line tokens Syntax d p q h k e = absurd (omega (arith, e))
@@ -280,27 +318,34 @@ line_rank known line tokens (Limit Tokens n) p h = omega arith
 line_rank known line tokens Syntax p h = omega arith
 line_rank known line tokens c p h = absurd h
 
-one_in_form : (taken : List (List ℕ)) (known : Known) (line : List ℕ) (tokens : List Token) (form : SaidForm) → IsApart known
-    → HasOne (FormHas taken known line tokens form)
-one_in_form taken known line tokens (kind_said name) apart = one_kind taken known line tokens name
-one_in_form taken known line tokens (method_said name arguments result) apart = one_method (kind_in known.block) line tokens name arguments result
-one_in_form taken known line tokens (commute_said first second read) apart = one_pair_cause (kind_in known.block) line tokens first second read apart
+one_in_form : (taken : List (List ℕ)) (version : Version) (known : Known) (line : List ℕ) (tokens : List Token) (form : SaidForm) → IsApart known
+    → HasOne (FormHas taken version known line tokens form)
+one_in_form taken version known line tokens (kind_said name) apart = one_kind taken known line tokens name
+one_in_form taken version known line tokens (method_said name arguments result) apart = one_method (kind_in known.block) line tokens name arguments result
+one_in_form taken version known line tokens (commute_said first second read) apart = one_pair_cause version (opened_in known.block) line tokens first second read apart
+one_in_form taken version known line tokens (define_said owner name read) apart = one_definition_cause (opened_in known.block) line tokens owner name read apart
+one_in_form taken version known line tokens (default_said value) apart = one_default known line tokens
 
 module _ (taken : List (List ℕ)) (known : Known) (line : List ℕ) (tokens : List Token) (apart : IsApart known) where
-  apart_ranks : (form : SaidForm) (c d : SpecCause) (p q : ℕ) → LineHas known line tokens c p → FormHas taken known line tokens form d q → rank c ≡ rank d → ⊥
-  apart_ranks form c d p q h k e =
+  apart_ranks : (version : Version) (form : SaidForm) (c d : SpecCause) (p q : ℕ) → LineHas known line tokens c p → FormHas taken version known line tokens form d q
+      → rank c ≡ rank d → ⊥
+  apart_ranks version form c d p q h k e =
       let low = line_rank known line tokens c p h in
-      let high = least_form taken known line tokens form d q k in
+      let high = least_form taken version known line tokens form d q k in
       omega (arith, e, low, high)
 
   one_cause : HasOne (Has taken known line tokens)
   one_cause c d p q (line_has h) (line_has k) e = one_line known line tokens c d p q h k e
-  one_cause c d p q (line_has h) (form_has form right k) e = absurd (apart_ranks form c d p q h k e)
-  one_cause c d p q (form_has form right h) (line_has k) e = absurd (apart_ranks form d c q p k h (sym e))
-  one_cause c d p q (form_has form right h) (form_has other also k) e =
-      one_in_form taken known line tokens form apart c d p q h
-      (subst (λ (f : SaidForm). FormHas taken known line tokens f d q)
-      (one_form (stage_of known) (open_method_names known) (words_of line tokens) other form also right) k) e
+  one_cause c d p q (line_has h) (form_has v begun form right k) e = absurd (apart_ranks v form c d p q h k e)
+  one_cause c d p q (form_has v begun form right h) (line_has k) e = absurd (apart_ranks v form d c q p k h (sym e))
+  one_cause c d p q (form_has v begun form right h) (form_has w also other fit k) e =
+      let versions : w ≡ v = same_Some w v (sym also ∙ begun) in
+      let fits : RightLine v (stage_of known) (open_method_names known) (words_of line tokens) other =
+      subst (λ (x : Version). RightLine x (stage_of known) (open_method_names known) (words_of line tokens) other) versions fit in
+      let here : FormHas taken v known line tokens other d q = subst (λ (x : Version). FormHas taken x known line tokens other d q) versions k in
+      one_in_form taken v known line tokens form apart c d p q h
+      (subst (λ (f : SaidForm). FormHas taken v known line tokens f d q)
+      (one_form v (stage_of known) (open_method_names known) (words_of line tokens) other form fits right) here) e
 
 -- ---- the end
 
@@ -309,7 +354,7 @@ one_end known Header Header p q h k e = (refl, h.1 ∙ sym k.1)
 one_end known Header (MissingPair a b) p q h k e = absurd (omega (arith, e))
 one_end known Header d p q h k e = absurd k
 one_end known (MissingPair a b) (MissingPair c d) p q h k e =
-    let names = one_lacks (kind_in known.block) a b c d h.0 k.0 in
+    let names = one_lacks (filled (opened_in known.block)) a b c d h.0 k.0 in
     let firsts : a ≡ c = names.0 in
     let seconds : b ≡ d = names.1 in
     (cc, h.1 ∙ sym k.1)

@@ -1,7 +1,7 @@
 -- Each text says kinds, or is refused.
-use Rattle.std.proofs.Common.{◌≡◌, ℕ, ◌≤◌, true, List, [], ◌∷◌, ◌++◌, ◌+◌, length, nat_eq, refl, ap, arith, ◌⊎◌, inl, inr}
+use Rattle.std.proofs.Common.{◌≡◌, ℕ, ◌≤◌, List, [], ◌∷◌, ◌++◌, ◌+◌, length, nat_eq, refl, ap, arith, ◌⊎◌, inl, inr, Option, Some, None, sym, ◌∙◌}
 use Rattle.std.specs.List.{AllPass, list_all, starts_with}
-use Rattle.std.proofs.lemmas.Bool.{cases_Bool, cases_lt}
+use Rattle.std.proofs.lemmas.Bool.{cases_lt}
 use Rattle.std.proofs.lemmas.List.Sums.{AllPass-from_list_all, list_all-from_AllPass}
 use Rattle.rd_base.specs.Bytes.{is_space}
 use Rattle.rd_base.specs.declared.limits.LimitName.TheVariants.{SpecText}
@@ -9,13 +9,17 @@ use Rattle.rd_base.specs.declared.limits.TheConstants.{MOST_SPEC_BYTES}
 use Rattle.rd_ecl.specs.Specified.{IsWhole, SpecifiedKind}
 use Rattle.rd_reading.specs.Causes.{EndHas}
 use Rattle.rd_pairs.specs.Causes.{HasNone, rank}
-use Rattle.rd_reading.specs.Known.{kind_in, kinds_so_far, nothing}
+use Rattle.rd_reading.specs.Known.{kinds_so_far, nothing, opened_in}
+use Rattle.rd_lines.specs.declared.forms.Version.{Version}
+use Rattle.rd_open_kind.specs.Opened.{filled}
+use Rattle.std.proofs.lemmas.Option.{none-some}
 use Rattle.rd_reading.specs.Texts.{AreLines, BeginsComment, IsSkipped, IsSpecRefused, ReadsLines, SpecSays, no_more, skips, takes}
 use Rattle.rd_reading.specs.declared.known.Known.{Known}
 use Rattle.rd_reading.specs.declared.parsing.SpecRefused.{SpecRefused}
 use Rattle.rd_pairs.specs.declared.spec_causes.SpecCause.{SpecCause}
 use Rattle.rd_pairs.specs.declared.spec_causes.SpecCause.TheVariants.{Header, Limit, MissingPair}
-use Rattle.rd_reading.proofs.CauseLemmas.{HasFirst, IsStopped, judged_line}
+use Rattle.rd_reading.proofs.CauseLemmas.{IsStopped, judged_line}
+use Rattle.rd_reading.proofs.JudgedLemmas.{HasFirst}
 use Rattle.rd_reading.proofs.CuttingLemmas.{comment, some_lines}
 use Rattle.rd_reading.proofs.DraftLemmas.{AreDrafts, accepted_drafts, none_drafted}
 use Rattle.rd_reading.proofs.FormLemmas.{decided}
@@ -98,24 +102,25 @@ judged_lines taken known (line ∷ lines) are = elim (skipped_or line) [
 least_end : (known : Known) (cause : SpecCause) (place : ℕ) → EndHas known cause place → 0 ≤ rank cause
 least_end known cause place has = omega arith
 
-least_missing : (known : Known) → known.begun ≡ true → (cause : SpecCause) (place : ℕ) → EndHas known cause place → 8 ≤ rank cause
-least_missing known begun Header place has = let begins = has.0 in absurd (cc)
-least_missing known begun (MissingPair first second) place has = omega arith
-least_missing known begun cause place has = absurd has
+module _ (known : Known) (version : Version) (begun : known.version ≡ Some version) where
+  least_missing : (cause : SpecCause) (place : ℕ) → EndHas known cause place → 8 ≤ rank cause
+  least_missing Header place has = absurd (none-some version (sym has.0 ∙ begun))
+  least_missing (MissingPair first second) place has = omega arith
+  least_missing cause place has = absurd has
 
-pub no_end : (known : Known) → known.begun ≡ true → IsWhole (kind_in known.block) → HasNone (EndHas known)
-no_end known begun whole Header place has = let begins = has.0 in cc
-no_end known begun whole (MissingPair first second) place has = whole_lacks (kind_in known.block) first second whole has.0
-no_end known begun whole cause place has = has
+  pub no_end : IsWhole (filled (opened_in known.block)) → HasNone (EndHas known)
+  no_end whole Header place has = none-some version (sym has.0 ∙ begun)
+  no_end whole (MissingPair first second) place has = whole_lacks (filled (opened_in known.block)) first second whole has.0
+  no_end whole cause place has = has
 
 judged_end : (known : Known) → HasNone (EndHas known) ⊎ HasFirst (EndHas known)
-judged_end known = elim (cases_Bool known.begun) [
-  | inl begun ↦ elim (lacks_or_whole (kind_in known.block)) [
-    | inl lacks ↦ inr (MissingPair lacks.0 lacks.1, 0, record { has = (lacks.2, refl); first = least_missing known begun })
-    | inr whole ↦ inl (no_end known begun whole)
+judged_end known = by known.version refl where
+  by : (o : Option Version) → known.version ≡ o → HasNone (EndHas known) ⊎ HasFirst (EndHas known)
+  by None begins = inr (Header, 0, record { has = (begins, refl); first = least_end known })
+  by (Some version) begun = elim (lacks_or_whole (filled (opened_in known.block))) [
+    | inl lacks ↦ inr (MissingPair lacks.0 lacks.1, 0, record { has = (lacks.2, refl); first = least_missing known version begun })
+    | inr whole ↦ inl (no_end known version begun whole)
   ]
-  | inr begins ↦ inr (Header, 0, record { has = (begins, refl); first = least_end known })
-]
 
 -- ---- a text
 

@@ -1,13 +1,17 @@
 -- Why a line of a specification's text is refused: this project's profile. Each cause is defined apart from the others, with
 -- the place of the leftmost token that has it; of the causes of a line the first is told.
-use Rattle.std.specs.Prelude.{◌≡◌, ◌≢◌, ◌<◌, ◌≤◌, ◌+◌, ◌⊎◌, ◌==◌, ℕ, false, true, List, [], ◌∷◌, ◌++◌, length, take, codes, slice_get, AllPairs, Contains, Some, None, IsSome, if◌then◌else◌}
+use Rattle.std.specs.Prelude.{◌≡◌, ◌≢◌, ◌<◌, ◌≤◌, ◌+◌, ◌⊎◌, ◌==◌, ℕ, List, [], ◌∷◌, ◌++◌, length, take, codes, slice_get, AllPairs, Contains, Some, None, IsSome, if◌then◌else◌}
 use Rattle.rd_base.specs.declared.limits.LimitName.TheVariants.{Tokens, Kinds, Methods as MethodLimit, Arguments}
 use Rattle.rd_ecl.specs.Specified.{SpecifiedKind, formula_at, names_of}
 use Rattle.rd_reading.specs.declared.known.Known.{Known}
-use Rattle.rd_reading.specs.Known.{kind_in, specified_kind_names, kinds_so_far, open_method_names, stage_of}
-use Rattle.rd_lines.specs.Lines.{IsWrongBehind, RightLine, SaidForm, LineWord, kind as kind_said, method as method_said, commute as commute_said, plain, words_of}
+use Rattle.rd_reading.specs.Known.{kind_in, opened_in, specified_kind_names, kinds_so_far, open_method_names, stage_of}
+use Rattle.rd_lines.specs.Lines.{CountsTokens, IsWrongBehind, LineWord, RightLine, SaidForm, commute as commute_said, default as default_said, define as define_said, kind as kind_said, method as method_said, plain, words_of}
+use Rattle.rd_lines.specs.declared.forms.Stage.TheVariants.{Defaulted}
+use Rattle.rd_lines.specs.declared.forms.Version.{Version}
+use Rattle.rd_lines.specs.declared.forms.Version.TheVariants.{One, Two}
+use Rattle.rd_open_kind.specs.Opened.{filled}
 use Rattle.rd_pairs.specs.Causes.{place_at}
-use Rattle.rd_pairs.specs.PairCauses.{PairHas}
+use Rattle.rd_pairs.specs.PairCauses.{DefinitionHas, PairHas}
 use Rattle.rd_pairs.specs.declared.spec_causes.SpecCause.{SpecCause}
 use Rattle.rd_pairs.specs.declared.spec_causes.SpecCause.TheVariants.{Header, Syntax, Duplicate, MissingPair, KindTaken, Limit}
 use Rattle.rd_tokens.specs.declared.sorts.Token.{Token}
@@ -15,29 +19,35 @@ use Rattle.rd_base.specs.declared.limits.TheConstants.{MOST_ARGUMENTS, MOST_KIND
 
 -- ---- the parts of a line
 
--- the header
-abbrev pub header_words : List LineWord
-header_words = plain (codes "rdspec") ∷ plain (codes "1") ∷ []
+-- the header of a version
+abbrev pub header_words : Version → List LineWord
+header_words One = plain (codes "rdspec") ∷ plain (codes "1") ∷ []
+header_words Two = plain (codes "rdspec") ∷ plain (codes "2") ∷ []
 
--- more than 512 tokens stand behind the `when` of a pair's line
-pub record HasManyTokens (words : List LineWord) : Type 0 where
+-- more than 512 tokens stand behind the `when` of a line with a formula
+pub record HasManyTokens (version : Version) (words : List LineWord) : Type 0 where
+  pub head : LineWord
   pub first : LineWord
   pub second : LineWord
   pub behind : List LineWord
-  pub written : words ≡ plain (codes "commute") ∷ first ∷ second ∷ plain (codes "when") ∷ behind
+  pub counted : CountsTokens version head
+  pub written : words ≡ head ∷ first ∷ second ∷ plain (codes "when") ∷ behind
   pub many : MOST_TOKENS < length behind
 
 -- ---- what may be wrong with any line
 
 abbrev pub LineHas : Known → List ℕ → List Token → SpecCause → ℕ → Type 0
--- the first line isn't the header
-LineHas known line tokens Header place = (known.begun ≡ false) × (words_of line tokens ≢ header_words) × (place ≡ 0)
+-- the first line is the header of no version
+LineHas known line tokens Header place =
+    (known.version ≡ None) × ((version : Version) → words_of line tokens ≢ header_words version) × (place ≡ 0)
 -- the place is that of the word `when`
 LineHas known line tokens (Limit Tokens number) place =
-    HasManyTokens (words_of line tokens) × (number ≡ MOST_TOKENS) × (place ≡ place_at line tokens 3)
+    (version : Version) × (known.version ≡ Some version) × HasManyTokens version (words_of line tokens) × (number ≡ MOST_TOKENS)
+    × (place ≡ place_at line tokens 3)
 -- no right line begins with the tokens up to this one, or the line ends too early
 LineHas known line tokens Syntax place =
-    (count : ℕ) × (known.begun ≡ true) × IsWrongBehind (RightLine (stage_of known) (open_method_names known)) (words_of line tokens) count
+    (version : Version) × (count : ℕ) × (known.version ≡ Some version)
+    × IsWrongBehind (RightLine version (stage_of known) (open_method_names known)) (words_of line tokens) count
     × (place ≡ place_at line tokens count)
 LineHas known line tokens cause place = ⊥
 
@@ -61,7 +71,8 @@ pub record LacksPair (kind : SpecifiedKind) (first second : List ℕ) : Type 0 w
 abbrev pub KindHas : List (List ℕ) → Known → List ℕ → List Token → List ℕ → SpecCause → ℕ → Type 0
 KindHas taken known line tokens name Duplicate place =
     Contains (specified_kind_names (kinds_so_far known)) name × (place ≡ place_at line tokens 1)
-KindHas taken known line tokens name (MissingPair first second) place = LacksPair (kind_in known.block) first second × (place ≡ 0)
+-- a default leaves no pair missing
+KindHas taken known line tokens name (MissingPair first second) place = LacksPair (filled (opened_in known.block)) first second × (place ≡ 0)
 KindHas taken known line tokens name KindTaken place = Contains taken name × (place ≡ place_at line tokens 1)
 KindHas taken known line tokens name (Limit Kinds number) place =
     (MOST_KINDS ≤ length (kinds_so_far known)) × (number ≡ MOST_KINDS) × (place ≡ place_at line tokens 1)
@@ -97,24 +108,35 @@ MethodHas kind line tokens name arguments result (Limit Arguments number) place 
     (MOST_ARGUMENTS < length arguments) × (number ≡ MOST_ARGUMENTS) × (place ≡ place_at line tokens 8)
 MethodHas kind line tokens name arguments result cause place = ⊥
 
+-- ---- what may be wrong with a default
+
+-- there is one already
+abbrev pub DefaultHas : Known → List ℕ → List Token → SpecCause → ℕ → Type 0
+DefaultHas known line tokens Duplicate place = (stage_of known ≡ Defaulted) × (place ≡ place_at line tokens 0)
+DefaultHas known line tokens cause place = ⊥
+
 -- ---- the causes of a line, and of the end
 
 -- what a right line has
-abbrev pub FormHas : List (List ℕ) → Known → List ℕ → List Token → SaidForm → SpecCause → ℕ → Type 0
-FormHas taken known line tokens (kind_said name) cause place = KindHas taken known line tokens name cause place
-FormHas taken known line tokens (method_said name arguments result) cause place =
+abbrev pub FormHas : List (List ℕ) → Version → Known → List ℕ → List Token → SaidForm → SpecCause → ℕ → Type 0
+FormHas taken version known line tokens (kind_said name) cause place = KindHas taken known line tokens name cause place
+FormHas taken version known line tokens (method_said name arguments result) cause place =
     MethodHas (kind_in known.block) line tokens name arguments result cause place
-FormHas taken known line tokens (commute_said first second read) cause place =
-    PairHas (kind_in known.block) line tokens first second read cause place
+FormHas taken version known line tokens (commute_said first second read) cause place =
+    PairHas version (opened_in known.block) line tokens first second read cause place
+FormHas taken version known line tokens (define_said owner name read) cause place =
+    DefinitionHas (opened_in known.block) line tokens owner name read cause place
+FormHas taken version known line tokens (default_said value) cause place = DefaultHas known line tokens cause place
 
 -- the line has the cause at the place, behind what is known and where these names of kinds are taken
 pub data Has (taken : List (List ℕ)) (known : Known) (line : List ℕ) (tokens : List Token) (cause : SpecCause) (place : ℕ) : Type 0 where
   line_has : LineHas known line tokens cause place → Has taken known line tokens cause place
-  form_has : (form : SaidForm) → RightLine (stage_of known) (open_method_names known) (words_of line tokens) form
-      → FormHas taken known line tokens form cause place → Has taken known line tokens cause place
+  form_has : (version : Version) → known.version ≡ Some version → (form : SaidForm)
+      → RightLine version (stage_of known) (open_method_names known) (words_of line tokens) form
+      → FormHas taken version known line tokens form cause place → Has taken known line tokens cause place
 
 -- the end of the text has the cause, whose place is 0: there was no header, or the open kind has a pair missing
 abbrev pub EndHas : Known → SpecCause → ℕ → Type 0
-EndHas known Header place = (known.begun ≡ false) × (place ≡ 0)
-EndHas known (MissingPair first second) place = LacksPair (kind_in known.block) first second × (place ≡ 0)
+EndHas known Header place = (known.version ≡ None) × (place ≡ 0)
+EndHas known (MissingPair first second) place = LacksPair (filled (opened_in known.block)) first second × (place ≡ 0)
 EndHas known cause place = ⊥

@@ -1,5 +1,4 @@
 pub mod Adding
-pub mod Blocks
 pub mod Causes
 pub mod Judging
 pub mod Known

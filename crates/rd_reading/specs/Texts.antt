@@ -1,5 +1,5 @@
 -- What a text says as a specification, and why it is refused where it says none: this project's profile.
-use Rattle.std.specs.Prelude.{◌≡◌, ◌≢◌, ◌<◌, ◌≤◌, ◌+◌, ◌⊎◌, ◌==◌, ℕ, Bool, List, [], ◌∷◌, ◌++◌, length, map, EachIndex, slice_index, All, AllPairs, Contains}
+use Rattle.std.specs.Prelude.{◌≡◌, ◌≢◌, ◌<◌, ◌≤◌, ◌+◌, ◌⊎◌, ℕ, List, [], ◌∷◌, ◌++◌, length, map, EachIndex, slice_index, All, AllPairs, Contains}
 use Rattle.std.specs.List.{AllPass}
 use Rattle.rd_base.specs.declared.limits.LimitName.TheVariants.{SpecText}
 use Rattle.rd_reading.specs.Adding.{AcceptsSpecLine}
@@ -15,7 +15,7 @@ use Rattle.rd_reading.specs.declared.parsing.SpecRefused.{SpecRefused}
 use Rattle.rd_tokens.specs.declared.sorts.Token.{Token}
 use Rattle.rd_tokens.specs.Tokens.{AreTokens}
 use Rattle.rd_base.specs.declared.limits.TheConstants.{MOST_KINDS, MOST_SPEC_BYTES}
-use Rattle.rd_base.specs.Bytes.{hash, is_space, line_feed, space}
+use Rattle.rd_base.specs.Bytes.{hash, is_space, line_feed}
 
 -- ---- lines
 

@@ -1,48 +1,53 @@
 //! Adding what a line says.
-ghost use Rattle.std.specs.Prelude.{◌≡◌, ◌<◌, ◌-◌, ◌^◌, ◌++◌, [], All, IfErr, OnOk, length};
-ghost use Rattle.rd_reading.specs.Adding.{FormAdds, with_kind};
-ghost use Rattle.rd_reading.specs.Causes.{FormHas};
-ghost use Rattle.rd_pairs.specs.Causes.{HasNone, IsSpecLineRefused};
-ghost use Rattle.rd_reading.specs.Known.{kind_in, open_method_names, open_kinds, stage_of};
+ghost use Rattle.std.specs.Prelude.{◌≡◌, ◌<◌, ◌-◌, ◌^◌, ◌++◌, ◌∷◌, [], All, IfErr, OnOk, length};
 ghost use Rattle.rd_ecl.specs.Specified.{IsWhole};
 ghost use Rattle.rd_grammar.specs.Grammar.{parsed_tree};
-ghost use Rattle.rd_lines.specs.Lines.{IsCommuteLine, IsMethodLine, HasFewWords, RightLine, commute as commute_said, kind as kind_said, method as method_said, said_of, words_of};
+ghost use Rattle.rd_lines.specs.declared.forms.Stage.TheVariants.{Defaulted, Methods};
+ghost use Rattle.rd_lines.specs.declared.forms.Version.{Version};
+ghost use Rattle.rd_lines.specs.Lines.{HasFewWords, IsCommuteLine, IsDefaultLine, IsDefineLine, IsMethodLine, RightLine, commute as commute_said, define as define_said, said_of, words_of};
+ghost use Rattle.rd_open_kind.specs.Opened.{filled, with_default, with_method_in};
+ghost use Rattle.rd_pairs.specs.Causes.{HasNone, IsSpecLineRefused};
+ghost use Rattle.rd_pairs.specs.PairCauses.{DefinitionHas, PairHas};
+ghost use Rattle.rd_reading.specs.Adding.{FormAdds, with_kind, with_open};
+ghost use Rattle.rd_reading.specs.Causes.{DefaultHas, FormHas, KindHas, MethodHas};
+ghost use Rattle.rd_reading.specs.Known.{kind_in, open_kinds, open_method_names, opened_in, stage_of};
 ghost use Rattle.rd_tokens.specs.Tokens.{IsTokenOf, LiesIn};
 
 use crate::judging::kinds::judge_kind;
 use crate::judging::methods::judge_method;
-use crate::{Block, Known, SpecLineRefused};
+use crate::{Block, Fault, Known, SpecCause, SpecLineRefused};
 use rd_base::{Name, NoMemory};
-use rd_ecl::{KindDraft, Names, Spec};
+use rd_ecl::{Names, Spec};
 use rd_grammar::Parsed;
-use rd_lines::Form;
-use rd_pairs::judge_pair;
+use rd_lines::{Form, Stage, Version};
+use rd_open_kind::OpenKind;
+use rd_pairs::{judge_definition, judge_pair, place_at};
 use rd_tokens::Token;
 use std::alloc::Global;
 
-// Closes the kind that is open, which has each of its pairs. A refused call may leave anything.
+// Closes the kind that is open, which has each of its pairs once its default is given. A refused call may leave anything.
 pub(crate) fn close(closed: &mut Spec, block: Option<Block>) -> Result<(), NoMemory>
-    requires { IsWhole (kind_in block) }
+    requires { IsWhole (filled (opened_in block)) }
     ensures { OnOk result (closed.new ≡ closed.old ++ open_kinds block) }
 {
     let Some(block) = block else {
         return Ok(());
     };
-    match closed.push(block.draft.finish()) {
+    match closed.push(block.opened.finish()) {
         Ok(()) => Ok(()),
         Err(_) => Err(NoMemory),
     }
 }
 
-// Closes the kind that is open, which has each of its pairs, and opens one of this name. A refused call may leave anything.
+// Closes the kind that is open, which has each of its pairs once its default is given, and opens one of this name. A refused call may leave anything.
 fn open(alloc: Global, known: &mut Known, name: Name) -> Result<(), NoMemory>
-    requires { IsWhole (kind_in known.old.block) }
+    requires { IsWhole (filled (opened_in known.old.block)) }
     ensures { OnOk result (known.new ≡ with_kind known.old name) }
 {
     close(&mut known.closed, known.block.take())?;
     known.block = Some(Block {
-        draft: KindDraft::new(alloc, name)?,
-        paired: false,
+        opened: OpenKind::new(alloc, name)?,
+        stage: Stage::Methods,
     });
     Ok(())
 }
@@ -58,10 +63,10 @@ fn add_kind(
 ) -> Result<(), SpecLineRefused>
     requires { length line.now < 2 ^ 32 - 1 }
     ensures clean { OnOk result
-        (HasNone (FormHas taken.now known.old line.now tokens.now (kind_said name))) }
-    ensures adds { OnOk result (FormAdds known.old line.now tokens.now (kind_said name) known.new) }
+        (HasNone (KindHas taken.now known.old line.now tokens.now name)) }
+    ensures adds { OnOk result (known.new ≡ with_kind known.old name) }
     ensures refused { IfErr result
-        (IsSpecLineRefused (FormHas taken.now known.old line.now tokens.now (kind_said name))) }
+        (IsSpecLineRefused (KindHas taken.now known.old line.now tokens.now name)) }
 {
     if let Some(fault) = judge_kind(taken, known, line, tokens, &name) {
         return Err(SpecLineRefused::Fault(fault));
@@ -85,18 +90,18 @@ fn add_method(
     requires right { IsMethodLine (stage_of known.old)
         (words_of line.now tokens.now) name arguments value }
     ensures clean { OnOk result
-        (HasNone (FormHas [] known.old line.now tokens.now (method_said name arguments value))) }
-    ensures adds { OnOk result
-        (FormAdds known.old line.now tokens.now (method_said name arguments value) known.new) }
+        (HasNone (MethodHas (kind_in known.old.block) line.now tokens.now name arguments value)) }
+    ensures adds { OnOk result (known.new ≡ with_open known.old
+        (with_method_in (opened_in known.old.block) (record { name = name; variables = arguments ++ value ∷ [] })) Methods) }
     ensures refused { IfErr result
-        (IsSpecLineRefused (FormHas [] known.old line.now tokens.now (method_said name arguments value))) }
+        (IsSpecLineRefused (MethodHas (kind_in known.old.block) line.now tokens.now name arguments value)) }
 {
     let Some(mut block) = known.block.take() else {
         unreachable!();
     };
     if let Some(fault) = judge_method(
         alloc,
-        &block.draft,
+        block.opened.draft(),
         line,
         tokens,
         &name,
@@ -107,7 +112,7 @@ fn add_method(
     }
     let mut variables = arguments;
     variables.push(value)?;
-    block.draft.method(name, variables)?;
+    block.opened.method(alloc, name, variables)?;
     known.block = Some(block);
     Ok(())
 }
@@ -115,44 +120,113 @@ fn add_method(
 // Takes the line of a pair. A refused line may leave anything.
 fn add_pair(
     alloc: Global,
+    version: Version,
     known: &mut Known,
     line: &[u8],
     tokens: &[Token],
-    first: &Name,
-    second: &Name,
+    names: (&Name, &Name),
     parsed: &Parsed,
 ) -> Result<(), SpecLineRefused>
     requires within { All (LiesIn line.now) tokens.now }
     requires sorts { All (IsTokenOf line.now) tokens.now }
     requires short { length line.now < 2 ^ 32 - 1 }
-    requires few { HasFewWords (words_of line.now tokens.now) }
-    requires right { IsCommuteLine (stage_of known.old) (open_method_names known.old)
-        (words_of line.now tokens.now) first.now second.now (parsed_tree parsed.now) }
+    requires few { HasFewWords version (words_of line.now tokens.now) }
+    requires right { IsCommuteLine version (stage_of known.old) (open_method_names known.old)
+        (words_of line.now tokens.now) names.0.now names.1.now (parsed_tree parsed.now) }
 
     // the line is clean and adds what it says, or it is refused
     ensures clean { OnOk result
-        (HasNone (FormHas [] known.old line.now tokens.now
-        (commute_said first.now second.now (parsed_tree parsed.now)))) }
+        (HasNone (PairHas version (opened_in known.old.block) line.now tokens.now
+        names.entry.0.now names.entry.1.now (parsed_tree parsed.now))) }
     ensures adds { OnOk result
-        (FormAdds known.old line.now tokens.now
-        (commute_said first.now second.now (parsed_tree parsed.now)) known.new) }
+        (FormAdds version known.old line.now tokens.now
+        (commute_said names.entry.0.now names.entry.1.now (parsed_tree parsed.now)) known.new) }
     ensures refused { IfErr result
-        (IsSpecLineRefused (FormHas [] known.old line.now tokens.now
-        (commute_said first.now second.now (parsed_tree parsed.now)))) }
+        (IsSpecLineRefused (PairHas version (opened_in known.old.block) line.now tokens.now
+        names.entry.0.now names.entry.1.now (parsed_tree parsed.now))) }
 {
     let Some(mut block) = known.block.take() else {
         unreachable!();
     };
-    let pair = judge_pair(alloc, &block.draft, line, tokens, first, second, parsed)?;
-    block.draft.pair(pair.first, pair.second, pair.formula)?;
-    block.paired = true;
+    let pair = judge_pair(alloc, version, &block.opened, line, tokens, names, parsed)?;
+    block.opened.pair(pair.first, pair.second, pair.formula)?;
+    block.stage = Stage::Pairs;
     known.block = Some(block);
     Ok(())
 }
 
-// Takes what a right line says. A refused line may leave anything.
+// Takes the line of a definition of a method, whose name comes first. A refused line may leave anything.
+fn add_definition(
+    alloc: Global,
+    known: &mut Known,
+    line: &[u8],
+    tokens: &[Token],
+    owner: &Name,
+    name: Name,
+    parsed: &Parsed,
+) -> Result<(), SpecLineRefused>
+    requires within { All (LiesIn line.now) tokens.now }
+    requires sorts { All (IsTokenOf line.now) tokens.now }
+    requires short { length line.now < 2 ^ 32 - 1 }
+    requires right { (version : Version) × HasFewWords version (words_of line.now tokens.now)
+        × IsDefineLine version (stage_of known.old)
+        (words_of line.now tokens.now) owner.now name (parsed_tree parsed.now) }
+
+    // the line is clean and adds what it says, or it is refused
+    ensures clean { OnOk result
+        (HasNone (DefinitionHas (opened_in known.old.block) line.now tokens.now
+        owner.now name (parsed_tree parsed.now))) }
+    ensures adds { OnOk result ((version : Version) →
+        FormAdds version known.old line.now tokens.now
+        (define_said owner.now name (parsed_tree parsed.now)) known.new) }
+    ensures refused { IfErr result
+        (IsSpecLineRefused (DefinitionHas (opened_in known.old.block) line.now tokens.now
+        owner.now name (parsed_tree parsed.now))) }
+{
+    let Some(mut block) = known.block.take() else {
+        unreachable!();
+    };
+    let defined = judge_definition(alloc, &block.opened, line, tokens, (owner, &name), parsed)?;
+    block.opened.define(defined.method, name, defined.formula)?;
+    block.stage = Stage::Definitions;
+    known.block = Some(block);
+    Ok(())
+}
+
+// Takes the line of a default. A refused line may leave anything.
+fn add_default(
+    known: &mut Known,
+    line: &[u8],
+    tokens: &[Token],
+    value: bool,
+) -> Result<(), SpecLineRefused>
+    requires short { length line.now < 2 ^ 32 - 1 }
+    requires right { (version : Version)
+        × IsDefaultLine version (stage_of known.old) (words_of line.now tokens.now) value }
+    ensures clean { OnOk result (HasNone (DefaultHas known.old line.now tokens.now)) }
+    ensures adds { OnOk result
+        (known.new ≡ with_open known.old (with_default (opened_in known.old.block) value) Defaulted) }
+    ensures refused { IfErr result (IsSpecLineRefused (DefaultHas known.old line.now tokens.now)) }
+{
+    let Some(mut block) = known.block.take() else {
+        unreachable!();
+    };
+    if block.stage == Stage::Defaulted {
+        return Err(SpecLineRefused::Fault(Fault {
+            place: place_at(line, tokens, 0),
+            cause: SpecCause::Duplicate,
+        }));
+    }
+    block.opened.set_default(value);
+    block.stage = Stage::Defaulted;
+    known.block = Some(block);
+    Ok(())
+}
+
+// Takes what a right line of this version says. A refused line may leave anything.
 pub(crate) fn add_form(
     alloc: Global,
+    version: Version,
     taken: &[Name],
     known: &mut Known,
     line: &[u8],
@@ -163,16 +237,17 @@ pub(crate) fn add_form(
     requires sorts { All (IsTokenOf line.now) tokens.now }
     requires short { length line.now < 2 ^ 32 - 1 }
     requires count { length tokens.now < 2 ^ 32 - 1 }
-    requires few { HasFewWords (words_of line.now tokens.now) }
-    requires right { RightLine (stage_of known.old) (open_method_names known.old)
+    requires few { HasFewWords version (words_of line.now tokens.now) }
+    requires right { RightLine version (stage_of known.old) (open_method_names known.old)
         (words_of line.now tokens.now) (said_of form) }
 
     // the line is clean and adds what it says, or it is refused
     ensures clean { OnOk result
-        (HasNone (FormHas taken.now known.old line.now tokens.now (said_of form))) }
-    ensures adds { OnOk result (FormAdds known.old line.now tokens.now (said_of form) known.new) }
+        (HasNone (FormHas taken.now version known.old line.now tokens.now (said_of form))) }
+    ensures adds { OnOk result
+        (FormAdds version known.old line.now tokens.now (said_of form) known.new) }
     ensures refused { IfErr result
-        (IsSpecLineRefused (FormHas taken.now known.old line.now tokens.now (said_of form))) }
+        (IsSpecLineRefused (FormHas taken.now version known.old line.now tokens.now (said_of form))) }
 {
     match form {
         Form::Kind(name) => add_kind(alloc, taken, known, line, tokens, name),
@@ -185,6 +260,20 @@ pub(crate) fn add_form(
             first,
             second,
             formula,
-        } => add_pair(alloc, known, line, tokens, &first, &second, &formula),
+        } => add_pair(
+            alloc,
+            version,
+            known,
+            line,
+            tokens,
+            (&first, &second),
+            &formula,
+        ),
+        Form::Define {
+            method,
+            name,
+            formula,
+        } => add_definition(alloc, known, line, tokens, &method, name, &formula),
+        Form::Default(value) => add_default(known, line, tokens, value),
     }
 }

@@ -1,11 +1,12 @@
 //! Reading a line.
-ghost use Rattle.std.specs.Prelude.{◌≡◌, ◌≤◌, ◌<◌, ◌-◌, ◌^◌, ◌↔◌, ℕ, List, All, IfErr, IfOk, IsTrue, OnOk, false, length, true};
+ghost use Rattle.std.specs.Prelude.{◌≡◌, ◌≢◌, ◌≤◌, ◌<◌, ◌-◌, ◌^◌, ◌↔◌, ℕ, List, All, IfErr, IfNone, IfOk, IfSome, IsTrue, None, OnOk, Some, length};
+ghost use Rattle.rd_lines.specs.declared.forms.Version.{Version};
 ghost use Rattle.rd_reading.specs.Adding.{AcceptsSpecLine, Adds};
 ghost use Rattle.rd_reading.specs.Causes.{EndHas, Has, HasManyTokens, header_words};
 ghost use Rattle.rd_pairs.specs.Causes.{HasNone, IsSpecLineRefused};
 ghost use Rattle.rd_reading.specs.Known.{kind_in, kinds_so_far, stage_of};
 ghost use Rattle.rd_reading.specs.Judging.{EndRefuses, LineRefuses};
-ghost use Rattle.rd_lines.specs.Lines.{words_of};
+ghost use Rattle.rd_lines.specs.Lines.{CountsTokens, word_at, words_of};
 ghost use Rattle.rd_tokens.specs.Tokens.{IsTokenOf, LiesIn};
 
 use crate::judging::adding::{add_form, close};
@@ -13,26 +14,48 @@ use crate::judging::missing::missing_in;
 use crate::{Fault, Known, SpecCause, SpecLineRefused};
 use rd_base::{LimitName, MOST_SPEC_BYTES, MOST_TOKENS, Name};
 use rd_ecl::{Method, Spec};
-use rd_lines::{FormRefused, Stage, read_form, token_is};
+use rd_lines::{FormRefused, Stage, Version, read_form, token_is};
 use rd_pairs::place_at;
 use rd_tokens::{Token, tokens};
 use std::alloc::Global;
 
-// Is the line the header?
-fn is_header(line: &[u8], tokens: &[Token]) -> bool
+// The version that the line tells, where it is a header.
+fn header_version(line: &[u8], tokens: &[Token]) -> Option<Version>
     requires { All (LiesIn line.now) tokens.now }
-    ensures { IsTrue result ↔ (words_of line.now tokens.now ≡ header_words) }
+    ensures some { IfSome result (λ version. words_of line.now tokens.now ≡ header_words version) }
+    ensures none { IfNone result
+        ((version : Version) → words_of line.now tokens.now ≢ header_words version) }
 {
-    tokens.len() == 2 && token_is(line, &tokens[0], "rdspec") && token_is(line, &tokens[1], "1")
+    if tokens.len() != 2 || !token_is(line, &tokens[0], "rdspec") {
+        return None;
+    }
+    if token_is(line, &tokens[1], "1") {
+        return Some(Version::One);
+    }
+    if token_is(line, &tokens[1], "2") {
+        return Some(Version::Two);
+    }
+    None
 }
 
-// Do more than 512 tokens stand behind the `when` of a pair's line?
-fn has_many_tokens(line: &[u8], tokens: &[Token]) -> bool
+// Are the tokens of the formula of such a line counted?
+fn is_counted(version: Version, line: &[u8], token: &Token) -> bool
+    requires { LiesIn line.now token.now }
+    ensures { IsTrue result ↔ CountsTokens version (word_at line.now token.now) }
+{
+    match version {
+        Version::One => token_is(line, token, "commute"),
+        Version::Two => token_is(line, token, "commute") || token_is(line, token, "define"),
+    }
+}
+
+// Do more than 512 tokens stand behind the `when` of a line with a formula?
+fn has_many_tokens(version: Version, line: &[u8], tokens: &[Token]) -> bool
     requires { All (LiesIn line.now) tokens.now }
-    ensures { IsTrue result ↔ HasManyTokens (words_of line.now tokens.now) }
+    ensures { IsTrue result ↔ HasManyTokens version (words_of line.now tokens.now) }
 {
     tokens.len() > MOST_TOKENS + 4
-        && token_is(line, &tokens[0], "commute")
+        && is_counted(version, line, &tokens[0])
         && token_is(line, &tokens[3], "when")
 }
 
@@ -41,8 +64,7 @@ fn stage(known: &Known) -> Stage
     ensures { result ≡ stage_of known.now }
 {
     match &known.block {
-        Some(block) if block.paired => Stage::Pairs,
-        Some(_) => Stage::Methods,
+        Some(block) => block.stage,
         None => Stage::Outside,
     }
 }
@@ -52,7 +74,7 @@ fn methods(known: &Known) -> &[Method]
     ensures { result.now ≡ (kind_in known.now.block).methods }
 {
     match &known.block {
-        Some(block) => block.draft.methods(),
+        Some(block) => block.opened.draft().methods(),
         None => &[],
     }
 }
@@ -60,7 +82,7 @@ fn methods(known: &Known) -> &[Method]
 // Reads the first line that isn't skipped.
 fn read_header(known: &mut Known, line: &[u8], tokens: &[Token]) -> Result<(), SpecLineRefused>
     requires within { All (LiesIn line.now) tokens.now }
-    requires begins { known.old.begun ≡ false }
+    requires begins { known.old.version ≡ None }
     ensures clean { OnOk result
         ((taken : List (List ℕ)) → HasNone (Has taken known.old line.now tokens.now)) }
     ensures adds { OnOk result (Adds known.old line.now tokens.now known.new) }
@@ -68,19 +90,22 @@ fn read_header(known: &mut Known, line: &[u8], tokens: &[Token]) -> Result<(), S
         (λ refused. (taken : List (List ℕ)) →
         IsSpecLineRefused (Has taken known.old line.now tokens.now) refused) }
 {
-    if is_header(line, tokens) {
-        known.begun = true;
-        return Ok(());
+    match header_version(line, tokens) {
+        Some(version) => {
+            known.version = Some(version);
+            Ok(())
+        }
+        None => Err(SpecLineRefused::Fault(Fault {
+            place: 0,
+            cause: SpecCause::Header,
+        })),
     }
-    Err(SpecLineRefused::Fault(Fault {
-        place: 0,
-        cause: SpecCause::Header,
-    }))
 }
 
-// Reads a line behind the header.
+// Reads a line behind the header of this version.
 fn read_behind_header(
     alloc: Global,
+    version: Version,
     taken: &[Name],
     known: &mut Known,
     line: &[u8],
@@ -90,21 +115,21 @@ fn read_behind_header(
     requires sorts { All (IsTokenOf line.now) tokens.now }
     requires short { length line.now < 2 ^ 32 - 1 }
     requires count { length tokens.now < 2 ^ 32 - 1 }
-    requires begun { known.old.begun ≡ true }
+    requires begun { known.old.version ≡ Some version }
 
     // the line is clean and adds what it says, or it is refused
     ensures clean { OnOk result (HasNone (Has taken.now known.old line.now tokens.now)) }
     ensures adds { OnOk result (Adds known.old line.now tokens.now known.new) }
     ensures refused { IfErr result (IsSpecLineRefused (Has taken.now known.old line.now tokens.now)) }
 {
-    if has_many_tokens(line, tokens) {
+    if has_many_tokens(version, line, tokens) {
         return Err(SpecLineRefused::Fault(Fault {
             place: place_at(line, tokens, 3),
             cause: SpecCause::Limit(LimitName::Tokens, MOST_TOKENS as u32),
         }));
     }
-    match read_form(alloc, stage(known), methods(known), line, tokens) {
-        Ok(form) => add_form(alloc, taken, known, line, tokens, form),
+    match read_form(alloc, version, stage(known), methods(known), line, tokens) {
+        Ok(form) => add_form(alloc, version, taken, known, line, tokens, form),
         Err(FormRefused::Syntax(count)) => Err(SpecLineRefused::Fault(Fault {
             place: place_at(line, tokens, count as usize),
             cause: SpecCause::Syntax,
@@ -126,10 +151,9 @@ pub fn read_line(
     ensures refused { IfErr result (LineRefuses taken.now known.old line.now) }
 {
     let found = tokens(alloc, line)?;
-    if known.begun {
-        read_behind_header(alloc, taken, known, line, found.items())
-    } else {
-        read_header(known, line, found.items())
+    match known.version {
+        Some(version) => read_behind_header(alloc, version, taken, known, line, found.items()),
+        None => read_header(known, line, found.items()),
     }
 }
 
@@ -139,7 +163,7 @@ pub fn finish(known: Known) -> Result<Spec, SpecLineRefused>
     ensures kinds { IfOk result (λ spec. spec ≡ kinds_so_far known) }
     ensures refused { IfErr result (EndRefuses known) }
 {
-    if !known.begun {
+    if known.version.is_none() {
         return Err(SpecLineRefused::Fault(Fault {
             place: 0,
             cause: SpecCause::Header,

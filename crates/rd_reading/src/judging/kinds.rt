@@ -2,8 +2,9 @@
 ghost use Rattle.std.specs.Prelude.{◌≡◌, ◌<◌, ◌-◌, ◌^◌, IfNone, length};
 ghost use Rattle.rd_reading.specs.Causes.{KindHas};
 ghost use Rattle.rd_pairs.specs.Causes.{Judged};
-ghost use Rattle.rd_reading.specs.Known.{kind_in, specified_kind_names, kinds_so_far, open_kinds};
+ghost use Rattle.rd_reading.specs.Known.{kinds_so_far, open_kinds, opened_in, specified_kind_names};
 ghost use Rattle.rd_ecl.specs.Specified.{IsWhole};
+ghost use Rattle.rd_open_kind.specs.Opened.{filled};
 ghost use Rattle.rd_ecl.specs.Variables.{is_one_of};
 
 use crate::judging::missing::missing_in;
@@ -42,7 +43,7 @@ fn names_open(known: &Known, name: &Name) -> bool
     ensures { result ≡ is_one_of name.now (specified_kind_names (open_kinds known.now.block)) }
 {
     match &known.block {
-        Some(block) => name.items() == block.draft.name().items(),
+        Some(block) => name.items() == block.opened.draft().name().items(),
         None => false,
     }
 }
@@ -75,7 +76,7 @@ pub(crate) fn judge_kind(
 ) -> Option<Fault>
     requires { length line.now < 2 ^ 32 - 1 }
     ensures judged { Judged (KindHas taken.now known.now line.now tokens.now name.now) result }
-    ensures whole { IfNone result (IsWhole (kind_in known.now.block)) }
+    ensures whole { IfNone result (IsWhole (filled (opened_in known.now.block))) }
 {
     let place = place_at(line, tokens, 1);
     if is_known(known, name) {

@@ -1,12 +1,14 @@
 //! The pair of a kind that is missing.
 ghost use Rattle.std.specs.Prelude.{◌≡◌, ◌<◌, ◌≤◌, ℕ, IfSome, IfNone, IsSome, length, None};
 ghost use Rattle.rd_reading.specs.Causes.{IsFirstMissing};
-ghost use Rattle.rd_reading.specs.Known.{kind_in};
+ghost use Rattle.rd_open_kind.specs.Opened.{filled};
+ghost use Rattle.rd_reading.specs.Known.{opened_in};
 ghost use Rattle.rd_ecl.specs.Specified.{IsWhole, formula_at};
 ghost use Rattle.rd_reading.specs.Parts.{IsMissing};
 
 use crate::{Known, SpecCause};
 use rd_ecl::KindDraft;
+use rd_open_kind::OpenKind;
 
 // The first method, from the same one on, whose pair with this method is missing.
 fn missing_with(kind: &KindDraft, first: u8) -> Option<u8>
@@ -59,13 +61,25 @@ fn missing_pair(kind: &KindDraft) -> Option<SpecCause>
     }
 }
 
+// The cause to refuse the end of a kind with its default: without one, the pair that is missing first.
+fn missing_of(opened: &OpenKind) -> Option<SpecCause>
+    ensures some { IfSome result (IsMissing (filled opened.now)) }
+    ensures none { IfNone result (IsWhole (filled opened.now)) }
+{
+    let kind = opened.draft();
+    match opened.default() {
+        Some(_) => None,
+        None => missing_pair(kind),
+    }
+}
+
 // The cause to refuse the end of the kind that is open.
 pub(crate) fn missing_in(known: &Known) -> Option<SpecCause>
-    ensures some { IfSome result (IsMissing (kind_in known.now.block)) }
-    ensures none { IfNone result (IsWhole (kind_in known.now.block)) }
+    ensures some { IfSome result (IsMissing (filled (opened_in known.now.block))) }
+    ensures none { IfNone result (IsWhole (filled (opened_in known.now.block))) }
 {
     match &known.block {
-        Some(block) => missing_pair(&block.draft),
+        Some(block) => missing_of(&block.opened),
         None => None,
     }
 }
