@@ -1,5 +1,5 @@
 -- The canonical text of a specification is read again as it.
-use Rattle.std.proofs.Common.{◌≡◌, ◌≢◌, ℕ, zero, suc, ◌+◌, ◌*◌, ◌<◌, ◌≤◌, Bool, true, false, List, [], ◌∷◌, ◌++◌, length, map, codes, Option, Some, None, refl, sym, ap, subst, arith, inl, inr, ◌∙◌, length-append}
+use Rattle.std.proofs.Common.{◌≡◌, ◌≢◌, ℕ, zero, suc, ◌+◌, ◌*◌, ◌<◌, ◌≤◌, Bool, true, List, [], ◌∷◌, ◌++◌, length, map, codes, Option, Some, None, refl, sym, ap, subst, arith, inl, inr, ◌∙◌, length-append}
 use Rattle.std.specs.Prelude.{All, AllPairs, Contains, flat_map, nat_le, is_some, IsSome}
 use Rattle.std.specs.List.{AllByRecursion}
 use Rattle.std.proofs.lemmas.List.{append_assoc, append-nil, map-append, get_or_past}
@@ -8,11 +8,14 @@ use Rattle.rd_base.proofs.FoundLemmas.{each_by_recursion}
 use Rattle.std.proofs.lemmas.List.Elements.{Contains-append_right}
 use Rattle.rd_print.specs.Canonical.{plain_word}
 use Rattle.rd_reading.specs.Adding.{with_header, with_kind}
-use Rattle.rd_reading.specs.Causes.{EndHas}
-use Rattle.rd_pairs.specs.Causes.{HasNone}
-use Rattle.rd_reading.specs.Known.{kind_in, specified_kind_names, kind_without, kinds_so_far, nothing}
+use Rattle.rd_reading.specs.Known.{opened_in, specified_kind_names, kinds_so_far, nothing}
+use Rattle.rd_lines.specs.declared.forms.Stage.{Stage}
+use Rattle.rd_lines.specs.declared.forms.Stage.TheVariants.{Methods, Outside}
+use Rattle.rd_lines.specs.declared.forms.Version.{Version}
+use Rattle.rd_lines.specs.declared.forms.Version.TheVariants.{One}
+use Rattle.rd_open_kind.specs.Filled.{filled_with}
+use Rattle.rd_open_kind.specs.Opened.{Opened, filled, kind_named}
 use Rattle.rd_pairs.specs.PairCauses.{variables_of_method}
-use Rattle.rd_pairs.specs.declared.spec_causes.SpecCause.TheVariants.{Header, Syntax, UnknownMethod, UnknownVariable, NoVariable, OutsideFragment, Duplicate, MissingPair, KindTaken, Limit}
 use Rattle.rd_reading.specs.declared.known.Known.{Known}
 use Rattle.rd_ecl.specs.declared.kinds.Method.{Method}
 use Rattle.rd_ecl.specs.Formulas.{Tree}
@@ -25,11 +28,12 @@ use Rattle.rd_print.proofs.SoundLemmas.{commute_sound, kind_sound, lines_sound, 
 use Rattle.rd_print.specs.Text.{IsRightWord, words_text}
 use Rattle.rd_spec.specs.Again.{MayBeRead}
 use Rattle.rd_reading.specs.Texts.{ReadsLines, SpecSays, no_more}
-use Rattle.rd_spec.proofs.AcceptLemmas.{header_accepted, lacks_none}
+use Rattle.rd_spec.proofs.AcceptLemmas.{header_accepted}
 use Rattle.rd_reading.proofs.ParsingLemmas.{reads_on}
-use Rattle.rd_spec.proofs.MethodLines.{IsUnset, IsWritten, at, kind_read, fresh_behind, line_read, methods_more, methods_read, methods_unset, name_kept, with_methods}
+use Rattle.rd_reading.proofs.VerdictLemmas.{no_end}
+use Rattle.rd_spec.proofs.MethodLines.{IsUnset, IsWritten, at, default_kept, kind_read, fresh_behind, line_read, methods_more, methods_read, methods_unset, name_kept, with_methods}
 use Rattle.rd_spec.proofs.PairLines.{IsPrinted}
-use Rattle.rd_spec.proofs.RowLines.{IsBefore, IsPart, IsSource, RowRead, pairs_read, unset_at}
+use Rattle.rd_spec.proofs.RowLines.{IsBefore, IsPart, IsSource, pairs_read, unset_at}
 use Rattle.rd_spec.proofs.TextLemmas.{kept_line, lines_cut}
 use Rattle.rd_base.specs.declared.limits.TheConstants.{MOST_METHODS}
 
@@ -87,16 +91,16 @@ module _ (kind : SpecifiedKind) (is : IsKind kind) where
             (record { variables = here; each = each_by_recursion IsVariable method.variables here.each; named = name; sound = method_sound method name here }, by methods rest more)
 
   -- before its first pair
-  empty : SpecifiedKind
-  empty = with_methods (kind_without kind.name) kind.methods
+  empty : Opened
+  empty = with_methods (kind_named kind.name) kind.methods
 
-  begins : IsPart kind empty 0 0
+  begins : IsPart kind empty.kind 0 0
   unfolding IsBefore empty
   begins =
-      let unset : IsUnset empty = methods_unset (kind_without kind.name) kind.methods (record { rows = refl; none = λ k. get_or_past [] k None (omega arith) }) in
-      let methods : empty.methods ≡ kind.methods = methods_more (kind_without kind.name) kind.methods in
+      let unset : IsUnset empty.kind = methods_unset (kind_named kind.name) kind.methods (record { rows = refl; none = λ k. get_or_past [] k None (omega arith) }) in
+      let methods : empty.kind.methods ≡ kind.methods = methods_more (kind_named kind.name) kind.methods in
       record {
-        name = name_kept (kind_without kind.name) kind.methods;
+        name = name_kept (kind_named kind.name) kind.methods;
         methods = methods;
         rows = unset.rows ∙ ap (λ (ms : List Method). MOST_METHODS * length ms) methods;
         rest = λ m n above low. unset.none (MOST_METHODS * n + m);
@@ -104,26 +108,37 @@ module _ (kind : SpecifiedKind) (is : IsKind kind) where
           | inl less ↦ absurd (omega (arith, less))
           | inr same ↦ absurd (let less = same.1 in omega (arith, less))
         ];
-        left = λ m n up low behind. unset_at (nat_le m n) empty.pairs (MOST_METHODS * n + m) (unset.none (MOST_METHODS * n + m));
+        left = λ m n up low behind. unset_at (nat_le m n) empty.kind.pairs (MOST_METHODS * n + m) (unset.none (MOST_METHODS * n + m));
       }
 
   -- its methods and pairs are read
-  pub body_read : (taken : List (List ℕ)) (closed : List SpecifiedKind)
-      → RowRead taken closed kind (kind_without kind.name) false (map words_text (map method_words kind.methods ++ map (commute_words kind) (pairs_of (length kind.methods))))
-      (length kind.methods) (length kind.methods)
+  record BodyRead (taken : List (List ℕ)) (closed : List SpecifiedKind) (lines : List (List ℕ)) : Type 0 where
+    next : Opened
+    then_stage : Stage
+    default : next.default ≡ None
+    is_part : IsPart kind next.kind (length kind.methods) (length kind.methods)
+    reads : ReadsLines taken (at One closed (kind_named kind.name) Methods) lines (at One closed next then_stage)
+
+  methods_inside : Methods ≢ Outside
+  methods_inside e = cc
+
+  body_read : (taken : List (List ℕ)) (closed : List SpecifiedKind)
+      → BodyRead taken closed (map words_text (map method_words kind.methods ++ map (commute_words kind) (pairs_of (length kind.methods))))
   unfolding empty
   body_read taken closed =
-      let bare : SpecifiedKind = kind_without kind.name in
-      let pairs = pairs_read taken closed kind source empty false begins in
+      let bare : Opened = kind_named kind.name in
+      let pairs = pairs_read taken closed kind source empty Methods methods_inside begins in
+      let next : Opened = record empty { kind = pairs.next } in
       let lines : map words_text (map method_words kind.methods ++ map (commute_words kind) (pairs_of (length kind.methods)))
       ≡ map words_text (map method_words kind.methods) ++ map words_text (map (commute_words kind) (pairs_of (length kind.methods))) =
       map-append words_text (map method_words kind.methods) (map (commute_words kind) (pairs_of (length kind.methods))) in
       record {
-        next = pairs.next;
-        then_paired = pairs.then_paired;
-        is = pairs.is;
-        reads = subst (λ (l : List (List ℕ)). ReadsLines taken (at closed bare false) l (at closed pairs.next pairs.then_paired)) (sym lines)
-            (reads_on taken (methods_read taken closed bare kind.methods is.draft.methods.different is.draft.methods.few written) pairs.reads);
+        next = next;
+        then_stage = pairs.then_stage;
+        default = default_kept bare kind.methods;
+        is_part = pairs.is;
+        reads = subst (λ (l : List (List ℕ)). ReadsLines taken (at One closed bare Methods) l (at One closed next pairs.then_stage)) (sym lines)
+            (reads_on taken (methods_read taken One closed bare kind.methods is.draft.methods.different is.draft.methods.few written) pairs.reads);
       }
 
   -- what was read is the kind
@@ -142,23 +157,33 @@ module _ (kind : SpecifiedKind) (is : IsKind kind) where
 
 -- ---- kinds, one after another
 
+-- a kind that has no default is closed as it is
+unfilled : (opened : Opened) → opened.default ≡ None → filled opened ≡ opened.kind
+unfolding filled_with
+unfilled opened none = ap (λ (default : Option Bool). filled_with default opened.kind) none
+
+none_whole : IsWhole (filled (kind_named []))
+unfolding filled_with
+none_whole first second ordered within = absurd (omega (arith, within))
+
 pub record BlocksRead (taken : List (List ℕ)) (known : Known) (lines : List (List ℕ)) (kinds : List SpecifiedKind) : Type 0 where
   pub last : Known
-  pub begun : last.begun ≡ true
+  pub begun : last.version ≡ Some One
   pub same : kinds_so_far last ≡ kinds
-  pub whole : IsWhole (kind_in last.block)
+  pub whole : IsWhole (filled (opened_in last.block))
   pub reads : ReadsLines taken known lines last
 
-opened_at : (known : Known) (name : List ℕ) → known.begun ≡ true → with_kind known name ≡ at (kinds_so_far known) (kind_without name) false
-opened_at known name begun = ap (λ (b : Bool). record { begun = b; closed = kinds_so_far known; block = Some (record { draft = kind_without name; paired = false }) }) begun
+opened_at : (known : Known) (name : List ℕ) → known.version ≡ Some One → with_kind known name ≡ at One (kinds_so_far known) (kind_named name) Methods
+opened_at known name begun =
+    ap (λ (v : Option Version). record { version = v; closed = kinds_so_far known; block = Some (record { opened = kind_named name; stage = Methods }) }) begun
 
 kinds_more : (xs : List SpecifiedKind) (one : SpecifiedKind) (ys : List SpecifiedKind) → specified_kind_names (xs ++ one ∷ ys) ≡ specified_kind_names xs ++ one.name ∷ specified_kind_names ys
 kinds_more [] one ys = refl
 kinds_more (x ∷ xs) one ys = ap (λ (l : List (List ℕ)). x.name ∷ l) (kinds_more xs one ys)
 
 -- the lines of a kind
-block_read : (taken : List (List ℕ)) (done : List SpecifiedKind) (kind : SpecifiedKind) (kinds : List SpecifiedKind) (known : Known) → known.begun ≡ true
-    → kinds_so_far known ≡ done → IsWhole (kind_in known.block) → IsKind kind → length (done ++ kind ∷ kinds) ≤ 32
+block_read : (taken : List (List ℕ)) (done : List SpecifiedKind) (kind : SpecifiedKind) (kinds : List SpecifiedKind) (known : Known) → known.version ≡ Some One
+    → kinds_so_far known ≡ done → IsWhole (filled (opened_in known.block)) → IsKind kind → length (done ++ kind ∷ kinds) ≤ 32
     → AllPairs (λ x y. x ≢ y) (specified_kind_names (done ++ kind ∷ kinds)) → ((name : List ℕ) → Contains taken name → ¬ (Contains (specified_kind_names (done ++ kind ∷ kinds)) name))
     → BlocksRead taken known (map words_text (block_lines kind)) (done ++ kind ∷ [])
 block_read taken done kind kinds known begun same whole is few different free =
@@ -171,19 +196,21 @@ block_read taken done kind kinds known begun same whole is few different free =
     let counts : length (kinds_so_far known) ≡ length done = ap length same in
     let sum = length-append done (kind ∷ kinds) in
     let sound = (kind_sound kind is).0 in
-    let head = kind_read taken known kind begun (λ among. fresh (subst (λ (l : List (List ℕ)). Contains l kind.name) (sym names) among)) whole
+    let head = kind_read taken One known kind begun (λ among. fresh (subst (λ (l : List (List ℕ)). Contains l kind.name) (sym names) among)) whole
     (λ reserved. free kind.name reserved (subst (λ (l : List (List ℕ)). Contains l kind.name) (sym named) here)) (omega (arith, counts, sum, few)) is.draft.name sound in
     let body = body_read kind is taken (kinds_so_far known) in
+    let alike : filled body.next ≡ body.next.kind = unfilled body.next body.default in
     record {
-      last = at (kinds_so_far known) body.next body.then_paired;
+      last = at One (kinds_so_far known) body.next body.then_stage;
       begun = refl;
-      same = ap (λ (l : List SpecifiedKind). l ++ body.next ∷ []) same ∙ ap (λ (k : SpecifiedKind). done ++ k ∷ []) (same_kind kind is body.next body.is);
-      whole = whole_kind kind is body.next body.is;
+      same = ap (λ (l : List SpecifiedKind). l ++ filled body.next ∷ []) same
+          ∙ ap (λ (k : SpecifiedKind). done ++ k ∷ []) (alike ∙ same_kind kind is body.next.kind body.is_part);
+      whole = subst IsWhole (sym alike) (whole_kind kind is body.next.kind body.is_part);
       reads = reads_on taken (subst (λ (k : Known). ReadsLines taken known (words_text (kind_words kind) ∷ []) k) (opened_at known kind.name begun) head) body.reads;
     }
 
-blocks_read : (taken : List (List ℕ)) (kinds done : List SpecifiedKind) (known : Known) → known.begun ≡ true → kinds_so_far known ≡ done
-    → IsWhole (kind_in known.block) → AllByRecursion IsKind kinds → length (done ++ kinds) ≤ 32 → AllPairs (λ x y. x ≢ y) (specified_kind_names (done ++ kinds))
+blocks_read : (taken : List (List ℕ)) (kinds done : List SpecifiedKind) (known : Known) → known.version ≡ Some One → kinds_so_far known ≡ done
+    → IsWhole (filled (opened_in known.block)) → AllByRecursion IsKind kinds → length (done ++ kinds) ≤ 32 → AllPairs (λ x y. x ≢ y) (specified_kind_names (done ++ kinds))
     → ((name : List ℕ) → Contains taken name → ¬ (Contains (specified_kind_names (done ++ kinds)) name))
     → BlocksRead taken known (map words_text (flat_map block_lines kinds)) (done ++ kinds)
 blocks_read taken [] done known begun same whole each few different free = record {
@@ -210,24 +237,12 @@ blocks_read taken (kind ∷ kinds) done known begun same whole (is, rest) few di
 
 -- ---- the whole text
 
-end_clean : (known : Known) → known.begun ≡ true → IsWhole (kind_in known.block) → HasNone (EndHas known)
-end_clean known begun whole Header place (late, at) = absurd (cc)
-end_clean known begun whole Syntax place has = has
-end_clean known begun whole UnknownMethod place has = has
-end_clean known begun whole UnknownVariable place has = has
-end_clean known begun whole NoVariable place has = has
-end_clean known begun whole (OutsideFragment reason) place has = has
-end_clean known begun whole Duplicate place has = has
-end_clean known begun whole (MissingPair first second) place (lacks, at) = lacks_none (kind_in known.block) first second whole lacks
-end_clean known begun whole KindTaken place has = has
-end_clean known begun whole (Limit name number) place has = has
-
 pub read_again : (kinds : List SpecifiedKind) (taken : List (List ℕ)) → MayBeRead kinds taken → SpecSays (spec_text kinds) taken kinds
 read_again kinds taken may =
     let sound : AllByRecursion (All IsRightWord) (spec_lines kinds) = each_by_recursion (All IsRightWord) (spec_lines kinds) (lines_sound kinds may.each) in
-    let head = line_read taken nothing (with_header nothing) printed_header sound.0 (kept_line 114 (codes "dspec") (plain_word (codes "1") ∷ []) (λ e. omega (arith, e)) (λ e. omega (arith, e)))
-    (λ tokens are words. header_accepted taken (words_text printed_header) tokens words are) in
-    let blocks = blocks_read taken kinds [] (with_header nothing) refl refl (λ first second up low. absurd (omega (arith, low)))
+    let head = line_read taken nothing (with_header nothing One) printed_header sound.0 (kept_line 114 (codes "dspec") (plain_word (codes "1") ∷ []) (λ e. omega (arith, e)) (λ e. omega (arith, e)))
+    (λ tokens are words. header_accepted taken (words_text printed_header) tokens One words are) in
+    let blocks = blocks_read taken kinds [] (with_header nothing One) refl refl none_whole
     (each_by_recursion IsKind kinds may.each)
     may.few may.different may.free in
     record {
@@ -236,6 +251,6 @@ read_again kinds taken may =
       cut = lines_cut (spec_lines kinds) sound;
       known = blocks.last;
       reads = reads_on taken head blocks.reads;
-      whole = end_clean blocks.last blocks.begun blocks.whole;
+      whole = no_end blocks.last One blocks.begun blocks.whole;
       said = sym blocks.same;
     }

@@ -1,34 +1,43 @@
 -- A header and blocks of kinds are read as these kinds.
-use Rattle.std.proofs.Common.{◌≡◌, ◌≢◌, ℕ, zero, suc, ◌+◌, ◌*◌, ◌<◌, ◌≤◌, Bool, true, false, List, [], ◌∷◌, ◌++◌, codes, get_or, length, length-append, Option, Some, None, if◌then◌else◌, refl, sym, ◌∙◌, ap, subst, arith, ◌⊎◌, inl, inr}
-use Rattle.std.specs.Prelude.{All, AllPairs, Contains, IsSome, flat_map, nat_le, set}
+use Rattle.std.proofs.Common.{◌≡◌, ◌≢◌, ℕ, zero, suc, ◌+◌, ◌*◌, ◌<◌, ◌≤◌, Bool, true, false, List, [], ◌∷◌, ◌++◌, get_or, length, length-append, Option, Some, None, if◌then◌else◌, refl, sym, ◌∙◌, ap, subst, arith, ◌⊎◌, inl, inr}
+use Rattle.std.specs.Prelude.{All, AllPairs, Contains, IsSome, flat_map, nat_le, set, unwrap_or}
 use Rattle.std.specs.List.{AllByRecursion, AllZip}
 use Rattle.std.proofs.lemmas.Bool.{cases_Bool, cases_eq, leb-true}
 use Rattle.std.proofs.lemmas.List.{append_assoc, append-nil, get_or_past, length-set, map-append}
 use Rattle.rd_base.proofs.FoundLemmas.{each_by_recursion}
 use Rattle.rd_base.specs.declared.limits.TheConstants.{MOST_ARGUMENTS, MOST_KINDS, MOST_METHODS, MOST_PREDICATES, MOST_SPEC_BYTES}
+use Rattle.rd_definitions.specs.Definitions.{Definition}
 use Rattle.rd_ecl.specs.declared.kinds.Method.{Method}
-use Rattle.rd_ecl.specs.Formulas.{Tree}
-use Rattle.rd_ecl.specs.Specified.{IsKind, IsWhole, SpecifiedKind, formula_at, method_predicates, names_of, with_method, with_pair}
+use Rattle.rd_ecl.specs.Formulas.{Tree, truth}
+use Rattle.rd_ecl.specs.Specified.{IsDraft, IsKind, IsWhole, SpecifiedKind, formula_at, method_predicates, names_of, with_pair}
 use Rattle.rd_ecl.specs.Variables.{AreVariables}
 use Rattle.rd_ecl.proofs.PairLemmas.{at_other, at_set, equal_drafts, known}
-use Rattle.rd_lines.specs.declared.forms.Stage.TheVariants.{Outside}
+use Rattle.rd_lines.specs.declared.forms.Stage.{Stage}
+use Rattle.rd_lines.specs.declared.forms.Stage.TheVariants.{Outside, Methods, Pairs}
+use Rattle.rd_lines.specs.declared.forms.Version.{Version}
 use Rattle.rd_lines.specs.Lines.{words_of, kind as kind_said, method as method_said, commute as commute_said}
+use Rattle.rd_open_kind.specs.Filled.{filled_with}
+use Rattle.rd_open_kind.specs.Opened.{Opened, filled, kind_named, with_method_in}
+use Rattle.rd_open_kind.proofs.FilledLemmas.{filled_methods, filled_name, formula_given}
 use Rattle.rd_reading.specs.Adding.{AcceptsSpecLine, with_header, with_kind}
-use Rattle.rd_reading.specs.Blocks.{IsBlock, IsOfBlocks, SaidPair, SaysMethod, SaysPairOf, WithoutSkipped, kept_first, none_left, passed_over}
+use Rattle.rd_spec.specs.Blocks.{IsBlock, IsOfBlocks, SaidPair, SaysMethod, SaysPairOf, without_definitions}
 use Rattle.rd_reading.specs.Causes.{HasManyTokens}
 use Rattle.rd_pairs.specs.PairCauses.{AreNumbers, HasManyPredicates, variables_of_method}
-use Rattle.rd_reading.specs.Known.{kind_in, kind_without, kinds_so_far, nothing, specified_kind_names, stage_of}
-use Rattle.rd_reading.specs.Texts.{HasNewNames, ReadsLines, SpecSays, no_more, skips, takes}
+use Rattle.rd_reading.specs.Known.{kinds_so_far, nothing, opened_in, specified_kind_names}
+use Rattle.rd_reading.specs.Texts.{HasNewNames, SpecSays}
 use Rattle.rd_reading.specs.declared.known.Known.{Known}
-use Rattle.rd_reading.proofs.DraftLemmas.{said_kinds}
+use Rattle.rd_reading.proofs.DraftLemmas.{AreDrafts, none_drafted, said_kinds}
 use Rattle.rd_reading.proofs.LineLemmas.{short_few}
 use Rattle.rd_pairs.proofs.NumberLemmas.{AreDifferent}
 use Rattle.rd_reading.proofs.OneLemmas.{none_apart}
+use Rattle.rd_spec.proofs.OpenLemmas.{given, zip_each}
 use Rattle.rd_reading.proofs.RepeatLemmas.{none_repeated}
 use Rattle.rd_reading.proofs.VerdictLemmas.{no_end}
-use Rattle.rd_spec.proofs.AcceptLemmas.{accepted, header_accepted, kind_clean, method_clean, other_first}
+use Rattle.rd_spec.proofs.AcceptLemmas.{accepted, header_accepted, kind_clean, method_clean}
+use Rattle.rd_spec.proofs.AllLines.{AcceptsAll, accepts_drafts, accepts_on, reads_kept}
+use Rattle.rd_spec.proofs.DefinitionLines.{AreDefaulted, AreDefined, defaults_accepted, defines_default, defines_kind, definitions_accepted, opened_with, part_of}
 use Rattle.rd_spec.proofs.FewLemmas.{few_parts}
-use Rattle.rd_spec.proofs.MethodLines.{IsUnset, at, fresh_behind, methods_more, methods_unset, name_kept, with_methods}
+use Rattle.rd_spec.proofs.MethodLines.{IsUnset, at, default_kept, defined_more, fresh_behind, kind_short, method_short, methods_more, methods_unset, name_kept, with_methods}
 use Rattle.rd_spec.proofs.PairLines.{IsReady, pair_clean}
 
 -- ---- kinds that are the same
@@ -53,69 +62,45 @@ equal_all (kind ∷ kinds) [] each also same = absurd same
 equal_all (kind ∷ kinds) (other ∷ others) (is, each) (is_also, also) (here, same) =
     (λ i. equal_drafts kind other is.draft is_also.draft here.name here.methods here.formulas i ∷ equal_all kinds others each also same i)
 
--- ---- lines, each of which is accepted
-
-abbrev AcceptsAll : List (List ℕ) → Known → List (List ℕ) → Known → Type 0
-AcceptsAll taken known_so [] last = known_so ≡ last
-AcceptsAll taken known_so (line ∷ lines) last = (mid : Known) × AcceptsSpecLine taken known_so line mid × AcceptsAll taken mid lines last
-
-accepts_on : (taken : List (List ℕ)) (first mid last : Known) (before lines : List (List ℕ)) → AcceptsAll taken first before mid → AcceptsAll taken mid lines last
-    → AcceptsAll taken first (before ++ lines) last
-accepts_on taken first mid last [] lines same more = subst (λ (k : Known). AcceptsAll taken k lines last) (sym same) more
-accepts_on taken first mid last (line ∷ before) lines (next, accepts, rest) more = (next, accepts, accepts_on taken next mid last before lines rest more)
-
--- with lines between them that say nothing
-reads_kept : (taken : List (List ℕ)) (first last : Known) (lines kept : List (List ℕ)) → WithoutSkipped lines kept → AcceptsAll taken first kept last
-    → ReadsLines taken first lines last
-reads_kept taken first last lines kept none_left same = subst (λ (k : Known). ReadsLines taken first [] k) same no_more
-reads_kept taken first last lines kept (passed_over {lines = rest} {kept = left} skipped more) accepts = skips skipped (reads_kept taken first last rest left more accepts)
-reads_kept taken first last lines kept (kept_first {lines = rest} {kept = left} some more) (mid, accepts, others) =
-    takes some accepts (reads_kept taken mid last rest left more others)
-
 -- ---- the lines of methods
-
-method_no_commute : codes "method" ≢ codes "commute"
-method_no_commute e = cc
-
-kind_no_commute : codes "kind" ≢ codes "commute"
-kind_no_commute e = cc
 
 names_split : (xs : List Method) (one : Method) (ys : List Method) → names_of (xs ++ one ∷ ys) ≡ names_of xs ++ one.name ∷ names_of ys
 names_split [] one ys = refl
 names_split (x ∷ xs) one ys = ap (λ (l : List (List ℕ)). x.name ∷ l) (names_split xs one ys)
 
-method_accepted : (taken : List (List ℕ)) (closed : List SpecifiedKind) (kind : SpecifiedKind) (line : List ℕ) (method : Method)
-    → ¬ (Contains (names_of kind.methods) method.name) → length kind.methods < MOST_METHODS → AreVariables method.variables → SaysMethod line method
-    → AcceptsSpecLine taken (at closed kind false) line (at closed (with_method kind method) false)
-method_accepted taken closed kind line method new room variables says =
+method_accepted : (taken : List (List ℕ)) (version : Version) (closed : List SpecifiedKind) (opened : Opened) (line : List ℕ) (method : Method)
+    → ¬ (Contains (names_of opened.kind.methods) method.name) → length opened.kind.methods < MOST_METHODS → AreVariables method.variables → SaysMethod line method
+    → AcceptsSpecLine taken (at version closed opened Methods) line (at version closed (with_method_in opened method) Methods)
+method_accepted taken version closed opened line method new room variables says =
     let arguments = says.arguments in
     let result = says.result in
     let count : length arguments ≤ MOST_ARGUMENTS = (let few = variables.few in let same = ap length says.variables in let sum = length-append arguments (result ∷ []) in omega (arith, few, same, sum)) in
     let whole : record { name = method.name; variables = arguments ++ result ∷ [] } ≡ method =
     ap (λ (vs : List (List ℕ)). record { name = method.name; variables = vs }) (sym says.variables) in
-    accepted taken (at closed kind false) line says.tokens (method_said method.name arguments result) refl
-    (λ many. other_first (codes "method") _ method_no_commute (subst HasManyTokens says.written.written many))
-    says.written (at closed (with_method kind method) false) says.cut
-    (method_clean kind line says.tokens method.name arguments result new
+    accepted taken (at version closed opened Methods) line says.tokens version refl (method_said method.name arguments result)
+    (λ many. method_short version _ (subst (HasManyTokens version) says.written.written many))
+    says.written (at version closed (with_method_in opened method) Methods) says.cut
+    (method_clean opened.kind line says.tokens method.name arguments result new
     (λ n. none_repeated (arguments ++ result ∷ []) n (subst AreDifferent says.variables variables.different)) room count)
-    (ap (λ (m : Method). at closed (with_method kind m) false) (sym whole))
+    (ap (λ (m : Method). at version closed (with_method_in opened m) Methods) (sym whole))
 
-methods_accepted : (taken : List (List ℕ)) (closed : List SpecifiedKind) (kind : SpecifiedKind) (lines : List (List ℕ)) (methods : List Method)
-    → AreDifferent (names_of (kind.methods ++ methods)) → length (kind.methods ++ methods) ≤ MOST_METHODS
+methods_accepted : (taken : List (List ℕ)) (version : Version) (closed : List SpecifiedKind) (opened : Opened) (lines : List (List ℕ)) (methods : List Method)
+    → AreDifferent (names_of (opened.kind.methods ++ methods)) → length (opened.kind.methods ++ methods) ≤ MOST_METHODS
     → AllByRecursion (λ (method : Method). AreVariables method.variables) methods → AllZip SaysMethod lines methods
-    → AcceptsAll taken (at closed kind false) lines (at closed (with_methods kind methods) false)
+    → AcceptsAll taken (at version closed opened Methods) lines (at version closed (with_methods opened methods) Methods)
 unfolding with_methods
-methods_accepted taken closed kind [] [] different few each says = refl
-methods_accepted taken closed kind [] (one ∷ methods) different few each says = absurd says
-methods_accepted taken closed kind (line ∷ lines) [] different few each says = absurd says
-methods_accepted taken closed kind (line ∷ lines) (one ∷ methods) different few (here, rest) (says, others) =
-    let more : (kind.methods ++ one ∷ []) ++ methods ≡ kind.methods ++ one ∷ methods = append_assoc kind.methods (one ∷ []) methods in
-    let room = length-append kind.methods (one ∷ methods) in (
-      at closed (with_method kind one) false,
-      method_accepted taken closed kind line one
-          (fresh_behind (names_of kind.methods) one.name (names_of methods) (subst AreDifferent (names_split kind.methods one methods) different))
+methods_accepted taken version closed opened [] [] different few each says = refl
+methods_accepted taken version closed opened [] (one ∷ methods) different few each says = absurd says
+methods_accepted taken version closed opened (line ∷ lines) [] different few each says = absurd says
+methods_accepted taken version closed opened (line ∷ lines) (one ∷ methods) different few (here, rest) (says, others) =
+    let old : List Method = opened.kind.methods in
+    let more : (old ++ one ∷ []) ++ methods ≡ old ++ one ∷ methods = append_assoc old (one ∷ []) methods in
+    let room = length-append old (one ∷ methods) in (
+      at version closed (with_method_in opened one) Methods,
+      method_accepted taken version closed opened line one
+          (fresh_behind (names_of old) one.name (names_of methods) (subst AreDifferent (names_split old one methods) different))
           (omega (arith, few, room)) here says,
-      methods_accepted taken closed (with_method kind one) lines methods (subst (λ (ms : List Method). AreDifferent (names_of ms)) (sym more) different)
+      methods_accepted taken version closed (with_method_in opened one) lines methods (subst (λ (ms : List Method). AreDifferent (names_of ms)) (sym more) different)
           (subst (λ (ms : List Method). length ms ≤ MOST_METHODS) (sym more) few) rest others,
     )
 
@@ -125,9 +110,8 @@ guarded : (b : Bool) (xs : List (Option Tree)) (p : ℕ) → b ≡ false → (if
 guarded true xs p e = absurd (cc)
 guarded false xs p e = refl
 
--- the kind with these formulas in place of its own
-abbrev part_of : SpecifiedKind → List (Option Tree) → SpecifiedKind
-part_of kind pairs = record { name = kind.name; methods = kind.methods; pairs = pairs }
+pairs_inside : Pairs ≢ Outside
+pairs_inside e = cc
 
 abbrev Differs : SaidPair → SaidPair → Type 0
 Differs pair other = ¬ ((pair.first ≡ other.first) × (pair.second ≡ other.second))
@@ -138,7 +122,19 @@ tail_pairs pair pairs all i j d less within = all (suc i) (suc j) d (omega (arit
 head_pairs : (pair : SaidPair) (pairs : List SaidPair) → AllPairs Differs (pair ∷ pairs) → AllByRecursion (Differs pair) pairs
 head_pairs pair pairs all = each_by_recursion (Differs pair) pairs (λ k d within. all 0 (suc k) d (omega arith) (omega (arith, within)))
 
-module _ (taken : List (List ℕ)) (closed : List SpecifiedKind) (kind : SpecifiedKind) (is : IsKind kind) (variables : (n : ℕ) → AreDifferent (variables_of_method kind n)) where
+module _ (taken : List (List ℕ)) (version : Version) (closed : List SpecifiedKind) (kind : SpecifiedKind) (defined : List (List Definition)) (default : Option Bool)
+    (is : IsKind kind) (variables : (n : ℕ) → AreDifferent (variables_of_method kind n)) where
+  -- behind the lines of definitions and the default, with these formulas
+  abbrev opened_so : List (Option Tree) → Opened
+  opened_so pairs = record { kind = part_of kind pairs; defined = defined; default = default }
+
+  abbrev at_pairs : List (Option Tree) → Stage → Known
+  at_pairs pairs stage = at version closed (opened_so pairs) stage
+
+  -- what the lines of pairs say, whose names are defined so
+  abbrev whole_opened : Opened
+  whole_opened = record { kind = kind; defined = defined; default = None }
+
   -- some of the kind's formulas are set
   record AreSome (set_so : List (Option Tree)) : Type 0 where
     rows : length set_so ≡ MOST_METHODS * length kind.methods
@@ -230,27 +226,22 @@ module _ (taken : List (List ℕ)) (closed : List SpecifiedKind) (kind : Specifi
         record {
           names = is.draft.methods.different;
           variables = variables;
-          inside = pair.inside;
-          few = pair.few;
-          shallow = pair.shallow;
+          small = record { inside = pair.inside; few = pair.few; shallow = pair.shallow };
           unset = unset;
           room = no_more_predicates;
         }
 
-    inside_kind : (paired : Bool) → stage_of (at closed (part_of kind set_so) paired) ≢ Outside
-    inside_kind true e = cc
-    inside_kind false e = cc
-
     -- the line of the pair is accepted
-    pair_accepted : (paired : Bool) (line : List ℕ) → formula_at (part_of kind set_so) m n ≡ None → SaysPairOf kind line (record { first = m; second = n; formula = f })
-        → AcceptsSpecLine taken (at closed (part_of kind set_so) paired) line (at closed (part_of kind more) true)
-    pair_accepted paired line unset said =
+    pair_accepted : (stage : Stage) (line : List ℕ) → stage ≢ Outside → formula_at (part_of kind set_so) m n ≡ None
+        → SaysPairOf version whole_opened line (record { first = m; second = n; formula = f })
+        → AcceptsSpecLine taken (at_pairs set_so stage) line (at_pairs more Pairs)
+    pair_accepted stage line inside unset said =
         let numbers : AreNumbers (part_of kind set_so) said.first said.second m n =
         record { first_name = said.says.numbers.first_name; second_name = said.says.numbers.second_name } in
-        accepted taken (at closed (part_of kind set_so) paired) line said.tokens (commute_said said.first said.second said.read) refl
-        (short_few (words_of line said.tokens) said.few)
+        accepted taken (at_pairs set_so stage) line said.tokens version refl (commute_said said.first said.second said.read)
+        (short_few version (words_of line said.tokens) said.few)
         (record {
-          stands = inside_kind paired;
+          stands = inside;
           named_first = said.written.named_first;
           named_second = said.written.named_second;
           order = said.written.order;
@@ -259,16 +250,16 @@ module _ (taken : List (List ℕ)) (closed : List SpecifiedKind) (kind : Specifi
           written = said.written.written;
           marked = said.written.marked;
           says = said.written.says;
-        }) (at closed (part_of kind more) true) said.cut
-        (pair_clean (part_of kind set_so) line said.tokens said.first said.second said.read m n f (ready unset) numbers said.says.gives)
-        (m, n, f, record { numbers = numbers; gives = said.says.gives }, refl)
+        }) (at_pairs more Pairs) said.cut
+        (pair_clean version (opened_so set_so) line said.tokens said.first said.second said.read m n f (ready unset) numbers said.says.says)
+        (m, n, f, record { numbers = numbers; says = said.says.says }, refl)
 
   -- all these lines are accepted, and then their pairs are set
-  record AreSet (set_so : List (Option Tree)) (paired : Bool) (lines : List (List ℕ)) (pairs : List SaidPair) : Type 0 where
+  record AreSet (set_so : List (Option Tree)) (stage : Stage) (lines : List (List ℕ)) (pairs : List SaidPair) : Type 0 where
     last : List (Option Tree)
-    then_paired : Bool
+    then_stage : Stage
     are : AreSome last
-    accepts : AcceptsAll taken (at closed (part_of kind set_so) paired) lines (at closed (part_of kind last) then_paired)
+    accepts : AcceptsAll taken (at_pairs set_so stage) lines (at_pairs last then_stage)
     each : AllByRecursion (λ pair. formula_at (part_of kind last) pair.first pair.second ≡ Some pair.formula) pairs
     kept : (i j : ℕ) (g : Tree) → formula_at (part_of kind set_so) i j ≡ Some g → formula_at (part_of kind last) i j ≡ Some g
 
@@ -281,25 +272,25 @@ module _ (taken : List (List ℕ)) (closed : List SpecifiedKind) (kind : Specifi
   unset_rest set_so are m n f there (pair ∷ pairs) differ formulas unset =
       (unset_at set_so are m n f there pair formulas.0 differ.0 unset.0, unset_rest set_so are m n f there pairs differ.1 formulas.1 unset.1)
 
-  pairs_accepted : (set_so : List (Option Tree)) (paired : Bool) (lines : List (List ℕ)) (pairs : List SaidPair) → AreSome set_so → AllPairs Differs pairs
+  pairs_accepted : (set_so : List (Option Tree)) (stage : Stage) (lines : List (List ℕ)) (pairs : List SaidPair) → stage ≢ Outside → AreSome set_so → AllPairs Differs pairs
       → AllByRecursion (λ pair. formula_at kind pair.first pair.second ≡ Some pair.formula) pairs
       → AllByRecursion (λ pair. formula_at (part_of kind set_so) pair.first pair.second ≡ None) pairs
-      → AllZip (SaysPairOf kind) lines pairs → AreSet set_so paired lines pairs
-  pairs_accepted set_so paired [] [] are once formulas unset says =
-      record { last = set_so; then_paired = paired; are = are; accepts = refl; each = tt; kept = λ i j g there. there }
-  pairs_accepted set_so paired [] (pair ∷ pairs) are once formulas unset says = absurd says
-  pairs_accepted set_so paired (line ∷ lines) [] are once formulas unset says = absurd says
-  pairs_accepted set_so paired (line ∷ lines) (pair ∷ pairs) are once (here, formulas) (none, unset) (says, others) =
+      → AllZip (SaysPairOf version whole_opened) lines pairs → AreSet set_so stage lines pairs
+  pairs_accepted set_so stage [] [] inside are once formulas unset says =
+      record { last = set_so; then_stage = stage; are = are; accepts = refl; each = tt; kept = λ i j g there. there }
+  pairs_accepted set_so stage [] (pair ∷ pairs) inside are once formulas unset says = absurd says
+  pairs_accepted set_so stage (line ∷ lines) [] inside are once formulas unset says = absurd says
+  pairs_accepted set_so stage (line ∷ lines) (pair ∷ pairs) inside are once (here, formulas) (none, unset) (says, others) =
       let next : List (Option Tree) = set set_so (MOST_METHODS * pair.second + pair.first) (Some pair.formula) in
-      let rest = pairs_accepted next true lines pairs (set_more set_so are pair.first pair.second pair.formula here) (tail_pairs pair pairs once) formulas
+      let rest = pairs_accepted next Pairs lines pairs pairs_inside (set_more set_so are pair.first pair.second pair.formula here) (tail_pairs pair pairs once) formulas
       (unset_rest set_so are pair.first pair.second pair.formula here pairs (head_pairs pair pairs once) formulas unset) others in
       record {
         last = rest.last;
-        then_paired = rest.then_paired;
+        then_stage = rest.then_stage;
         are = rest.are;
         accepts = (
-          at closed (part_of kind next) true,
-          pair_accepted set_so are pair.first pair.second pair.formula here paired line none says,
+          at_pairs next Pairs,
+          pair_accepted set_so are pair.first pair.second pair.formula here stage line inside none says,
           rest.accepts,
         );
         each = (rest.kept pair.first pair.second pair.formula (set_here set_so are pair.first pair.second pair.formula here), rest.each);
@@ -324,17 +315,17 @@ some_is : (o : Option Tree) (f : Tree) → o ≡ Some f → IsSome o
 some_is None f is = absurd (cc)
 some_is (Some g) f is = refl
 
--- the lines are accepted, and then the kind is open, whole
-record IsReadBlock (taken : List (List ℕ)) (first : Known) (lines : List (List ℕ)) (kind : SpecifiedKind) : Type 0 where
-  next : SpecifiedKind
-  paired : Bool
-  accepts : AcceptsAll taken first lines (at (kinds_so_far first) next paired)
-  same : IsSame kind next
-  whole : IsWhole next
+-- the lines are accepted, and then the kind is open, whole with its default
+record IsReadBlock (taken : List (List ℕ)) (version : Version) (first : Known) (lines : List (List ℕ)) (kind : SpecifiedKind) : Type 0 where
+  next : Opened
+  stage : Stage
+  accepts : AcceptsAll taken first lines (at version (kinds_so_far first) next stage)
+  same : IsSame kind (filled next)
+  whole : IsWhole (filled next)
 
-module _ (taken : List (List ℕ)) (first : Known) (lines : List (List ℕ)) (kind : SpecifiedKind) (is : IsKind kind) (block : IsBlock lines kind)
-    (begun : first.begun ≡ true) (new : ¬ (Contains (specified_kind_names (kinds_so_far first)) kind.name)) (before_whole : IsWhole (kind_in first.block))
-    (free : ¬ (Contains taken kind.name)) (room : length (kinds_so_far first) < MOST_KINDS) where
+module _ (taken : List (List ℕ)) (version : Version) (first : Known) (lines : List (List ℕ)) (kind : SpecifiedKind) (is : IsKind kind) (block : IsBlock version lines kind)
+    (begun : first.version ≡ Some version) (drafts : AreDrafts first) (new : ¬ (Contains (specified_kind_names (kinds_so_far first)) kind.name))
+    (before_whole : IsWhole (filled (opened_in first.block))) (free : ¬ (Contains taken kind.name)) (room : length (kinds_so_far first) < MOST_KINDS) where
   abbrev closed : List SpecifiedKind
   closed = kinds_so_far first
 
@@ -344,81 +335,174 @@ module _ (taken : List (List ℕ)) (first : Known) (lines : List (List ℕ)) (ki
   head_accepted : AcceptsSpecLine taken first block.head (with_kind first kind.name)
   head_accepted =
       let head = block.name in
-      accepted taken first block.head head.tokens (kind_said kind.name) begun
-      (λ many. other_first (codes "kind") _ kind_no_commute (subst HasManyTokens head.written.written many))
+      accepted taken first block.head head.tokens version begun (kind_said kind.name)
+      (λ many. kind_short version _ (subst (HasManyTokens version) head.written.written many))
       head.written (with_kind first kind.name) head.cut (kind_clean taken first block.head head.tokens kind.name new before_whole free room) refl
 
-  opened : with_kind first kind.name ≡ at closed (kind_without kind.name) false
-  opened = ap (λ (b : Bool). record { begun = b; closed = closed; block = Some (record { draft = kind_without kind.name; paired = false }) }) begun
+  abbrev named : Opened
+  named = kind_named kind.name
 
-  abbrev empty : SpecifiedKind
-  empty = with_methods (kind_without kind.name) kind.methods
+  opened : with_kind first kind.name ≡ at version closed named Methods
+  opened = ap (λ (v : Option Version). record { version = v; closed = closed; block = Some (record { opened = named; stage = Methods }) }) begun
 
   -- behind its methods
-  empty_is : empty ≡ part_of kind empty.pairs
-  empty_is =
-      ap (λ (name : List ℕ). record { name = name; methods = empty.methods; pairs = empty.pairs }) (name_kept (kind_without kind.name) kind.methods)
-      ∙ ap (λ (methods : List Method). record { name = kind.name; methods = methods; pairs = empty.pairs }) (methods_more (kind_without kind.name) kind.methods)
+  abbrev bare : Opened
+  bare = with_methods named kind.methods
 
-  empty_unset : IsUnset empty
-  empty_unset = methods_unset (kind_without kind.name) kind.methods (record { rows = refl; none = λ k. get_or_past [] k None (omega arith) })
+  abbrev empty : List (Option Tree)
+  empty = bare.kind.pairs
 
-  none_at : (b : Bool) (k : ℕ) → (if b then get_or empty.pairs k None else None) ≡ None
+  abbrev before : Opened
+  before = without_definitions kind
+
+  bare_is : bare ≡ opened_with before empty
+  bare_is = λ i. record {
+    kind = record { name = name_kept named kind.methods i; methods = methods_more named kind.methods i; pairs = empty };
+    defined = defined_more named kind.methods i;
+    default = default_kept named kind.methods i;
+  }
+
+  methods_all : AcceptsAll taken (at version closed named Methods) block.method_lines (at version closed (opened_with before empty) Methods)
+  methods_all =
+      subst (λ (o : Opened). AcceptsAll taken (at version closed named Methods) block.method_lines (at version closed o Methods)) bare_is
+      (methods_accepted taken version closed named block.method_lines kind.methods is.draft.methods.different is.draft.methods.few each_method block.methods)
+
+  -- behind its definitions
+  definitions_all : AreDefined taken version closed empty before block.opened Methods block.definition_lines
+  definitions_all =
+      definitions_accepted taken version closed empty before block.opened Methods block.definition_lines block.definitions (inl refl) is.draft block.defined block.defines
+
+  same_kind : block.opened.kind ≡ kind
+  same_kind = defines_kind before block.opened block.definitions block.defined
+
+  -- behind its default
+  abbrev defined : Opened
+  defined = record { kind = part_of kind empty; defined = block.opened.defined; default = None }
+
+  defined_is : opened_with block.opened empty ≡ defined
+  defined_is = λ i. record {
+    kind = part_of (same_kind i) empty;
+    defined = block.opened.defined;
+    default = defines_default before block.opened block.definitions block.defined i;
+  }
+
+  default_all : AreDefaulted taken version closed defined definitions_all.then_stage definitions_all.stands block.default_lines block.default
+  default_all = defaults_accepted taken version closed defined definitions_all.then_stage definitions_all.stands block.default_lines block.default refl block.defaults
+
+  -- behind its pairs
+  empty_unset : IsUnset bare.kind
+  empty_unset = methods_unset named kind.methods (record { rows = refl; none = λ k. get_or_past [] k None (omega arith) })
+
+  none_at : (b : Bool) (k : ℕ) → (if b then get_or empty k None else None) ≡ None
   none_at true k = empty_unset.none k
   none_at false k = refl
 
-  empty_some : AreSome taken closed kind is (λ n. variables_apart kind.methods n each_method) empty.pairs
+  variables : (n : ℕ) → AreDifferent (variables_of_method kind n)
+  variables n = variables_apart kind.methods n each_method
+
+  empty_some : AreSome taken version closed kind block.opened.defined block.default is variables empty
   empty_some = record {
-    rows = empty_unset.rows ∙ ap (λ (methods : List Method). MOST_METHODS * length methods) (methods_more (kind_without kind.name) kind.methods);
+    rows = empty_unset.rows ∙ ap (λ (methods : List Method). MOST_METHODS * length methods) (methods_more named kind.methods);
     some = λ i j. inl (none_at (nat_le i j) (MOST_METHODS * j + i));
   }
 
-  none_set : (pairs : List SaidPair) → AllByRecursion (λ pair. formula_at (part_of kind empty.pairs) pair.first pair.second ≡ None) pairs
+  none_set : (pairs : List SaidPair) → AllByRecursion (λ pair. formula_at (part_of kind empty) pair.first pair.second ≡ None) pairs
   none_set [] = tt
   none_set (pair ∷ pairs) = (none_at (nat_le pair.first pair.second) (MOST_METHODS * pair.second + pair.first), none_set pairs)
 
   formulas : AllByRecursion (λ pair. formula_at kind pair.first pair.second ≡ Some pair.formula) block.pairs
   formulas = each_by_recursion (λ (pair : SaidPair). formula_at kind pair.first pair.second ≡ Some pair.formula) block.pairs block.all.formulas
 
-  pairs_set : AreSet taken closed kind is (λ n. variables_apart kind.methods n each_method) empty.pairs false block.pair_lines block.pairs
+  pair_said : (line : List ℕ) (pair : SaidPair) → SaysPairOf version block.opened line pair
+      → SaysPairOf version (record { kind = kind; defined = block.opened.defined; default = None }) line pair
+  pair_said line pair says =
+      let part = subst (λ (k : SpecifiedKind). SaysPairOf version (record block.opened { kind = k }) line pair) same_kind says in
+      record {
+        first = part.first;
+        second = part.second;
+        read = part.read;
+        tokens = part.tokens;
+        cut = part.cut;
+        written = part.written;
+        few = part.few;
+        says = record { numbers = part.says.numbers; says = part.says.says };
+      }
+
+  pairs_set : AreSet taken version closed kind block.opened.defined block.default is variables empty default_all.then_stage block.pair_lines block.pairs
   pairs_set =
-      pairs_accepted taken closed kind is (λ n. variables_apart kind.methods n each_method) empty.pairs false block.pair_lines block.pairs empty_some block.all.once formulas
-      (none_set block.pairs) block.says
+      pairs_accepted taken version closed kind block.opened.defined block.default is variables empty default_all.then_stage block.pair_lines block.pairs
+      default_all.inside empty_some block.all.once formulas (none_set block.pairs)
+      (zip_each (SaysPairOf version block.opened) (SaysPairOf version (record { kind = kind; defined = block.opened.defined; default = None })) block.pair_lines block.pairs
+      pair_said block.says)
 
-  same_at : (i j : ℕ) → i ≤ j → j < length kind.methods → (f : Tree) × (formula_at kind i j ≡ Some f) × (formula_at (part_of kind pairs_set.last) i j ≡ Some f)
-  same_at i j ordered last =
-      let found = block.all.each i j ordered last in (
-        found.0,
-        contained_holds (λ (pair : SaidPair). formula_at kind pair.first pair.second ≡ Some pair.formula) block.pairs
-            (record { first = i; second = j; formula = found.0 }) formulas found.1,
-        contained_holds (λ (pair : SaidPair). formula_at (part_of kind pairs_set.last) pair.first pair.second ≡ Some pair.formula) block.pairs
-            (record { first = i; second = j; formula = found.0 }) pairs_set.each found.1,
-      )
+  abbrev last : Opened
+  last = record { kind = part_of kind pairs_set.last; defined = block.opened.defined; default = block.default }
 
-  methods_all : AcceptsAll taken (at closed (kind_without kind.name) false) block.method_lines (at closed (part_of kind empty.pairs) false)
-  methods_all =
-      subst (λ (k : SpecifiedKind). AcceptsAll taken (at closed (kind_without kind.name) false) block.method_lines (at closed k false)) empty_is
-      (methods_accepted taken closed (kind_without kind.name) block.method_lines kind.methods is.draft.methods.different is.draft.methods.few each_method block.methods)
+  abbrev end : Known
+  end = at version closed last pairs_set.then_stage
 
-  body_all : AcceptsAll taken (with_kind first kind.name) (block.method_lines ++ block.pair_lines) (at closed (part_of kind pairs_set.last) pairs_set.then_paired)
+  body_all : AcceptsAll taken (with_kind first kind.name) (block.method_lines ++ (block.definition_lines ++ (block.default_lines ++ block.pair_lines))) end
   body_all =
-      subst (λ (k : Known). AcceptsAll taken k (block.method_lines ++ block.pair_lines) (at closed (part_of kind pairs_set.last) pairs_set.then_paired)) (sym opened)
-      (accepts_on taken (at closed (kind_without kind.name) false) (at closed (part_of kind empty.pairs) false)
-      (at closed (part_of kind pairs_set.last) pairs_set.then_paired) block.method_lines block.pair_lines methods_all pairs_set.accepts)
+      let between : Known = at version closed defined definitions_all.then_stage in
+      let defining = subst (λ (o : Opened). AcceptsAll taken (at version closed (opened_with before empty) Methods) block.definition_lines
+      (at version closed o definitions_all.then_stage)) defined_is definitions_all.accepts in
+      subst (λ (k : Known). AcceptsAll taken k (block.method_lines ++ (block.definition_lines ++ (block.default_lines ++ block.pair_lines))) end) (sym opened)
+      (accepts_on taken (at version closed named Methods) (at version closed (opened_with before empty) Methods) end block.method_lines
+      (block.definition_lines ++ (block.default_lines ++ block.pair_lines)) methods_all
+      (accepts_on taken (at version closed (opened_with before empty) Methods) between end block.definition_lines (block.default_lines ++ block.pair_lines) defining
+      (accepts_on taken between (at version closed (record defined { default = block.default }) default_all.then_stage) end block.default_lines block.pair_lines
+      default_all.accepts pairs_set.accepts)))
 
-  block_read : IsReadBlock taken first lines kind
-  block_read = record {
-    next = part_of kind pairs_set.last;
-    paired = pairs_set.then_paired;
-    accepts = subst (λ (l : List (List ℕ)). AcceptsAll taken first l (at closed (part_of kind pairs_set.last) pairs_set.then_paired)) (sym block.parts)
-        (with_kind first kind.name, head_accepted, body_all);
-    same = record {
-      name = refl;
-      methods = refl;
-      formulas = λ i j ordered last. let f = same_at i j ordered last in f.1 ∙ sym f.2;
-    };
-    whole = λ i j ordered last. let f = same_at i j ordered last in some_is (formula_at (part_of kind pairs_set.last) i j) f.0 f.2;
-  }
+  all_lines : AcceptsAll taken first lines end
+  all_lines = subst (λ (l : List (List ℕ)). AcceptsAll taken first l end) (sym block.parts) (with_kind first kind.name, head_accepted, body_all)
+
+  -- what was read is being made
+  last_draft : IsDraft last.kind
+  last_draft = (accepts_drafts taken first end lines drafts all_lines).draft.0
+
+  -- a pair has its line's formula, or the default
+  same_at : (i j : ℕ) → i ≤ j → j < length kind.methods → (f : Tree) × (formula_at kind i j ≡ Some f) × (formula_at (filled last) i j ≡ Some f)
+  same_at i j ordered inside = elim (block.all.each i j ordered inside) [
+    | inl found ↦ (
+      found.0,
+      contained_holds (λ (pair : SaidPair). formula_at kind pair.first pair.second ≡ Some pair.formula) block.pairs
+          (record { first = i; second = j; formula = found.0 }) formulas found.1,
+      given last.kind block.default i j found.0 last_draft
+          (contained_holds (λ (pair : SaidPair). formula_at last.kind pair.first pair.second ≡ Some pair.formula) block.pairs
+          (record { first = i; second = j; formula = found.0 }) pairs_set.each found.1),
+    )
+    | inr left ↦ by (formula_at last.kind i j) refl left
+  ] where
+    by : (o : Option Tree) → formula_at last.kind i j ≡ o → (value : Bool) × (block.default ≡ Some value) × (formula_at kind i j ≡ Some (truth value))
+        → (f : Tree) × (formula_at kind i j ≡ Some f) × (formula_at (filled last) i j ≡ Some f)
+    by (Some f) there left = (f, kept_formula f there (pairs_set.are.some i j), given last.kind block.default i j f last_draft there) where
+      kept_formula : (f : Tree) → formula_at last.kind i j ≡ Some f → (formula_at last.kind i j ≡ None) ⊎ (formula_at last.kind i j ≡ formula_at kind i j)
+          → formula_at kind i j ≡ Some f
+      kept_formula f there (inl none) = let both : None ≡ Some f = sym none ∙ there in absurd (cc)
+      kept_formula f there (inr alike) = sym alike ∙ there
+    by None none (value, default, filled_so) = (
+      truth value,
+      filled_so,
+      subst (λ (d : Option Bool). formula_at (filled_with d last.kind) i j ≡ Some (truth value)) (sym default)
+          (formula_given last.kind value i j last_draft ordered inside ∙ ap (λ (o : Option Tree). Some (unwrap_or o (truth value))) none),
+    )
+
+  block_read : IsReadBlock taken version first lines kind
+  block_read =
+      let methods : (filled last).methods ≡ kind.methods = filled_methods last.kind block.default in
+      record {
+        next = last;
+        stage = pairs_set.then_stage;
+        accepts = all_lines;
+        same = record {
+          name = sym (filled_name last.kind block.default);
+          methods = sym methods;
+          formulas = λ i j ordered inside. let f = same_at i j ordered inside in f.1 ∙ sym f.2;
+        };
+        whole = λ i j ordered inside.
+            let f = same_at i j ordered (subst (λ (ms : List Method). j < length ms) methods inside) in
+            some_is (formula_at (filled last) i j) f.0 f.2;
+      }
 
 -- ---- blocks, one behind another
 
@@ -448,40 +532,41 @@ names_behind xs one ys = map-append (λ (kind : SpecifiedKind). kind.name) xs (o
 abbrev joined : List (List (List ℕ)) → List (List ℕ)
 joined blocks = flat_map (λ block. block) blocks
 
-record AreRead (taken : List (List ℕ)) (first : Known) (lines : List (List ℕ)) (kinds : List SpecifiedKind) : Type 0 where
+record AreRead (taken : List (List ℕ)) (version : Version) (first : Known) (lines : List (List ℕ)) (kinds : List SpecifiedKind) : Type 0 where
   last : Known
   accepts : AcceptsAll taken first lines last
   same : AreSame kinds (kinds_so_far last)
-  begun : last.begun ≡ true
-  whole : IsWhole (kind_in last.block)
+  begun : last.version ≡ Some version
+  whole : IsWhole (filled (opened_in last.block))
 
 -- what holds of each kind that is to come
 abbrev MayCome : List (List ℕ) → SpecifiedKind → Type 0
 MayCome taken kind = IsKind kind × ¬ (Contains taken kind.name)
 
-blocks_read : (taken : List (List ℕ)) (first : Known) (blocks : List (List (List ℕ))) (before kinds : List SpecifiedKind) → first.begun ≡ true
-    → IsWhole (kind_in first.block) → AreSame before (kinds_so_far first) → AreDifferent (specified_kind_names (before ++ kinds))
-    → length (before ++ kinds) ≤ MOST_KINDS → AllByRecursion (MayCome taken) kinds → AllZip IsBlock blocks kinds
-    → AreRead taken first (joined blocks) (before ++ kinds)
-blocks_read taken first [] before [] begun whole same different few each are = record {
+blocks_read : (taken : List (List ℕ)) (version : Version) (first : Known) (blocks : List (List (List ℕ))) (before kinds : List SpecifiedKind)
+    → first.version ≡ Some version → AreDrafts first → IsWhole (filled (opened_in first.block)) → AreSame before (kinds_so_far first) → AreDifferent (specified_kind_names (before ++ kinds))
+    → length (before ++ kinds) ≤ MOST_KINDS → AllByRecursion (MayCome taken) kinds → AllZip (IsBlock version) blocks kinds
+    → AreRead taken version first (joined blocks) (before ++ kinds)
+blocks_read taken version first [] before [] begun drafts whole same different few each are = record {
   last = first;
   accepts = refl;
   same = subst (λ (l : List SpecifiedKind). AreSame l (kinds_so_far first)) (sym (append-nil before)) same;
   begun = begun;
   whole = whole;
 }
-blocks_read taken first [] before (kind ∷ kinds) begun whole same different few each are = absurd are
-blocks_read taken first (block ∷ blocks) before [] begun whole same different few each are = absurd are
-blocks_read taken first (block ∷ blocks) before (kind ∷ kinds) begun whole same different few (may, each) (here, are) =
+blocks_read taken version first [] before (kind ∷ kinds) begun drafts whole same different few each are = absurd are
+blocks_read taken version first (block ∷ blocks) before [] begun drafts whole same different few each are = absurd are
+blocks_read taken version first (block ∷ blocks) before (kind ∷ kinds) begun drafts whole same different few (may, each) (here, are) =
     let new : ¬ (Contains (specified_kind_names (kinds_so_far first)) kind.name) =
     subst (λ (l : List (List ℕ)). ¬ (Contains l kind.name)) (same_names before (kinds_so_far first) same)
     (fresh_behind (specified_kind_names before) kind.name (specified_kind_names kinds) (subst AreDifferent (names_behind before kind kinds) different)) in
     let counts = same_count before (kinds_so_far first) same in
     let sum = length-append before (kind ∷ kinds) in
-    let one = block_read taken first block kind may.0 here begun new whole may.1 (omega (arith, few, counts, sum)) in
-    let next : Known = at (kinds_so_far first) one.next one.paired in
+    let one = block_read taken version first block kind may.0 here begun drafts new whole may.1 (omega (arith, few, counts, sum)) in
+    let next : Known = at version (kinds_so_far first) one.next one.stage in
     let more : (before ++ kind ∷ []) ++ kinds ≡ before ++ kind ∷ kinds = append_assoc before (kind ∷ []) kinds in
-    let rest = blocks_read taken next blocks (before ++ kind ∷ []) kinds refl one.whole (same_more before (kinds_so_far first) kind one.next same one.same)
+    let rest = blocks_read taken version next blocks (before ++ kind ∷ []) kinds refl (accepts_drafts taken first next block drafts one.accepts) one.whole
+    (same_more before (kinds_so_far first) kind (filled one.next) same one.same)
     (subst (λ (l : List SpecifiedKind). AreDifferent (specified_kind_names l)) (sym more) different)
     (subst (λ (l : List SpecifiedKind). length l ≤ MOST_KINDS) (sym more) few) each are in
     record {
@@ -497,15 +582,17 @@ may_come : (taken : List (List ℕ)) (kinds : List SpecifiedKind) → AllByRecur
 may_come taken [] each free = tt
 may_come taken (kind ∷ kinds) (here, each) (one, free) = ((here, one), may_come taken kinds each free)
 
-none_whole : IsWhole (kind_without [])
+none_whole : IsWhole (filled (kind_named []))
+unfolding filled_with
 none_whole first second ordered within = absurd (omega (arith, within))
 
 blocks_read_as : (text : List ℕ) (taken : List (List ℕ)) (kinds : List SpecifiedKind) → IsOfBlocks text kinds → All IsKind kinds → HasNewNames taken kinds
     → length text ≤ MOST_SPEC_BYTES → (read : List SpecifiedKind) × SpecSays text taken read × AreSame kinds read
 blocks_read_as text taken kinds is each names short =
     let begins = is.begins in
-    let first : Known = with_header nothing in
-    let rest = blocks_read taken first is.blocks [] kinds refl none_whole tt names.different names.few
+    let first : Known = with_header nothing is.version in
+    let drafts : AreDrafts first = record { closed = none_drafted.closed; draft = none_drafted.draft } in
+    let rest = blocks_read taken is.version first is.blocks [] kinds refl drafts none_whole tt names.different names.few
     (may_come taken kinds (each_by_recursion IsKind kinds each) (each_by_recursion (λ (kind : SpecifiedKind). ¬ (Contains taken kind.name)) kinds names.free)) is.each in (
       kinds_so_far rest.last,
       record {
@@ -514,8 +601,8 @@ blocks_read_as text taken kinds is each names short =
         cut = is.cut;
         known = rest.last;
         reads = reads_kept taken nothing rest.last is.lines (is.header ∷ joined is.blocks) is.parts
-            (first, header_accepted taken is.header begins.tokens begins.written begins.cut, rest.accepts);
-        whole = no_end rest.last rest.begun rest.whole;
+            (first, header_accepted taken is.header begins.tokens is.version begins.written begins.cut, rest.accepts);
+        whole = no_end rest.last is.version rest.begun rest.whole;
         said = refl;
       },
       rest.same,

@@ -1,8 +1,13 @@
 pub mod AcceptLemmas
 pub mod AgainLemmas
+pub mod AllLines
+pub mod BlockLemmas
 pub mod BlockLines
+pub mod DefinitionLines
 pub mod FewLemmas
+pub mod FormulaLines
 pub mod MethodLines
+pub mod OpenLemmas
 pub mod PairLines
 pub mod RowLines
 pub mod TextLemmas

@@ -1,5 +1,5 @@
 -- The lines of a kind and of its methods are read again.
-use Rattle.std.proofs.Common.{◌≡◌, ◌≢◌, ℕ, zero, suc, ◌+◌, ◌<◌, ◌≤◌, Bool, true, false, List, [], ◌∷◌, ◌++◌, length, map, codes, Some, refl, sym, ap, subst, arith, ◌∙◌, length-append}
+use Rattle.std.proofs.Common.{◌≡◌, ◌≢◌, ℕ, zero, suc, ◌+◌, ◌<◌, ◌≤◌, List, [], ◌∷◌, ◌++◌, length, map, codes, Some, refl, sym, ap, subst, arith, ◌∙◌, length-append}
 use Rattle.std.specs.Prelude.{All, AllPairs, Contains, slice_index_or, replicate, Option, None, ◌*◌}
 use Rattle.std.specs.List.{AllByRecursion}
 use Rattle.std.proofs.Math.ListN.{get_or-append}
@@ -11,12 +11,16 @@ use Rattle.rd_print.specs.declared.canonical.word_list.PrintedWord.{PrintedWord}
 use Rattle.rd_print.specs.Canonical.{plain_word}
 use Rattle.rd_reading.specs.Adding.{AcceptsSpecLine, with_kind}
 use Rattle.rd_reading.specs.Causes.{HasManyTokens, IsFirstRepeated}
-use Rattle.rd_reading.specs.Known.{kind_in, specified_kind_names, kinds_so_far}
+use Rattle.rd_reading.specs.Known.{opened_in, specified_kind_names, kinds_so_far}
 use Rattle.rd_reading.specs.declared.known.Known.{Known}
 use Rattle.rd_ecl.specs.declared.kinds.Method.{Method}
 use Rattle.rd_ecl.specs.Specified.{IsWhole, SpecifiedKind, names_of, with_method}
 use Rattle.rd_ecl.specs.Formulas.{Tree}
 use Rattle.rd_ecl.specs.Variables.{AreVariables, IsVariable}
+use Rattle.rd_lines.specs.declared.forms.Stage.{Stage}
+use Rattle.rd_lines.specs.declared.forms.Stage.TheVariants.{Methods}
+use Rattle.rd_lines.specs.declared.forms.Version.{Version}
+use Rattle.rd_open_kind.specs.Opened.{Opened, filled, with_method_in}
 use Rattle.rd_lines.specs.Lines.{LineWord, plain, words_of, kind as kind_said, method as method_said}
 use Rattle.rd_print.specs.Printed.{kind_words, method_words, slot_words}
 use Rattle.rd_print.specs.Text.{IsRightWord, words_text}
@@ -29,9 +33,9 @@ use Rattle.rd_reading.proofs.ParsingLemmas.{reads_on}
 use Rattle.rd_spec.proofs.TextLemmas.{kept_line, lift, words_read}
 use Rattle.rd_base.specs.declared.limits.TheConstants.{MOST_ARGUMENTS, MOST_KINDS, MOST_METHODS}
 
--- behind the header, where these kinds are closed and this one is open
-abbrev pub at : List SpecifiedKind → SpecifiedKind → Bool → Known
-at closed kind paired = record { begun = true; closed = closed; block = Some (record { draft = kind; paired = paired }) }
+-- behind the header of the version, where these kinds are closed and this one is open
+abbrev pub at : Version → List SpecifiedKind → Opened → Stage → Known
+at version closed opened stage = record { version = Some version; closed = closed; block = Some (record { opened = opened; stage = stage }) }
 
 -- a line whose words are accepted is read
 pub line_read : (taken : List (List ℕ)) (known next : Known) (words : List PrintedWord) → All IsRightWord words → ¬ (IsSkipped (words_text words))
@@ -44,18 +48,31 @@ line_read taken known next words sound kept accepts =
 kind_no_commute : codes "kind" ≢ codes "commute"
 kind_no_commute e = cc
 
+kind_no_define : codes "kind" ≢ codes "define"
+kind_no_define e = cc
+
 method_no_commute : codes "method" ≢ codes "commute"
 method_no_commute e = cc
 
+method_no_define : codes "method" ≢ codes "define"
+method_no_define e = let first : ◌≡◌ {A = ℕ} 109 100 = ap (λ (bytes : List ℕ). slice_index_or bytes 0 0) e in omega (arith, first)
+
+-- the words of a kind's line, or a method's, aren't counted
+pub kind_short : (version : Version) (rest : List LineWord) → ¬ (HasManyTokens version (plain (codes "kind") ∷ rest))
+kind_short version rest = other_first version (codes "kind") rest kind_no_commute kind_no_define
+
+pub method_short : (version : Version) (rest : List LineWord) → ¬ (HasManyTokens version (plain (codes "method") ∷ rest))
+method_short version rest = other_first version (codes "method") rest method_no_commute method_no_define
+
 -- the line of a kind
-pub kind_read : (taken : List (List ℕ)) (known : Known) (kind : SpecifiedKind) → known.begun ≡ true → ¬ (Contains (specified_kind_names (kinds_so_far known)) kind.name)
-    → IsWhole (kind_in known.block) → ¬ (Contains taken kind.name) → length (kinds_so_far known) < MOST_KINDS → IsName kind.name → All IsRightWord (kind_words kind)
+pub kind_read : (taken : List (List ℕ)) (version : Version) (known : Known) (kind : SpecifiedKind) → known.version ≡ Some version → ¬ (Contains (specified_kind_names (kinds_so_far known)) kind.name)
+    → IsWhole (filled (opened_in known.block)) → ¬ (Contains taken kind.name) → length (kinds_so_far known) < MOST_KINDS → IsName kind.name → All IsRightWord (kind_words kind)
     → ReadsLines taken known (words_text (kind_words kind) ∷ []) (with_kind known kind.name)
-kind_read taken known kind begun new whole free few named sound =
+kind_read taken version known kind begun new whole free few named sound =
     let line = words_text (kind_words kind) in
     line_read taken known (with_kind known kind.name) (kind_words kind) sound (kept_line 107 (codes "ind") (plain_word kind.name ∷ []) (λ e. omega (arith, e)) (λ e. omega (arith, e)))
-    (λ tokens are words. accepted taken known line tokens (kind_said kind.name) begun
-    (λ many. other_first (codes "kind") (plain kind.name ∷ []) kind_no_commute (subst HasManyTokens words many))
+    (λ tokens are words. accepted taken known line tokens version begun (kind_said kind.name)
+    (λ many. kind_short version (plain kind.name ∷ []) (subst (HasManyTokens version) words many))
     (record { named = named; written = words }) (with_kind known kind.name) are (kind_clean taken known line tokens kind.name new whole free few) refl)
 
 -- the last variable names the result
@@ -99,35 +116,35 @@ front_each P [] last (here, rest) = (tt, here)
 front_each P (b ∷ before) last (here, rest) = let (all, one) = front_each P before last rest in ((here, all), one)
 
 -- the line of a method
-pub method_read : (taken : List (List ℕ)) (closed : List SpecifiedKind) (kind : SpecifiedKind) (method : Method) → ¬ (Contains (names_of kind.methods) method.name)
-    → length kind.methods < MOST_METHODS → AreVariables method.variables → AllByRecursion IsVariable method.variables → IsName method.name → All IsRightWord (method_words method)
-    → ReadsLines taken (at closed kind false) (words_text (method_words method) ∷ []) (at closed (with_method kind method) false)
-method_read taken closed kind method new room variables each named sound =
+pub method_read : (taken : List (List ℕ)) (version : Version) (closed : List SpecifiedKind) (opened : Opened) (method : Method)
+    → ¬ (Contains (names_of opened.kind.methods) method.name) → length opened.kind.methods < MOST_METHODS → AreVariables method.variables → AllByRecursion IsVariable method.variables → IsName method.name → All IsRightWord (method_words method)
+    → ReadsLines taken (at version closed opened Methods) (words_text (method_words method) ∷ []) (at version closed (with_method_in opened method) Methods)
+method_read taken version closed opened method new room variables each named sound =
     let line = words_text (method_words method) in
     let parts : Split method.variables = split method.variables variables.some in
     let arguments : List (List ℕ) = parts.arguments in
     let sides = front_each IsVariable arguments parts.result (subst (AllByRecursion IsVariable) parts.is each) in
     let count : length arguments + 1 ≤ MOST_ARGUMENTS + 1 = (let few = variables.few in let same = ap length parts.is in let sum = length-append arguments (parts.result ∷ []) in omega (arith, few, same, sum)) in
     let whole : record { name = method.name; variables = arguments ++ parts.result ∷ [] } ≡ method = ap (λ (vs : List (List ℕ)). record { name = method.name; variables = vs }) (sym parts.is) in
-    line_read taken (at closed kind false) (at closed (with_method kind method) false) (method_words method) sound
+    line_read taken (at version closed opened Methods) (at version closed (with_method_in opened method) Methods) (method_words method) sound
     (kept_line 109 (codes "ethod") (plain_word method.name ∷ slot_words method.variables) (λ e. omega (arith, e)) (λ e. omega (arith, e)))
-    (λ tokens are words. accepted taken (at closed kind false) line tokens (method_said method.name arguments parts.result) refl
-    (λ many. other_first (codes "method") _ method_no_commute (subst HasManyTokens words many))
+    (λ tokens are words. accepted taken (at version closed opened Methods) line tokens version refl (method_said method.name arguments parts.result)
+    (λ many. method_short version _ (subst (HasManyTokens version) words many))
     (record {
       stands = refl;
       named = named;
       each_argument = sides.0;
       gives = sides.1;
       written = words ∙ ap (λ (l : List LineWord). plain (codes "method") ∷ plain method.name ∷ l) parts.words;
-    }) (at closed (with_method kind method) false) are
-    (method_clean kind line tokens method.name arguments parts.result new
+    }) (at version closed (with_method_in opened method) Methods) are
+    (method_clean opened.kind line tokens method.name arguments parts.result new
     (once (arguments ++ parts.result ∷ []) (subst (λ (l : List (List ℕ)). AllPairs (λ x y. x ≢ y) l) parts.is variables.different)) room (omega (arith, count)))
-    (ap (λ (m : Method). at closed (with_method kind m) false) (sym whole)))
+    (ap (λ (m : Method). at version closed (with_method_in opened m) Methods) (sym whole)))
 
 -- the kind with these methods more
-unfoldable pub with_methods : SpecifiedKind → List Method → SpecifiedKind
-with_methods kind [] = kind
-with_methods kind (method ∷ methods) = with_methods (with_method kind method) methods
+unfoldable pub with_methods : Opened → List Method → Opened
+with_methods opened [] = opened
+with_methods opened (method ∷ methods) = with_methods (with_method_in opened method) methods
 
 names_split : (xs : List Method) (one : Method) (ys : List Method) → names_of (xs ++ one ∷ ys) ≡ names_of xs ++ one.name ∷ names_of ys
 names_split [] one ys = refl
@@ -141,30 +158,43 @@ pub record IsWritten (method : Method) : Type 0 where
   pub sound : All IsRightWord (method_words method)
 
 -- the lines of methods
-pub methods_read : (taken : List (List ℕ)) (closed : List SpecifiedKind) (kind : SpecifiedKind) (methods : List Method)
-    → AllPairs (λ x y. x ≢ y) (names_of (kind.methods ++ methods)) → length (kind.methods ++ methods) ≤ MOST_METHODS → AllByRecursion IsWritten methods
-    → ReadsLines taken (at closed kind false) (map words_text (map method_words methods)) (at closed (with_methods kind methods) false)
+pub methods_read : (taken : List (List ℕ)) (version : Version) (closed : List SpecifiedKind) (opened : Opened) (methods : List Method)
+    → AllPairs (λ x y. x ≢ y) (names_of (opened.kind.methods ++ methods)) → length (opened.kind.methods ++ methods) ≤ MOST_METHODS → AllByRecursion IsWritten methods
+    → ReadsLines taken (at version closed opened Methods) (map words_text (map method_words methods)) (at version closed (with_methods opened methods) Methods)
 unfolding with_methods
-methods_read taken closed kind [] different few each = no_more
-methods_read taken closed kind (one ∷ methods) different few (here, rest) =
-    let more : (kind.methods ++ one ∷ []) ++ methods ≡ kind.methods ++ one ∷ methods = append_assoc kind.methods (one ∷ []) methods in
-    let room = length-append kind.methods (one ∷ methods) in
+methods_read taken version closed opened [] different few each = no_more
+methods_read taken version closed opened (one ∷ methods) different few (here, rest) =
+    let old : List Method = opened.kind.methods in
+    let more : (old ++ one ∷ []) ++ methods ≡ old ++ one ∷ methods = append_assoc old (one ∷ []) methods in
+    let room = length-append old (one ∷ methods) in
     reads_on taken
-    (method_read taken closed kind one
-    (fresh_behind (names_of kind.methods) one.name (names_of methods) (subst (λ (l : List (List ℕ)). AllPairs (λ x y. x ≢ y) l) (names_split kind.methods one methods) different))
+    (method_read taken version closed opened one
+    (fresh_behind (names_of old) one.name (names_of methods) (subst (λ (l : List (List ℕ)). AllPairs (λ x y. x ≢ y) l) (names_split old one methods) different))
     (omega (arith, few, room)) here.variables here.each here.named here.sound)
-    (methods_read taken closed (with_method kind one) methods (subst (λ (ms : List Method). AllPairs (λ x y. x ≢ y) (names_of ms)) (sym more) different)
+    (methods_read taken version closed (with_method_in opened one) methods (subst (λ (ms : List Method). AllPairs (λ x y. x ≢ y) (names_of ms)) (sym more) different)
     (subst (λ (ms : List Method). length ms ≤ MOST_METHODS) (sym more) few) rest)
 
-pub methods_more : (kind : SpecifiedKind) (methods : List Method) → (with_methods kind methods).methods ≡ kind.methods ++ methods
+pub methods_more : (opened : Opened) (methods : List Method) → (with_methods opened methods).kind.methods ≡ opened.kind.methods ++ methods
 unfolding with_methods
-methods_more kind [] = sym (append-nil kind.methods)
-methods_more kind (one ∷ methods) = methods_more (with_method kind one) methods ∙ append_assoc kind.methods (one ∷ []) methods
+methods_more opened [] = sym (append-nil opened.kind.methods)
+methods_more opened (one ∷ methods) = methods_more (with_method_in opened one) methods ∙ append_assoc opened.kind.methods (one ∷ []) methods
 
-pub name_kept : (kind : SpecifiedKind) (methods : List Method) → (with_methods kind methods).name ≡ kind.name
+pub name_kept : (opened : Opened) (methods : List Method) → (with_methods opened methods).kind.name ≡ opened.kind.name
 unfolding with_methods
-name_kept kind [] = refl
-name_kept kind (one ∷ methods) = name_kept (with_method kind one) methods
+name_kept opened [] = refl
+name_kept opened (one ∷ methods) = name_kept (with_method_in opened one) methods
+
+-- nothing is defined of them, and no default came
+pub defined_more : (opened : Opened) (methods : List Method) → (with_methods opened methods).defined ≡ opened.defined ++ map (λ (method : Method). []) methods
+unfolding with_methods
+defined_more opened [] = sym (append-nil opened.defined)
+defined_more opened (one ∷ methods) =
+    defined_more (with_method_in opened one) methods ∙ append_assoc opened.defined ([] ∷ []) (map (λ (method : Method). []) methods)
+
+pub default_kept : (opened : Opened) (methods : List Method) → (with_methods opened methods).default ≡ opened.default
+unfolding with_methods
+default_kept opened [] = refl
+default_kept opened (one ∷ methods) = default_kept (with_method_in opened one) methods
 
 -- no pair of them is set
 pub record IsUnset (kind : SpecifiedKind) : Type 0 where
@@ -195,7 +225,7 @@ unset_more kind one is = record {
   none = λ k. none_behind kind.pairs k is.none;
 }
 
-pub methods_unset : (kind : SpecifiedKind) (methods : List Method) → IsUnset kind → IsUnset (with_methods kind methods)
+pub methods_unset : (opened : Opened) (methods : List Method) → IsUnset opened.kind → IsUnset (with_methods opened methods).kind
 unfolding with_methods
-methods_unset kind [] is = is
-methods_unset kind (one ∷ methods) is = methods_unset (with_method kind one) methods (unset_more kind one is)
+methods_unset opened [] is = is
+methods_unset opened (one ∷ methods) is = methods_unset (with_method_in opened one) methods (unset_more opened.kind one is)

@@ -1,49 +1,47 @@
 -- The lines of a kind's pairs are read again.
-use Rattle.std.proofs.Common.{◌≡◌, ◌≢◌, ℕ, zero, suc, ◌+◌, ◌<◌, ◌≤◌, Bool, true, false, List, [], ◌∷◌, ◌++◌, length, map, drop, codes, Some, None, refl, sym, ap, subst, arith, inl, inr, ◌∙◌}
+use Rattle.std.proofs.Common.{◌≡◌, ◌≢◌, ℕ, zero, suc, ◌+◌, ◌<◌, ◌≤◌, false, List, [], ◌∷◌, ◌++◌, length, map, drop, codes, Some, None, refl, sym, ap, subst, arith, inl, inr, ◌∙◌}
 use Rattle.std.specs.Prelude.{All, slice_get, option_map, unwrap_or, is_some}
 use Rattle.std.specs.List.{AllByRecursion}
 use Rattle.std.proofs.lemmas.List.{length-map, drop-map}
 use Rattle.std.proofs.lemmas.Option.{slice_get-get_or}
 use Rattle.rd_base.specs.Names.{IsName}
-use Rattle.rd_base.specs.declared.limits.LimitName.{LimitName}
-use Rattle.rd_base.specs.declared.limits.LimitName.TheVariants.{Bytes, Line, Events, Threads, Locks, Objects, Depth, SpecText, Tokens, Kinds, Methods as MethodLimit, Arguments, Nodes, FormulaDepth, Predicates}
 use Rattle.rd_base.proofs.FoundLemmas.{each_by_recursion, each_from_recursion}
 use Rattle.rd_print.specs.declared.canonical.word_list.PrintedWord.{PrintedWord}
 use Rattle.rd_print.specs.Canonical.{plain_word, canonical_words}
 use Rattle.rd_print.proofs.WordFewLemmas.{few_words}
 use Rattle.rd_reading.specs.Adding.{AcceptsSpecLine}
 use Rattle.rd_reading.specs.Causes.{HasManyTokens}
-use Rattle.rd_pairs.specs.PairCauses.{AreNumbers, HasManyPredicates, PairHas, SaysPair, scope_of, variables_of_method}
+use Rattle.rd_pairs.specs.PairCauses.{AreNumbers, HasManyPredicates, IsPaired, IsUnknownAt, PairHas, scope_of, variables_of_method}
 use Rattle.rd_pairs.specs.Causes.{HasNone}
-use Rattle.rd_reading.specs.Known.{stage_of}
-use Rattle.rd_pairs.specs.declared.spec_causes.SpecCause.TheVariants.{Header, Syntax, UnknownMethod, UnknownVariable, NoVariable, OutsideFragment, Duplicate, MissingPair, KindTaken, Limit}
 use Rattle.rd_ecl.specs.declared.kinds.Method.{Method}
-use Rattle.rd_ecl.specs.Formulas.{Tree, Fits, InFragment, first_offence, levels, nodes, post_order, AreValues}
-use Rattle.rd_ecl.specs.Specified.{AreMethods, IsPair, SpecifiedKind, formula_at, names_of, slots_at, with_pair}
+use Rattle.rd_ecl.specs.Formulas.{Tree, Fits, AreValues}
+use Rattle.rd_ecl.specs.Specified.{AreMethods, IsPair, SpecifiedKind, formula_at, names_of, slots_at}
 use Rattle.rd_ecl.specs.Variables.{AreVariables}
-use Rattle.rd_ecl.proofs.FragmentLemmas.{fragment_is}
-use Rattle.rd_formulas.specs.Meaning.{Gives, relations_in, terms_in}
-use Rattle.rd_formulas.specs.Reading.{IsTroubled, SaysFormula}
-use Rattle.rd_formulas.specs.declared.reading.FormulaRefused.TheVariants as formula
-use Rattle.rd_ecl.specs.declared.formulas.Reason.{Reason}
-use Rattle.rd_formulas.specs.Scope.{IsBare, IsUnknown, MeansAt}
+use Rattle.rd_formulas.specs.Reading.{SaysFormula}
+use Rattle.rd_formulas.specs.Scope.{SaysTree}
+use Rattle.rd_formulas.specs.declared.scope.Scope.{Scope}
 use Rattle.rd_grammar.specs.Grammar.{ParsedTree}
+use Rattle.rd_lines.specs.declared.forms.Stage.{Stage}
+use Rattle.rd_lines.specs.declared.forms.Stage.TheVariants.{Outside, Pairs}
+use Rattle.rd_lines.specs.declared.forms.Version.{Version}
+use Rattle.rd_lines.specs.declared.forms.Version.TheVariants.{One}
 use Rattle.rd_lines.specs.Lines.{AreMarksFrom, IsOutOfOrder, LineWord, plain, word_at, words_of, commute as commute_said}
 use Rattle.rd_lines.proofs.FormulaLemmas.{words_marked}
-use Rattle.rd_lines.specs.declared.forms.Stage.TheVariants.{Outside}
+use Rattle.rd_open_kind.specs.Opened.{Opened, with_pair_in}
 use Rattle.rd_pairs.proofs.ScopeLemmas.{slots_are}
 use Rattle.rd_pairs.proofs.NumberLemmas.{AreDifferent, contained, one_pair, one_place}
-use Rattle.rd_pairs.proofs.MeaningLemmas.{known_relations, known_terms, no_first, no_first_sign, one_formula}
+use Rattle.rd_pairs.proofs.MeaningLemmas.{one_formula}
 use Rattle.rd_print.specs.Printed.{commute_words, formula_words, name_at}
 use Rattle.rd_print.specs.Text.{IsRightWord, words_text}
 use Rattle.rd_print.proofs.TextFormulaLemmas.{says_formula}
 use Rattle.rd_tokens.specs.declared.sorts.Token.{Token}
+use Rattle.rd_tokens.specs.declared.words.dialects.Dialect.TheVariants.{Sided}
 use Rattle.rd_tokens.specs.Tokens.{AreTokens}
 use Rattle.rd_reading.specs.Texts.{ReadsLines}
 use Rattle.rd_spec.proofs.AcceptLemmas.{accepted}
+use Rattle.rd_spec.proofs.FormulaLines.{IsSmall, formula_clean}
 use Rattle.rd_spec.proofs.MethodLines.{at, line_read}
 use Rattle.rd_spec.proofs.TextLemmas.{kept_line, lift}
-use Rattle.rd_base.specs.declared.limits.TheConstants.{MOST_LEVELS, MOST_NODES}
 
 -- ---- what a pair's line may have, and this one hasn't
 
@@ -51,71 +49,26 @@ use Rattle.rd_base.specs.declared.limits.TheConstants.{MOST_LEVELS, MOST_NODES}
 pub record IsReady (kind : SpecifiedKind) (m n : ℕ) (f : Tree) : Type 0 where
   pub names : AreDifferent (names_of kind.methods)
   pub variables : (i : ℕ) → AreDifferent (variables_of_method kind i)
-  pub inside : InFragment f
-  pub few : nodes f ≤ MOST_NODES
-  pub shallow : levels f ≤ 32
+  pub small : IsSmall f
   pub unset : formula_at kind m n ≡ None
   pub room : ¬ (HasManyPredicates kind m n f)
 
-module _ (kind : SpecifiedKind) (line : List ℕ) (tokens : List Token) (first second : List ℕ) (read : ParsedTree) (m n : ℕ) (f : Tree)
-    (ready : IsReady kind m n f) (are : AreNumbers kind first second m n) (gives : Gives (MeansAt (scope_of kind line tokens m n)) read f) where
-  moved : (P : ℕ → ℕ → Type 0) (i j : ℕ) → AreNumbers kind first second i j → P i j → P m n
-  moved P i j others here =
-      let (firsts, seconds) = one_pair kind first second m n i j ready.names are others in
-      subst (λ (x : ℕ). P x n) firsts (subst (λ (y : ℕ). P i y) seconds here)
+module _ (version : Version) (opened : Opened) (line : List ℕ) (tokens : List Token) (first second : List ℕ) (read : ParsedTree) (m n : ℕ) (f : Tree)
+    (ready : IsReady opened.kind m n f) (are : AreNumbers opened.kind first second m n) (says : SaysTree (scope_of version opened line tokens m n) read f) where
+  known_methods : (place : ℕ) → ¬ (IsUnknownAt (names_of opened.kind.methods) first second line tokens place)
+  known_methods place (inl (unknown, there)) = unknown (contained (names_of opened.kind.methods) first m are.first_name)
+  known_methods place (inr (known, unknown, there)) = unknown (contained (names_of opened.kind.methods) second n are.second_name)
 
-  one : (g : Tree) → Gives (MeansAt (scope_of kind line tokens m n)) read g → g ≡ f
-  one g also = one_formula (scope_of kind line tokens m n) (ready.variables m) (ready.variables n) read g f also gives
+  new_pair : (place : ℕ) → ¬ (IsPaired opened.kind line tokens m n place)
+  new_pair place (set, there) =
+      let never : is_some (formula_at opened.kind m n) ≡ false = ap is_some ready.unset in absurd (cc)
 
-  not_large : (Large : ℕ → ℕ → Tree → Type 0) → ¬ (Large m n f) → (i j : ℕ) (g : Tree) → SaysPair kind line tokens first second read i j g → ¬ (Large i j g)
-  not_large Large small i j g says large =
-      let here = moved (λ x y. Gives (MeansAt (scope_of kind line tokens x y)) read g × Large x y g) i j says.numbers (says.gives, large) in
-      small (subst (λ (h : Tree). Large m n h) (one g here.0) here.1)
-
-  pair_limit : (limit : LimitName) (number place : ℕ) → ¬ (PairHas kind line tokens first second read (Limit limit number) place)
-  pair_limit Bytes number place has = has
-  pair_limit Line number place has = has
-  pair_limit Events number place has = has
-  pair_limit Threads number place has = has
-  pair_limit Locks number place has = has
-  pair_limit Objects number place has = has
-  pair_limit Depth number place has = has
-  pair_limit SpecText number place has = has
-  pair_limit Tokens number place has = has
-  pair_limit Kinds number place has = has
-  pair_limit MethodLimit number place has = has
-  pair_limit Arguments number place has = has
-  pair_limit Nodes number place ((i, j, g, says, large, at), is) = not_large (λ x y h. MOST_NODES < nodes h) (λ many. let few = ready.few in omega (arith, many, few)) i j g says large
-  pair_limit FormulaDepth number place ((i, j, g, says, large, at), is) =
-      not_large (λ x y h. MOST_LEVELS < levels h) (λ many. let few = ready.shallow in omega (arith, many, few)) i j g says large
-  pair_limit Predicates number place ((i, j, g, says, large, at), is) = not_large (HasManyPredicates kind) ready.room i j g says large
-
-  offends : (g : Tree) (node : ℕ) {reason : Reason} → g ≡ f → ¬ (first_offence 0 (post_order g) ≡ Some (record { node = node; reason = reason }))
-  offends g node same there =
-      let none : is_some (first_offence 0 (post_order f)) ≡ false = (fragment_is f).1 ready.inside in
-      let some : is_some (first_offence 0 (post_order f)) ≡ true = subst (λ (h : Tree). is_some (first_offence 0 (post_order h)) ≡ true) same (ap is_some there) in
-      absurd (cc)
-
-  pub pair_clean : HasNone (PairHas kind line tokens first second read)
-  pair_clean Header place has = has
-  pair_clean Syntax place has = has
-  pair_clean UnknownMethod place (inl (unknown, at)) = unknown (contained (names_of kind.methods) first m are.first_name)
-  pair_clean UnknownMethod place (inr (known, unknown, at)) = unknown (contained (names_of kind.methods) second n are.second_name)
-  pair_clean UnknownVariable place (i, j, others, troubled) =
-      let here = moved (λ x y. IsTroubled (scope_of kind line tokens x y) read (formula.UnknownVariable place)) i j others troubled in
-      no_first (IsUnknown (scope_of kind line tokens m n)) (terms_in read) here.0 (known_terms (scope_of kind line tokens m n) read f gives) here.1
-  pair_clean NoVariable place (i, j, others, troubled) =
-      let here = moved (λ x y. IsTroubled (scope_of kind line tokens x y) read (formula.NoVariable place)) i j others troubled in
-      no_first_sign (IsBare (scope_of kind line tokens m n)) (relations_in read) here.0 (known_relations (scope_of kind line tokens m n) read f gives) here.2
-  pair_clean (OutsideFragment reason) place (i, j, others, troubled) =
-      let here = moved (λ x y. IsTroubled (scope_of kind line tokens x y) read (formula.OutsideFragment place reason)) i j others troubled in
-      offends here.0 here.1 (one here.0 here.3) here.4
-  pair_clean Duplicate place (i, j, others, set, at) =
-      let there : is_some (formula_at kind m n) ≡ true = moved (λ x y. is_some (formula_at kind x y) ≡ true) i j others set in
-      let never : is_some (formula_at kind m n) ≡ false = ap is_some ready.unset in absurd (cc)
-  pair_clean (MissingPair one other) place has = has
-  pair_clean KindTaken place has = has
-  pair_clean (Limit limit number) place has = pair_limit limit number place has
+  pub pair_clean : HasNone (PairHas version opened line tokens first second read)
+  pair_clean =
+      formula_clean (IsUnknownAt (names_of opened.kind.methods) first second line tokens) (AreNumbers opened.kind first second) (scope_of version opened line tokens)
+      (IsPaired opened.kind line tokens) (HasManyPredicates opened.kind) line tokens read m n f known_methods
+      (λ i j others. one_pair opened.kind first second m n i j ready.names are others) says
+      (λ g also. one_formula (scope_of version opened line tokens m n) (ready.variables m) (ready.variables n) read g f also says) ready.small new_pair ready.room
 
 -- ---- the methods of a pair
 
@@ -173,12 +126,8 @@ pub record IsPrinted (kind : SpecifiedKind) (i j : ℕ) (f : Tree) : Type 0 wher
 commute_first : codes "commute" ≡ 99 ∷ codes "ommute"
 commute_first = refl
 
-stands_in : (closed : List SpecifiedKind) (part : SpecifiedKind) (paired : Bool) → stage_of (at closed part paired) ≢ Outside
-stands_in closed part true same = absurd (cc)
-stands_in closed part false same = absurd (cc)
-
-module _ (taken : List (List ℕ)) (closed : List SpecifiedKind) (kind part : SpecifiedKind) (paired : Bool) (i j : ℕ) (f : Tree) (printed_there : IsPrinted kind i j f)
-    (methods : part.methods ≡ kind.methods) (ready : IsReady part i j f) where
+module _ (taken : List (List ℕ)) (closed : List SpecifiedKind) (kind : SpecifiedKind) (part : Opened) (stage : Stage) (inside : stage ≢ Outside) (i j : ℕ) (f : Tree)
+    (printed_there : IsPrinted kind i j f) (methods : part.kind.methods ≡ kind.methods) (ready : IsReady part.kind i j f) where
   abbrev pub first : List ℕ
   first = name_at kind.methods i
 
@@ -205,7 +154,7 @@ module _ (taken : List (List ℕ)) (closed : List SpecifiedKind) (kind part : Sp
   within_first : i < length kind.methods
   within_first = let ordered = printed_there.ordered in let known = printed_there.known in omega (arith, ordered, known)
 
-  numbers : AreNumbers part first second i j
+  numbers : AreNumbers part.kind first second i j
   numbers = record {
     first_name = subst (λ (ms : List Method). slice_get (names_of ms) i ≡ Some (name_at kind.methods i)) (sym methods) (name_there kind.methods i within_first);
     second_name = subst (λ (ms : List Method). slice_get (names_of ms) j ≡ Some (name_at kind.methods j)) (sym methods) (name_there kind.methods j printed_there.known);
@@ -218,11 +167,13 @@ module _ (taken : List (List ℕ)) (closed : List SpecifiedKind) (kind part : Sp
   variables_second = variables_there kind.methods j printed_there.known printed_there.methods.each
 
   -- the tokens behind `when` say the formula
-  says : (tokens : List Token) → AreTokens line tokens → SaysFormula (scope_of kind line tokens i j) f
+  abbrev scope : List Token → Scope
+  scope tokens = scope_of One (record part { kind = kind }) line tokens i j
+
+  says : (tokens : List Token) → AreTokens line tokens → SaysFormula (scope tokens) f
   says tokens are =
       let pair = printed_there.pair in
-      let scope = scope_of kind line tokens i j in
-      says_formula front tokens scope f sound_front variables_first.each variables_second.each
+      says_formula front tokens (scope tokens) f refl sound_front variables_first.each variables_second.each
       (subst (λ (x : ℕ). Fits f x (length (variables_of_method kind j))) (sym (slots_are kind i)) (subst (λ (y : ℕ). Fits f (slots_at kind.methods i) y) (sym (slots_are kind j)) pair.fits))
       pair.slots printed_there.values (ap words_text all_words) are refl
 
@@ -232,11 +183,11 @@ module _ (taken : List (List ℕ)) (closed : List SpecifiedKind) (kind part : Sp
       sym (drop-map (word_at line) 4 tokens) ∙ ap (λ (l : List LineWord). drop 4 l) (read ∙ ap (map lift) all_words)
 
   few_behind : length words ≤ 192
-  few_behind = let few = ready.few in let count = few_words (variables_of_method kind i) (variables_of_method kind j) f in omega (arith, few, count)
+  few_behind = let few = ready.small.few in let count = few_words (variables_of_method kind i) (variables_of_method kind j) f in omega (arith, few, count)
 
-  short_line : (tokens : List Token) → words_of line tokens ≡ map lift (commute_words kind (i, j)) → ¬ (HasManyTokens (words_of line tokens))
+  short_line : (tokens : List Token) → words_of line tokens ≡ map lift (commute_words kind (i, j)) → ¬ (HasManyTokens One (words_of line tokens))
   short_line tokens read many =
-      let same : plain (codes "commute") ∷ many.first ∷ many.second ∷ plain (codes "when") ∷ many.behind ≡ map lift (front ++ words) =
+      let same : many.head ∷ many.first ∷ many.second ∷ plain (codes "when") ∷ many.behind ≡ map lift (front ++ words) =
       sym many.written ∙ read ∙ ap (map lift) all_words in
       let rest : many.behind ≡ map lift words = ap (λ (l : List LineWord). drop 4 l) same in
       let count : length many.behind ≡ length words = ap length rest ∙ length-map words lift in
@@ -244,26 +195,23 @@ module _ (taken : List (List ℕ)) (closed : List SpecifiedKind) (kind part : Sp
       let few = few_behind in
       omega (arith, count, long, few)
 
-  same_variables : (n : ℕ) → variables_of_method part n ≡ variables_of_method kind n
-  same_variables n = ap (λ (ms : List Method). unwrap_or (option_map (λ (m : Method). m.variables) (slice_get ms n)) []) methods
-
-  same_scope : (tokens : List Token) (read : ParsedTree) → Gives (MeansAt (scope_of kind line tokens i j)) read f → Gives (MeansAt (scope_of part line tokens i j)) read f
+  same_scope : (tokens : List Token) (read : ParsedTree) → SaysTree (scope tokens) read f → SaysTree (scope_of One part line tokens i j) read f
   same_scope tokens read gives =
-      subst (λ (ms : List Method). Gives (MeansAt (scope_of (record part { methods = ms }) line tokens i j)) read f) (sym methods) gives
+      subst (λ (ms : List Method). SaysTree (scope_of One (record part { kind = record part.kind { methods = ms } }) line tokens i j) read f) (sym methods) gives
 
-  pub pair_read : ReadsLines taken (at closed part paired) (line ∷ []) (at closed (with_pair part i j f) true)
+  pub pair_read : ReadsLines taken (at One closed part stage) (line ∷ []) (at One closed (with_pair_in part i j f) Pairs)
   pair_read =
-      line_read taken (at closed part paired) (at closed (with_pair part i j f) true) (commute_words kind (i, j)) printed_there.sound
+      line_read taken (at One closed part stage) (at One closed (with_pair_in part i j f) Pairs) (commute_words kind (i, j)) printed_there.sound
       (kept_line 99 (codes "ommute") (plain_word first ∷ plain_word second ∷ plain_word (codes "when") ∷ formula_words kind i j) (λ e. omega (arith, e)) (λ e. omega (arith, e)))
       (λ tokens are read. accept tokens are read (says tokens are)) where
         accept : (tokens : List Token) → AreTokens (words_text (commute_words kind (i, j))) tokens → words_of (words_text (commute_words kind (i, j))) tokens ≡ map lift (commute_words kind (i, j))
-            → SaysFormula (scope_of kind (words_text (commute_words kind (i, j))) tokens i j) f
-            → AcceptsSpecLine taken (at closed part paired) (words_text (commute_words kind (i, j))) (at closed (with_pair part i j f) true)
+            → SaysFormula (scope tokens) f
+            → AcceptsSpecLine taken (at One closed part stage) (words_text (commute_words kind (i, j))) (at One closed (with_pair_in part i j f) Pairs)
         accept tokens are read (tree, (marks, marked, said), gives) =
             let fits = same_scope tokens tree gives in
-            accepted taken (at closed part paired) line tokens (commute_said first second tree) refl (short_line tokens read)
+            accepted taken (at One closed part stage) line tokens One refl (commute_said first second tree) (short_line tokens read)
             (record {
-              stands = stands_in closed part paired;
+              stands = inside;
               named_first = printed_there.first_name;
               named_second = printed_there.second_name;
               order = subst (λ (ms : List Method). ¬ (IsOutOfOrder (names_of ms) first second)) (sym methods)
@@ -272,8 +220,8 @@ module _ (taken : List (List ℕ)) (closed : List SpecifiedKind) (kind part : Sp
               behind = map lift words;
               marks = marks;
               written = read ∙ ap (map lift) all_words;
-              marked = subst (λ (ws : List LineWord). AreMarksFrom 0 ws marks) (behind tokens read) (words_marked line (drop 4 tokens) marks marked);
+              marked = subst (λ (ws : List LineWord). AreMarksFrom Sided 0 ws marks) (behind tokens read) (words_marked Sided line (drop 4 tokens) marks marked);
               says = said;
-            }) (at closed (with_pair part i j f) true) are
-            (pair_clean part line tokens first second tree i j f ready numbers fits)
-            (i, j, f, record { numbers = numbers; gives = fits }, refl)
+            }) (at One closed (with_pair_in part i j f) Pairs) are
+            (pair_clean One part line tokens first second tree i j f ready numbers fits)
+            (i, j, f, record { numbers = numbers; says = fits }, refl)

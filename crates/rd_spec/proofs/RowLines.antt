@@ -8,6 +8,10 @@ use Rattle.rd_ecl.specs.declared.kinds.Method.{Method}
 use Rattle.rd_ecl.specs.Formulas.{Tree}
 use Rattle.rd_ecl.specs.Specified.{IsPair, SpecifiedKind, formula_at, method_predicates, names_of, slots_at, with_pair}
 use Rattle.rd_ecl.proofs.PairLemmas.{at_other, at_set}
+use Rattle.rd_lines.specs.declared.forms.Stage.{Stage}
+use Rattle.rd_lines.specs.declared.forms.Stage.TheVariants.{Outside, Pairs}
+use Rattle.rd_lines.specs.declared.forms.Version.TheVariants.{One}
+use Rattle.rd_open_kind.specs.Opened.{Opened, with_pair_in}
 use Rattle.rd_pairs.specs.PairCauses.{HasManyPredicates, variables_of_method}
 use Rattle.rd_pairs.proofs.NumberLemmas.{AreDifferent}
 use Rattle.rd_print.specs.Printed.{commute_words, pairs_of}
@@ -142,9 +146,7 @@ ready_for : (kind part : SpecifiedKind) (i j : ℕ) (f : Tree) → IsSource kind
 ready_for kind part i j f source there is = record {
   names = subst (λ (ms : List Method). AreDifferent (names_of ms)) (sym is.methods) source.names;
   variables = λ n. subst (λ (ms : List Method). AreDifferent (variables_of_method (record kind { methods = ms }) n)) (sym is.methods) (source.variables n);
-  inside = pair.inside;
-  few = pair.few;
-  shallow = pair.shallow;
+  small = record { inside = pair.inside; few = pair.few; shallow = pair.shallow };
   unset = is.left i j there.ordered there.known (not_before i j);
   room = few_with kind part i j f source there.ordered there.known there.there is;
 } where
@@ -152,34 +154,40 @@ ready_for kind part i j f source there is = record {
   pair = there.pair
 
 -- what is read of lines
-pub record RowRead (taken : List (List ℕ)) (closed : List SpecifiedKind) (kind part : SpecifiedKind) (paired : Bool) (lines : List (List ℕ)) (i j : ℕ) : Type 0 where
+pub record RowRead (taken : List (List ℕ)) (closed : List SpecifiedKind) (kind : SpecifiedKind) (part : Opened) (stage : Stage) (lines : List (List ℕ)) (i j : ℕ) : Type 0 where
   pub next : SpecifiedKind
-  pub then_paired : Bool
+  pub then_stage : Stage
+  pub inside : then_stage ≢ Outside
   pub is : IsPart kind next i j
-  pub reads : ReadsLines taken (at closed part paired) lines (at closed next then_paired)
+  pub reads : ReadsLines taken (at One closed part stage) lines (at One closed (record part { kind = next }) then_stage)
+
+pairs_inside : Pairs ≢ Outside
+pairs_inside e = cc
 
 -- the lines of the pairs whose first method has this number
-row_read : (taken : List (List ℕ)) (closed : List SpecifiedKind) (kind : SpecifiedKind) → IsSource kind → (i : ℕ) → (count j : ℕ) (part : SpecifiedKind) (paired : Bool)
-    → i ≤ j → j + count ≡ length kind.methods → IsPart kind part i j
-    → RowRead taken closed kind part paired (map words_text (map (commute_words kind) (map (λ second. (i, second)) (range_with_len j count)))) i (length kind.methods)
-row_read taken closed kind source i zero j part paired up end is = record {
-  next = part;
-  then_paired = paired;
-  is = subst (λ (n : ℕ). IsPart kind part i n) end_is is;
+row_read : (taken : List (List ℕ)) (closed : List SpecifiedKind) (kind : SpecifiedKind) → IsSource kind → (i : ℕ) → (count j : ℕ) (part : Opened) (stage : Stage) → stage ≢ Outside
+    → i ≤ j → j + count ≡ length kind.methods → IsPart kind part.kind i j
+    → RowRead taken closed kind part stage (map words_text (map (commute_words kind) (map (λ second. (i, second)) (range_with_len j count)))) i (length kind.methods)
+row_read taken closed kind source i zero j part stage inside up end is = record {
+  next = part.kind;
+  then_stage = stage;
+  inside = inside;
+  is = subst (λ (n : ℕ). IsPart kind part.kind i n) end_is is;
   reads = no_more;
 } where
   end_is : j ≡ length kind.methods
   end_is = omega (arith, end)
-row_read taken closed kind source i (suc count) j part paired up end is =
+row_read taken closed kind source i (suc count) j part stage inside up end is =
     let known : j < length kind.methods = omega (arith, end) in
     let (f, there) = source.pairs i j up known in
-    let more : IsPart kind (with_pair part i j f) i (j + 1) = next_part kind part i j f source.few up known there.there is in
-    let rest = row_read taken closed kind source i count (j + 1) (with_pair part i j f) true (omega (arith, up)) (omega (arith, end)) more in
+    let more : IsPart kind (with_pair part.kind i j f) i (j + 1) = next_part kind part.kind i j f source.few up known there.there is in
+    let rest = row_read taken closed kind source i count (j + 1) (with_pair_in part i j f) Pairs pairs_inside (omega (arith, up)) (omega (arith, end)) more in
     record {
       next = rest.next;
-      then_paired = rest.then_paired;
+      then_stage = rest.then_stage;
+      inside = rest.inside;
       is = rest.is;
-      reads = reads_on taken (pair_read taken closed kind part paired i j f there is.methods (ready_for kind part i j f source there is)) rest.reads;
+      reads = reads_on taken {next = at One closed (record part { kind = rest.next }) rest.then_stage} (pair_read taken closed kind part stage inside i j f there is.methods (ready_for kind part.kind i j f source there is)) rest.reads;
     }
 
 row_done : (kind part : SpecifiedKind) (i : ℕ) → IsPart kind part i (length kind.methods) → IsPart kind part (i + 1) (i + 1)
@@ -203,34 +211,36 @@ row_done kind part i is = record {
 }
 
 -- the lines of all pairs from this first method on
-rows_read : (taken : List (List ℕ)) (closed : List SpecifiedKind) (kind : SpecifiedKind) → IsSource kind → (count i : ℕ) (part : SpecifiedKind) (paired : Bool)
-    → i + count ≡ length kind.methods → IsPart kind part i i
-    → RowRead taken closed kind part paired
+rows_read : (taken : List (List ℕ)) (closed : List SpecifiedKind) (kind : SpecifiedKind) → IsSource kind → (count i : ℕ) (part : Opened) (stage : Stage) → stage ≢ Outside
+    → i + count ≡ length kind.methods → IsPart kind part.kind i i
+    → RowRead taken closed kind part stage
     (map words_text (map (commute_words kind) (flat_map (λ first. map (λ second. (first, second)) (range_with_len first (length kind.methods - first))) (range_with_len i count))))
     (length kind.methods) (length kind.methods)
-rows_read taken closed kind source zero i part paired end is = record {
-  next = part;
-  then_paired = paired;
-  is = subst (λ (n : ℕ). IsPart kind part n n) end_is is;
+rows_read taken closed kind source zero i part stage inside end is = record {
+  next = part.kind;
+  then_stage = stage;
+  inside = inside;
+  is = subst (λ (n : ℕ). IsPart kind part.kind n n) end_is is;
   reads = no_more;
 } where
   end_is : i ≡ length kind.methods
   end_is = omega (arith, end)
-rows_read taken closed kind source (suc count) i part paired end is =
-    let here = row_read taken closed kind source i (length kind.methods - i) i part paired (omega arith) (omega (arith, end)) is in
-    let rest = rows_read taken closed kind source count (i + 1) here.next here.then_paired (omega (arith, end)) (row_done kind here.next i here.is) in
+rows_read taken closed kind source (suc count) i part stage inside end is =
+    let here = row_read taken closed kind source i (length kind.methods - i) i part stage inside (omega arith) (omega (arith, end)) is in
+    let rest = rows_read taken closed kind source count (i + 1) (record part { kind = here.next }) here.then_stage here.inside (omega (arith, end)) (row_done kind here.next i here.is) in
     let row : List (ℕ × ℕ) = map (λ (second : ℕ). (i, second)) (range_with_len i (length kind.methods - i)) in
     let more : List (ℕ × ℕ) = flat_map (λ (first : ℕ). map (λ (second : ℕ). (first, second)) (range_with_len first (length kind.methods - first))) (range_with_len (i + 1) count) in
     let lines : map words_text (map (commute_words kind) (row ++ more)) ≡ map words_text (map (commute_words kind) row) ++ map words_text (map (commute_words kind) more) =
     ap (map words_text) (map-append (commute_words kind) row more) ∙ map-append words_text (map (commute_words kind) row) (map (commute_words kind) more) in
     record {
       next = rest.next;
-      then_paired = rest.then_paired;
+      then_stage = rest.then_stage;
+      inside = rest.inside;
       is = rest.is;
-      reads = subst (λ (l : List (List ℕ)). ReadsLines taken (at closed part paired) l (at closed rest.next rest.then_paired)) (sym lines) (reads_on taken here.reads rest.reads);
+      reads = subst (λ (l : List (List ℕ)). ReadsLines taken (at One closed part stage) l (at One closed (record part { kind = rest.next }) rest.then_stage)) (sym lines) (reads_on taken here.reads rest.reads);
     }
 
-pub pairs_read : (taken : List (List ℕ)) (closed : List SpecifiedKind) (kind : SpecifiedKind) → IsSource kind → (part : SpecifiedKind) (paired : Bool)
-    → IsPart kind part 0 0
-    → RowRead taken closed kind part paired (map words_text (map (commute_words kind) (pairs_of (length kind.methods)))) (length kind.methods) (length kind.methods)
-pairs_read taken closed kind source part paired is = rows_read taken closed kind source (length kind.methods) 0 part paired (omega arith) is
+pub pairs_read : (taken : List (List ℕ)) (closed : List SpecifiedKind) (kind : SpecifiedKind) → IsSource kind → (part : Opened) (stage : Stage) → stage ≢ Outside
+    → IsPart kind part.kind 0 0
+    → RowRead taken closed kind part stage (map words_text (map (commute_words kind) (pairs_of (length kind.methods)))) (length kind.methods) (length kind.methods)
+pairs_read taken closed kind source part stage inside is = rows_read taken closed kind source (length kind.methods) 0 part stage inside (omega arith) is

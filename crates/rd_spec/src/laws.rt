@@ -4,14 +4,14 @@ ghost use Rattle.rd_ecl.specs.Specified.{IsKind, SpecifiedKind};
 ghost use Rattle.rd_print.specs.Printed.{spec_text};
 ghost use Rattle.rd_base.specs.declared.limits.TheConstants.{MOST_SPEC_BYTES};
 ghost use Rattle.rd_spec.specs.Again.{MayBeRead};
-ghost use Rattle.rd_reading.specs.Blocks.{IsOfBlocks};
+ghost use Rattle.rd_spec.specs.Blocks.{IsOfBlocks};
 ghost use Rattle.rd_reading.specs.Texts.{HasNewNames, IsSpecRefused, SpecSays};
 ghost use Rattle.rd_reading.specs.declared.parsing.SpecRefused.{SpecRefused};
 
 /// The law of specifications: each text says one specification or has one refusal, and never both. A text that says kinds is a
-/// header and a block for each of them. They are always at most 32, of different names, none of them taken, each with a formula in
-/// the fragment for each pair of its methods. A text of such blocks that isn't too long says these kinds, and so does the
-/// canonical text of such kinds.
+/// header of one of the two versions and a block for each of them. They are always at most 32, of different names, none of them taken,
+/// each with a formula in the fragment for each pair of its methods. A text of such blocks that isn't too long says these kinds, and so
+/// does the canonical text of such kinds, which is of version 1.
 pub fn law_of_specifications()
     // each text says one specification, or has one refusal
     ensures judged { (text : List ℕ) (taken : List (List ℕ)) →

@@ -1,6 +1,6 @@
 use Rattle.rd_spec.proofs.AgainLemmas.{read_again}
 use Rattle.rd_spec.proofs.BlockLines.{blocks_said}
-use Rattle.rd_reading.proofs.BlockLemmas.{said_blocks}
+use Rattle.rd_spec.proofs.BlockLemmas.{said_blocks}
 use Rattle.rd_reading.proofs.DraftLemmas.{said_kinds}
 use Rattle.rd_reading.proofs.NameLemmas.{read_names}
 use Rattle.rd_reading.proofs.OneLemmas.{one_said, never_refused}
