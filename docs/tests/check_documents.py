@@ -273,7 +273,11 @@ def check_whole_texts(document, program):
     reports = ['\n' + path.read_text() for path in (TOP / 'examples').glob('*.out')]
     for block in document.blocks:
         text = '\n'.join(block) + '\n'
-        if head(block) == 'rdspec 1':
+        if head(block) in ('rdspec 1', 'rdspec 2'):
+            if program and head(block) == 'rdspec 1' and (spec or '').startswith('rdspec 2'):
+                checked['shown texts, run'] += 1      # what the names above it stand for
+                if program.run_on('spec', spec) != block:
+                    fault(document, block.first, 'rd2 spec writes something else of the text above it')
             spec, trace = text, None
         elif head(block) in ('rdtrace 1', 'rdmem 1'):
             trace, command = text, 'check' if head(block) == 'rdtrace 1' else 'epochs'
@@ -302,16 +306,14 @@ def check_whole_texts(document, program):
 
 
 def check_refusals(document, program):
-    """The table of refused lines of specifications, each behind the four lines above the table."""
-    begin = None
-    for block in document.blocks:
-        if len(block) == 4 and block[0] == 'rdspec 1':
-            begin = '\n'.join(block) + '\n'
+    """The tables of refused lines of specifications, each line behind the four lines above its table."""
+    heads = [block for block in document.blocks if len(block) == 4 and block[0] in ('rdspec 1', 'rdspec 2')]
     for number, line in document.prose.items():
         row = re.match(r'\| `([^`]+)`(, also [^|]*)? \| `(line 5 place [^`]+)` \|', line)
         if not row or not program:
             continue
         checked['refused lines, run'] += 1
+        begin = '\n'.join([block for block in heads if block.first < number][-1]) + '\n'
         answer = program.run_on('spec', begin + row[1] + '\n')
         if answer != ['refused spec ' + row[3]]:
             fault(document, number, f'`{row[1]}` gives {answer[0]}')
