@@ -4,10 +4,11 @@ ghost use Rattle.rd_ecl.specs.Formulas.{Fits, nodes, tree_of};
 
 use crate::rows::gives;
 use rd_base::{Name, NoMemory, Text, Value};
+use rd_definitions::Definitions;
 use rd_ecl::Formula;
 use rd_formulas::{FormulaRefused, Scope, read_formula};
 use rd_samples::{push_number, repeated};
-use rd_tokens::tokens;
+use rd_tokens::{Dialect, tokens};
 use std::alloc::Global;
 use std::process::Abort;
 
@@ -31,11 +32,15 @@ pub(crate) fn read(
     if found.items().len() < front || found.items().len() > 512 + front {
         return Err(FormulaRefused::NoMemory);
     }
+    let none = Definitions::new(alloc);
     let scope = Scope {
+        dialect: Dialect::Sided,
         line,
         tokens: &found.items()[front..],
         first,
         second,
+        first_definitions: &none,
+        second_definitions: &none,
     };
     read_formula(alloc, &scope)
 }

@@ -3,19 +3,20 @@ ghost use Rattle.std.specs.Prelude.{◌≤◌, length};
 
 use crate::rows::gives;
 use rd_base::{MOST_TOKENS, NoMemory};
-use rd_grammar::{Mark, Parsed, Sign, Symbol, parse_formula};
+use rd_grammar::{Leaf, Mark, Parsed, Sign, Symbol, parse_formula};
 use rd_samples::{push_number, push_times, repeated};
 use std::alloc::Global;
 use std::process::Abort;
 
-const SYMBOLS: [(&str, Symbol); 12] = [
+const SYMBOLS: [(&str, Symbol); 13] = [
     ("(", Symbol::Open),
     (")", Symbol::Close),
     ("not", Symbol::Not),
     ("and", Symbol::And),
     ("or", Symbol::Or),
-    ("true", Symbol::Truth(true)),
-    ("false", Symbol::Truth(false)),
+    ("true", Symbol::Leaf(Leaf::Truth(true))),
+    ("false", Symbol::Leaf(Leaf::Truth(false))),
+    ("name", Symbol::Leaf(Leaf::Name)),
     ("=", Symbol::Sign(Sign::Equal)),
     ("!=", Symbol::Sign(Sign::Different)),
     ("<", Symbol::Sign(Sign::Less)),
@@ -64,8 +65,11 @@ fn show_relation(
 // What stands before the number of its token.
 fn word_of(formula: &Parsed) -> &'static str {
     match formula {
-        Parsed::Truth { value: true, .. } => "true@",
-        Parsed::Truth { .. } => "false@",
+        Parsed::Leaf { leaf, .. } => match leaf {
+            Leaf::Truth(true) => "true@",
+            Leaf::Truth(false) => "false@",
+            Leaf::Name => "name@",
+        },
         Parsed::Relation { .. } => "@",
         Parsed::Not { .. } => "not@",
         Parsed::And { .. } => " and@",
@@ -76,7 +80,7 @@ fn word_of(formula: &Parsed) -> &'static str {
 // The formula with all its parentheses, and the number of each node's token behind an @.
 fn show(text: &mut String, formula: &Parsed) -> Result<(), NoMemory> {
     match formula {
-        Parsed::Truth { token, .. } => push_number(text, word_of(formula), *token, ""),
+        Parsed::Leaf { token, .. } => push_number(text, word_of(formula), *token, ""),
         Parsed::Relation {
             left,
             sign,

@@ -2,9 +2,9 @@
 
 use crate::rows::gives;
 use rd_base::{NoMemory, Value};
-use rd_grammar::{Mark, Sign, Symbol};
+use rd_grammar::{Leaf, Mark, Sign, Symbol};
 use rd_samples::{push_comma, push_number, read_bytes};
-use rd_tokens::{Marks, Said, Sort, marks, read_term, symbol, tokens};
+use rd_tokens::{Dialect, Marks, Said, Sort, marks, read_term, symbol, tokens};
 use std::alloc::Global;
 use std::process::Abort;
 
@@ -12,8 +12,8 @@ const WORDS: [(&[u8], Symbol); 57] = [
     (b"not", Symbol::Not),
     (b"and", Symbol::And),
     (b"or", Symbol::Or),
-    (b"true", Symbol::Truth(true)),
-    (b"false", Symbol::Truth(false)),
+    (b"true", Symbol::Leaf(Leaf::Truth(true))),
+    (b"false", Symbol::Leaf(Leaf::Truth(false))),
     (b"=", Symbol::Sign(Sign::Equal)),
     (b"!=", Symbol::Sign(Sign::Different)),
     (b"<", Symbol::Sign(Sign::Less)),
@@ -74,15 +74,51 @@ const WORDS: [(&[u8], Symbol); 57] = [
     (b"-", Symbol::Other),
 ];
 
-fn check_words(rt: &impl Abort, rows: &[(&[u8], Symbol)]) {
+fn check_words(rt: &impl Abort, dialect: Dialect, rows: &[(&[u8], Symbol)]) {
     for (bytes, wanted) in rows {
-        assert!(rt; symbol(Sort::Word, bytes) == *wanted, "at {bytes:?}");
+        assert!(rt;
+            symbol(dialect, Sort::Word, bytes) == *wanted,
+            "at {bytes:?}"
+        );
     }
 }
 
 #[test]
 fn tells_what_each_word_is(rt: HostRuntime) {
-    check_words(&rt, &WORDS);
+    check_words(&rt, Dialect::Sided, &WORDS);
+}
+
+// Where names may be used, a variable with its side is a leaf; all else is as above.
+const NAMED: [(&[u8], Symbol); 9] = [
+    (b"a@1", Symbol::Leaf(Leaf::Name)),
+    (b"Z_9@2", Symbol::Leaf(Leaf::Name)),
+    (b"a@3", Symbol::Other),
+    (b"a", Symbol::Other),
+    (b"when@1", Symbol::Other),
+    (b"true", Symbol::Leaf(Leaf::Truth(true))),
+    (b"nil", Symbol::Term),
+    (b"-1", Symbol::Term),
+    (b"!=", Symbol::Sign(Sign::Different)),
+];
+
+// In a definition a variable without a side is a term, and one with a side is nothing.
+const UNSIDED: [(&[u8], Symbol); 10] = [
+    (b"a", Symbol::Term),
+    (b"Z_9", Symbol::Term),
+    (b"a@1", Symbol::Other),
+    (b"a@2", Symbol::Other),
+    (b"when", Symbol::Other),
+    (b"9a", Symbol::Other),
+    (b"not", Symbol::Not),
+    (b"false", Symbol::Leaf(Leaf::Truth(false))),
+    (b"nil", Symbol::Term),
+    (b"7", Symbol::Term),
+];
+
+#[test]
+fn tells_what_each_word_is_in_version_2(rt: HostRuntime) {
+    check_words(&rt, Dialect::Named, &NAMED);
+    check_words(&rt, Dialect::Unsided, &UNSIDED);
 }
 
 const OTHERS: [(Sort, &[u8], Symbol); 6] = [
@@ -96,7 +132,10 @@ const OTHERS: [(Sort, &[u8], Symbol); 6] = [
 
 fn check_others(rt: &impl Abort, rows: &[(Sort, &[u8], Symbol)]) {
     for (sort, bytes, wanted) in rows {
-        assert!(rt; symbol(*sort, bytes) == *wanted, "at {bytes:?}");
+        assert!(rt;
+            symbol(Dialect::Sided, *sort, bytes) == *wanted,
+            "at {bytes:?}"
+        );
     }
 }
 
@@ -106,9 +145,9 @@ fn tells_what_other_tokens_are(rt: HostRuntime) {
 }
 
 // What a term says.
-fn term(alloc: Global, bytes: &[u8]) -> Result<String, NoMemory> {
+fn term(alloc: Global, dialect: Dialect, bytes: &[u8]) -> Result<String, NoMemory> {
     let mut text = String::new(alloc);
-    match read_term(alloc, bytes)? {
+    match read_term(alloc, dialect, bytes)? {
         Some(said) => show(&mut text, &said)?,
         None => text.push_str("no term")?,
     }
@@ -145,15 +184,27 @@ const TERMS: [(&[u8], &str); 16] = [
     (b"\"a", "no term"),
 ];
 
-fn check_terms(rt: &impl Abort, alloc: Global, rows: &[(&[u8], &str)]) {
+fn check_terms(rt: &impl Abort, alloc: Global, dialect: Dialect, rows: &[(&[u8], &str)]) {
     for (bytes, wanted) in rows {
-        gives(rt, term(alloc, bytes), wanted, bytes);
+        gives(rt, term(alloc, dialect, bytes), wanted, bytes);
     }
 }
 
+const UNSIDED_TERMS: [(&[u8], &str); 7] = [
+    (b"a", "a First"),
+    (b"Z_9", "Z_9 First"),
+    (b"a@1", "no term"),
+    (b"nil", "nil"),
+    (b"true", "bool true"),
+    (b"12", "int 12"),
+    (b"when", "no term"),
+];
+
 #[test]
 fn reads_terms(rt: HostRuntime) {
-    check_terms(&rt, rt.alloc(), &TERMS);
+    check_terms(&rt, rt.alloc(), Dialect::Sided, &TERMS);
+    check_terms(&rt, rt.alloc(), Dialect::Named, &TERMS);
+    check_terms(&rt, rt.alloc(), Dialect::Unsided, &UNSIDED_TERMS);
 }
 
 // The marks, each with the number of its token.
@@ -174,7 +225,7 @@ fn marks_of(alloc: Global, line: &[u8]) -> Result<Marks, NoMemory> {
     if found.items().len() > 1000 {
         return Err(NoMemory);
     }
-    marks(alloc, line, found.items())
+    marks(alloc, Dialect::Sided, line, found.items())
 }
 
 fn shown_marks(alloc: Global, line: &[u8]) -> Result<String, NoMemory> {
@@ -193,7 +244,7 @@ fn check_marks(rt: &impl Abort, alloc: Global, rows: &[(&[u8], &str)]) {
 const LINES: [(&[u8], &str); 2] = [
     (
         b"not a@1 != \"or (\" or (b@2=1 <= true)\t",
-        "Not 0, Term 1, Sign(Different) 2, Term 3, Or 4, Open 5, Other 6, Sign(AtMost) 7, Truth(true) 8, Close 9, Other 10",
+        "Not 0, Term 1, Sign(Different) 2, Term 3, Or 4, Open 5, Other 6, Sign(AtMost) 7, Leaf(Truth(true)) 8, Close 9, Other 10",
     ),
     (b"", ""),
 ];

@@ -3,7 +3,7 @@ ghost use Rattle.std.specs.Prelude.{◌≡◌, ◌≤◌, ◌+◌, ◌*◌};
 ghost use Rattle.rd_ecl.specs.Formulas.{nodes, tree_of};
 ghost use Rattle.rd_base.specs.declared.limits.TheConstants.{MOST_TOKENS};
 
-use crate::samples::{append_outline, draft_of, is_so_at, is_text};
+use crate::samples::{append_outline, is_so_at, is_text, opened_by};
 use rd_base::{Bytes, Value};
 use rd_ecl::Side::{First, Second};
 use rd_ecl::{Formula, KindDraft, Rel, Side, Term};
@@ -28,16 +28,18 @@ fn has_puts_alone(draft: &KindDraft) -> bool {
 
 #[test]
 fn what_is_drafted(rt: HostRuntime) {
-    let draft = draft_of(&rt, rt.alloc(), PUTS_OF_A_CELL);
+    let opened = opened_by(&rt, rt.alloc(), PUTS_OF_A_CELL);
+    let draft = opened.draft();
     let mut text = Bytes::new(rt.alloc());
     append_outline(&rt, &mut text, draft.name(), draft.methods());
     is_text(&rt, text.items(), "cell; put value prev; get value\n");
-    assert!(rt; has_puts_alone(&draft));
+    assert!(rt; has_puts_alone(draft));
 }
 
 #[test]
 fn sixteen_methods(rt: HostRuntime) {
-    let draft = draft_of(&rt, rt.alloc(), SIXTEEN_METHODS);
+    let opened = opened_by(&rt, rt.alloc(), SIXTEEN_METHODS);
+    let draft = opened.draft();
     assert!(rt; draft.methods().len() == 16);
 }
 
@@ -206,8 +208,9 @@ fn has_rooms(rt: &impl Abort, alloc: Global, draft: &KindDraft, row: &Rooms) -> 
 
 #[test]
 fn rooms_of_methods(rt: HostRuntime) {
-    let draft = draft_of(&rt, rt.alloc(), PUTS_OF_A_CELL);
+    let opened = opened_by(&rt, rt.alloc(), PUTS_OF_A_CELL);
+    let draft = opened.draft();
     for (number, row) in ROOMS.iter().enumerate() {
-        is_so_at(&rt, has_rooms(&rt, rt.alloc(), &draft, row), number);
+        is_so_at(&rt, has_rooms(&rt, rt.alloc(), draft, row), number);
     }
 }

@@ -4,9 +4,10 @@ ghost use Rattle.rd_ecl.specs.Specified.{slots_at};
 ghost use Rattle.rd_kinds.specs.Shipped.{shipped_kinds};
 
 use rd_base::{Bytes, Name, Slots, Value, read_value};
-use rd_ecl::{KindDraft, KindSpec, Method, Spec};
+use rd_ecl::{KindSpec, Method, Spec};
 use rd_kinds::shipped;
 use rd_object::Shape;
+use rd_open_kind::OpenKind;
 use rd_reading::Known;
 use rd_report::append_state;
 use rd_spec::parse;
@@ -67,12 +68,12 @@ fn takes_line(rt: &impl Abort, alloc: Global, known: &mut Known, line: &str) {
 }
 
 /// The kind that these lines of a specification begin.
-pub fn draft_of(rt: &impl Abort, alloc: Global, lines: &str) -> KindDraft {
+pub fn opened_by(rt: &impl Abort, alloc: Global, lines: &str) -> OpenKind {
     let mut known = Known::new(alloc);
     for line in lines.split('\n') {
         takes_line(rt, alloc, &mut known, line);
     }
-    known.block.expect(rt, "a kind").draft
+    known.block.expect(rt, "a kind").opened
 }
 
 /// The kind with this number.

@@ -54,8 +54,13 @@ fn refusal(alloc: Global, number: usize, refused: &SpecLineRefused) -> Result<St
     Ok(text)
 }
 
-// What reading the lines gives behind others. They are numbered from `start`.
-fn answer(alloc: Global, first: &str, start: usize, text: &str) -> Result<String, NoMemory> {
+/// What reading the lines gives behind others. They are numbered from `start`.
+pub(crate) fn answer(
+    alloc: Global,
+    first: &str,
+    start: usize,
+    text: &str,
+) -> Result<String, NoMemory> {
     let mut known = Known::new(alloc);
     let mut refused = read(alloc, &mut known, first, 1);
     if refused.is_none() {
@@ -67,7 +72,14 @@ fn answer(alloc: Global, first: &str, start: usize, text: &str) -> Result<String
     }
 }
 
-fn check_rows(rt: &impl Abort, alloc: Global, first: &str, start: usize, rows: &[(&str, &str)]) {
+/// Reads the rows' lines behind the first ones.
+pub(crate) fn check_rows(
+    rt: &impl Abort,
+    alloc: Global,
+    first: &str,
+    start: usize,
+    rows: &[(&str, &str)],
+) {
     for (text, wanted) in rows {
         gives(
             rt,
@@ -78,13 +90,15 @@ fn check_rows(rt: &impl Abort, alloc: Global, first: &str, start: usize, rows: &
     }
 }
 
-const HEADERS: [(&str, &str); 15] = [
+const HEADERS: [(&str, &str); 17] = [
     ("rdspec 1", "0 kinds"),
     ("  rdspec   1 ", "0 kinds"),
     ("", "end 0 Header"),
     ("  ", "1 0 Header"),
     ("rdspec", "1 0 Header"),
-    ("rdspec 2", "1 0 Header"),
+    ("rdspec 2", "0 kinds"),
+    (" rdspec  2", "0 kinds"),
+    ("rdspec 3", "1 0 Header"),
     ("rdspec 01", "1 0 Header"),
     ("rdspec1", "1 0 Header"),
     ("RDSPEC 1", "1 0 Header"),

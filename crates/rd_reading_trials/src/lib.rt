@@ -9,3 +9,5 @@ mod line_forms;
 mod pairs;
 #[cfg(test)]
 mod rows;
+#[cfg(test)]
+mod versions;

@@ -6,8 +6,8 @@ ghost use Rattle.rd_ecl.specs.Specified.{MayPair};
 use crate::judging::read;
 use crate::rows::gives;
 use rd_base::NoMemory;
-use rd_ecl::KindDraft;
-use rd_lines::{Form, Stage, read_form};
+use rd_lines::{Form, Stage, Version, read_form};
+use rd_open_kind::OpenKind;
 use rd_pairs::{Pair, judge_pair};
 use rd_reading::{Known, SpecLineRefused};
 use rd_samples::{push_cause, push_number, repeated};
@@ -16,8 +16,8 @@ use std::alloc::Global;
 use std::process::Abort;
 
 // What judging a line of a pair gives.
-fn judge(alloc: Global, kind: &KindDraft, line: &[u8]) -> Result<Pair, SpecLineRefused>
-    ensures { IfOk result (λ pair. MayPair kind.now pair.first pair.second (tree_of pair.formula)) }
+fn judge(alloc: Global, opened: &OpenKind, line: &[u8]) -> Result<Pair, SpecLineRefused>
+    ensures { IfOk result (λ pair. MayPair opened.now.kind pair.first pair.second (tree_of pair.formula)) }
 {
     if line.len() > 10_000 {
         return Err(SpecLineRefused::NoMemory);
@@ -26,28 +26,43 @@ fn judge(alloc: Global, kind: &KindDraft, line: &[u8]) -> Result<Pair, SpecLineR
     if found.items().len() > 516 {
         return Err(SpecLineRefused::NoMemory);
     }
-    match read_form(alloc, Stage::Methods, kind.methods(), line, found.items()) {
+    match read_form(
+        alloc,
+        Version::One,
+        Stage::Methods,
+        opened.draft().methods(),
+        line,
+        found.items(),
+    ) {
         Ok(
             Form::Commute {
                 first,
                 second,
                 formula,
             },
-        ) => judge_pair(alloc, kind, line, found.items(), &first, &second, &formula),
+        ) => judge_pair(
+            alloc,
+            Version::One,
+            opened,
+            line,
+            found.items(),
+            (&first, &second),
+            &formula,
+        ),
         _ => Err(SpecLineRefused::NoMemory),
     }
 }
 
 // The methods of the pair, and how many nodes its formula has.
-fn size(alloc: Global, kind: &KindDraft, line: &[u8]) -> Result<(u8, u8, u32), SpecLineRefused> {
-    let pair = judge(alloc, kind, line)?;
+fn size(alloc: Global, opened: &OpenKind, line: &[u8]) -> Result<(u8, u8, u32), SpecLineRefused> {
+    let pair = judge(alloc, opened, line)?;
     Ok((pair.first, pair.second, pair.formula.nodes()))
 }
 
 // What was found, in words.
-fn shown(alloc: Global, kind: &KindDraft, line: &str) -> Result<String, NoMemory> {
+fn shown(alloc: Global, opened: &OpenKind, line: &str) -> Result<String, NoMemory> {
     let mut text = String::new(alloc);
-    match size(alloc, kind, line.as_bytes()) {
+    match size(alloc, opened, line.as_bytes()) {
         Ok((first, second, nodes)) => {
             push_number(&mut text, "", u32::from(first), " and ")?;
             push_number(&mut text, "", u32::from(second), " by ")?;
@@ -70,7 +85,7 @@ fn answer(alloc: Global, before: &str, line: &str) -> Result<String, NoMemory> {
         return Err(NoMemory);
     }
     match &known.block {
-        Some(block) => shown(alloc, &block.draft, line),
+        Some(block) => shown(alloc, &block.opened, line),
         None => Err(NoMemory),
     }
 }

@@ -71,7 +71,7 @@ fn check_rows(rt: &impl Abort, alloc: Global, front: &str, rows: &[(&[u8], &str)
     }
 }
 
-const HEADERS: [(&[u8], &str); 23] = [
+const HEADERS: [(&[u8], &str); 26] = [
     (b"", "1 0 Header"),
     (b"\n", "2 0 Header"),
     (b"\n\n", "3 0 Header"),
@@ -81,7 +81,10 @@ const HEADERS: [(&[u8], &str); 23] = [
     (b"rdspec 1\n", "ok 0"),
     (b"  rdspec   1  \n", "ok 0"),
     (b"\n# before\n  \nrdspec 1\n", "ok 0"),
-    (b"rdspec 2\n", "1 0 Header"),
+    (b"rdspec 2", "ok 0"),
+    (b"rdspec 2\n", "ok 0"),
+    (b"rdspec 3\n", "1 0 Header"),
+    (b"rdspec 02\n", "1 0 Header"),
     (b"rdspec\n", "1 0 Header"),
     (b"rdspec 1 1\n", "1 0 Header"),
     (b"rdspec \"1\"\n", "1 0 Header"),

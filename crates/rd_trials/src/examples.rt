@@ -73,6 +73,8 @@ const EXAMPLES: &str = "\
     points sessions.spec sessions.points.out\n\
     spec account.spec account.spec.out\n\
     spec bounded_queue.spec bounded_queue.spec.out\n\
+    spec concurrent_map.spec concurrent_map.spec.out\n\
+    spec concurrent_map.spec.out concurrent_map.spec.out\n\
     spec refused_arguments.spec refused_arguments.spec.out\n\
     spec refused_cross_relation.spec refused_cross_relation.spec.out\n\
     spec refused_duplicate.spec refused_duplicate.spec.out\n\
