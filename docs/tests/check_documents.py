@@ -4,7 +4,7 @@
     check_documents.py [--rd2 PROGRAM] [--all]
 
 Lists each fault as FILE:LINE: WHAT, and ends with 1 where there is one. With --rd2 it runs the program on each command, trace and
-specification that a document shows, and compares the output with the one shown beside it. --all lists too what was checked.
+specification that a document shows, compares the output with the one shown beside it, and runs check_report.py. --all lists too what was checked.
 """
 import argparse, collections, pathlib, re, shutil, subprocess, sys, tempfile
 
@@ -506,6 +506,11 @@ def main():
     check_counts(documents[TOP / 'crates' / 'rd_trials' / 'README.md'], documents[TOP / 'docs' / 'proved.md'])
     check_kit(documents[TOP / 'README.md'])
     shutil.rmtree(program.folder)
+    if program:                                   # of the tools that docs/reporting.md tells of, by their own tests
+        own = subprocess.run([sys.executable, TOP / 'docs' / 'tests' / 'check_report.py', '--rd2', program.path, '--races', '1000'], capture_output=True, text=True)
+        checked['tests of rdreport'] += 1
+        if own.returncode:
+            fault(documents[TOP / 'docs' / 'reporting.md'], 1, f'check_report.py: {own.stdout[-2000:]}{own.stderr[-2000:]}')
     if given.all:
         for what, count in sorted(checked.items()):
             print(f'{count:6} {what}')

@@ -202,12 +202,23 @@ func place() string {
 	for {
 		frame, more := frames.Next()
 		if filepath.Dir(frame.File) != own {
-			return fmt.Sprintf("%s:%d", filepath.Base(frame.File), frame.Line)
+			return fmt.Sprintf("%s:%d", fromHere(frame.File), frame.Line)
 		}
 		if !more {
 			return "nowhere:0"
 		}
 	}
+}
+
+// here is the folder that the program begins in.
+var here, _ = os.Getwd()
+
+// fromHere is the path of a file, from that folder where it is below it.
+func fromHere(file string) string {
+	if path, err := filepath.Rel(here, file); err == nil && !strings.HasPrefix(path, "..") {
+		return path
+	}
+	return file
 }
 
 // Object is the base of recorded types, also of your own, which are for kinds of a specification.
