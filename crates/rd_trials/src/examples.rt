@@ -93,6 +93,18 @@ const EXAMPLES: &str = "\
     check account_race.trace account.spec account_race.out\n\
     check account_race.trace refused_header.spec refused_header.spec.out\n\
     check four_writes.trace account.spec four_writes.out\n\
+    check kinds/configuration.trace kinds/configuration.spec kinds/configuration.out\n\
+    check kinds/configuration_race.trace kinds/configuration.spec kinds/configuration_race.out\n\
+    check kinds/connections.trace kinds/connections.spec kinds/connections.out\n\
+    check kinds/connections_race.trace kinds/connections.spec kinds/connections_race.out\n\
+    check kinds/ids.trace kinds/ids.spec kinds/ids.out\n\
+    check kinds/ids_race.trace kinds/ids.spec kinds/ids_race.out\n\
+    check kinds/journal.trace kinds/journal.spec kinds/journal.out\n\
+    check kinds/journal_race.trace kinds/journal.spec kinds/journal_race.out\n\
+    check kinds/lru.trace kinds/lru.spec kinds/lru.out\n\
+    check kinds/lru_race.trace kinds/lru.spec kinds/lru_race.out\n\
+    check kinds/memo.trace kinds/memo.spec kinds/memo.out\n\
+    check kinds/memo_race.trace kinds/memo.spec kinds/memo_race.out\n\
     check queue_race.trace bounded_queue.spec queue_race.out\n\
     weave hits.main.log hits.worker.log hits.out\n\
     weave page.main.log page.worker.log page.trace\n";
