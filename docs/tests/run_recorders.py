@@ -29,6 +29,13 @@ EXAMPLES = {                                      # the same of a program that a
             ['g++', '-std=c++20', '-pthread', 'example.cpp', '-o', 'example'], ['./example']),
 }
 
+UNCHANGED = {                                     # programs that know of no recorder, by the words that run them, without `clean` or `race`
+    'python': [('unchanged', ['python3', '-m', 'rdrecord', '--objects', 'unchanged.objects', 'unchanged.py']),
+               ('unchanged, tasks', ['python3', '-m', 'rdrecord', '--tasks', '--objects', 'unchanged.objects', 'unchanged.py']),
+               ('unchanged, calm, callers', ['python3', '-m', 'rdrecord', '--calm', '--callers', '2', '--objects', 'unchanged.objects', 'unchanged.py']),
+               ('unchanged, logs', ['python3', '-m', 'rdrecord', '--logs', '--objects', 'unchanged.objects', 'unchanged.py'])],
+}
+
 
 def shown(language):
     """The programs that the guide and the recorder's page show, each with its place."""
@@ -50,6 +57,14 @@ def statuses(rd2, folder, words, runs, *spec):
     counts = collections.Counter()
     for _ in range(runs):
         run(folder, *words)
+        logs = sorted(folder.glob('run.*.log'), key=lambda path: path.name != 'run.main.log')
+        if logs:                                  # one of each thread
+            woven = subprocess.run([rd2, 'weave', *logs], capture_output=True)
+            (folder / 'run.trace').write_bytes(woven.stdout)
+            for path in logs:
+                path.unlink()
+            if woven.returncode:
+                sys.exit(f'{" ".join(words)}: rd2 weave ends with {woven.returncode}: {woven.stdout.decode()[-200:]}')
         counts[subprocess.run([rd2, 'check', 'run.trace', *spec], cwd=folder, capture_output=True).returncode] += 1
     return counts
 
@@ -68,10 +83,10 @@ def main():
         told = ', '.join(f'status {status} {count} times' for status, count in sorted(counts.items()))
         print(f'{what}: {told}{"" if wanted else ": WRONG"}', flush=True)
 
-    def try_both(what, rd2, folder, words, runs):
-        counts = statuses(rd2, folder, [*words, 'clean', 'run.trace'], runs)
+    def try_both(what, rd2, folder, words, runs, *spec):
+        counts = statuses(rd2, folder, [*words, 'clean', 'run.trace'], runs, *spec)
         tell(f'{what} clean', counts, set(counts) == {0})
-        counts = statuses(rd2, folder, [*words, 'race', 'run.trace'], runs)
+        counts = statuses(rd2, folder, [*words, 'race', 'run.trace'], runs, *spec)
         tell(f'{what} race', counts, counts[1] > 0 and set(counts) <= {0, 1})
     for language in given.languages or LANGUAGES:
         needed, build, words = LANGUAGES[language]
@@ -92,6 +107,11 @@ def main():
             if build:
                 run(folder, *build)
             try_both(f'{language} constructs', rd2, folder, words, given.runs)
+            for path in (TOP / 'docs' / 'tests' / 'constructs').glob('unchanged*'):
+                shutil.copy(path, folder)
+            kinds = [str(TOP / 'examples' / 'kinds' / 'memo.spec')]
+            for what, unchanged in UNCHANGED.get(language, ()):
+                try_both(f"{language} {what}", rd2, folder, unchanged, given.runs, *kinds)
             for place, text in shown(language):
                 (folder / name).write_text(around.format(text))
                 if build:

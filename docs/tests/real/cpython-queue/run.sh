@@ -1,0 +1,8 @@
+# needs: python3
+# about: the standard library's queue, its own tests, its lists as objects
+export PYTHONPATH="$TOP/docs/recorders/python"
+case "$1" in
+    plain) python3 -m unittest test.test_queue > out 2>&1 ;;
+    recorded) python3 -m rdrecord --tests "$TRACES" -m unittest test.test_queue > out 2>&1 ;;
+esac
+sed -n 's/^Ran \([0-9]*\) tests.*/tests \1/p' out
