@@ -14,6 +14,7 @@ RACE = sys.argv[1] == "race"
 
 class Desk:
     """What is shared; unchanged.objects names it."""
+    turns = 0
 
     def __init__(self):
         self.hits, self.shelf, self.names, self.row = 0, {}, set(), collections.deque()
@@ -50,6 +51,7 @@ def hit(alone=False):
     else:
         with guard, guard:
             desk.hits += 1
+            desk.turns += 1
 
 
 def threads():

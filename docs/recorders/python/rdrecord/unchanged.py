@@ -39,6 +39,11 @@ def install(to, tasks=False):
     Installed.to, Installed.tasks = to, tasks
     if not hasattr(threading.Thread.start, "recorded"):
         _put_in_place()
+    for each in AT_INSTALLATION if to else ():
+        each(to)
+
+
+AT_INSTALLATION = []                              # what is done with each new recorder
 
 
 def of_program(skipped):
@@ -62,7 +67,10 @@ def kept(of, make):
         return None
     found = of.__dict__.get("_recorded")
     if found is None or found[0] is not to:
-        found = of.__dict__["_recorded"] = to, make(to)
+        with to.lock:                             # two threads may come first
+            found = of.__dict__.get("_recorded")
+            if found is None or found[0] is not to:
+                found = of.__dict__["_recorded"] = to, make(to)
     return found[1]
 
 

@@ -8,6 +8,7 @@ import ast
 import builtins
 import collections
 import functools
+import gc
 import importlib
 import importlib.abc
 import importlib.util
@@ -16,9 +17,11 @@ import sys
 import types
 
 from .recorder import Object
+from . import unchanged
 from .unchanged import QUIET, kept, recorder
 from .values import MISSING, value_of
 
+ATTRIBUTES = []                                   # that are watched, each with its class
 HOLDERS = {"dictionary": dict, "set": set, "queue": collections.deque}
 
 
@@ -157,6 +160,28 @@ class Attribute:
         self.kind, self.name, self.cell = kind, name, f"_recorded_{name}"
         self.value = f"_watched_{name}"
         self.named, self.first = f"{cls.__name__}.{name}", vars(cls).get(name)
+        ATTRIBUTES.append((cls, self))
+        if kind == "register" and self.first is not None:
+            self._declare_at_making(cls)
+
+    def _declare_at_making(self, cls):
+        """A value that the class has for its objects is written by who makes one, for it comes before all that others do with it."""
+        real = cls.__init__
+
+        @functools.wraps(real)
+        def init(of, *args, **kwargs):
+            real(of, *args, **kwargs)
+            to = recorder()
+            if to:
+                self._register(to, of)
+        cls.__init__ = init
+
+    def declare(self, to, of):
+        """What was there before the recorder began is written by the thread that begins it."""
+        if self.kind == "register" and (self.value in of.__dict__ or self.name in of.__dict__ or self.first is not None):
+            self._register(to, of)
+        elif self.kind != "register" and self.name in of.__dict__:
+            self._value(of)
 
     def _value(self, of):
         if self.name in of.__dict__:              # set before the class was watched
@@ -171,9 +196,12 @@ class Attribute:
     def _register(self, to, of):
         found = of.__dict__.get(self.cell)
         if found is None or found.to is not to:
-            value = self._value(of) if self.value in of.__dict__ or self.name in of.__dict__ else self.first
-            first = [] if value is None else [("write", [value], None)]
-            found = of.__dict__[self.cell] = Watched(to, "register", self.named, first)
+            with to.lock:
+                found = of.__dict__.get(self.cell)
+                if found is None or found.to is not to:
+                    value = self._value(of) if self.value in of.__dict__ or self.name in of.__dict__ else self.first
+                    first = [] if value is None else [("write", [value], None)]
+                    found = of.__dict__[self.cell] = Watched(to, "register", self.named, first)
         return found
 
     def __get__(self, of, cls=None):
@@ -202,12 +230,26 @@ class Attribute:
 
 
 def recorded_holder(kind, value, name):
-    """The dict, set or deque, so that its calls are recorded; anything else as it is."""
+    """The dict, set or deque, so that its calls are recorded, with what it holds now; anything else as it is."""
     if type(value) is not HOLDERS[kind]:
         return value
     made = {"dictionary": WatchedDict, "set": WatchedSet, "queue": WatchedDeque}[kind](value)
     made.named = name
+    made._object()
     return made
+
+
+def declare_all(to):
+    """Declares all that is watched and there, with what it holds, before anything else happens."""
+    for each in gc.get_objects():
+        if type(each) in (WatchedDict, WatchedSet, WatchedDeque):
+            each._object()
+        for cls, attribute in ATTRIBUTES:
+            if issubclass(type(each), cls) and type(each).__dictoffset__:
+                attribute.declare(to, each)
+
+
+unchanged.AT_INSTALLATION.append(declare_all)
 
 
 class WatchedDict(dict):
