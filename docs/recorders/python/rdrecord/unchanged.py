@@ -52,7 +52,7 @@ def of_program(skipped):
     while frame:
         file = frame.f_code.co_filename
         if file == ITSELF:
-            if frame.f_code.co_name == "__init__" and type(frame.f_locals.get("self")).__name__ not in skipped:
+            if frame.f_code.co_name != "__init__" or type(frame.f_locals.get("self")).__name__ not in skipped:
                 return False
         elif not file.startswith(OWN):
             return not file.startswith(STANDARD) or file.startswith(TESTS) or "-packages/" in file
