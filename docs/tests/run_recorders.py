@@ -112,6 +112,17 @@ def main():
             kinds = [str(TOP / 'examples' / 'kinds' / 'memo.spec')]
             for what, unchanged in UNCHANGED.get(language, ()):
                 try_both(f"{language} {what}", rd2, folder, unchanged, given.runs, *kinds)
+            if language == 'python':
+                tests = folder / 'tests'
+                tests.mkdir()
+                shutil.copy(TOP / 'docs' / 'tests' / 'constructs' / 'test_stock.py', tests)
+                (tests / 'objects').write_text('dictionary test_stock.Stock.items\n')
+                python = next((each for each in ('python3', '/usr/bin/python3') if subprocess.run([each, '-c', 'import pytest'], capture_output=True).returncode == 0), None)
+                if python:
+                    os.environ['PYTHONPATH'] = str(folder)
+                    run(tests, python, '-m', 'pytest', '-q', '-p', 'rdrecord.plugin', '--rdrecord', 'traces', '--rdrecord-objects', 'objects')
+                    counts = collections.Counter(subprocess.run([rd2, 'check', path], capture_output=True).returncode for path in (tests / 'traces').iterdir())
+                    tell('python pytest, a test with its lock and one without', counts, counts == {0: 1, 1: 1})
             for place, text in shown(language):
                 (folder / name).write_text(around.format(text))
                 if build:
