@@ -29,11 +29,14 @@ EXAMPLES = {                                      # the same of a program that a
             ['g++', '-std=c++20', '-pthread', 'example.cpp', '-o', 'example'], ['./example']),
 }
 
-UNCHANGED = {                                     # programs that know of no recorder, by the words that run them, without `clean` or `race`
-    'python': [('unchanged', ['python3', '-m', 'rdrecord', '--objects', 'unchanged.objects', 'unchanged.py']),
-               ('unchanged, tasks', ['python3', '-m', 'rdrecord', '--tasks', '--objects', 'unchanged.objects', 'unchanged.py']),
-               ('unchanged, calm, callers', ['python3', '-m', 'rdrecord', '--calm', '--callers', '2', '--objects', 'unchanged.objects', 'unchanged.py']),
-               ('unchanged, logs', ['python3', '-m', 'rdrecord', '--logs', '--objects', 'unchanged.objects', 'unchanged.py'])],
+LOGS = '"$RD2" weave run.*.log > run.trace'
+UNCHANGED = {                                     # programs that know of no recorder: by which way, how they are built, and how they are run in the mode "$1"
+    'python': [('unchanged', [], 'python3 -m rdrecord --objects unchanged.objects unchanged.py "$1"'),
+               ('unchanged, tasks', [], 'python3 -m rdrecord --tasks --objects unchanged.objects unchanged.py "$1"'),
+               ('unchanged, calm, callers', [], 'python3 -m rdrecord --calm --callers 2 --objects unchanged.objects unchanged.py "$1"'),
+               ('unchanged, logs', [], 'python3 -m rdrecord --logs --objects unchanged.objects unchanged.py "$1" && ' + LOGS)],
+    'go': [('unchanged', ['go build -o tool ./rdrecord-go'], 'RDRECORD_OBJECTS=unchanged/objects ./tool run ./unchanged "$1" run.trace'),
+           ('constructs, logs', [], 'RDRECORD_LOGS=yes example/made "$1" run.trace && ' + LOGS)],
 }
 
 
@@ -57,14 +60,8 @@ def statuses(rd2, folder, words, runs, *spec):
     counts = collections.Counter()
     for _ in range(runs):
         run(folder, *words)
-        logs = sorted(folder.glob('run.*.log'), key=lambda path: path.name != 'run.main.log')
-        if logs:                                  # one of each thread
-            woven = subprocess.run([rd2, 'weave', *logs], capture_output=True)
-            (folder / 'run.trace').write_bytes(woven.stdout)
-            for path in logs:
-                path.unlink()
-            if woven.returncode:
-                sys.exit(f'{" ".join(words)}: rd2 weave ends with {woven.returncode}: {woven.stdout.decode()[-200:]}')
+        for path in folder.glob('run.*.log'):
+            path.unlink()
         counts[subprocess.run([rd2, 'check', 'run.trace', *spec], cwd=folder, capture_output=True).returncode] += 1
     return counts
 
@@ -107,11 +104,13 @@ def main():
             if build:
                 run(folder, *build)
             try_both(f'{language} constructs', rd2, folder, words, given.runs)
-            for path in (TOP / 'docs' / 'tests' / 'constructs').glob('unchanged*'):
+            for path in (TOP / 'docs' / 'tests' / 'constructs').glob('[uU]nchanged*'):
                 shutil.copy(path, folder)
-            kinds = [str(TOP / 'examples' / 'kinds' / 'memo.spec')]
-            for what, unchanged in UNCHANGED.get(language, ()):
-                try_both(f"{language} {what}", rd2, folder, unchanged, given.runs, *kinds)
+            os.environ['RD2'] = rd2
+            for what, building, running in UNCHANGED.get(language, ()):
+                for line in building:
+                    run(folder, 'bash', '-c', line)
+                try_both(f'{language} {what}', rd2, folder, ['bash', '-c', running, 'bash'], given.runs, TOP / 'examples' / 'kinds' / 'memo.spec')
             if language == 'python':
                 tests = folder / 'tests'
                 tests.mkdir()
