@@ -29,14 +29,24 @@ EXAMPLES = {                                      # the same of a program that a
             ['g++', '-std=c++20', '-pthread', 'example.cpp', '-o', 'example'], ['./example']),
 }
 
+AGENT = 'java -javaagent:rdagent.jar=run.trace -cp out Unchanged "$1"'
 LOGS = '"$RD2" weave run.*.log > run.trace'
 UNCHANGED = {                                     # programs that know of no recorder: by which way, how they are built, and how they are run in the mode "$1"
     'python': [('unchanged', [], 'python3 -m rdrecord --objects unchanged.objects unchanged.py "$1"'),
                ('unchanged, tasks', [], 'python3 -m rdrecord --tasks --objects unchanged.objects unchanged.py "$1"'),
                ('unchanged, calm, callers', [], 'python3 -m rdrecord --calm --callers 2 --objects unchanged.objects unchanged.py "$1"'),
                ('unchanged, logs', [], 'python3 -m rdrecord --logs --objects unchanged.objects unchanged.py "$1" && ' + LOGS)],
+    'java': [('unchanged', ['agent/build.sh .', 'javac -d out Unchanged.java'], AGENT),
+             ('unchanged, asked objects', [], 'RDRECORD_OBJECTS=Unchanged.objects ' + AGENT),
+             ('unchanged, tasks', [], 'RDRECORD_TASKS=yes ' + AGENT),
+             ('unchanged, logs', [], f'RDRECORD_LOGS=yes {AGENT} && ' + LOGS)],
     'go': [('unchanged', ['go build -o tool ./rdrecord-go'], 'RDRECORD_OBJECTS=unchanged/objects ./tool run ./unchanged "$1" run.trace'),
            ('constructs, logs', [], 'RDRECORD_LOGS=yes example/made "$1" run.trace && ' + LOGS)],
+    'cpp': [('unchanged, preloaded', ['gcc -O2 -shared -fPIC rdpreload.c -o librdpreload.so -ldl', 'g++ -std=c++20 -pthread -I . unchanged.cc -o unchanged'],
+             'RDRECORD=run.trace LD_PRELOAD=./librdpreload.so ./unchanged "$1"'),
+            ('unchanged, logs', [], 'RDRECORD_LOGS=yes RDRECORD=run.trace LD_PRELOAD=./librdpreload.so ./unchanged "$1" && ' + LOGS),
+            ('unchanged, compiled', ['g++ -std=c++20 -fsanitize=thread -g -c -I . unchanged.cc -o unchanged.o', 'gcc -O2 -c rdmemory.c',
+                                     'g++ unchanged.o rdmemory.o -pthread -ldl -o unchanged'], 'RDRECORD_MEMORY=no RDRECORD=run.trace ./unchanged "$1"')],
 }
 
 
@@ -104,10 +114,13 @@ def main():
             if build:
                 run(folder, *build)
             try_both(f'{language} constructs', rd2, folder, words, given.runs)
-            for path in (TOP / 'docs' / 'tests' / 'constructs').glob('[uU]nchanged*'):
+            for path in (TOP / 'docs' / 'tests' / 'constructs').glob('**/[uU]nchanged*'):
                 shutil.copy(path, folder)
             os.environ['RD2'] = rd2
-            for what, building, running in UNCHANGED.get(language, ()):
+            missing = language == 'java' and not pathlib.Path('/usr/share/java/asm.jar').exists()
+            if missing:
+                print('java unchanged: left out, for ASM is missing')
+            for what, building, running in () if missing else UNCHANGED[language]:
                 for line in building:
                     run(folder, 'bash', '-c', line)
                 try_both(f'{language} {what}', rd2, folder, ['bash', '-c', running, 'bash'], given.runs, TOP / 'examples' / 'kinds' / 'memo.spec')

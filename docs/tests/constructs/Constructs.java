@@ -1,3 +1,4 @@
+import java.util.ArrayList;
 import java.util.HashSet;
 import java.util.List;
 import java.util.Map;
@@ -87,21 +88,80 @@ class Constructs {
             want(shelf.get("first") == 1 && messages.take().equals("put"));
             want(first.get() == 1 && second.get() == 2);
         }
-        Thread stranger = new Thread(() -> {
-            try {
-                count.add(1);
-                System.exit(3);
-            } catch (IllegalStateException e) { }                        // the recorder didn't start it
-        });
+        Thread stranger = new Thread(() -> count.add(1));                // the recorder didn't start it
+        int before = (int) count.get();
         stranger.start();
         stranger.join();
-        want(count.get() == 7);
+        want(before == 7);
+    }
+
+    private static void shared(RdRecord r) throws InterruptedException {
+        var lock = r.readWriteLock("prices");
+        var price = r.register("price", 0);
+        var gate = r.semaphore("gate", 0);
+        Runnable work = () -> {
+            for (int i = 0; i < 3; i++) {
+                lock.readLock().lock();
+                price.read();
+                lock.readLock().unlock();
+                lock.writeLock().lock();
+                price.write((Integer) price.read() + 1);
+                lock.readLock().lock();                                  // the writer becomes a reader
+                lock.writeLock().unlock();
+                price.read();
+                lock.readLock().unlock();
+            }
+        };
+        var first = r.thread("reader", work);
+        var second = r.thread("reader", work);
+        first.start();
+        second.start();
+        first.join();
+        second.join();
+        want(price.read().equals(6) && lock.readLock().tryLock());
+        lock.readLock().unlock();
+        var opener = r.thread("opener", () -> {
+            price.write(7);
+            gate.release();                                              // it never took it
+        });
+        opener.start();
+        gate.acquire();
+        want(price.read().equals(7));
+        opener.join();
+        var results = r.dictionary("results", Map.of());
+        try (var pool = r.workers("worker", 2)) {
+            results.put("given", 1);
+            var answer = pool.submit(() -> results.put("given", 2));
+            want(answer.get().equals(1) && results.put("given", 3).equals(2));
+            for (int i = 0; i < 10; i++) {
+                int n = i;
+                pool.submit(() -> results.put(n, n));
+            }
+        }
+        for (int i = 0; i < 10; i++) want(results.get(i).equals(i));
+    }
+
+    record Point(int x, Object of) { }
+
+    private static void values(RdRecord r) {
+        Object[] keys = {"a", 'a', 1, 1L, 1.0, 1.0f, "1", "1L", "'1L", (short) 1, (byte) 1, true, "true", TimeUnit.DAYS, "x".repeat(300),
+            "x".repeat(301), "\u00e4", "\ud800", "\"\\\n", List.of(1), new Point(1, "a"), new Point(1, 'a'), Set.of()};
+        var map = r.dictionary("values", Map.of());
+        for (Object key : keys) want(map.put(key, key) == null);
+        for (Object key : keys) want(map.get(key) == key);
+        want(map.get(new ArrayList<>(List.of(1))) != null && map.get(new Point(1, "a")) != null);
+        List<Object> grows = new ArrayList<>();
+        map.put("list", grows);
+        grows.add(1);
+        want(map.put("list", new ArrayList<>(grows)) == grows);
     }
 
     public static void main(String[] words) throws Exception {
         try (RdRecord r = new RdRecord(words[1], "The constructs of the recorder.")) {
             threads(r);
             more(r);
+            shared(r);
+            values(r);
             tasks(r, words[0].equals("race"));
         }
     }

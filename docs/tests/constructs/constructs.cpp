@@ -77,9 +77,85 @@ static void threads(bool race) {
     teller.join();
 }
 
+// Readers who share a lock, a lock that another thread gives back, and a thread that isn't the recorder's.
+static void locks(bool race) {
+    rd::Register<int> setting(1, "setting"), box(0, "box");
+    rd::SharedMutex shared("shared");
+    rd::Mutex handed("handed"), late("late");
+    rd::Queue<int> told("told");
+    std::vector<rd::Thread> threads;
+    for (int n = 0; n < 2; n++)
+        threads.emplace_back([&] {
+            std::shared_lock held(shared);
+            setting.read();
+        });
+    threads.emplace_back([&] {
+        std::lock_guard held(shared);
+        setting.write(2);
+    });
+    if (race) {
+        std::shared_lock held(shared);                       // a reader's, for a write
+        setting.write(3);
+    }
+    for (auto& each : threads) each.join();
+    auto add = [&](int amount) { box.write(box.read() + amount); };
+    rd::Thread taker([&] {
+        handed.lock();
+        add(1);
+        told.put(1);
+    });
+    told.get();
+    add(1);
+    handed.unlock();
+    rd::Thread other([&] {
+        std::lock_guard held(handed);
+        add(1);
+    });
+    other.join();
+    taker.join();
+    rd::Thread ended([&] { late.lock(); add(1); });
+    ended.join();
+    late.unlock();
+    std::thread unknown([&] {
+        std::lock_guard held(late);
+        add(1);
+        told.put(2);
+    });
+    want(told.get() == 2 && box.read() == 5);
+    unknown.join();
+}
+
+// Values that change, that are long, and that have their own equality.
+static void values() {
+    struct Point {
+        int x, y;
+        bool operator==(const Point&) const = default;
+    };
+    rd::Register<std::vector<int>> list(std::vector<int>{1}, "list");
+    auto more = list.read();
+    more.push_back(2);
+    list.write(more);
+    want(list.read().size() == 2);
+    rd::Dictionary<std::string, Point> points({}, "points");
+    std::string name(400, 'n');
+    points.put(name + "a", {1, 2});
+    points.put(name + "b", {1, 3});
+    want(points.get(name + "a")->y == 2 && points.size() == 2);
+    rd::Register<std::shared_ptr<int>> shared(std::make_shared<int>(1), "shared.value");
+    shared.write(std::make_shared<int>(1));
+    want(*shared.read() == 1);
+    rd::Register<double> number(0.5, "number");
+    number.write(-0.0);
+    want(number.read() == 0);
+    rd::Register<unsigned long> large(~0ul, "large");
+    want(large.read() == ~0ul);
+}
+
 int main(int, char** words) {
     rd::Recorder recorder(words[2], "The constructs of the recorder.");
     objects();
     more();
+    values();
+    locks(std::string(words[1]) == "race");
     threads(std::string(words[1]) == "race");
 }
