@@ -114,7 +114,7 @@ def main():
             if build:
                 run(folder, *build)
             try_both(f'{language} constructs', rd2, folder, words, given.runs)
-            for path in (TOP / 'docs' / 'tests' / 'constructs').glob('**/[uU]nchanged*'):
+            for path in (TOP / 'docs' / 'tests' / 'constructs').glob({'python': 'unchanged.[op]*', 'java': 'java/*', 'cpp': 'unchanged.cc'}.get(language, 'none')):
                 shutil.copy(path, folder)
             os.environ['RD2'] = rd2
             missing = language == 'java' and not pathlib.Path('/usr/share/java/asm.jar').exists()

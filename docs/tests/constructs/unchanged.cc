@@ -176,7 +176,7 @@ static void* waits_for_ever(void*) {
     pthread_cleanup_pop(0);
 }
 
-// Threads of C11, one that is cancelled as it waits, one that nobody joins, and a child process.
+// Threads of the C library, one that is cancelled as it waits, one that nobody joins, and a child process.
 static void others() {
     rd::Register<int> seen(0, "seen");
     counted = &seen;

@@ -245,7 +245,7 @@ func (w *rewriting) addRecorder(to string) {
 }
 
 // current is goroutine_fast.go of the overlay.
-const current = `//go:build amd64 || arm64
+const current = `//go:build amd64
 
 package rdrecord
 
@@ -267,9 +267,8 @@ func (w *rewriting) addCurrent(from, to string) {
 	ring := filepath.Join(strings.TrimSpace(string(out)), "src", "container", "ring")
 	w.write(filepath.Join(to, "goroutine_fast.go"), current)
 	w.write(filepath.Join(ring, "rdrecord.go"), strings.NewReplacer("package rdrecord", "package ring", "current()", "RdrecordCurrent()").Replace(read(filepath.Join(from, "goroutine_fast.go"))))
-	for _, name := range []string{"goroutine_amd64.s", "goroutine_arm64.s"} {
-		w.write(filepath.Join(ring, name), strings.ReplaceAll(read(filepath.Join(from, name)), "current", "RdrecordCurrent"))
-	}
+	assembly := "goroutine_amd64.s"
+	w.write(filepath.Join(ring, assembly), strings.ReplaceAll(read(filepath.Join(from, assembly)), "current", "RdrecordCurrent"))
 }
 
 func read(path string) string {

@@ -16,5 +16,5 @@ mode=$1
 both pigz "pigz -p 4 -b 128 -c" "pigz -d -c"
 both pbzip2 "pbzip2 -p4 -c" "pbzip2 -d -p4 -c"
 both xz "xz -T 4 --block-size=200000 -c" "xz -d -T 4 -c"
-both zstd "zstd -q -T4 -c" "zstd -q -d -c"
+both zstd "zstd -q --threads=4 -c" "zstd -q -d -c"
 echo tests 8
