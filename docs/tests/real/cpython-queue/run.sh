@@ -1,5 +1,5 @@
 # needs: python3
-# about: the standard library's queue, its own tests, its lists as objects
+# about: the standard library's queue, its own tests, unchanged; there are no calls to race, each trace has to be read to its end
 export PYTHONPATH="$TOP/docs/recorders/python"
 case "$1" in
     plain) python3 -m unittest test.test_queue > out 2>&1 ;;
