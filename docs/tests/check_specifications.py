@@ -504,7 +504,7 @@ ROWS = [
     ('rdspec 2\nmethod m -> r\n', 'line 2 place 1 syntax'),
     ('rdspec 1\nkind k\ncommute m m when true', 'line 3 place 9 unknown-method'), ('rdspec 2\nkind k\ndefine m a when true', 'line 3 place 8 unknown-method'),
     ('rdspec 2\nkind k\ndefault false', 'rdspec 1\nkind k\n'),
-    (f'rdspec 1\nkind when\nmethod true -> r\ncommute true true when true', 'rdspec 1\nkind when\nmethod true -> r\ncommute true true when true\n'),
+    ('rdspec 1\nkind when\nmethod true -> r\ncommute true true when true', 'rdspec 1\nkind when\nmethod true -> r\ncommute true true when true\n'),
     # limits: reached, and passed by one
     *[(f'rdspec {version}\n{SHORT}commute m m when {formula}\n', answer) for version in (1, 2) for formula, answer in [
         (' or '.join(f'a@1 = {i}' for i in range(6)), 'line 4 place 13 limit predicates 5'), ('not ' * 32 + 'true', 'line 4 place 13 limit depth 32'),

@@ -3,7 +3,7 @@
 
 A line is the list of its words, or its text; a formula is a tree over leaves.
 """
-import collections, itertools, random, re
+import collections, itertools, re
 
 MOST_NODES, MOST_LEVELS, MOST_BYTES = 64, 32, 1048576
 TAKEN = ['register', 'counter', 'set', 'dictionary', 'bag', 'peak', 'queue', 'tally']

@@ -2,7 +2,6 @@
 import asyncio
 import collections
 import concurrent.futures
-import itertools
 import multiprocessing.pool
 import os
 import queue

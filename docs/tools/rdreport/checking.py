@@ -11,7 +11,7 @@ import formulas
 from groups import Grouping, Run
 from traces import Trace
 
-STATUSES = {"fault input": 6}
+FAULT_INPUT = 6                                   # rd2's status where a file can't be read
 
 
 class Trouble(Exception):
@@ -66,8 +66,8 @@ def status_of(ending, races):
     how = ending["ending"]
     if how == "end":
         return 1 if races else 5 if ending["replay"].startswith("differs") else 0
-    if how in STATUSES:
-        return STATUSES[how]
+    if how == "fault input":
+        return FAULT_INPUT
     return 9 if " limit " in how else 3 if how.startswith("refused spec") else 4
 
 
@@ -121,7 +121,7 @@ def sort_files(paths):
         try:
             (merged if is_groups(path) else specs if is_specification(path) else traces).append(path)
         except OSError as error:
-            raise Trouble(f"{path}: {error.strerror}", STATUSES["fault input"]) from None
+            raise Trouble(f"{path}: {error.strerror}", FAULT_INPUT) from None
     if len(specs) > 1:
         raise Trouble(f"two specifications: {specs[0]} and {specs[1]}")
     return traces, specs[0] if specs else None, merged

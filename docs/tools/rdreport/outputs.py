@@ -7,7 +7,7 @@ from xml.sax.saxutils import escape, quoteattr
 
 import formulas
 
-MOST_TRACES = 3
+MOST_OBJECTS = 3
 
 
 def plural(count, what):
@@ -44,8 +44,8 @@ def report(grouping, groups, known):
         if len(grouping.runs) > 1:
             yield f"   in {first.trace}{', ..' if len(group.traces) > 1 else ''}"
         if len(group.objects) > 1:
-            names = ", ".join(f"{name} {count} times" for name, count in group.objects.most_common(MOST_TRACES))
-            yield f"   objects {names}{', ..' if len(group.objects) > MOST_TRACES else ''}"
+            names = ", ".join(f"{name} {count} times" for name, count in group.objects.most_common(MOST_OBJECTS))
+            yield f"   objects {names}{', ..' if len(group.objects) > MOST_OBJECTS else ''}"
     yield ""
     yield from endings(grouping)
 

@@ -7,7 +7,7 @@ import checking
 import formulas
 import outputs
 import pictures
-from traces import Call, Order, Trace, WORD
+from traces import Order, Trace
 
 AROUND = 4                                        # lines of the trace around an event that a click shows
 BESIDE = 2                                        # lines of the source around a place
@@ -36,8 +36,6 @@ summary:focus-visible, .scroll:focus-visible { outline: 2px solid var(--known); 
 .part.yes { background: var(--earlier); }
 pre b { background: var(--earlier); font-weight: inherit; }
 .lines:empty { display: none; }
-table { border-collapse: collapse; }
-td { padding: .1rem .8rem .1rem 0; overflow-wrap: anywhere; }
 """
 
 SCRIPT = """
@@ -198,7 +196,7 @@ def section(group, number, grouping, sources, traces):
 
 
 def pictured(made):
-    yield "".join(f"<p>{escape(' '.join(told(made)))}</p>")
+    yield f"<p>{escape(' '.join(told(made)))}</p>"
     yield f'<div class="scroll">{pictures.svg(made, title(made), alone=False)}</div><pre class="lines" aria-live="polite"></pre>'
 
 

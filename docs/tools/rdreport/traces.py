@@ -2,7 +2,6 @@
 import bisect
 import collections
 import dataclasses
-import itertools
 import re
 import typing
 
@@ -90,18 +89,14 @@ class Event(typing.NamedTuple):
 class Order:
     """The events of a trace that rd2 accepts, and what comes directly before what in another thread."""
 
-    def __init__(self, trace, last=None):
+    def __init__(self, trace):
         self.events, self.of_thread, self.threads = {}, collections.defaultdict(list), []
         self.forks, self.joins, self.before = {}, {}, {}
-        self.kinds = {}
         released, unshared = {}, collections.defaultdict(list)
-        for line, text in enumerate(itertools.islice(trace.lines, last), 1):
+        for line, text in enumerate(trace.lines, 1):
             word, _, rest = text.partition(" ")
             if word == "thread":
                 self.threads.append(rest)
-            elif word == "object":
-                name, _, kind = rest.partition(" ")
-                self.kinds[name] = kind
             elif word in EVENTS:
                 thread, _, rest = rest.partition(" ")
                 own = self.of_thread[thread]

@@ -221,7 +221,8 @@ def is_internal(event):
 
 
 def event_init(real, self):
-    if sys._getframe(2).f_code.co_filename == ITSELF and sys._getframe(2).f_code.co_name == "__init__" and isinstance(sys._getframe(2).f_locals.get("self"), threading.Thread):
+    maker = sys._getframe(2)
+    if maker.f_code.co_filename == ITSELF and isinstance(maker.f_locals.get("self"), threading.Thread):
         self._internal = True
     real(self)
 
