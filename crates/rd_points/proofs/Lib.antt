@@ -6,4 +6,5 @@ pub mod GridLemmas
 pub mod NumberLemmas
 pub mod PointLemmas
 pub mod RowLemmas
+pub mod SlotLemmas
 pub mod TableLemmas

@@ -1,12 +1,14 @@
 //! What the formula of two blocks of classes says.
-ghost use Rattle.std.specs.Prelude.{◌≡◌, ◌<◌, ◌||◌, [], All, IfOk, length, map, slice_index_or};
+ghost use Rattle.std.specs.Prelude.{◌≡◌, ◌<◌, ◌==◌, ◌||◌, [], All, IfOk, length, map, slice_index_or};
+ghost use Rattle.std.specs.List.{list_any};
 ghost use Rattle.rd_ecl.specs.Specified.{IsKind};
 ghost use Rattle.rd_points.specs.Blocks.{ArePredicates, formula_of_blocks, grid_of, one_way};
 ghost use Rattle.rd_points.specs.Classes.{clash};
+ghost use Rattle.rd_points.specs.SlotsInPairs.{has_first, has_second};
 
 use crate::blocks::Block;
 use rd_base::NoMemory;
-use rd_ecl::{KindSpec, Predicates, Reduced, Valuation, reduce};
+use rd_ecl::{KindSpec, Predicates, Reduced, SlotPairs, Valuation, reduce};
 use std::alloc::Global;
 
 // The formula with the first block's method on side 1; it says nothing where that is declared
@@ -102,4 +104,59 @@ pub(crate) fn meet(forward: &Reduced, backward: &Reduced, s: Option<u8>, t: Opti
     ensures { result ≡ (clash forward.now s t || clash backward.now t s) }
 {
     clash(forward, s, t) || clash(backward, t, s)
+}
+
+// Has the pair this slot on side 1?
+fn is_first(pair: (u8, u8), slot: u8) -> bool
+    ensures { result ≡ (pair.0 == slot) }
+{
+    pair.0 == slot
+}
+
+// Has the pair this slot on side 2?
+fn is_second(pair: (u8, u8), slot: u8) -> bool
+    ensures { result ≡ (pair.1 == slot) }
+{
+    pair.1 == slot
+}
+
+// Has one of these pairs this slot on side 1?
+fn any_first(pairs: &SlotPairs, slot: u8) -> bool
+    ensures { result ≡ list_any (λ pair. pair.0 == slot) pairs.now }
+{
+    pairs.items().iter().any(|pair| is_first(*pair, slot))
+}
+
+// Has one of these pairs this slot on side 2?
+fn any_second(pairs: &SlotPairs, slot: u8) -> bool
+    ensures { result ≡ list_any (λ pair. pair.1 == slot) pairs.now }
+{
+    pairs.items().iter().any(|pair| is_second(*pair, slot))
+}
+
+// Has a pair this slot on side 1?
+fn has_first(reduced: &Reduced, slot: u8) -> bool
+    ensures { result ≡ has_first reduced.now slot }
+{
+    match reduced {
+        Reduced::True | Reduced::False => false,
+        Reduced::Pairs(pairs) => any_first(pairs, slot),
+    }
+}
+
+// Has a pair this slot on side 2?
+fn has_second(reduced: &Reduced, slot: u8) -> bool
+    ensures { result ≡ has_second reduced.now slot }
+{
+    match reduced {
+        Reduced::True | Reduced::False => false,
+        Reduced::Pairs(pairs) => any_second(pairs, slot),
+    }
+}
+
+// Has a pair this slot of the first block, by the formula with either method on side 1?
+pub(crate) fn has_slot(forward: &Reduced, backward: &Reduced, slot: u8) -> bool
+    ensures { result ≡ (has_first forward.now slot || has_second backward.now slot) }
+{
+    has_first(forward, slot) || has_second(backward, slot)
 }

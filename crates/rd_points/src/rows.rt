@@ -5,7 +5,7 @@ ghost use Rattle.rd_points.specs.Blocks.{ArePredicates, IsSquare, blocks_of, col
 ghost use Rattle.rd_points.specs.Classes.{classes_of, slot_at};
 
 use crate::blocks::Block;
-use crate::columns::{formula_at, grid_of, meet};
+use crate::columns::{formula_at, grid_of, has_slot, meet};
 use rd_base::NoMemory;
 use rd_ecl::{KindSpec, Predicates, Reduced};
 use std::alloc::Global;
@@ -32,8 +32,8 @@ fn push_if(row: &mut Vec<u32>, condition: bool, number: u32) -> Result<(), NoMem
 }
 
 // Puts the numbers of those classes of a block last that conflict with the one that has this slot,
-// by what the formula says with either method on side 1.
-fn add_numbers(
+// by what the formula says with either method on side 1. Each class is asked.
+fn add_each(
     row: &mut Vec<u32>,
     forward: &Reduced,
     backward: &Reduced,
@@ -54,6 +54,31 @@ fn add_numbers(
         )?;
     }
     Ok(())
+}
+
+// The same. Only the plain class is asked of a plain one, and none where no pair has the slot.
+fn add_numbers(
+    row: &mut Vec<u32>,
+    forward: &Reduced,
+    backward: &Reduced,
+    slot: Option<u8>,
+    slots: u8,
+    first: u32,
+) -> Result<(), NoMemory>
+    requires few { slots ≤ 7 }
+    requires bound { first ≤ 4096 }
+    ensures { OnOk result (row.new.items ≡ row.old.items ++ numbers_in first slot
+        (record { forward = forward.now; backward = backward.now; slots = slots })) }
+{
+    match slot {
+        None => push_if(row, meet(forward, backward, None, None), first),
+        Some(number) => {
+            if has_slot(forward, backward, number) {
+                return add_each(row, forward, backward, slot, slots, first);
+            }
+            Ok(())
+        }
+    }
 }
 
 // The classes that conflict with that of a block which has this slot.

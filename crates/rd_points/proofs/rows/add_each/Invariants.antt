@@ -3,7 +3,7 @@ use Rattle.std.specs.List.{range_with_len}
 use Rattle.rd_points.specs.Blocks.{meets}
 use Rattle.rd_points.specs.Classes.{slot_at}
 use Rattle.rd_points.specs.Compiled.{numbers_from}
-use Rattle.rd_points.proofs.rows.add_numbers.Given as goal
+use Rattle.rd_points.proofs.rows.add_each.Given as goal
 
 abbrev pub invariant-loop-i : goal.invariant-loop-i
 invariant-loop-i l = l.row.items
