@@ -4,6 +4,7 @@ pub mod ColumnLemmas
 pub mod EqualPointLemmas
 pub mod GridLemmas
 pub mod NumberLemmas
+pub mod PartLemmas
 pub mod PointLemmas
 pub mod RowLemmas
 pub mod SlotLemmas

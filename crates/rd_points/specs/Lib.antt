@@ -1,6 +1,7 @@
 pub mod Blocks
 pub mod Classes
 pub mod Compiled
+pub mod Parts
 pub mod PointLists
 pub mod Points
 pub mod SlotsInPairs

@@ -4,35 +4,42 @@ ghost use Rattle.std.specs.List.{list_any};
 ghost use Rattle.rd_ecl.specs.Specified.{IsKind};
 ghost use Rattle.rd_points.specs.Blocks.{ArePredicates, formula_of_blocks, grid_of, one_way};
 ghost use Rattle.rd_points.specs.Classes.{clash};
+ghost use Rattle.rd_points.specs.Parts.{AreRows};
 ghost use Rattle.rd_points.specs.SlotsInPairs.{has_first, has_second};
 
 use crate::blocks::Block;
+use crate::parts::{Part, copied, found, part_rows};
 use rd_base::NoMemory;
 use rd_ecl::{KindSpec, Predicates, Reduced, SlotPairs, Valuation, reduce};
 use std::alloc::Global;
 
 // The formula with the first block's method on side 1; it says nothing where that is declared
-// behind the other's.
+// behind the other's. It is looked up, and reduced where it isn't known.
 fn one_way(
     alloc: Global,
     kind: &KindSpec,
     predicates: &[Predicates],
+    rows: &[Vec<Part>],
     x: Block,
     y: Block,
 ) -> Result<Reduced, NoMemory>
     requires valid { IsKind kind.now }
     requires known { (x.method < length kind.now.methods) × (y.method < length kind.now.methods) }
     requires predicates { ArePredicates kind.now predicates.now }
+    requires rows { AreRows kind.now (map (λ row. row.items) rows.now) }
     ensures { IfOk result (λ reduced. reduced ≡ one_way kind.now x y) }
 {
     if y.method < x.method {
         return Ok(Reduced::True);
     }
+    let v = Valuation { bits: x.bits };
+    let w = Valuation { bits: y.bits };
+    if let Some(reduced) = found(rows, x.method, v, y.method, w) {
+        return copied(alloc, reduced);
+    }
     let formula = kind.formula(x.method, y.method);
     let first = &predicates[usize::from(x.method)];
     let second = &predicates[usize::from(y.method)];
-    let v = Valuation { bits: x.bits };
-    let w = Valuation { bits: y.bits };
     reduce(alloc, formula, first, v, second, w)
 }
 
@@ -41,6 +48,7 @@ fn formulas_of(
     alloc: Global,
     kind: &KindSpec,
     predicates: &[Predicates],
+    rows: &[Vec<Part>],
     blocks: &[Block],
     x: Block,
 ) -> Result<Vec<Reduced>, NoMemory>
@@ -48,11 +56,12 @@ fn formulas_of(
     requires known { x.method < length kind.now.methods }
     requires all_known { All (λ block. block.method < length kind.now.methods) blocks.now }
     requires predicates { ArePredicates kind.now predicates.now }
+    requires rows { AreRows kind.now (map (λ row. row.items) rows.now) }
     ensures { IfOk result (λ formulas. formulas.items ≡ map (one_way kind.now x) blocks.now) }
 {
     let mut formulas = Vec::with_capacity(alloc, blocks.len())?;
     for y in blocks {
-        formulas.push(one_way(alloc, kind, predicates, x, *y)?)?;
+        formulas.push(one_way(alloc, kind, predicates, rows, x, *y)?)?;
     }
     Ok(formulas)
 }
@@ -70,9 +79,11 @@ pub(crate) fn grid_of(
     ensures { IfOk result
         (λ grid. map (λ row. row.items) grid.items ≡ grid_of kind.now blocks.now) }
 {
+    let parts = part_rows(alloc, kind, predicates)?;
+    let rows = parts.as_slice();
     let mut grid = Vec::with_capacity(alloc, blocks.len())?;
     for x in blocks {
-        grid.push(formulas_of(alloc, kind, predicates, blocks, *x)?)?;
+        grid.push(formulas_of(alloc, kind, predicates, rows, blocks, *x)?)?;
     }
     Ok(grid)
 }

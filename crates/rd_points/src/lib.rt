@@ -6,6 +6,7 @@ mod classes;
 mod columns;
 mod compiling;
 mod laws;
+mod parts;
 mod points;
 mod rows;
 mod tables;

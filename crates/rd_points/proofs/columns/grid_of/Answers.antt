@@ -1,10 +1,14 @@
-use Rattle.std.proofs.Common.{map}
+use Rattle.std.proofs.Common.{map, ap, sym, subst}
 use Rattle.rd_points.specs.Blocks.{one_way}
+use Rattle.rd_points.specs.Parts.{AreRows}
 use Rattle.rd_points.proofs.GridLemmas.{seen_more}
 use Rattle.rd_points.proofs.columns.grid_of.Goals as goal
 
 pub formulas_of-requires-clause-known : goal.formulas_of-requires-clause-known
 formulas_of-requires-clause-known c = c.requires.all_known c.loop-x.x-index _ c.loop-x-test.true
+
+pub formulas_of-requires-clause-rows : goal.formulas_of-requires-clause-rows
+formulas_of-requires-clause-rows c = subst (AreRows c.args.kind.now) (sym (ap (map (λ row. row.items)) c.as_slice-rows.ensures.value)) c.in_ok-parts.ensures
 
 pub loop-x-preserved : goal.loop-x-preserved
 loop-x-preserved c =

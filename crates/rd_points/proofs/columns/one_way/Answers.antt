@@ -1,6 +1,8 @@
-use Rattle.std.proofs.Common.{length, arith, sym, subst, ◌≤◌, rules, tests}
+use Rattle.std.proofs.Common.{ap, ◌∙◌, length, arith, sym, subst, ◌≤◌, rules, tests}
+use Rattle.std.specs.Prelude.{option_map}
 use Rattle.rd_ecl.specs.Specified.{method_predicates}
 use Rattle.rd_points.proofs.ColumnLemmas.{listed_here, one_way_is, predicates_long, predicates_read}
+use Rattle.rd_points.proofs.PartLemmas.{one_way_found}
 use Rattle.rd_points.proofs.columns.one_way.Goals as goal
 
 pub bounds-predicates-from : goal.bounds-predicates-from
@@ -36,3 +38,8 @@ returns c =
 
 pub returns-then-y-x : goal.returns-then-y-x
 returns-then-y-x c = search (tests, rules)
+
+pub returns-in-Some : goal.returns-in-Some
+returns-in-Some c =
+    one_way_found c.copied.result c.args.kind.now c.args.x.method c.args.y.method c.args.x.bits c.args.y.bits c.in-Some.reduced.now _ c.if-y-x.false (sym (ap (option_map (λ r. r.now)) c.in-Some.is) ∙ c.found.ensures)
+    (c.requires.rows c.args.y.method c.args.x.method c.args.x.bits c.args.y.bits) c.copied.ensures
