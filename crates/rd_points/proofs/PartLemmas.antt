@@ -1,16 +1,15 @@
 -- What a formula reduces to, by its parts.
-use Rattle.std.proofs.Common.{◌≡◌, ◌+◌, ◌<◌, ◌≤◌, ◌^◌, ◌||◌, ℕ, zero, suc, Bool, true, false, List, [], ◌∷◌, ◌++◌, length, map, Option, Some, None, Result, Ok, Err, IfOk, cond, slice_get, refl, sym, ap, ◌∙◌, arith, subst}
+use Rattle.std.proofs.Common.{◌≡◌, ◌+◌, ◌≤◌, ◌||◌, ℕ, zero, suc, Bool, true, false, List, [], ◌∷◌, ◌++◌, length, map, Option, Some, None, Result, Ok, Err, IfOk, cond, slice_get, refl, sym, ap, ◌∙◌, arith, subst}
 use Rattle.std.specs.Prelude.{nat_le, slice_index_or, unwrap_or}
 use Rattle.std.specs.List.{range_with_len}
 use Rattle.std.proofs.lemmas.Bool.{le-leb}
 use Rattle.std.proofs.lemmas.List.{length-map, map_push}
 use Rattle.rd_ecl.specs.declared.formulas.Predicate.{Predicate}
-use Rattle.rd_ecl.specs.declared.formulas.Side.{Side}
 use Rattle.rd_ecl.specs.declared.formulas.Side.TheVariants.{First as Side1, Second as Side2}
 use Rattle.rd_ecl.specs.declared.reduction.Reduced.{Reduced}
 use Rattle.rd_ecl.specs.declared.reduction.Reduced.TheVariants.{True, False, Pairs}
-use Rattle.rd_ecl.specs.Formulas.{Tree, truth, atom, cross, mixed, negation, both, either, IsSimple, simple_both, IsSided, sided_both, sided_either, InFragment, of_simple, of_sided, of_both, of_or_sided, of_sided_or}
-use Rattle.rd_ecl.specs.Reduction.{constant, flipped, of_both as reduced_both, of_either as reduced_either, predicate_of, reduce_of, truth_in}
+use Rattle.rd_ecl.specs.Formulas.{Tree, truth, atom, cross, mixed, negation, both, either, simple_both, sided_both, sided_either, InFragment, of_simple, of_sided, of_both, of_or_sided, of_sided_or}
+use Rattle.rd_ecl.specs.Reduction.{flipped, of_both as reduced_both, of_either as reduced_either, reduce_of}
 use Rattle.rd_ecl.specs.Specified.{SpecifiedKind, formula_at, method_predicates}
 use Rattle.rd_points.specs.declared.parts.Part.{Part}
 use Rattle.rd_points.specs.declared.parts.Part.TheVariants.{Unknown}

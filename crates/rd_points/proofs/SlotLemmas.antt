@@ -1,9 +1,9 @@
 -- Classes that conflict with none of a block, by their slots.
-use Rattle.std.proofs.Common.{◌≡◌, ◌+◌, ◌==◌, ◌&&◌, ◌||◌, ℕ, zero, suc, Bool, true, false, cond, List, [], ◌∷◌, ◌++◌, Option, Some, None, refl, sym, ap, ◌∙◌, arith}
+use Rattle.std.proofs.Common.{◌≡◌, ◌+◌, ◌==◌, ◌&&◌, ◌||◌, ℕ, zero, suc, Bool, true, false, cond, List, [], ◌∷◌, Option, Some, None, refl, ap, ◌∙◌, arith}
 use Rattle.std.specs.List.{list_any, range_with_len}
 use Rattle.rd_ecl.specs.declared.reduction.Reduced.{Reduced}
 use Rattle.rd_ecl.specs.declared.reduction.Reduced.TheVariants.{True, False, Pairs}
-use Rattle.rd_ecl.specs.SlotPairs.{has_pair, same_pair}
+use Rattle.rd_ecl.specs.SlotPairs.{has_pair}
 use Rattle.rd_points.specs.Blocks.{Column, meets, numbers_in}
 use Rattle.rd_points.specs.Classes.{clash, slot_at}
 use Rattle.rd_points.specs.Compiled.{numbers_from}

@@ -1,6 +1,6 @@
 use Rattle.std.proofs.Common.{◌≡◌, rules, sym, subst, ap, ◌∙◌}
 use Rattle.rd_ecl.specs.declared.formulas.Formula.{the_lemmas}
-use Rattle.rd_ecl.specs.Formulas.{InFragment, Tree, both, either, tree_of}
+use Rattle.rd_ecl.specs.Formulas.{InFragment, both, either, tree_of}
 use Rattle.rd_ecl.specs.Reduction.{AreListed}
 use Rattle.rd_points.specs.Parts.{Stands}
 use Rattle.rd_points.proofs.PartLemmas.{both_inside, both_stand, either_inside, either_stand, stands_first, stands_second}

@@ -1,5 +1,4 @@
-use Rattle.std.proofs.Common.{length, arith, sym, subst, ap, ◌≤◌, ◌≡◌, ◌++◌, [], ◌∷◌, ◌∙◌, length-append}
-use Rattle.rd_ecl.specs.Specified.{method_predicates}
+use Rattle.std.proofs.Common.{length, arith, sym, subst, ap, ◌≤◌, [], ◌∷◌, length-append}
 use Rattle.rd_points.proofs.ColumnLemmas.{listed_here, predicates_long, predicates_read}
 use Rattle.rd_points.proofs.PartLemmas.{parts_more, stands_pair}
 use Rattle.rd_points.proofs.parts.part_row.Goals as goal

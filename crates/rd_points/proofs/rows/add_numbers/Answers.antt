@@ -1,4 +1,4 @@
-use Rattle.std.proofs.Common.{◌≡◌, ◌++◌, [], ◌∷◌, cond, Some, None, sym, ap, ◌∙◌, OnOk, subst}
+use Rattle.std.proofs.Common.{◌≡◌, ◌++◌, [], ◌∷◌, cond, sym, ap, ◌∙◌, OnOk, subst}
 use Rattle.std.proofs.lemmas.List.{append-nil}
 use Rattle.rd_points.specs.Blocks.{Column, numbers_in}
 use Rattle.rd_points.proofs.SlotLemmas.{apart, plain_alone}
