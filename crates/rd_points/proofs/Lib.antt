@@ -9,3 +9,4 @@ pub mod PointLemmas
 pub mod RowLemmas
 pub mod SlotLemmas
 pub mod TableLemmas
+pub mod ValuationLemmas

@@ -1,5 +1,5 @@
 //! Tables of access points: what a detector asks.
-ghost use Rattle.std.specs.Prelude.{◌≡◌, ◌+◌, ◌*◌, ◌^◌, ◌<◌, ◌≤◌, All, length, [], ◌++◌, map, filter_map, slice_index_or, vec_len, Option, None};
+ghost use Rattle.std.specs.Prelude.{◌≡◌, ◌+◌, ◌*◌, ◌^◌, ◌<◌, ◌≤◌, All, length, [], ◌++◌, map, filter_map, slice_index_or, vec_len, Option, None, if◌then◌else◌};
 ghost use Rattle.std.specs.Option.{option_map_or, option_to_list};
 ghost use Rattle.rd_base.specs.declared.limits.TheConstants.{MOST_PREDICATES};
 ghost use Rattle.rd_points.specs.Classes.{bits_of};
@@ -41,21 +41,26 @@ impl Model for Table {
         × (length t.conflicts.items < 2 ^ 32) };
 }
 
+// The bit of a truth value.
+fn bit(value: bool) -> u8
+    ensures { result ≡ (if value then 1 else 0) }
+{
+    u8::from(value)
+}
+
 // The truth values of a method's predicates in a call with these slots.
 fn valuation(predicates: &[Predicate], slots: &[Value]) -> Valuation
     requires { length predicates.now ≤ MOST_PREDICATES }
     ensures bits { result.bits ≡ bits_of predicates.now slots.now }
     ensures bound { result.bits < 2 ^ length predicates.now }
 {
-    match predicates {
-        [] => Valuation { bits: 0 },
-        [first, others @ ..] => {
-            let rest = valuation(others, slots);
-            Valuation {
-                bits: u8::from(first.holds(slots)) + 2 * rest.bits,
-            }
-        }
+    let mut bits = 0;
+    let mut place = predicates.len();
+    while place > 0 {
+        place -= 1;
+        bits = bit(predicates[place].holds(slots)) + 2 * bits;
     }
+    Valuation { bits }
 }
 
 // A touch by the new number of its class, if that has one.
