@@ -20,16 +20,16 @@ use Rattle.rd_hb.specs.Tracker.{IsNextEvent, IsStamp, TrackerStandsFor, Tracking
 use Rattle.rd_detect.proofs.CellLemmas.{stands_quiet, stands_unbegun}
 use Rattle.rd_rules.proofs.EventsLemmas.{all_roots, events_more, no_events, roots_more, threads_more, told_formed, told_more}
 use Rattle.rd_races.proofs.RaceLemmas.{not_reported}
-use Rattle.rd_check_command.proofs.ReportLemmas.{answer_text, event_numbers_more, events_all, next_races_is, next_text_is, passing, quiet_events, quiet_numbers, quiet_races, quiet_texts, races_more, races_within, texts_more}
+use Rattle.rd_check_command.proofs.ReportLemmas.{answer_text, event_numbers_more, events_all, next_races_is, next_text_is, numbers_counted, passing, quiet_events, quiet_numbers, quiet_races, quiet_texts, races_more, races_within, texts_more}
 use Rattle.rd_walk.proofs.WalkLemmas.{items_more}
-use Rattle.rd_check_command.specs.Checking.{AreNamed, Checks, IsNextEventLine, IsNextLine, CheckLeads, Tracks, next_races, next_text}
+use Rattle.rd_check_command.specs.Checking.{AreNamed, Checks, IsKnownOf, IsNextEventLine, IsNextLine, IsToldAmong, IsToldOf, CheckLeads, Tracks, next_races, next_text}
 use Rattle.std.specs.Prelude.{max, min}
 use Rattle.rd_races.specs.Commuting.{Commute, calls_commute}
-use Rattle.rd_detect.specs.Detect.{IsAnswer, IsNextCall, DetectorStandsFor, detection_bound, tables_of}
+use Rattle.rd_detect.specs.Detect.{IsAnswer, IsNextCall, IsWitness, DetectorStandsFor, detection_bound, tables_of}
 use Rattle.rd_report.specs.Races.{IsFailedRace, IsNamed}
 use Rattle.rd_report.specs.Texts.{Naming, naming}
 use Rattle.rd_store.specs.declared.Race.{Race}
-use Rattle.rd_check_command.proofs.NamingLemmas.{all_named}
+use Rattle.rd_check_command.proofs.NamingLemmas.{all_named, known_witness, of_witness, told_among}
 use Rattle.rd_rules.specs.Events.{AreTold, event_of, events_of, root_count, roots_of}
 use Rattle.rd_walk.specs.Analysis.{IsNextEntry}
 use Rattle.rd_ecl.specs.Kinds.{Kind, kinds_of}
@@ -291,6 +291,15 @@ module _ (start now : Check) (tracker : Tracking) (before : List Entry) (entry :
       (subst (λ numbers. DetectorStandsFor spec now.detector (roots_of (items (before ++ entry ∷ []))) numbers []) (sym no_number)
       (stands_unbegun spec now.detector (roots_of (items before)) (roots_of (items (before ++ entry ∷ []))) formed was))
 
+  abbrev Told : Naming → List ℕ → List Numbered → Type 0
+  Told names numbers es = IsToldAmong start.form spec names numbers es now.told now.told_place
+
+  -- what is told of a call stays, whatever events the line brings
+  told_now : (more : List ℕ) (fs : List Numbered) → Told (naming (items (before ++ entry ∷ []))) (event_numbers before ++ more) (earlier ++ fs)
+  told_now more fs =
+      subst (λ lines. Told (naming lines) (event_numbers before ++ more) (earlier ++ fs)) (sym (items_more before entry))
+      (told_among spec (items before) checks.tracks.told entry.item (event_numbers before) more fs (numbers_counted spec before) start.form now.told now.told_place checks.told)
+
   checks_no_event : is_event entry.item ≡ false → Detects (roots_of (items (before ++ entry ∷ []))) → Checks start (before ++ entry ∷ []) new
   checks_no_event quiet detects = record {
     starts = checks.starts;
@@ -301,6 +310,9 @@ module _ (start now : Check) (tracker : Tracking) (before : List Entry) (entry :
     detects = subst (λ (T : Type 0). T)
         (λ i. DetectorStandsFor spec now.detector (roots_of (items (before ++ entry ∷ []))) (sym (quiet_numbers spec before entry quiet) i) (sym (quiet_events spec before entry quiet) i)) detects;
     races = checks.races ∙ sym (quiet_races spec before entry quiet);
+    told = subst (λ (T : Type 0). T)
+        (λ i. Told (naming (items (before ++ entry ∷ []))) ((append-nil (event_numbers before) ∙ sym (quiet_numbers spec before entry quiet)) i)
+        ((append-nil earlier ∙ sym (quiet_events spec before entry quiet)) i)) (told_now [] []);
   }
 
   checks_other_event : (event : LineEvent) → entry.item ≡ Event event → ((call : CallOf) → numbered_event kinds (items before) event ≢ numbered.Call call)
@@ -320,6 +332,9 @@ module _ (start now : Check) (tracker : Tracking) (before : List Entry) (entry :
             (λ i. DetectorStandsFor spec now.detector (roots_of (items (before ++ entry ∷ []))) (sym (event_numbers_more spec before entry event is) i) (sym (events_all spec before entry event is) i))
             (stands_quiet spec now.detector (roots_of (items (before ++ entry ∷ []))) (event_numbers before) earlier entry.number e other formed (unrooted (ap is_root is)));
         races = checks.races ∙ sym (races_more spec before entry event is ∙ ap (λ o. races_of spec before + cond (is_some o) 1 0) none ∙ omega arith);
+        told = subst (λ (T : Type 0). T)
+            (λ i. Told (naming (items (before ++ entry ∷ []))) (sym (event_numbers_more spec before entry event is) i) (sym (events_all spec before entry event is) i))
+            (told_now (entry.number ∷ []) (e ∷ []));
       }
 
   -- what is kept, where the line is no call
@@ -468,11 +483,37 @@ module _ (start now : Check) (before : List Entry) (entry : Entry) (e : Numbered
       (subst (λ tables. after ≤ middle + detection_bound tables (length tracker.threads) call) checks.detects.tables_are detect)) in
       omega (arith, track, detected, event_cost known now.tracker (items before) entry.item e ready.next)
 
+  -- what is told of a call among the events with this one
+  abbrev Told : List ℕ → Option ℕ → Type 0
+  Told told place = IsToldAmong start.form asked names (event_numbers before ++ entry.number ∷ []) (es ++ numbered.Call call ∷ []) told place
+
+  -- it stays so
+  pub told_call : Told now.told now.told_place
+  told_call =
+      subst (λ n. IsToldAmong start.form asked n (event_numbers before ++ entry.number ∷ []) (es ++ numbered.Call call ∷ []) now.told now.told_place) (sym ready.naming_is)
+      (told_among asked (items before) checks.tracks.told entry.item (event_numbers before) (entry.number ∷ []) (numbered.Call call ∷ []) (numbers_counted asked before) start.form now.told now.told_place checks.told)
+
+  -- what is known of the earlier call of a race that the detector answers
+  pub known_call : (race : Race) → IsAnswer asked (event_numbers before ++ entry.number ∷ []) (es ++ numbered.Call call ∷ []) place (Some race)
+      → IsKnownOf start.form asked names race.earlier.value now.told now.told_place
+  known_call race (i, latest, is) =
+      let all : List ℕ = event_numbers before ++ entry.number ∷ [] in
+      let with_call : List Numbered = es ++ numbered.Call call ∷ [] in
+      known_witness start.form asked names all with_call race.earlier.value (subst (IsWitness all with_call) (sym is.is.earlier_is) is.at_i) now.told now.told_place told_call
+
+  -- and what is told of the later one is told of a call among the events
+  pub told_later : (race : Race) → IsAnswer asked (event_numbers before ++ entry.number ∷ []) (es ++ numbered.Call call ∷ []) place (Some race)
+      → (told : List ℕ) (told_place : Option ℕ) → IsToldOf start.form asked names race.later.value told told_place → Told told told_place
+  told_later race (i, latest, is) told told_place of =
+      let all : List ℕ = event_numbers before ++ entry.number ∷ [] in
+      let with_call : List Numbered = es ++ numbered.Call call ∷ [] in
+      of_witness start.form asked names all with_call race.later.value (subst (IsWitness all with_call) (sym is.is.later_is) is.at_j) told told_place of
+
   -- what is kept, and what is written
   pub checks_call : (new : Check) → new.form ≡ now.form → new.spec.now ≡ now.spec.now → new.formulas ≡ now.formulas → Tracks known new.tracker (items before ++ entry.item ∷ [])
       → DetectorStandsFor asked new.detector (roots_of (items before)) (event_numbers before ++ entry.number ∷ []) (es ++ numbered.Call call ∷ [])
-      → new.races ≡ now.races + next_races asked es (numbered.Call call) → Checks start (before ++ entry ∷ []) new
-  checks_call new one_form one_spec one_formulas tracks detects races =
+      → new.races ≡ now.races + next_races asked es (numbered.Call call) → Told new.told new.told_place → Checks start (before ++ entry ∷ []) new
+  checks_call new one_form one_spec one_formulas tracks detects races told =
       let (event, is, same) = event_is in
       let roots_now : root_count (items (before ++ entry ∷ [])) ≡ root_count (items before) = ap root_count (items_more before entry) ∙ same_roots_then in record {
         starts = checks.starts;
@@ -484,6 +525,9 @@ module _ (start now : Check) (before : List Entry) (entry : Entry) (e : Numbered
             (λ i. DetectorStandsFor asked new.detector (λ t. ltb t (sym roots_now i)) (sym (event_numbers_more asked before entry event is) i)
             ((ap (λ e. es ++ e ∷ []) same ∙ sym (events_all asked before entry event is)) i)) detects;
         races = races ∙ ap (λ n. n + next_races asked es (numbered.Call call)) checks.races ∙ ap (λ e. races_of asked before + next_races asked es e) same ∙ sym (races_more asked before entry event is);
+        told = subst (λ (T : Type 0). T)
+            (λ i. IsToldAmong start.form asked ((ready.naming_is ∙ ap naming (sym (items_more before entry))) i) (sym (event_numbers_more asked before entry event is) i)
+            ((ap (λ e. es ++ e ∷ []) same ∙ sym (events_all asked before entry event is)) i) new.told new.told_place) told;
       }
 
   pub texts_call : race_texts start.form asked (before ++ entry ∷ []) ≡ race_texts start.form asked before ++ next_text start.form asked names (event_numbers before) entry.number es (numbered.Call call)

@@ -8,5 +8,6 @@ pub mod OutcomeLemmas
 pub mod QuietLemmas
 pub mod ReportLemmas
 pub mod RunLemmas
+pub mod TellingLemmas
 pub mod VerdictLemmas
 pub mod WholeLemmas

@@ -1,10 +1,10 @@
 -- The text of a race stays as it is when lines come behind, since its calls have names then.
-use Rattle.std.proofs.Common.{◌≡◌, ℕ, suc, ◌+◌, ◌<◌, ◌≤◌, ◌==◌, Bool, cond, List, [], ◌∷◌, ◌++◌, length, Option, Some, None, refl, sym, ap, ◌∙◌, arith}
+use Rattle.std.proofs.Common.{◌≡◌, ℕ, suc, ◌+◌, ◌<◌, ◌≤◌, ◌==◌, Bool, cond, List, [], ◌∷◌, ◌++◌, length, Option, Some, None, refl, sym, ap, subst, ◌∙◌, arith}
 use Rattle.std.specs.Prelude.{codes, decimal, slice_get, unwrap_or}
 use Rattle.std.specs.List.{cons_option}
 use Rattle.std.proofs.lemmas.Bool.Decides.{Decides-and, Decides-eqb}
 use Rattle.std.proofs.lemmas.List.Elements.{filter_map-append}
-use Rattle.std.proofs.lemmas.Option.{slice_get_within, unwrap_or-slice_get}
+use Rattle.std.proofs.lemmas.Option.{none-some, same_Some, slice_get_within, unwrap_or-slice_get}
 use Rattle.rd_clock.specs.Clock.{component}
 use Rattle.rd_detect.specs.Detect.{IsWitness}
 use Rattle.rd_detect.proofs.AskLemmas.{IsOfKind, call_fits, of_kind}
@@ -24,17 +24,17 @@ use Rattle.rd_order.specs.Order.{call_in, thread_of}
 use Rattle.rd_order.proofs.CountsLemmas.{counts_none}
 use Rattle.rd_order.proofs.EventListLemmas.{counted_once, known_later, may_follow_at}
 use Rattle.rd_order.proofs.OrderLemmas.{at_front}
-use Rattle.rd_json.specs.Forms.{race_in}
+use Rattle.rd_json.specs.Forms.{race_in, told_in}
 use Rattle.rd_json.specs.Json.{failed_words, race_json, string_json, told_json}
 use Rattle.rd_json.specs.declared.forms.Form.{Form}
 use Rattle.rd_json.specs.declared.forms.Form.TheVariants.{Text, Json, EndingOnly}
 use Rattle.rd_report.specs.Races.{Told, clock_text, counts_from, failed_line, race_text, told_by, told_text, with_commas}
-use Rattle.rd_report.specs.Texts.{name_of, naming}
+use Rattle.rd_report.specs.Texts.{Naming, name_of, naming}
 use Rattle.rd_store.specs.declared.Witness.{Witness}
 use Rattle.rd_rules.specs.Events.{AreTold, events_of, roots_of}
 use Rattle.rd_rules.specs.MayFollow.{begun_name, declared_name, object_kinds, objects_of, threads_of}
 use Rattle.rd_rules.proofs.EventsLemmas.{kinds_placed}
-use Rattle.rd_check_command.specs.Checking.{AreNamed}
+use Rattle.rd_check_command.specs.Checking.{AreNamed, IsKnownOf, IsToldAmong, IsToldAt, IsToldOf}
 use Rattle.rd_check_command.specs.Checked.{calls_text, number_at, race_at, told_at}
 
 -- ---- names
@@ -109,6 +109,29 @@ witness_told numbers es witness is =
       call = witness.call;
       clock = λ t. clock_same es witness.place t (component witness.stamp.clock t) (clock_at es witness.place t) (is.stamp.clock t) (clock_at_is es witness.place t) i;
     }
+
+module _ (form : Form) (kinds : List SpecifiedKind) (names : Naming) (numbers : List ℕ) (es : List Event) (witness : Witness)
+    (is : IsWitness numbers es witness) (told : List ℕ) where
+  -- what was told of a witness was told of a call among the events
+  pub of_witness : (place : Option ℕ) → IsToldOf form kinds names witness told place → IsToldAmong form kinds names numbers es told place
+  of_witness None of = tt
+  of_witness (Some place) of =
+      let at = sym of.0 in
+      subst (IsToldAt form kinds names numbers es told) at (record {
+        call = witness.call;
+        at = is.call;
+        told_is = of.1 ∙ ap (told_in form kinds names) (witness_told numbers es witness is);
+      })
+
+  -- where it was told of the call at the place of a witness, it is what a race tells of the witness
+  pub known_witness : (place : Option ℕ) → IsToldAmong form kinds names numbers es told place → IsKnownOf form kinds names witness told place
+  known_witness None among same = absurd (none-some witness.place same)
+  known_witness (Some place) among same =
+      let there : IsToldAt form kinds names numbers es told witness.place = subst (IsToldAt form kinds names numbers es told) (same_Some place witness.place same) among in
+      let one : Some (Call there.call) ≡ Some (Call witness.call) = sym there.at ∙ is.call in
+      let call : there.call ≡ witness.call = cc in
+      there.told_is ∙ ap (λ call. told_in form kinds names (told_at numbers es witness.place call)) call
+      ∙ ap (told_in form kinds names) (sym (witness_told numbers es witness is))
 
 -- ---- lines behind
 
@@ -188,6 +211,22 @@ module _ (kinds : List SpecifiedKind) (lines : List Line) (told : AreTold (kinds
       (λ i. told_json kinds (more_names i) (same i))
       ∙ json_longer kinds (threads_of lines) (cons_option (begun_name line) []) (objects_of lines) (cons_option (declared_name line) []) (told_at numbers old j call)
       named.thread named.object (clock_named kinds lines told j)
+
+  in_same : (form : Form) (j : ℕ) (call : CallOf) → slice_get old j ≡ Some (Call call)
+      → told_in form kinds (naming (lines ++ line ∷ [])) (told_at (numbers ++ more) (old ++ fs) j call) ≡ told_in form kinds (naming lines) (told_at numbers old j call)
+  in_same Text j call at = ap (λ text. codes "race line " ++ text) (text_same j call at)
+  in_same Json j call at = json_same j call at
+  in_same EndingOnly j call at = refl
+
+  -- what was told of a call stays what a race tells of it
+  pub told_among : (form : Form) (told : List ℕ) (place : Option ℕ) → IsToldAmong form kinds (naming lines) numbers old told place
+      → IsToldAmong form kinds (naming (lines ++ line ∷ [])) (numbers ++ more) (old ++ fs) told place
+  told_among form told None is = tt
+  told_among form told (Some place) is = record {
+    call = is.call;
+    at = at_front old fs place (slice_get_within old place (Call is.call) is.at) ∙ is.at;
+    told_is = is.told_is ∙ sym (in_same form place is.call is.at);
+  }
 
   race_same : (form : Form) (j i : ℕ) (b a : CallOf) → slice_get old j ≡ Some (Call b) → slice_get old i ≡ Some (Call a)
       → race_in form kinds (naming (lines ++ line ∷ [])) (told_at (numbers ++ more) (old ++ fs) j b) (told_at (numbers ++ more) (old ++ fs) i a)

@@ -1,5 +1,5 @@
 -- What `check` keeps of the accepted lines.
-use Rattle.std.specs.Prelude.{◌≡◌, ◌≤◌, ℕ, Bool, List, [], ◌∷◌, ◌++◌, length, is_some, slice_get, Some, if◌then◌else◌}
+use Rattle.std.specs.Prelude.{◌≡◌, ◌≤◌, ℕ, Bool, List, [], ◌∷◌, ◌++◌, length, is_some, slice_get, Option, Some, None, if◌then◌else◌}
 use Rattle.rd_base.specs.Limits.{AreUsable}
 use Rattle.rd_base.specs.declared.limits.Limits.{Limits}
 use Rattle.rd_event.specs.declared.events.Call.{Call}
@@ -12,13 +12,15 @@ use Rattle.rd_detect.specs.Detect.{DetectorStandsFor}
 use Rattle.rd_races.specs.RaceTests.{latest_of}
 use Rattle.rd_ecl.specs.Kinds.{Kind, kinds_of}
 use Rattle.rd_ecl.specs.Specified.{SpecifiedKind}
+use Rattle.rd_json.specs.Forms.{told_in}
 use Rattle.rd_json.specs.declared.forms.Form.{Form}
 use Rattle.rd_order.specs.EventLists.{WellFormedWith}
-use Rattle.rd_report.specs.Races.{IsNamed}
+use Rattle.rd_report.specs.Races.{IsNamed, told_by}
 use Rattle.rd_report.specs.Texts.{Naming, naming}
 use Rattle.rd_rules.specs.Events.{AreTold, events_of, roots_of}
 use Rattle.rd_rules.specs.MayFollow.{MayFollow, accepted_of, threads_of}
-use Rattle.rd_check_command.specs.Checked.{entry_events, event_numbers, race_at, races_of, text_with}
+use Rattle.rd_check_command.specs.Checked.{entry_events, event_numbers, race_at, races_of, text_with, told_at}
+use Rattle.rd_store.specs.declared.Witness.{Witness}
 use Rattle.rd_walk.specs.Walk.{Entry, items}
 use Rattle.rd_check_command.specs.declared.checking.Check.{Check}
 use Rattle.rd_rules.specs.declared.causes.Accepted.{Accepted}
@@ -39,23 +41,49 @@ pub record IsNextLine (kinds : List Kind) (tracker : Tracking) (before : List Li
   pub few : length (threads_of (before ++ line ∷ [])) ≤ 4294967295
   pub told_as : numbers ≡ accepted_of kinds before line
 
+-- ---- what was told of a call
+
+-- what a race told of a call as its later one, in this form, where a place is named: that of the call
+abbrev pub IsToldOf : Form → List SpecifiedKind → Naming → Witness → List ℕ → Option ℕ → Type 0
+IsToldOf form kinds names witness told None = Unit {0}
+IsToldOf form kinds names witness told (Some place) = (place ≡ witness.place) × (told ≡ told_in form kinds names (told_by witness))
+
+-- where the place that is named is that of the call, it is what a race told of the call
+abbrev pub IsKnownOf : Form → List SpecifiedKind → Naming → Witness → List ℕ → Option ℕ → Type 0
+IsKnownOf form kinds names witness told place = place ≡ Some witness.place → told ≡ told_in form kinds names (told_by witness)
+
+-- a call stands at the place among these events, and it is what a race tells of it as its later one
+pub record IsToldAt (form : Form) (kinds : List SpecifiedKind) (names : Naming) (numbers : List ℕ) (es : List Event) (told : List ℕ) (place : ℕ) : Type 0 where
+  pub call : Call
+  pub at : slice_get es place ≡ Some (event.Call call)
+  pub told_is : told ≡ told_in form kinds names (told_at numbers es place call)
+
+-- so it is where a place is named
+abbrev pub IsToldAmong : Form → List SpecifiedKind → Naming → List ℕ → List Event → List ℕ → Option ℕ → Type 0
+IsToldAmong form kinds names numbers es told None = Unit {0}
+IsToldAmong form kinds names numbers es told (Some place) = IsToldAt form kinds names numbers es told place
+
+-- ---- the state
+
 -- it has taken no line, and its detector is one of no call for the kinds of its specification
 pub record IsNew (start : Check) : Type 0 where
   pub no_event : start.tracker ≡ record { threads = []; locks = record { releases = []; unshares = [] } }
   pub no_call : (roots : ℕ → Bool) → WellFormedWith (kinds_of start.spec.now) roots [] → DetectorStandsFor start.spec.now start.detector roots [] []
   pub no_race : start.races ≡ 0
-  pub formulas : start.formulas ≡ start.spec.now
+  pub formulas : start.formulas ≡ record { form = start.form; kinds = start.spec.now }
+  pub none_told : start.told_place ≡ None
 
 -- from a new one on, the tracker and the detector stand for the events of these accepted lines, whose objects are of the kinds of its
--- specification, and the calls that are reported among them are counted
+-- specification, the calls that are reported among them are counted, and what it keeps of the last of them is what a race tells of it
 pub record Checks (start : Check) (entries : List Entry) (now : Check) : Type 0 where
   pub starts : IsNew start
   pub form : now.form ≡ start.form
   pub spec : now.spec.now ≡ start.spec.now
-  pub formulas : now.formulas ≡ start.spec.now
+  pub formulas : now.formulas ≡ record { form = start.form; kinds = start.spec.now }
   pub tracks : Tracks (kinds_of start.spec.now) now.tracker (items entries)
   pub detects : DetectorStandsFor start.spec.now now.detector (roots_of (items entries)) (event_numbers entries) (entry_events start.spec.now entries)
   pub races : now.races ≡ races_of start.spec.now entries
+  pub told : IsToldAmong start.form start.spec.now (naming (items entries)) (event_numbers entries) (entry_events start.spec.now entries) now.told now.told_place
 
 -- so it is where the kinds are these
 pub record CheckLeads (kinds : List Kind) (start : Check) (entries : List Entry) (now : Check) : Type 0 where

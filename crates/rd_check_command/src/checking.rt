@@ -1,5 +1,7 @@
 //! Reporting races: what `check` does with each accepted line beside the replay.
-ghost use Rattle.std.specs.Prelude.{◌≡◌, ◌+◌, ◌≤◌, List, ◌∷◌, [], ◌++◌};
+ghost use Rattle.std.specs.Prelude.{◌≡◌, ◌+◌, ◌≤◌, List, ◌∷◌, [], ◌++◌, OnOk, OnErr};
+ghost use Rattle.rd_io.specs.Sinks.{Appends};
+ghost use Rattle.rd_walk.specs.Analysis.{TellsFault, WritesFront};
 
 use rd_base::{Bytes, NoMemory, Steps};
 use rd_detect::Detector;
@@ -7,10 +9,10 @@ use rd_ecl::Spec;
 use rd_event::{Call, Event};
 use rd_hb::Tracker;
 use rd_io::Sink;
-use rd_json::{Form, append_race};
-use rd_report::{Formulas, RaceEnds, formula_line};
-use rd_store::Race;
-use rd_walk::{Analysis, Halt, write_three};
+use rd_json::{Form, Formulas, tell_object};
+use rd_report::tell_lines;
+use rd_store::{Race, Witness};
+use rd_walk::{Analysis, Halt, write_line};
 use rd_wf::{Accepted, Roster};
 use std::alloc::Global;
 use std::sync::ledger::Ledger;
@@ -23,28 +25,54 @@ pub struct Check<'a> {
     pub(crate) form: Form,
     /// the kinds of the objects
     spec: &'a Spec,
-    /// the lines of the formulas that races failed
+    /// the formulas that races failed
     formulas: Formulas<'a>,
-    /// the text of the last race, kept for its memory
+    /// what the last race told of its later call: as text its first line, as JSON what stands in the object
+    told: Bytes,
+    /// the place of that call, where a race was told
+    told_place: Option<u32>,
+    /// another text of the last race, kept for its memory: as text the second line, as JSON the line
     text: Bytes,
+    /// memory for strings
+    memory: Bytes,
     tracker: Tracker,
     detector: Detector,
     pub(crate) races: u64,
 }
 
+// Writes the three lines of a race, each by itself. Nothing is written behind one that could not be.
+fn write_race<S: Sink>(
+    out: &mut S,
+    later: &[u8],
+    earlier: &[u8],
+    formula: &[u8],
+) -> Result<(), Halt>
+    ensures ok { OnOk result (Appends (S.written out.old) (S.written out.new)
+        (later.now ++ earlier.now ++ formula.now)) }
+    ensures front { OnErr result (WritesFront (S.written out.old) (S.written out.new) []
+        (later.now ++ earlier.now ++ formula.now)) }
+    ensures fault { TellsFault (S.faults out.old) (S.faults out.new) (S.at_fault out.new)
+        (S.written out.new) result }
+{
+    write_line(out, later)?;
+    write_line(out, earlier)?;
+    write_line(out, formula)
+}
+
 impl<'a> Check<'a> {
-    ghost use Rattle.std.specs.Prelude.{◌≡◌, ◌+◌, ◌<◌, ◌≤◌, ◌^◌, ℕ, Bool, List, ◌∷◌, [], ◌++◌, Option, is_some, if◌then◌else◌, length, IfOk, IfErr, OnOk, OnErr};
+    ghost use Rattle.std.specs.Prelude.{◌≡◌, ◌+◌, ◌<◌, ◌≤◌, ◌^◌, ℕ, Bool, List, ◌∷◌, [], ◌++◌, Option, is_some, if◌then◌else◌, length, IfOk, IfErr, IsTrue, OnOk, OnErr};
     ghost use Rattle.rd_io.specs.Sinks.{Appends};
     ghost use Rattle.rd_event.specs.declared.events.Event.{Event as EventOf};
     ghost use Rattle.rd_event.specs.declared.events.Event.TheVariants as event;
     ghost use Rattle.rd_event.specs.declared.items.Line.{Line as LineOf};
     ghost use Rattle.rd_detect.specs.Detect.{IsAnswer, IsNextCall, DetectorStandsFor, detection_bound};
     ghost use Rattle.rd_hb.specs.Tracker.{last_stamp};
-    ghost use Rattle.rd_report.specs.Races.{IsFailedRace, told_by};
-    ghost use Rattle.rd_json.specs.Forms.{EndLinesIn, race_in};
+    ghost use Rattle.rd_report.specs.Races.{IsFailedRace, earlier_line, later_line, race_text, told_by};
+    ghost use Rattle.rd_json.specs.Forms.{race_in};
+    ghost use Rattle.rd_json.specs.Json.{race_json, race_object, told_json};
     ghost use Rattle.rd_report.specs.Texts.{naming_in};
     ghost use Rattle.rd_walk.specs.Analysis.{TellsFault, WritesBetween, WritesFront};
-    ghost use Rattle.rd_check_command.specs.Checking.{Checks, IsNew, IsNextEventLine, IsNextLine};
+    ghost use Rattle.rd_check_command.specs.Checking.{Checks, IsKnownOf, IsNew, IsNextEventLine, IsNextLine, IsToldOf};
     ghost use Rattle.rd_check_command.specs.Checked.{check_bound, race_texts};
     ghost use Rattle.rd_walk.specs.Walk.{Entry, items};
     ghost use Rattle.rd_ecl.specs.Kinds.{kinds_of};
@@ -61,8 +89,11 @@ impl<'a> Check<'a> {
             alloc,
             form,
             spec,
-            formulas: Formulas::new(alloc, spec),
+            formulas: Formulas::new(alloc, form, spec),
+            told: Bytes::new(alloc),
+            told_place: None,
             text: Bytes::new(alloc),
+            memory: Bytes::new(alloc),
             tracker: Tracker::new(alloc),
             detector,
             races: 0,
@@ -88,6 +119,8 @@ impl<'a> Check<'a> {
         ensures same { (self.new.form ≡ self.old.form) × (self.new.spec.now ≡ self.old.spec.now)
             × (self.new.tracker ≡ self.old.tracker)
             × (self.new.formulas ≡ self.old.formulas) }
+        ensures told { (self.new.told ≡ self.old.told)
+            × (self.new.told_place ≡ self.old.told_place) }
         ensures answer { IfOk result (λ answer. (kinds : List SpecifiedKind) (roots : ℕ → Bool) (numbers : List ℕ) (es : List EventOf)
             → IsNextCall kinds self.old.detector self.old.tracker roots numbers es place call.now (last_stamp self.old.tracker.threads call.now.thread)
             → IsAnswer kinds (numbers ++ line ∷ []) (es ++ event.Call call.now ∷ []) place answer) }
@@ -110,58 +143,166 @@ impl<'a> Check<'a> {
         Ok(answer)
     }
 
-    /// Makes the text that of a race, in the form of the report. The numbers in it are known to the specification and the roster, and its kind
-    /// and its methods are those of its calls.
-    fn set_text(&mut self, race: &Race, names: &Roster) -> Result<RaceEnds, NoMemory>
+    /// Did the last race tell of this call as its later one?
+    fn is_told(&self, call: &Witness) -> bool
+        ensures { IsTrue result → self.now.told_place ≡ Some call.now.place }
+    {
+        matches!(self.told_place, Some(place) if place == call.place)
+    }
+
+    /// Makes the two texts the first two lines of a race.
+    fn tell_lines(&mut self, race: &Race, names: &Roster) -> Result<(), NoMemory>
         requires failed { IsFailedRace self.old.spec.now (naming_in names.now) race.now }
-        requires formulas { self.old.formulas ≡ self.old.spec.now }
+        requires told { IsKnownOf Form.Text self.old.spec.now (naming_in names.now)
+            race.now.earlier.value self.old.told self.old.told_place }
         ensures same { (self.new.form ≡ self.old.form) × (self.new.spec.now ≡ self.old.spec.now)
             × (self.new.tracker ≡ self.old.tracker) × (self.new.detector ≡ self.old.detector)
             × (self.new.races ≡ self.old.races) × (self.new.formulas ≡ self.old.formulas) }
-        ensures text { OnOk result
-            (self.new.text ≡ race_in self.old.form self.old.spec.now (naming_in names.now)
-            (told_by race.now.later.value) (told_by race.now.earlier.value)) }
-        ensures ends { IfOk result
-            (λ ends. (ends.later ≤ ends.earlier) × (ends.earlier ≤ length self.new.text)) }
-        ensures lines { IfOk result (EndLinesIn self.old.form [] self.old.spec.now (naming_in names.now)
-            (told_by race.now.later.value) (told_by race.now.earlier.value)) }
+        ensures told { OnOk result (IsToldOf Form.Text self.old.spec.now (naming_in names.now)
+            race.now.later.value self.new.told self.new.told_place) }
+        ensures later { OnOk result (self.new.told
+            ≡ later_line self.old.spec.now (naming_in names.now) (told_by race.now.later.value)) }
+        ensures earlier { OnOk result (self.new.text
+            ≡ earlier_line self.old.spec.now (naming_in names.now) (told_by race.now.earlier.value)) }
     {
-        self.text.clear();
+        let known = self.is_told(&race.earlier);
+        tell_lines(
+            &mut self.told,
+            &mut self.text,
+            race,
+            known,
+            self.spec,
+            names,
+        )?;
+        self.told_place = Some(race.later.place);
+        Ok(())
+    }
+
+    /// Writes a race as text. The numbers in it are known to the specification and the roster, and its kind and its methods are those of its
+    /// calls.
+    fn report_lines<S: Sink>(
+        &mut self,
+        race: &Race,
+        names: &Roster,
+        out: &mut S,
+    ) -> Result<(), Halt>
+        requires failed { IsFailedRace self.old.spec.now (naming_in names.now) race.now }
+        requires formulas { self.old.formulas
+            ≡ record { form = Form.Text; kinds = self.old.spec.now } }
+        requires told { IsKnownOf Form.Text self.old.spec.now (naming_in names.now)
+            race.now.earlier.value self.old.told self.old.told_place }
+        ensures same { (self.new.form ≡ self.old.form) × (self.new.spec.now ≡ self.old.spec.now)
+            × (self.new.tracker ≡ self.old.tracker) × (self.new.detector ≡ self.old.detector)
+            × (self.new.races ≡ self.old.races) × (self.new.formulas ≡ self.old.formulas) }
+        ensures told { OnOk result (IsToldOf Form.Text self.old.spec.now (naming_in names.now)
+            race.now.later.value self.new.told self.new.told_place) }
+        ensures ok { OnOk result (Appends (S.written out.old) (S.written out.new)
+            (race_text self.old.spec.now (naming_in names.now) (told_by race.now.later.value)
+            (told_by race.now.earlier.value))) }
+        ensures front { OnErr result (WritesFront (S.written out.old) (S.written out.new) []
+            (race_text self.old.spec.now (naming_in names.now) (told_by race.now.later.value)
+            (told_by race.now.earlier.value))) }
+        ensures fault { TellsFault (S.faults out.old) (S.faults out.new) (S.at_fault out.new)
+            (S.written out.new) result }
+    {
+        self.tell_lines(race, names)?;
         if let Some(line) = self.formulas.find(race.kind, race.first, race.second) {
-            return append_race(
+            return write_race(out, self.told.items(), self.text.items(), line);
+        }
+        let line = self
+            .formulas
+            .make(self.alloc, race.kind, race.first, race.second)?;
+        write_race(out, self.told.items(), self.text.items(), line.items())
+    }
+
+    /// Makes the text the line of a race as JSON.
+    fn tell_object(&mut self, race: &Race, names: &Roster) -> Result<(), NoMemory>
+        requires failed { IsFailedRace self.old.spec.now (naming_in names.now) race.now }
+        requires formulas { self.old.formulas
+            ≡ record { form = Form.Json; kinds = self.old.spec.now } }
+        requires told { IsKnownOf Form.Json self.old.spec.now (naming_in names.now)
+            race.now.earlier.value self.old.told self.old.told_place }
+        ensures same { (self.new.form ≡ self.old.form) × (self.new.spec.now ≡ self.old.spec.now)
+            × (self.new.tracker ≡ self.old.tracker) × (self.new.detector ≡ self.old.detector)
+            × (self.new.races ≡ self.old.races) × (self.new.formulas ≡ self.old.formulas) }
+        ensures told { OnOk result (self.new.told
+            ≡ told_json self.old.spec.now (naming_in names.now) (told_by race.now.later.value)) }
+        ensures text { OnOk result (self.new.text
+            ≡ race_object self.old.spec.now (naming_in names.now) race.now) }
+    {
+        let known = self.is_told(&race.earlier);
+        if let Some(formula) = self.formulas.find(race.kind, race.first, race.second) {
+            return tell_object(
                 &mut self.text,
-                self.form,
-                self.alloc,
+                &mut self.told,
+                &mut self.memory,
                 race,
-                line,
+                known,
+                formula,
                 self.spec,
                 names,
             );
         }
-        let kind = &self.spec.kinds()[race.kind as usize];
-        let line = formula_line(self.alloc, kind, race.first, race.second)?;
-        let ends = append_race(
+        let formula = self
+            .formulas
+            .make(self.alloc, race.kind, race.first, race.second)?;
+        tell_object(
             &mut self.text,
-            self.form,
-            self.alloc,
+            &mut self.told,
+            &mut self.memory,
             race,
-            line.items(),
+            known,
+            formula.items(),
             self.spec,
             names,
-        )?;
-        self.formulas
-            .keep(race.kind, race.first, race.second, line)?;
-        Ok(ends)
+        )
+    }
+
+    /// Writes a race as JSON. The numbers in it are known to the specification and the roster, and its kind and its methods are those of its
+    /// calls.
+    fn report_object<S: Sink>(
+        &mut self,
+        race: &Race,
+        names: &Roster,
+        out: &mut S,
+    ) -> Result<(), Halt>
+        requires failed { IsFailedRace self.old.spec.now (naming_in names.now) race.now }
+        requires formulas { self.old.formulas
+            ≡ record { form = Form.Json; kinds = self.old.spec.now } }
+        requires told { IsKnownOf Form.Json self.old.spec.now (naming_in names.now)
+            race.now.earlier.value self.old.told self.old.told_place }
+        ensures same { (self.new.form ≡ self.old.form) × (self.new.spec.now ≡ self.old.spec.now)
+            × (self.new.tracker ≡ self.old.tracker) × (self.new.detector ≡ self.old.detector)
+            × (self.new.races ≡ self.old.races) × (self.new.formulas ≡ self.old.formulas) }
+        ensures told { OnOk result (IsToldOf Form.Json self.old.spec.now (naming_in names.now)
+            race.now.later.value self.new.told self.new.told_place) }
+        ensures ok { OnOk result (Appends (S.written out.old) (S.written out.new)
+            (race_json self.old.spec.now (naming_in names.now) (told_by race.now.later.value)
+            (told_by race.now.earlier.value))) }
+        ensures front { OnErr result (WritesFront (S.written out.old) (S.written out.new) []
+            (race_json self.old.spec.now (naming_in names.now) (told_by race.now.later.value)
+            (told_by race.now.earlier.value))) }
+        ensures fault { TellsFault (S.faults out.old) (S.faults out.new) (S.at_fault out.new)
+            (S.written out.new) result }
+    {
+        self.tell_object(race, names)?;
+        self.told_place = Some(race.later.place);
+        write_line(out, self.text.items())
     }
 
     /// Writes the text of a race, where the form has one. The numbers in it are known to the specification and the roster, and its kind and
     /// its methods are those of its calls.
     fn report<S: Sink>(&mut self, race: &Race, names: &Roster, out: &mut S) -> Result<(), Halt>
         requires failed { IsFailedRace self.old.spec.now (naming_in names.now) race.now }
-        requires formulas { self.old.formulas ≡ self.old.spec.now }
+        requires formulas { self.old.formulas
+            ≡ record { form = self.old.form; kinds = self.old.spec.now } }
+        requires told { IsKnownOf self.old.form self.old.spec.now (naming_in names.now)
+            race.now.earlier.value self.old.told self.old.told_place }
         ensures same { (self.new.form ≡ self.old.form) × (self.new.spec.now ≡ self.old.spec.now)
             × (self.new.tracker ≡ self.old.tracker) × (self.new.detector ≡ self.old.detector)
             × (self.new.races ≡ self.old.races) × (self.new.formulas ≡ self.old.formulas) }
+        ensures told { OnOk result (IsToldOf self.old.form self.old.spec.now (naming_in names.now)
+            race.now.later.value self.new.told self.new.told_place) }
         ensures ok { OnOk result (Appends (S.written out.old) (S.written out.new)
             (race_in self.old.form self.old.spec.now (naming_in names.now) (told_by race.now.later.value)
             (told_by race.now.earlier.value))) }
@@ -171,11 +312,14 @@ impl<'a> Check<'a> {
         ensures fault { TellsFault (S.faults out.old) (S.faults out.new) (S.at_fault out.new)
             (S.written out.new) result }
     {
-        if self.form == Form::EndingOnly {
-            return Ok(());
+        match self.form {
+            Form::Text => self.report_lines(race, names, out),
+            Form::Json => self.report_object(race, names, out),
+            Form::EndingOnly => {
+                self.told_place = None;
+                Ok(())
+            }
         }
-        let ends = self.set_text(race, names)?;
-        write_three(out, self.text.items(), ends.later, ends.earlier)
     }
 
     /// Hands the next root to the tracker.

@@ -4,11 +4,11 @@ use Rattle.rd_ecl.specs.Specified.{SpecifiedKind}
 use Rattle.rd_io.specs.Inputs.{fault_line}
 use Rattle.rd_reading.specs.RefusedTexts.{spec_refused_line}
 use Rattle.rd_reading.specs.declared.parsing.SpecRefused.{SpecRefused as Refusal}
-use Rattle.rd_report.specs.Races.{EndLines, Told, race_text}
+use Rattle.rd_report.specs.Races.{EndLines, Told, later_line, race_text}
 use Rattle.rd_report.specs.Texts.{Naming, ending_text}
 use Rattle.rd_report.specs.declared.endings.Ending.{Ending}
 use Rattle.rd_report.specs.declared.races.RaceEnds.{RaceEnds}
-use Rattle.rd_json.specs.Json.{alone_json, ending_json, race_json, spec_refused_json}
+use Rattle.rd_json.specs.Json.{alone_json, ending_json, race_json, spec_refused_json, told_json}
 use Rattle.rd_json.specs.declared.forms.Form.{Form}
 use Rattle.rd_json.specs.declared.forms.Form.TheVariants.{Text, Json, EndingOnly}
 
@@ -17,6 +17,12 @@ abbrev pub race_in : Form → List SpecifiedKind → Naming → Told → Told �
 race_in Text kinds naming later earlier = race_text kinds naming later earlier
 race_in Json kinds naming later earlier = race_json kinds naming later earlier
 race_in EndingOnly kinds naming later earlier = []
+
+-- what a race tells of its later call, which is copied where the next race is with that call: as text its line, as JSON what stands in the object
+abbrev pub told_in : Form → List SpecifiedKind → Naming → Told → List ℕ
+told_in Text kinds naming told = later_line kinds naming told
+told_in Json kinds naming told = told_json kinds naming told
+told_in EndingOnly kinds naming told = []
 
 -- in a text that begins with these bytes, the first two lines of a race end at these places: an object is one line, and where the ending
 -- alone is written there is none

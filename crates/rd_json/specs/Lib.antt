@@ -1,3 +1,4 @@
 pub mod Json
 pub mod Forms
 pub mod Values
+pub mod Formulas

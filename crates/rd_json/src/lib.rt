@@ -3,6 +3,7 @@
 
 mod endings;
 mod forms;
+mod formulas;
 mod objects;
 mod races;
 mod refusals;
@@ -11,5 +12,6 @@ mod values;
 
 pub use endings::ending_json;
 pub use forms::{Form, append_race, ending_in, fault_in, refused_in};
-pub use races::{append_race_json, race_json};
+pub use formulas::{Formulas, formula_in};
+pub use races::{append_race_json, race_json, tell_object};
 pub use refusals::spec_refused_json;

@@ -1,6 +1,5 @@
 pub mod Endings
 pub mod Texts
-pub mod Formulas
 pub mod Races
 pub mod States
 pub mod Writing

@@ -70,8 +70,9 @@ fn append_clock_with<L: Ledger>(
     Ok(())
 }
 
-// Puts a clock behind the text.
-pub(crate) fn append_clock(text: &mut Bytes, clock: &Clock, names: &Roster) -> Result<(), NoMemory>
+/// Puts a clock behind the text: `THREAD:N` for each thread of which it counts events, in the order of their numbers. Behind plain bytes all
+/// are plain. After want of memory the text may have a front of it.
+pub fn append_clock(text: &mut Bytes, clock: &Clock, names: &Roster) -> Result<(), NoMemory>
     ensures text { OnOk result
         (text.new ≡ text.old ++ clock_text (names_in names.now) (component clock.now)) }
     ensures plain { ArePlain text.old → OnOk result (ArePlain text.new) }

@@ -4,7 +4,6 @@
 mod cause_texts;
 mod clocks;
 mod endings;
-mod formula_lines;
 mod laws;
 mod numbers;
 mod races;
@@ -14,11 +13,12 @@ mod statuses;
 mod verdicts;
 
 pub use cause_texts::{ending_text, refused_text, refused_words};
-pub use clocks::clock_text;
+pub use clocks::{append_clock, clock_text};
 pub use endings::Ending;
-pub use formula_lines::Formulas;
 pub use laws::law_of_shipped_texts;
-pub use races::{RaceEnds, append_race, call_text, formula_line, race_text};
+pub use races::{
+    RaceEnds, append_named_call, append_race, call_text, formula_line, race_text, tell_lines,
+};
 pub use rd_wf::TraceCause;
 pub use replays::{append_replay, replay_text, replay_words};
 pub use states::append_state;

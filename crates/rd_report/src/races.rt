@@ -1,15 +1,13 @@
 //! The text of a race.
-ghost use Rattle.std.specs.Prelude.{◌≡◌, ◌≤◌, ◌<◌, ◌++◌, length, IfOk, OnOk};
-ghost use Rattle.rd_clock.specs.Clock.{component};
+ghost use Rattle.std.specs.Prelude.{◌≡◌, ◌≤◌, ◌<◌, ◌++◌, length, IfOk, IsTrue, OnOk};
 ghost use Rattle.rd_ecl.specs.Specified.{kind_at};
 ghost use Rattle.rd_print.specs.Printed.{name_at};
-ghost use Rattle.rd_report.specs.Races.{EndLines, IsKnownRace, IsNamed, formula_line, named_call, race_formula, race_lines, told_by, told_text};
+ghost use Rattle.rd_report.specs.Races.{EndLines, IsKnownRace, IsNamed, earlier_line, formula_line, later_line, named_call, race_formula, race_lines, told_by, told_text};
 ghost use Rattle.rd_report.specs.Texts.{naming_in};
 ghost use Rattle.rd_report.specs.Writing.{ArePlain};
 
 use crate::clocks::append_clock;
 use rd_base::{Bytes, MOST_NAME_BYTES, Name, NoMemory, append_number};
-use rd_clock::Clock;
 use rd_ecl::{KindSpec, Spec};
 use rd_event::{Call, append_call};
 use rd_print::formula_text;
@@ -48,8 +46,9 @@ fn method_name(spec: &Spec, kind: u32, method: u8) -> &Name
     &spec.kinds()[kind as usize].methods()[usize::from(method)].name
 }
 
-// Puts a call behind the text, as it stands in its line.
-fn append_named_call(
+/// Puts a call behind the text, as it stands in its line. The numbers in it are known to the specification and the roster. Its bytes are
+/// plain. After want of memory the text may have a front of it.
+pub fn append_named_call(
     text: &mut Bytes,
     call: &Call,
     spec: &Spec,
@@ -78,25 +77,103 @@ pub fn call_text(alloc: Global, call: &Call, spec: &Spec, names: &Roster) -> Res
     Ok(text)
 }
 
-// Puts behind the text what is told of a call that has this clock: the number of its line, the call and the clock.
+// Puts behind the text what is told of a call: the number of its line, the call and its clock.
 #[tactic(auto, unfolding(crate::specs::Races::told_text))]
 fn append_told(
     text: &mut Bytes,
     told: &Witness,
-    clock: &Clock,
     spec: &Spec,
     names: &Roster,
 ) -> Result<(), NoMemory>
     requires { IsNamed spec.now (naming_in names.now) told.now.call }
-    ensures { OnOk result (text.new ≡ text.old ++ told_text spec.now (naming_in names.now)
-        (record { line = told.now.line; call = told.now.call; clock = component clock.now })) }
+    ensures { OnOk result
+        (text.new ≡ text.old ++ told_text spec.now (naming_in names.now) (told_by told.now)) }
 {
     append_number(text, told.line)?;
     text.push(b' ')?;
     append_named_call(text, &told.call, spec, names)?;
     text.append(b" clock ")?;
-    append_clock(text, clock, names)?;
+    append_clock(text, &told.stamp.clock, names)?;
     text.push(b'\n')
+}
+
+// Puts the line of the later call of a race behind the text.
+fn append_later(
+    text: &mut Bytes,
+    later: &Witness,
+    spec: &Spec,
+    names: &Roster,
+) -> Result<(), NoMemory>
+    requires { IsNamed spec.now (naming_in names.now) later.now.call }
+    ensures { OnOk result
+        (text.new ≡ text.old ++ later_line spec.now (naming_in names.now) (told_by later.now)) }
+{
+    text.append(b"race line ")?;
+    append_told(text, later, spec, names)
+}
+
+// Puts the line of the earlier call of a race behind the text.
+fn append_earlier(
+    text: &mut Bytes,
+    earlier: &Witness,
+    spec: &Spec,
+    names: &Roster,
+) -> Result<(), NoMemory>
+    requires { IsNamed spec.now (naming_in names.now) earlier.now.call }
+    ensures { OnOk result
+        (text.new ≡ text.old ++ earlier_line spec.now (naming_in names.now) (told_by earlier.now)) }
+{
+    text.append(b"with line ")?;
+    append_told(text, earlier, spec, names)
+}
+
+// Puts the line of the earlier call of a race behind the text. Where this is known to be its line as the later call of another race, what
+// stands there is copied.
+fn append_known(
+    text: &mut Bytes,
+    earlier: &Witness,
+    known: bool,
+    line: &[u8],
+    spec: &Spec,
+    names: &Roster,
+) -> Result<(), NoMemory>
+    requires named { IsNamed spec.now (naming_in names.now) earlier.now.call }
+    requires known { IsTrue known →
+        line.now ≡ later_line spec.now (naming_in names.now) (told_by earlier.now) }
+    ensures { OnOk result
+        (text.new ≡ text.old ++ earlier_line spec.now (naming_in names.now) (told_by earlier.now)) }
+{
+    if !known {
+        return append_earlier(text, earlier, spec, names);
+    }
+    text.append(b"with line ")?;
+    text.append(&line[b"race line ".len()..])
+}
+
+/// Makes two texts the first two lines of a race, the later call's and the earlier one's. Where the first is known to be the line that another
+/// race told of the earlier call as its later one, what it tells is copied. The numbers in the calls are known to the specification and the
+/// roster. After want of memory the texts may have fronts of their lines.
+pub fn tell_lines(
+    later: &mut Bytes,
+    earlier: &mut Bytes,
+    race: &Race,
+    known: bool,
+    spec: &Spec,
+    names: &Roster,
+) -> Result<(), NoMemory>
+    requires named { IsNamed spec.now (naming_in names.now) race.now.later.value.call
+        × IsNamed spec.now (naming_in names.now) race.now.earlier.value.call }
+    requires known { IsTrue known →
+        later.old ≡ later_line spec.now (naming_in names.now) (told_by race.now.earlier.value) }
+    ensures later { OnOk result
+        (later.new ≡ later_line spec.now (naming_in names.now) (told_by race.now.later.value)) }
+    ensures earlier { OnOk result
+        (earlier.new ≡ earlier_line spec.now (naming_in names.now) (told_by race.now.earlier.value)) }
+{
+    earlier.clear();
+    append_known(earlier, &race.earlier, known, later.items(), spec, names)?;
+    later.clear();
+    append_later(later, &race.later, spec, names)
 }
 
 /// The most bytes of a part of a clock: a comma, a name, a colon and a number of 32 bits.
@@ -148,11 +225,9 @@ pub fn append_race(
     // room for all three lines at once
     let room = told_room(&race.later, names).saturating_add(told_room(&race.earlier, names));
     text.reserve(room.saturating_add(formula.len()))?;
-    text.append(b"race line ")?;
-    append_told(text, &race.later, &race.later.stamp.clock, spec, names)?;
+    append_later(text, &race.later, spec, names)?;
     let later = text.items().len();
-    text.append(b"with line ")?;
-    append_told(text, &race.earlier, &race.earlier.stamp.clock, spec, names)?;
+    append_earlier(text, &race.earlier, spec, names)?;
     let earlier = text.items().len();
     text.append(formula)?;
     Ok(RaceEnds { later, earlier })

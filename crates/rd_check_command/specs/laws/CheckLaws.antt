@@ -9,7 +9,8 @@ use Rattle.rd_order.specs.Order.{GivesBack, Hold, exclusive, shared}
 use Rattle.rd_rules.specs.Events.{events_of, roots_of}
 use Rattle.rd_ecl.specs.Kinds.{Kind, kinds_of}
 use Rattle.rd_rules.specs.laws.NoLines.{told_none}
-use Rattle.rd_check_command.specs.Checking.{CheckBegins, CheckLeads, Tracks}
+use Rattle.rd_report.specs.Texts.{naming}
+use Rattle.rd_check_command.specs.Checking.{CheckBegins, CheckLeads, IsToldAmong, Tracks}
 use Rattle.rd_check_command.specs.Checked.{race_texts, races_before, races_of, texts_before}
 use Rattle.rd_check_command.specs.declared.checking.Check.{Check}
 
@@ -55,6 +56,7 @@ checks_none kinds start begins = record {
     tracks = tracks_none (kinds_of start.spec.now) start.tracker begins.new.no_event;
     detects = begins.new.no_call (roots_of []) (formed_none (kinds_of start.spec.now));
     races = begins.new.no_race;
+    told = subst (IsToldAmong start.form start.spec.now (naming []) [] [] start.told) (sym begins.new.none_told) tt;
   };
 }
 

@@ -1,24 +1,31 @@
-use Rattle.std.proofs.Common.{[], ◌∷◌, ◌++◌, Some, ap, refl, subst, sym, ◌∙◌, arith}
+use Rattle.std.proofs.Common.{◌≡◌, ℕ, List, [], ◌∷◌, ◌++◌, Option, Some, ap, refl, subst, sym, ◌∙◌, arith}
 use Rattle.std.proofs.lemmas.List.{append-nil}
 use Rattle.std.proofs.lemmas.Result.{on_ok_weaker, on_err_weaker}
 use Rattle.rd_io.proofs.SinkLemmas.{appends_none}
 use Rattle.rd_io.specs.Sinks.{Appends}
-use Rattle.rd_detect.specs.Detect.{DetectorStandsFor}
+use Rattle.rd_detect.specs.Detect.{DetectorStandsFor, IsAnswer}
 use Rattle.rd_ecl.specs.Kinds.{kinds_of}
+use Rattle.rd_ecl.specs.Specified.{SpecifiedKind}
+use Rattle.rd_event.specs.declared.events.Event.{Event as Numbered}
 use Rattle.rd_event.specs.declared.events.Event.TheVariants as event
 use Rattle.rd_json.specs.Forms.{race_in}
 use Rattle.rd_report.specs.Races.{told_by}
 use Rattle.rd_report.specs.Texts.{naming_in}
 use Rattle.rd_rules.specs.declared.causes.Accepted.TheVariants as accepted
+use Rattle.rd_store.specs.declared.Race.{Race}
 use Rattle.rd_walk.specs.Analysis.{WritesFront}
-use Rattle.rd_check_command.specs.Checking.{Tracks}
+use Rattle.rd_check_command.specs.Checking.{IsKnownOf, IsToldAmong, IsToldOf, Tracks}
 use Rattle.rd_check_command.specs.Checked.{entry_events, event_numbers, race_texts}
 use Rattle.rd_rules.specs.Events.{roots_of}
 use Rattle.rd_walk.specs.Walk.{Entry, items}
-use Rattle.rd_walk.proofs.OutputLemmas.{always_ok}
-use Rattle.rd_check_command.proofs.CheckLemmas.{call_cost, call_next, call_races, checks_call, checks_quiet, event_cost, event_next, event_tracks, failed_race, races_call, text_call, texts_quiet}
+use Rattle.rd_check_command.proofs.CheckLemmas.{call_cost, call_next, call_races, checks_call, checks_quiet, event_cost, event_next, event_tracks, failed_race, known_call, races_call, text_call, texts_quiet, told_call, told_later}
 use Rattle.rd_check_command.proofs.ReportLemmas.{answer_text, texts_grow}
 use Rattle.rd_check_command.proofs.checking.Check.event.Goals as goal
+
+-- the answer with a race
+answered : (kinds : List SpecifiedKind) (numbers : List ℕ) (es : List Numbered) (place : ℕ) (answer : Option Race) (race : Race) → IsAnswer kinds numbers es place answer
+    → answer ≡ Some race → IsAnswer kinds numbers es place (Some race)
+answered kinds numbers es place answer race said is = subst (IsAnswer kinds numbers es place) is said
 
 pub pass-requires : goal.pass-requires
 pass-requires g c =
@@ -87,6 +94,8 @@ returns-in-Ok-None-clause-checks g c = λ start before item ready.
     (said.stands start.spec.now (roots_of (items before)) numbers es next)
     (races_call start c.args.self.now before entry c.args.event.now c.in-Call.call c.in-Call.is names c.args.place ready c.in-Ok-None.field-0
     (said.answer start.spec.now (roots_of (items before)) numbers es next) c.detect.new.self.races said.races)
+    (subst (λ (T : Type 0). T) (λ i. IsToldAmong start.form start.spec.now names (numbers ++ c.args.number ∷ []) (es ++ event.Call c.in-Call.call ∷ []) (sym said.told.0 i) (sym said.told.1 i))
+    (told_call start c.args.self.now before entry c.args.event.now c.in-Call.call c.in-Call.is names c.args.place ready))
 
 pub returns-in-Ok-None-clause-written : goal.returns-in-Ok-None-clause-written
 returns-in-Ok-None-clause-written g c = λ start before item ready.
@@ -120,8 +129,25 @@ report-requires-clause-failed g c =
     failed_race start c.args.self.now before entry c.args.event.now c.in-Call.call c.in-Call.is names c.args.place ready c.in-Ok-Some.field-0 c.in-Ok-Some.race
     (said.answer start.spec.now (roots_of (items before)) numbers es next) c.in-Ok-Some.field-0-is c.detect.new.self.spec.now said.same.1
 
+-- what the last race told may be known to tell of the earlier call
+pub report-requires-clause-told : goal.report-requires-clause-told
+report-requires-clause-told g c =
+    let (start, before, item, ready) = c.requires in
+    let entry : Entry = record { number = c.args.number; item = item } in
+    let names = naming_in c.args.names.now in
+    let numbers = event_numbers before in
+    let es = entry_events start.spec.now before in
+    let next = call_next start c.args.self.now before entry c.args.event.now c.in-Call.call c.in-Call.is names c.args.place ready c.pass.new.self c.in-Ok.ensures.stamp c.in-Ok.ensures.stands in
+    let said = c.in-Ok-Some.ensures in
+    subst (λ (T : Type 0). T)
+    (λ i. IsKnownOf (sym (said.same.0 ∙ ready.checks.form) i) (sym (said.same.1 ∙ ready.checks.spec) i) names c.in-Ok-Some.race.earlier.value (sym said.told.0 i) (sym said.told.1 i))
+    (known_call start c.args.self.now before entry c.args.event.now c.in-Call.call c.in-Call.is names c.args.place ready c.in-Ok-Some.race
+    (answered start.spec.now (numbers ++ c.args.number ∷ []) (es ++ event.Call c.in-Call.call ∷ []) c.args.place c.in-Ok-Some.field-0 c.in-Ok-Some.race
+    (said.answer start.spec.now (roots_of (items before)) numbers es next) c.in-Ok-Some.field-0-is))
+
 pub returns-in-Ok-Some-clause-checks : goal.returns-in-Ok-Some-clause-checks
-returns-in-Ok-Some-clause-checks g c = always_ok _ c.report.result (λ start before item ready.
+returns-in-Ok-Some-clause-checks g c = on_ok_weaker c.report.result
+    (λ (told : IsToldOf c.detect.new.self.form c.detect.new.self.spec.now (naming_in c.args.names.now) c.in-Ok-Some.race.later.value c.report.new.self.told c.report.new.self.told_place) start before item ready.
     let entry : Entry = record { number = c.args.number; item = item } in
     let names = naming_in c.args.names.now in
     let numbers = event_numbers before in
@@ -134,7 +160,14 @@ returns-in-Ok-Some-clause-checks g c = always_ok _ c.report.result (λ start bef
     (subst (λ tracker. Tracks (kinds_of start.spec.now) tracker (items before ++ item ∷ [])) (sym (same.2 ∙ said.same.2)) tracked)
     (subst (λ d. DetectorStandsFor start.spec.now d (roots_of (items before)) (numbers ++ c.args.number ∷ []) (es ++ event.Call c.in-Call.call ∷ [])) (sym same.3) (said.stands start.spec.now (roots_of (items before)) numbers es next))
     (races_call start c.args.self.now before entry c.args.event.now c.in-Call.call c.in-Call.is names c.args.place ready c.in-Ok-Some.field-0
-    (said.answer start.spec.now (roots_of (items before)) numbers es next) c.report.new.self.races (same.4 ∙ said.races)))
+    (said.answer start.spec.now (roots_of (items before)) numbers es next) c.report.new.self.races (same.4 ∙ said.races))
+    (told_later start c.args.self.now before entry c.args.event.now c.in-Call.call c.in-Call.is names c.args.place ready c.in-Ok-Some.race
+    (answered start.spec.now (numbers ++ c.args.number ∷ []) (es ++ event.Call c.in-Call.call ∷ []) c.args.place c.in-Ok-Some.field-0 c.in-Ok-Some.race
+    (said.answer start.spec.now (roots_of (items before)) numbers es next) c.in-Ok-Some.field-0-is)
+    c.report.new.self.told c.report.new.self.told_place
+    (subst (λ (T : Type 0). T)
+    (λ i. IsToldOf ((said.same.0 ∙ ready.checks.form) i) ((said.same.1 ∙ ready.checks.spec) i) names c.in-Ok-Some.race.later.value c.report.new.self.told c.report.new.self.told_place) told)))
+    c.report.ensures.told
 
 pub returns-in-Ok-Some-clause-written : goal.returns-in-Ok-Some-clause-written
 returns-in-Ok-Some-clause-written g c = on_ok_weaker c.report.result
@@ -199,4 +232,4 @@ pub report-requires-clause-formulas : goal.report-requires-clause-formulas
 report-requires-clause-formulas g c =
     let (start, before, item, ready) = c.requires in
     let same = c.in-Ok-Some.ensures.same in
-    same.3 ∙ ready.checks.formulas ∙ sym (same.1 ∙ ready.checks.spec)
+    same.3 ∙ ready.checks.formulas ∙ (λ i. record { form = sym (same.0 ∙ ready.checks.form) i; kinds = sym (same.1 ∙ ready.checks.spec) i })
