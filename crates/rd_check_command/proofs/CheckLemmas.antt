@@ -291,13 +291,13 @@ module _ (start now : Check) (tracker : Tracking) (before : List Entry) (entry :
       (subst (λ numbers. DetectorStandsFor spec now.detector (roots_of (items (before ++ entry ∷ []))) numbers []) (sym no_number)
       (stands_unbegun spec now.detector (roots_of (items before)) (roots_of (items (before ++ entry ∷ []))) formed was))
 
-  abbrev Told : Naming → List ℕ → List Numbered → Type 0
-  Told names numbers es = IsToldAmong start.form spec names numbers es now.told now.told_place
+  abbrev IsToldIn : Naming → List ℕ → List Numbered → Type 0
+  IsToldIn names numbers es = IsToldAmong start.form spec names numbers es now.told now.told_place
 
   -- what is told of a call stays, whatever events the line brings
-  told_now : (more : List ℕ) (fs : List Numbered) → Told (naming (items (before ++ entry ∷ []))) (event_numbers before ++ more) (earlier ++ fs)
-  told_now more fs =
-      subst (λ lines. Told (naming lines) (event_numbers before ++ more) (earlier ++ fs)) (sym (items_more before entry))
+  told_stays : (more : List ℕ) (fs : List Numbered) → IsToldIn (naming (items (before ++ entry ∷ []))) (event_numbers before ++ more) (earlier ++ fs)
+  told_stays more fs =
+      subst (λ lines. IsToldIn (naming lines) (event_numbers before ++ more) (earlier ++ fs)) (sym (items_more before entry))
       (told_among spec (items before) checks.tracks.told entry.item (event_numbers before) more fs (numbers_counted spec before) start.form now.told now.told_place checks.told)
 
   checks_no_event : is_event entry.item ≡ false → Detects (roots_of (items (before ++ entry ∷ []))) → Checks start (before ++ entry ∷ []) new
@@ -311,8 +311,8 @@ module _ (start now : Check) (tracker : Tracking) (before : List Entry) (entry :
         (λ i. DetectorStandsFor spec now.detector (roots_of (items (before ++ entry ∷ []))) (sym (quiet_numbers spec before entry quiet) i) (sym (quiet_events spec before entry quiet) i)) detects;
     races = checks.races ∙ sym (quiet_races spec before entry quiet);
     told = subst (λ (T : Type 0). T)
-        (λ i. Told (naming (items (before ++ entry ∷ []))) ((append-nil (event_numbers before) ∙ sym (quiet_numbers spec before entry quiet)) i)
-        ((append-nil earlier ∙ sym (quiet_events spec before entry quiet)) i)) (told_now [] []);
+        (λ i. IsToldIn (naming (items (before ++ entry ∷ []))) ((append-nil (event_numbers before) ∙ sym (quiet_numbers spec before entry quiet)) i)
+        ((append-nil earlier ∙ sym (quiet_events spec before entry quiet)) i)) (told_stays [] []);
   }
 
   checks_other_event : (event : LineEvent) → entry.item ≡ Event event → ((call : CallOf) → numbered_event kinds (items before) event ≢ numbered.Call call)
@@ -333,8 +333,8 @@ module _ (start now : Check) (tracker : Tracking) (before : List Entry) (entry :
             (stands_quiet spec now.detector (roots_of (items (before ++ entry ∷ []))) (event_numbers before) earlier entry.number e other formed (unrooted (ap is_root is)));
         races = checks.races ∙ sym (races_more spec before entry event is ∙ ap (λ o. races_of spec before + cond (is_some o) 1 0) none ∙ omega arith);
         told = subst (λ (T : Type 0). T)
-            (λ i. Told (naming (items (before ++ entry ∷ []))) (sym (event_numbers_more spec before entry event is) i) (sym (events_all spec before entry event is) i))
-            (told_now (entry.number ∷ []) (e ∷ []));
+            (λ i. IsToldIn (naming (items (before ++ entry ∷ []))) (sym (event_numbers_more spec before entry event is) i) (sym (events_all spec before entry event is) i))
+            (told_stays (entry.number ∷ []) (e ∷ []));
       }
 
   -- what is kept, where the line is no call
@@ -484,11 +484,11 @@ module _ (start now : Check) (before : List Entry) (entry : Entry) (e : Numbered
       omega (arith, track, detected, event_cost known now.tracker (items before) entry.item e ready.next)
 
   -- what is told of a call among the events with this one
-  abbrev Told : List ℕ → Option ℕ → Type 0
-  Told told place = IsToldAmong start.form asked names (event_numbers before ++ entry.number ∷ []) (es ++ numbered.Call call ∷ []) told place
+  abbrev IsToldNow : List ℕ → Option ℕ → Type 0
+  IsToldNow told place = IsToldAmong start.form asked names (event_numbers before ++ entry.number ∷ []) (es ++ numbered.Call call ∷ []) told place
 
   -- it stays so
-  pub told_call : Told now.told now.told_place
+  pub told_call : IsToldNow now.told now.told_place
   told_call =
       subst (λ n. IsToldAmong start.form asked n (event_numbers before ++ entry.number ∷ []) (es ++ numbered.Call call ∷ []) now.told now.told_place) (sym ready.naming_is)
       (told_among asked (items before) checks.tracks.told entry.item (event_numbers before) (entry.number ∷ []) (numbered.Call call ∷ []) (numbers_counted asked before) start.form now.told now.told_place checks.told)
@@ -503,7 +503,7 @@ module _ (start now : Check) (before : List Entry) (entry : Entry) (e : Numbered
 
   -- and what is told of the later one is told of a call among the events
   pub told_later : (race : Race) → IsAnswer asked (event_numbers before ++ entry.number ∷ []) (es ++ numbered.Call call ∷ []) place (Some race)
-      → (told : List ℕ) (told_place : Option ℕ) → IsToldOf start.form asked names race.later.value told told_place → Told told told_place
+      → (told : List ℕ) (told_place : Option ℕ) → IsToldOf start.form asked names race.later.value told told_place → IsToldNow told told_place
   told_later race (i, latest, is) told told_place of =
       let all : List ℕ = event_numbers before ++ entry.number ∷ [] in
       let with_call : List Numbered = es ++ numbered.Call call ∷ [] in
@@ -512,7 +512,7 @@ module _ (start now : Check) (before : List Entry) (entry : Entry) (e : Numbered
   -- what is kept, and what is written
   pub checks_call : (new : Check) → new.form ≡ now.form → new.spec.now ≡ now.spec.now → new.formulas ≡ now.formulas → Tracks known new.tracker (items before ++ entry.item ∷ [])
       → DetectorStandsFor asked new.detector (roots_of (items before)) (event_numbers before ++ entry.number ∷ []) (es ++ numbered.Call call ∷ [])
-      → new.races ≡ now.races + next_races asked es (numbered.Call call) → Told new.told new.told_place → Checks start (before ++ entry ∷ []) new
+      → new.races ≡ now.races + next_races asked es (numbered.Call call) → IsToldNow new.told new.told_place → Checks start (before ++ entry ∷ []) new
   checks_call new one_form one_spec one_formulas tracks detects races told =
       let (event, is, same) = event_is in
       let roots_now : root_count (items (before ++ entry ∷ [])) ≡ root_count (items before) = ap root_count (items_more before entry) ∙ same_roots_then in record {
