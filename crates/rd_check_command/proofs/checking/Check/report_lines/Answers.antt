@@ -1,4 +1,4 @@
-use Rattle.std.proofs.Common.{◌++◌, [], refl, ap, subst, ◌∙◌}
+use Rattle.std.proofs.Common.{[], refl, ap, subst, ◌∙◌}
 use Rattle.std.proofs.lemmas.Result.{on_ok_weaker, on_err_weaker}
 use Rattle.rd_ecl.specs.Specified.{kind_at}
 use Rattle.rd_io.proofs.SinkLemmas.{appends_none}
