@@ -1,9 +1,7 @@
-use Rattle.std.proofs.Common.{[], refl, ap, subst, ◌∙◌}
+use Rattle.std.proofs.Common.{[], refl, subst, ◌∙◌}
 use Rattle.std.proofs.lemmas.Result.{on_ok_weaker, on_err_weaker}
-use Rattle.rd_ecl.specs.Specified.{kind_at}
 use Rattle.rd_io.proofs.SinkLemmas.{appends_none}
 use Rattle.rd_io.specs.Sinks.{Appends}
-use Rattle.rd_json.specs.Formulas.{formula_in}
 use Rattle.rd_report.specs.Races.{race_text, told_by}
 use Rattle.rd_report.specs.Texts.{naming_in}
 use Rattle.rd_walk.proofs.OutputLemmas.{always_err}
@@ -21,43 +19,45 @@ returns-in_err-tell_lines-clause-front g c =
 pub returns-in-Some-clause-ok : goal.returns-in-Some-clause-ok
 returns-in-Some-clause-ok g c =
     let race = c.args.race.now in
-    let formulas = c.tell_lines.ensures.same.5 ∙ c.requires.formulas in
+    let told = c.tell_lines.new.self in
+    let kept = c.tell_lines.ensures.same.5 ∙ c.requires.formulas in
     on_ok_weaker c.write_race.result
     (subst (Appends (g.S.Sink.written c.args.out.now) (g.S.Sink.written c.write_race.new.out))
-    (lines_told c.args.self.now.spec.now (naming_in c.args.names.now) race c.requires.failed c.items.result.now c.items-in-Some.result.now c.in-Some.line.now
-    (c.items.ensures ∙ c.in_ok-tell_lines.ensures.later) (c.items-in-Some.ensures ∙ c.in_ok-tell_lines.ensures.earlier)
-    (c.in-Some.ensures ∙ ap (λ f. formula_in f.form (kind_at f.kinds race.kind) race.first race.second) formulas)))
+    (lines_told c.args.self.now.spec.now (naming_in c.args.names.now) race c.requires.failed told.formulas kept c.items.result.now c.items-in-Some.result.now c.in-Some.line.now
+    (c.items.ensures ∙ c.in_ok-tell_lines.ensures.later) (c.items-in-Some.ensures ∙ c.in_ok-tell_lines.ensures.earlier) c.in-Some.ensures))
     c.write_race.ensures.ok
 
 pub returns-in-Some-clause-front : goal.returns-in-Some-clause-front
 returns-in-Some-clause-front g c =
     let race = c.args.race.now in
-    let formulas = c.tell_lines.ensures.same.5 ∙ c.requires.formulas in
+    let told = c.tell_lines.new.self in
+    let kept = c.tell_lines.ensures.same.5 ∙ c.requires.formulas in
     on_err_weaker c.write_race.result
     (subst (WritesFront (g.S.Sink.written c.args.out.now) (g.S.Sink.written c.write_race.new.out) [])
-    (lines_told c.args.self.now.spec.now (naming_in c.args.names.now) race c.requires.failed c.items.result.now c.items-in-Some.result.now c.in-Some.line.now
-    (c.items.ensures ∙ c.in_ok-tell_lines.ensures.later) (c.items-in-Some.ensures ∙ c.in_ok-tell_lines.ensures.earlier)
-    (c.in-Some.ensures ∙ ap (λ f. formula_in f.form (kind_at f.kinds race.kind) race.first race.second) formulas)))
+    (lines_told c.args.self.now.spec.now (naming_in c.args.names.now) race c.requires.failed told.formulas kept c.items.result.now c.items-in-Some.result.now c.in-Some.line.now
+    (c.items.ensures ∙ c.in_ok-tell_lines.ensures.later) (c.items-in-Some.ensures ∙ c.in_ok-tell_lines.ensures.earlier) c.in-Some.ensures))
     c.write_race.ensures.front
 
 pub returns-clause-ok : goal.returns-clause-ok
 returns-clause-ok g c =
     let race = c.args.race.now in
-    let formulas = c.tell_lines.ensures.same.5 ∙ c.requires.formulas in
+    let told = c.tell_lines.new.self in
+    let kept = c.tell_lines.ensures.same.5 ∙ c.requires.formulas in
     on_ok_weaker c.write_race-2.result
     (subst (Appends (g.S.Sink.written c.args.out.now) (g.S.Sink.written c.write_race-2.new.out))
-    (lines_told c.args.self.now.spec.now (naming_in c.args.names.now) race c.requires.failed c.items-2.result.now c.items-3.result.now c.items-4.result.now
+    (lines_told c.args.self.now.spec.now (naming_in c.args.names.now) race c.requires.failed told.formulas kept c.items-2.result.now c.items-3.result.now c.items-4.result.now
     (c.items-2.ensures ∙ c.in_ok-tell_lines.ensures.later) (c.items-3.ensures ∙ c.in_ok-tell_lines.ensures.earlier)
-    (c.items-4.ensures ∙ (c.in_ok-line.ensures.text ∙ ap (λ f. formula_in f.form (kind_at f.kinds race.kind) race.first race.second) formulas))))
+    (c.items-4.ensures ∙ c.in_ok-line.ensures.text)))
     c.write_race-2.ensures.ok
 
 pub returns-clause-front : goal.returns-clause-front
 returns-clause-front g c =
     let race = c.args.race.now in
-    let formulas = c.tell_lines.ensures.same.5 ∙ c.requires.formulas in
+    let told = c.tell_lines.new.self in
+    let kept = c.tell_lines.ensures.same.5 ∙ c.requires.formulas in
     on_err_weaker c.write_race-2.result
     (subst (WritesFront (g.S.Sink.written c.args.out.now) (g.S.Sink.written c.write_race-2.new.out) [])
-    (lines_told c.args.self.now.spec.now (naming_in c.args.names.now) race c.requires.failed c.items-2.result.now c.items-3.result.now c.items-4.result.now
+    (lines_told c.args.self.now.spec.now (naming_in c.args.names.now) race c.requires.failed told.formulas kept c.items-2.result.now c.items-3.result.now c.items-4.result.now
     (c.items-2.ensures ∙ c.in_ok-tell_lines.ensures.later) (c.items-3.ensures ∙ c.in_ok-tell_lines.ensures.earlier)
-    (c.items-4.ensures ∙ (c.in_ok-line.ensures.text ∙ ap (λ f. formula_in f.form (kind_at f.kinds race.kind) race.first race.second) formulas))))
+    (c.items-4.ensures ∙ c.in_ok-line.ensures.text)))
     c.write_race-2.ensures.front
