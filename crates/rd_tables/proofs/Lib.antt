@@ -1,3 +1,4 @@
+pub mod CutLemmas
 pub mod LookupLemmas
 pub mod NameLemmas
 pub mod ShareLemmas

@@ -13,6 +13,6 @@ pub use found::{Declared, FoundLock, FoundObject, FoundThread, Pair};
 pub use locks::{FREE, Lock};
 pub use methods::{FoundMethod, Methods};
 pub use names::NameBytes;
-pub use near::{NEAR_LENGTH, cut_at_space, near_bytes};
+pub use near::{NEAR_LENGTH, cut_at_space, cut_name, near_bytes};
 pub use sharers::lesser;
 pub use shares::Shares;

@@ -25,6 +25,14 @@ impl Shares {
         }
     }
 
+    /// Whether no lock was ever shared.
+    #[inline(always)]
+    pub fn is_unused(&self) -> bool
+        ensures { result ≡ true → (lock thread : ℕ) → share_depth self.now lock thread ≡ 0 }
+    {
+        self.locks.is_empty()
+    }
+
     /// How often the thread has shared the lock and not unshared it.
     pub fn depth_of(&self, lock: u32, thread: u32) -> u32
         ensures { result ≡ share_depth self.now lock thread }

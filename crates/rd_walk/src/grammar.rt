@@ -14,8 +14,8 @@ use crate::walk::{Taken, Walker};
 use rd_base::Steps;
 use rd_io::Sink;
 use rd_wf::{
-    AcquireLine, BytesRefused, CallLine, JoinLine, Keyword, Near, ReleaseLine, ShareLine,
-    TraceCause, UnshareLine,
+    AcquireLine, BytesRefused, CallLine, JoinLine, Keyword, Near, ObjectLine, ReleaseLine,
+    ShareLine, TraceCause, UnshareLine,
 };
 use std::sync::ledger::Ledger;
 
@@ -69,6 +69,7 @@ impl<A: Analysis> Grammar<A> for TraceLines {
             Some(b'a') => take_keyword::<AcquireLine, A, S, L>(walker, number, bytes, out, steps),
             Some(b'r') => take_keyword::<ReleaseLine, A, S, L>(walker, number, bytes, out, steps),
             Some(b'j') => take_keyword::<JoinLine, A, S, L>(walker, number, bytes, out, steps),
+            Some(b'o') => take_keyword::<ObjectLine, A, S, L>(walker, number, bytes, out, steps),
             Some(b's') => take_keyword::<ShareLine, A, S, L>(walker, number, bytes, out, steps),
             Some(b'u') => take_keyword::<UnshareLine, A, S, L>(walker, number, bytes, out, steps),
             _ => take_anywhere(walker, number, bytes, out, steps),

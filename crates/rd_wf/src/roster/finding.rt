@@ -15,6 +15,10 @@ pub trait Finder {
     // Whether each name is found.
     ghost complete: { Bool };
 
+    /// Whether each name is found.
+    fn finds_all() -> bool
+        ensures { result ≡ complete };
+
     /// What a look-up of the thread with this name finds. The guess may be its number.
     fn thread(roster: &Roster, guess: u32, name: &[u8]) -> Option<FoundThread>
         ensures found { IfSome result (IsFoundThread roster.now name.now) }
@@ -50,6 +54,11 @@ impl Finder for Near {
     ghost use Rattle.std.specs.Prelude.{false};
 
     ghost complete = { false };
+
+    #[inline(always)]
+    fn finds_all() -> bool {
+        false
+    }
 
     #[inline(always)]
     fn thread(roster: &Roster, guess: u32, name: &[u8]) -> Option<FoundThread> {
@@ -106,6 +115,11 @@ impl Finder for Anywhere {
     ghost complete = { true };
 
     #[inline(always)]
+    fn finds_all() -> bool {
+        true
+    }
+
+    #[inline(always)]
     fn thread(roster: &Roster, guess: u32, name: &[u8]) -> Option<FoundThread> {
         if let Some(found) = Near::thread(roster, guess, name) {
             return Some(found);
@@ -136,11 +150,12 @@ impl Finder for Anywhere {
 }
 
 impl Roster {
-    ghost use Rattle.std.specs.Prelude.{◌≡◌, ◌<◌, List, false, true, IfNone, IfSome, IsSome};
+    ghost use Rattle.std.specs.Prelude.{◌≡◌, ◌<◌, List, false, true, is_some, IfNone, IfSome, IsSome};
+    ghost use Rattle.indexmap.specs.IndexMap.{get_by, index_of_by};
     ghost use Rattle.rd_base.specs.Names.{IsName};
     ghost use Rattle.rd_ecl.specs.Kinds.{Kind};
     ghost use Rattle.rd_event.specs.declared.items.Line.{Line as LineOf};
-    ghost use Rattle.rd_rules.specs.MayFollow.{is_among, objects_of};
+    ghost use Rattle.rd_rules.specs.MayFollow.{is_among, objects_of, same_name};
     ghost use Rattle.rd_wf.specs.Roster.{IsFoundLock, IsFoundMethod, IsFoundObject, IsFoundThread, RosterStandsFor, lock_count, thread_count};
 
     #[inline(never)]
@@ -270,6 +285,40 @@ impl Roster {
                     unknown: false,
                     kind: *kind,
                 })
+            }
+            None => None,
+        }
+    }
+
+    // The number of the kind with this name. That of the last object is tried first.
+    #[inline(always)]
+    pub(super) fn find_kind(&self, name: &[u8]) -> Option<u32>
+        ensures index { result ≡ index_of_by (same_name name.now) self.now.kinds }
+        ensures found { is_some result ≡ is_some (get_by (same_name name.now) self.now.kinds) }
+        ensures named { IsSome result → IsName name.now }
+    {
+        // `len` is called for its clause that no two kinds have one name.
+        let _count = self.kinds.len();
+        if let Some((_object, last)) = self.objects.last()
+            && let Some((known, _methods)) = self.kinds.get_index(*last as usize)
+            && known.items() == name
+        {
+            return Some(*last);
+        }
+        self.hashed_kind(name)
+    }
+
+    // The same by the hash of the name.
+    #[inline(never)]
+    fn hashed_kind(&self, name: &[u8]) -> Option<u32>
+        ensures index { result ≡ index_of_by (same_name name.now) self.now.kinds }
+        ensures found { is_some result ≡ is_some (get_by (same_name name.now) self.now.kinds) }
+        ensures named { IsSome result → IsName name.now }
+    {
+        match self.kinds.get_full(NameBytes { bytes: name }) {
+            Some((number, known, _methods)) => {
+                let _name = known.items();
+                Some(number as u32)
             }
             None => None,
         }

@@ -24,6 +24,20 @@ impl Roster {
             result }
         ensures alone { IfNone result (other_holder found.lock thread ≡ None) }
     {
+        if (found.lock.depth == 0 || found.lock.holder == thread) && self.shares.is_unused() {
+            return None;
+        }
+        self.least_sharer(found, thread)
+    }
+
+    // The same where locks may be shared.
+    #[inline(never)]
+    fn least_sharer(&self, found: FoundLock, thread: u32) -> Option<u32>
+        ensures least { IsLeast
+            (λ other. is_other_holder found.lock thread other || is_other_sharer self.now.shares found.number thread other)
+            result }
+        ensures alone { IfNone result (other_holder found.lock thread ≡ None) }
+    {
         lesser(
             found.lock.held_by_other(thread),
             self.shares.least_other(found.number, thread),
@@ -50,40 +64,28 @@ impl Roster {
         Ok(thread)
     }
 
-    // The number of a kind. That of the last object is tried first.
-    fn find_kind(&self, kind: &Name) -> Option<usize>
-        ensures index { result ≡ index_of_by (same_name kind.now) self.now.kinds }
-        ensures found { is_some result ≡ is_some (get_by (same_name kind.now) self.now.kinds) }
-    {
-        // `len` is called for its clause that no two kinds have one name.
-        let _count = self.kinds.len();
-        if let Some((_object, last)) = self.objects.last()
-            && let Some((known, _methods)) = self.kinds.get_index(*last as usize)
-            && known == kind
-        {
-            return Some(*last as usize);
-        }
-        self.kinds.get_index_of(kind)
-    }
-
-    // By whether an object has the name.
+    // By what was found of the name of the line's kind, and by whether an object has the line's name.
+    #[inline(always)]
     pub(super) fn judge_object(
         &self,
-        name: &Name,
-        kind: &Name,
+        found: Option<u32>,
         taken: bool,
         limits: &Limits,
     ) -> Result<Declared, WfCause>
-        requires { taken ≡ is_some (get_by (same_name name.now) self.now.objects) }
         ensures ok { IfOk result
-            (λ new. Permits self.now limits.now (Line.Object name.now kind.now)
+            (λ new. (name kind : List ℕ) → taken ≡ is_some (get_by (same_name name) self.now.objects) →
+            found ≡ index_of_by (same_name kind) self.now.kinds →
+            is_some found ≡ is_some (get_by (same_name kind) self.now.kinds) →
+            Permits self.now limits.now (Line.Object name kind)
             (Accepted.Object new.object new.kind)) }
         ensures room { OnOk result (object_count self.now + 1 < 2 ^ 32) }
-        ensures err { IfErr result (Forbids self.now limits.now (Line.Object name.now kind.now)) }
+        ensures err { IfErr result
+            (λ cause. (name kind : List ℕ) → taken ≡ is_some (get_by (same_name name) self.now.objects) →
+            is_some found ≡ is_some (get_by (same_name kind) self.now.kinds) →
+            Forbids self.now limits.now (Line.Object name kind) cause) }
     {
         let object = self.objects.len() as u32;
-        let found = self.find_kind(kind);
-        let kind = found.unwrap_or(self.kinds.len());
+        let kind = found.unwrap_or(self.kinds.len() as u32);
         let broken = Broken {
             header_first: self.header.is_none(),
             name_taken: taken,
@@ -94,10 +96,7 @@ impl Roster {
         if let Some(cause) = broken.first(limits) {
             return Err(cause);
         }
-        Ok(Declared {
-            object,
-            kind: kind as u32,
-        })
+        Ok(Declared { object, kind })
     }
 
     // By what was found of the name of the line's thread.

@@ -9,7 +9,7 @@ use super::finding::{Anywhere, Finder};
 use super::lines::Judged;
 use rd_base::Limits;
 use rd_rules::{Accepted, BytesRefused};
-use rd_tables::cut_at_space;
+use rd_tables::{cut_at_space, cut_name};
 
 /// A sort of lines. Each is a type of its own, so that a line pays for nothing that those of another sort hold.
 pub trait Keyword {
@@ -78,7 +78,10 @@ impl Keyword for ReleaseLine {
     #[inline(always)]
     fn accept_bytes<F: Finder>(roster: &mut Roster, bytes: &[u8], limits: &Limits) -> Judged {
         let Some(names) = behind(bytes, b"release ") else {
-            return roster.header_line(bytes, limits);
+            if F::finds_all() {
+                return roster.header_line(bytes, limits);
+            }
+            return Err(BytesRefused::BadLine);
         };
         let Some((thread, lock)) = cut_at_space(names) else {
             return Err(BytesRefused::BadLine);
@@ -176,10 +179,10 @@ impl Keyword for ObjectLine {
         let Some(names) = behind(bytes, b"object ") else {
             return Err(BytesRefused::BadLine);
         };
-        let Some((name, kind)) = cut_at_space(names) else {
+        let Some((name, kind)) = cut_name(names) else {
             return Err(BytesRefused::BadLine);
         };
-        roster.object(name, kind, limits)
+        roster.object_by_bytes(name, kind, limits)
     }
 }
 

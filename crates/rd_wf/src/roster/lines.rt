@@ -2,12 +2,12 @@
 
 use super::Roster;
 use super::finding::{Anywhere, Finder};
-use rd_base::{Limits, Name, Slots};
+use rd_base::{Limits, Name, NoMemory, Slots};
 use rd_event::{Call, Event, Line, LineEvent, LineRefused, read_slots};
-use rd_rules::{Accepted, BytesRefused, WfCause};
+use rd_rules::{Accepted, BytesRefused, WfCause, WfRefused};
 use rd_tables::{
-    Declared, FREE, FoundMethod, FoundObject, FoundThread, Lock, NEAR_LENGTH, cut_at_space,
-    near_bytes,
+    Declared, FREE, FoundMethod, FoundObject, FoundThread, Lock, NEAR_LENGTH, NameBytes,
+    cut_at_space, near_bytes,
 };
 
 /// What becomes of a line by its bytes, or by names that are lent.
@@ -40,14 +40,15 @@ pub(super) struct Called {
 }
 
 impl Roster {
-    ghost use Rattle.std.specs.Prelude.{◌≡◌, ◌≢◌, ◌+◌, ◌<◌, ◌^◌, ◌++◌, ◌∷◌, [], List, ℕ, ⊤, false, true, is_some, length, IfErr, IfNone, IfSome, IsSome};
-    ghost use Rattle.rd_base.specs.Names.{IsName};
+    ghost use Rattle.std.specs.Prelude.{◌≡◌, ◌≢◌, ◌+◌, ◌<◌, ◌^◌, ◌++◌, ◌∷◌, [], List, ℕ, ⊤, false, true, is_some, length, IfErr, IfNone, IfOk, IfSome, IsSome, OnErr};
+    ghost use Rattle.rd_base.specs.Names.{IsName, is_name_byte};
     ghost use Rattle.rd_base.specs.declared.values.Value.{Value};
     ghost use Rattle.rd_ecl.specs.Kinds.{Kind};
     ghost use Rattle.rd_event.specs.declared.items.Line.{Line as LineOf};
-    ghost use Rattle.indexmap.specs.IndexMap.{get_by};
+    ghost use Rattle.indexmap.specs.IndexMap.{get_by, index_of_by};
+    ghost use Rattle.std.specs.List.{AllPass};
     ghost use Rattle.rd_rules.specs.MayFollow.{is_among, objects_of, same_name};
-    ghost use Rattle.rd_wf.specs.Roster.{IsFoundMethod, IsFoundObject, IsFoundThread, RosterStandsFor, TakesCall, TakesNames, with_values};
+    ghost use Rattle.rd_wf.specs.Roster.{Accepts, IsFoundMethod, IsFoundObject, IsFoundThread, Refuses, RosterStandsFor, TakesCall, TakesNames, with_values};
 
     #[inline(never)]
     pub(super) fn header(&mut self, version: u8, limits: &Limits) -> Judged
@@ -76,6 +77,7 @@ impl Roster {
     }
 
     // The line that declares an object of the kind with this name. `BadLine` says that one of the two isn't a name.
+    #[inline(never)]
     pub(super) fn object(&mut self, name: &[u8], kind: &[u8], limits: &Limits) -> Judged
         ensures { TakesNames true (IsName name.now × IsName kind.now) self.old self.new limits.now
             (Line.Object name.now kind.now) result }
@@ -84,6 +86,55 @@ impl Roster {
             return Err(BytesRefused::BadLine);
         };
         self.declare(name, &kind, limits)
+    }
+
+    // The same where each byte of the object's name is one of a name. One that may be declared is so at once.
+    #[inline(always)]
+    pub(super) fn object_by_bytes(&mut self, name: &[u8], kind: &[u8], limits: &Limits) -> Judged
+        requires { AllPass is_name_byte name.now }
+        ensures { TakesNames true (IsName name.now × IsName kind.now) self.old self.new limits.now
+            (Line.Object name.now kind.now) result }
+    {
+        match self.declare_at_once(name, kind, limits) {
+            Ok(Some(new)) => Ok(Accepted::Object {
+                object: new.object,
+                kind: new.kind,
+            }),
+            Ok(None) => self.object(name, kind, limits),
+            Err(error) => Err(error.into()),
+        }
+    }
+
+    // Declares an object that may be declared. No name is made of the kind's bytes, and one of its own only to be kept.
+    #[inline(never)]
+    fn declare_at_once(
+        &mut self,
+        name: &[u8],
+        kind: &[u8],
+        limits: &Limits,
+    ) -> Result<Option<Declared>, NoMemory>
+        requires { AllPass is_name_byte name.now }
+        ensures named { IfOk result (λ told. IsSome told → IsName name.now × IsName kind.now) }
+        ensures declared { IfOk result (λ told. IfSome told (λ new.
+            Accepts self.old self.new limits.now (Line.Object name.now kind.now) (Accepted.Object new.object new.kind))) }
+        ensures none { IfOk result (λ told. IfNone told (self.new ≡ self.old)) }
+        ensures err { OnErr result (IsName name.now × IsName kind.now
+            × Refuses self.old self.new limits.now (Line.Object name.now kind.now) WfRefused.NoMemory) }
+    {
+        let near = near_bytes(name) % NEAR_LENGTH;
+        let Some(number) = self.find_kind(kind) else {
+            return Ok(None);
+        };
+        let taken = self.objects.contains_key(NameBytes { bytes: name });
+        let Ok(new) = self.judge_object(Some(number), taken, limits) else {
+            return Ok(None);
+        };
+        let Ok(name) = Name::from_name_bytes(name) else {
+            return Ok(None);
+        };
+        self.objects.insert(name, new.kind)?;
+        Anywhere::remember(&mut self.near_objects, near, new.object);
+        Ok(Some(new))
     }
 
     /// Accepts the line that declares an object of this kind, if it may follow the accepted lines, as `accept` of it. `BadLine` says that the object's
@@ -96,7 +147,8 @@ impl Roster {
             return Err(BytesRefused::BadLine);
         };
         let taken = self.objects.contains_key(&name);
-        self.put_object(name, kind, taken, limits)
+        let found = self.find_kind(kind.items());
+        self.put_object(name, found, taken, limits)
     }
 
     /// The same of an object that was not declared.
@@ -106,17 +158,20 @@ impl Roster {
             × (is_among (objects_of lines) name ≡ false) }
         ensures { TakesNames true ⊤ self.old self.new limits.now (Line.Object name kind.now) result }
     {
-        self.put_object(name, kind, false, limits)
+        let found = self.find_kind(kind.items());
+        self.put_object(name, found, false, limits)
     }
 
-    // The line that declares an object of this kind, where it is told whether an object has its name.
+    // The line that declares an object, where it is told what was found of the name of its kind, and whether an object has its name.
     #[inline(always)]
-    fn put_object(&mut self, name: Name, kind: &Name, taken: bool, limits: &Limits) -> Judged
+    fn put_object(&mut self, name: Name, found: Option<u32>, taken: bool, limits: &Limits) -> Judged
         requires { taken ≡ is_some (get_by (same_name name) self.old.objects) }
-        ensures { TakesNames true ⊤ self.old self.new limits.now (Line.Object name kind.now) result }
+        ensures { (kind : List ℕ) → found ≡ index_of_by (same_name kind) self.old.kinds →
+            is_some found ≡ is_some (get_by (same_name kind) self.old.kinds) →
+            TakesNames true ⊤ self.old self.new limits.now (Line.Object name kind) result }
     {
         let near = near_bytes(name.items()) % NEAR_LENGTH;
-        let Declared { object, kind } = match self.judge_object(&name, kind, taken, limits) {
+        let Declared { object, kind } = match self.judge_object(found, taken, limits) {
             Ok(new) => new,
             Err(cause) => return Err(BytesRefused::Cause(cause)),
         };

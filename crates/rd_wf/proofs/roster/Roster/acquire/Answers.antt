@@ -1,5 +1,6 @@
-use Rattle.std.proofs.Common.{rules, Contains, List, ◌≡◌, ℕ, ◌<◌, ◌≤◌, ◌+◌, Bool, true, false, not, subst, sym, refl, ap, ◌∙◌, arith}
+use Rattle.std.proofs.Common.{rules, Contains, List, ◌≡◌, ℕ, ◌<◌, ◌≤◌, ◌+◌, Bool, true, false, not, Err, length, unwrap_or, subst, sym, refl, ap, ◌∙◌, arith}
 use Rattle.std.proofs.Math.Bool.{not-not}
+use Rattle.std.specs.Map.{keys_of, lookup}
 use Rattle.indexmap.specs.IndexMap.{index_map_len}
 use Rattle.indexmap.specs.Layout.{set_value_at}
 use Rattle.indexmap.proofs.CallerLemmas.{index_map_len-with_value_at}
@@ -8,8 +9,9 @@ use Rattle.rd_ecl.specs.Kinds.{Kind}
 use Rattle.rd_event.specs.declared.items.Line.{Line}
 use Rattle.rd_event.specs.declared.items.LineEvent.TheVariants as spelled
 use Rattle.rd_tables.specs.declared.locks.Lock.{Lock}
-use Rattle.rd_rules.specs.MayFollow.{is_among, place, threads_of, locks_of, accepted_of}
-use Rattle.rd_tables.specs.Tables.{depth_of}
+use Rattle.rd_rules.specs.MayFollow.{is_among, place, threads_of, locks_of, releases, same_name, accepted_of}
+use Rattle.rd_tables.specs.Tables.{depth_of, free_lock}
+use Rattle.rd_rules.specs.declared.causes.BytesRefused.TheVariants as refused
 use Rattle.rd_wf.specs.Roster.{RosterStandsFor, lock_in}
 use Rattle.rd_rules.proofs.FollowLemmas.{known_thread}
 use Rattle.rd_rules.proofs.PlaceLemmas.{not_known}
@@ -79,4 +81,31 @@ returns-in_err-put_last g c =
     λ kinds lines stands. not_known (locks_of lines) c.args.lock.now
     (sym (not-not _) ∙ ap not (sym (found.numbers kinds lines stands).1 ∙ c.if-found.true)) in
     let named : IsName c.args.thread.now × IsName c.args.lock.now = (c.in-Some.ensures.named refl, c.in-Some-lock.ensures.named refl) in
-    search rules
+    let is : c.from_residual.result ≡ Err refused.NoMemory = search rules in
+    let same : c.put_last.new.locks.entries ≡ c.args.self.now.locks.entries = c.in_err-put_last.ensures.err in
+    let held : List (List ℕ × Lock) → List ℕ → Lock = λ entries lock. unwrap_or (lookup (same_name lock) entries) free_lock in
+    rw is (
+      named,
+      λ kinds lines stands. (
+        (permitted kinds lines stands).0,
+        new_lock kinds lines stands,
+        record {
+          kind_entries = stands.kind_entries;
+          header_version = stands.header_version;
+          event_count = stands.event_count;
+          thread_entries = stands.thread_entries;
+          object_entries = stands.object_entries;
+          lock_names = ap keys_of same ∙ stands.lock_names;
+          lock_depths = λ lock thread. stands.lock_depths lock thread
+              ∙ ap (λ entries. releases lines thread lock + depth_of (held entries lock) (place (threads_of lines) thread)) (sym same);
+          holders_begun = λ lock. subst (λ entries. 0 < (held entries lock).depth → (held entries lock).holder < length (threads_of lines)) (sym same) (stands.holders_begun lock);
+          share_depths = stands.share_depths;
+          sharers_begun = stands.sharers_begun;
+          threads_differ = stands.threads_differ;
+          joined_begun = stands.joined_begun;
+          thread_total = stands.thread_total;
+          lock_total = ap length same ∙ stands.lock_total;
+          object_total = stands.object_total;
+        },
+      ),
+    )

@@ -8,8 +8,8 @@ use Rattle.rd_wf.proofs.roster.Roster.find_kind.Goals as goal
 
 pub returns-clause-index : goal.returns-clause-index
 returns-clause-index c =
-    let name : c.in-Some-get_index.known.now ≡ c.args.kind.now = (bytes_decides c.in-Some-get_index.known.now c.args.kind.now).0 (sym c.eq.ensures ∙ c.if-eq.true) in
+    let name : c.in-Some-get_index.known.now ≡ c.args.name.now = sym c.items.ensures.value ∙ (bytes_decides c.items.result.now c.args.name.now).0 (sym c.eq.ensures ∙ c.if-eq.true) in
     let entries = c.args.self.now.kinds.entries in
-    let at : slice_get (keys_of entries) c.in-Some.last.now ≡ Some c.args.kind.now =
+    let at : slice_get (keys_of entries) c.in-Some.last.now ≡ Some c.args.name.now =
     slice_get-map (λ entry. entry.0) entries c.in-Some.last.now ∙ ap (option_map (λ entry. entry.0)) (sym c.in-Some-get_index.ensures.entry) ∙ ap Some name in
-    place_found (keys_of entries) c.len-count.ensures.unique c.in-Some.last.now c.args.kind.now at
+    place_found (keys_of entries) c.len-count.ensures.unique c.in-Some.last.now c.args.name.now at

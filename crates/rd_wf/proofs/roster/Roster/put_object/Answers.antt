@@ -8,15 +8,15 @@ use Rattle.rd_wf.proofs.roster.Roster.put_object.Goals as goal
 
 pub returns : goal.returns
 unfolding accepted_of
-returns c = (
+returns c = λ kind index known. (
   tt,
   λ kinds lines stands.
-      let permitted = c.in-Ok.ensures.ok kinds lines stands in
-      let fresh = fresh_object kinds c.args.limits.now lines c.args.name c.args.kind.now permitted.0 in
-      let number : c.in-Ok.new.kind ≡ place (kind_names kinds) c.args.kind.now = cc permitted.1 in (
+      let permitted = c.in-Ok.ensures.ok c.args.name kind c.requires index known kinds lines stands in
+      let fresh = fresh_object kinds c.args.limits.now lines c.args.name kind permitted.0 in
+      let number : c.in-Ok.new.kind ≡ place (kind_names kinds) kind = cc permitted.1 in (
         permitted.0,
         permitted.1,
-        after_object kinds c.args.self.now _ lines stands refl refl refl c.args.name c.args.kind.now refl refl refl
+        after_object kinds c.args.self.now _ lines stands refl refl refl c.args.name kind refl refl refl
             (c.in_ok-insert.ensures.entries ∙ inserted_object kinds c.args.self.now lines stands c.args.name c.in-Ok.new.kind fresh
             ∙ ap (λ kind. c.args.self.now.objects.entries ++ (c.args.name, kind) ∷ []) number),
       ),

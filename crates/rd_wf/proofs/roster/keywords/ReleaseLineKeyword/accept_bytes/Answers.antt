@@ -1,4 +1,4 @@
-use Rattle.std.proofs.Common.{option_map, refl, ap, ◌∙◌}
+use Rattle.std.proofs.Common.{option_map, refl, sym, ap, ◌∙◌, true≢false}
 use Rattle.rd_event.specs.declared.items.Line.TheVariants.{Event}
 use Rattle.rd_event.specs.declared.items.LineEvent.TheVariants.{Release}
 use Rattle.rd_event.proofs.ReadingLemmas.{release_behind}
@@ -7,7 +7,10 @@ use Rattle.rd_wf.proofs.BytesLemmas.{no_second, pair_taken, taken_where}
 use Rattle.rd_wf.proofs.roster.keywords.ReleaseLineKeyword.accept_bytes.Goals as goal
 
 pub returns-in_default : goal.returns-in_default
-returns-in_default g c = λ kinds lines stands.
+returns-in_default g c = λ kinds lines stands. ((λ known. absurd (true≢false (sym known.0 ∙ sym c.finds_all.ensures ∙ c.if-finds_all.false))), refl)
+
+pub returns-then-finds_all : goal.returns-then-finds_all
+returns-then-finds_all g c = λ kinds lines stands.
     taken_where _ _ kinds c.args.limits.now lines c.args.bytes.now c.args.roster.now c.header_line.new.self (λ known. known.1) c.header_line.result (c.header_line.ensures kinds lines stands)
 
 pub returns-in_default-cut_at_space : goal.returns-in_default-cut_at_space
