@@ -19,6 +19,10 @@ pub returns-in-Some-eq106-clause-line : goal.returns-in-Some-eq106-clause-line
 returns-in-Some-eq106-clause-line g c =
     taken_as trace_says _ _ _ _ _ (λ before. refl) _ _ _ _ _ _ _ (λ is. wrote_none g.S.Sink.written _ _ (c.take_keyword-in-Some-eq106.ensures.silent is)) c.take_keyword-in-Some-eq106.ensures.line
 
+pub returns-in-Some-eq111-clause-line : goal.returns-in-Some-eq111-clause-line
+returns-in-Some-eq111-clause-line g c =
+    taken_as trace_says _ _ _ _ _ (λ before. refl) _ _ _ _ _ _ _ (λ is. wrote_none g.S.Sink.written _ _ (c.take_keyword-in-Some-eq111.ensures.silent is)) c.take_keyword-in-Some-eq111.ensures.line
+
 pub returns-in-Some-eq115-clause-line : goal.returns-in-Some-eq115-clause-line
 returns-in-Some-eq115-clause-line g c =
     taken_as trace_says _ _ _ _ _ (λ before. refl) _ _ _ _ _ _ _ (λ is. wrote_none g.S.Sink.written _ _ (c.take_keyword-in-Some-eq115.ensures.silent is)) c.take_keyword-in-Some-eq115.ensures.line
