@@ -2,7 +2,9 @@ pub mod AskLemmas
 pub mod AskingLemmas
 pub mod CallLemmas
 pub mod CellLemmas
+pub mod CoverLemmas
 pub mod DeadLemmas
+pub mod LaterLemmas
 pub mod LookLemmas
 pub mod NewCellLemmas
 pub mod OverLemmas

@@ -1,3 +1,4 @@
+pub mod Covers
 pub mod Detect
 pub mod Seats
 pub mod Taking

@@ -1,23 +1,27 @@
 //! The detector.
-ghost use Rattle.std.specs.Prelude.{◌≡◌, ℕ, ◌+◌, ◌*◌, ◌<◌, ◌≤◌, Bool, List, [], flat_map, length, IfOk, OnOk, OnErr, IfNone, IfSome, MatchOption, IsTrue, false, option_map};
+ghost use Rattle.std.specs.Prelude.{◌≡◌, ℕ, ◌+◌, ◌*◌, ◌<◌, ◌≤◌, Bool, List, [], ◌∷◌, ◌++◌, Some, flat_map, length, IfOk, OnOk, OnErr, IfNone, IfSome, MatchOption, IsTrue, false, option_map};
 ghost use Rattle.std.specs.List.{sum_by};
 ghost use Rattle.rd_classes.specs.Merged.{merged};
 ghost use Rattle.rd_detect.specs.Detect.{Answers, AreBelow, IsLatestOf, IsNextCall, IsRaceOf, IsSweptWhere, IsCallKept, IsCallLeft, DetectorStandsFor, asking_bound, conflicting_points, is_due, table_at, tables_of, touched_points};
+ghost use Rattle.rd_detect.specs.Covers.{AreLeft, AreOwn, AreTrueFor, CoversKept, CoversStandFor, epoch_of};
 ghost use Rattle.rd_detect.specs.Seats.{AreSeats};
 ghost use Rattle.rd_detect.specs.Taking.{JudgesCall};
 ghost use Rattle.rd_clock.specs.Stamps.{lent_stamp};
 ghost use Rattle.rd_ecl.specs.Kinds.{kinds_of};
 ghost use Rattle.rd_ecl.specs.Specified.{SpecifiedKind};
 ghost use Rattle.rd_event.specs.declared.events.Event.{Event as EventOf};
-ghost use Rattle.rd_hb.specs.Tracker.{IsFloor, last_stamp};
+ghost use Rattle.rd_event.specs.declared.events.Event.TheVariants as event;
+ghost use Rattle.rd_hb.specs.Tracker.{IsFloor, IsStamp, last_stamp};
 ghost use Rattle.rd_hb.specs.declared.tracker.Tracked.{Tracked as TrackedOf};
 ghost use Rattle.rd_order.specs.EventLists.{WellFormedWith};
+ghost use Rattle.rd_points.specs.declared.points.Point.{Point as PointOf};
 ghost use Rattle.rd_store.specs.Lent.{lent_witness};
-ghost use Rattle.rd_store.specs.Stores.{IsOneEach, cell_count};
+ghost use Rattle.rd_store.specs.Stores.{IsOneEach, cell_count, point_at};
 
 #[cfg(test)]
 mod tests;
 
+use crate::covers::Covers;
 use crate::touching::{look, touch_all};
 use arrayvec::ArrayVec;
 use rd_base::{NoMemory, Steps};
@@ -87,26 +91,32 @@ impl Detector {
     // is put in the list.
     fn look<L: Ledger>(
         &mut self,
-        call: &Call,
-        clock: &Clock,
+        seen: &WitnessRef,
+        covers: &mut Covers,
         seats: &mut ArrayVec<Seat, 8>,
         steps: &mut Steps<L>,
     ) -> Result<Option<Rc<Witness>>, NoMemory>
-        requires kind { call.now.kind < length self.old.tables }
+        requires kind { seen.now.call.now.kind < length self.old.tables }
         requires none { seats.old.items ≡ [] }
+        requires told { AreTrueFor self.old.store covers.old seen.now.stamp.clock.now }
         ensures latest { IfOk result (λ latest. IsLatestOf self.old.store
-            (flat_map (conflicting_points (table_at self.old.tables call.now.kind))
-            (touched_points self.old.tables call.now)) clock.now
+            (flat_map (conflicting_points (table_at self.old.tables seen.now.call.now.kind))
+            (touched_points self.old.tables seen.now.call.now)) seen.now.stamp.clock.now
             (option_map (λ held. held.value) latest)) }
-        ensures seats { OnOk result (AreSeats self.new.store call.now.thread
-            (touched_points self.old.tables call.now) seats.new.items) }
+        ensures seats { OnOk result (AreSeats self.new.store seen.now.call.now.thread
+            (touched_points self.old.tables seen.now.call.now) seats.new.items) }
         ensures same { IsCallLeft self.old self.new }
+        ensures stay { (index : ℕ) (point : PointOf) → point_at self.old.store index ≡ Some point
+            → point_at self.new.store index ≡ Some point }
+        ensures covers { OnOk result (CoversKept self.new.store seen.now.stamp.clock.now (epoch_of seen.now.stamp)
+            covers.old covers.new) }
+        ensures own { OnOk result (AreOwn (epoch_of seen.now.stamp) covers.new seats.new.items) }
         ensures cost { (threads : ℕ) → AreBelow threads self.old.store → steps.new ≤ steps.old
-            + sum_by (asking_bound (table_at self.old.tables call.now.kind) threads)
-            (touched_points self.old.tables call.now) }
+            + sum_by (asking_bound (table_at self.old.tables seen.now.call.now.kind) threads)
+            (touched_points self.old.tables seen.now.call.now) }
     {
-        let table = &self.tables[call.kind as usize];
-        look(&mut self.store, table, call, clock, seats, steps)
+        let table = &self.tables[seen.call.kind as usize];
+        look(&mut self.store, covers, table, seen, seats, steps)
     }
 
     // The floor of the threads, where with so many cells more a sweep may be due.
@@ -122,18 +132,22 @@ impl Detector {
         Ok(Some(tracker.floor()?))
     }
 
-    // Drops the cells that the floor covers, where a sweep is due. Then there is a floor.
-    fn sweep(&mut self, floor: Option<Clock>)
+    // Drops the cells that the floor covers, where a sweep is due. Then there is a floor. Where points may go, nothing is known of any.
+    fn sweep(&mut self, floor: Option<Clock>, covers: &mut Covers)
         requires { IfNone floor (is_due (cell_count self.old.store) self.old.kept ≡ false) }
         ensures tables { self.new.tables ≡ self.old.tables }
         ensures swept { (threads : List TrackedOf) → IfSome floor (IsFloor threads)
             → IsSweptWhere (is_due (cell_count self.old.store) self.old.kept) threads self.old.kept
             self.old.store self.new.store self.new.kept }
+        ensures covers { AreLeft self.old.store self.new.store covers.old covers.new }
     {
         let Some(floor) = floor else {
             return;
         };
         if is_due(self.store.cells(), self.kept) {
+            if self.store.entered() as u128 / 4 > self.store.cells() {
+                covers.clear();
+            }
             self.store.sweep(&floor);
             self.kept = self.store.cells();
         }
@@ -153,6 +167,7 @@ impl Detector {
         ensures none { IfOk result (λ done. IsTrue done → found ≡ false) }
         ensures taken { IfOk result (λ done. IsTrue done → (threads : List TrackedOf)
             → IsCallKept threads self.old self.new seen.now.call.now (lent_witness seen.now)) }
+        ensures points { (index : ℕ) → point_at self.new.store index ≡ point_at self.old.store index }
         ensures kept { IfOk result (λ done. done ≡ false → self.new ≡ self.old) }
         ensures err { OnErr result (self.new ≡ self.old) }
         ensures cost { steps.new ≤ steps.old + length seats.now }
@@ -173,18 +188,20 @@ impl Detector {
         seats: &[Seat],
         witness: &Rc<Witness>,
         tracker: &Tracker,
+        covers: &mut Covers,
         steps: &mut Steps<L>,
     ) -> Result<(), NoMemory>
         requires { AreSeats self.old.store witness.now.value.call.thread
             (touched_points self.old.tables witness.now.value.call) seats.now }
         ensures taken { OnOk result (IsCallKept tracker.now.threads self.old self.new
             witness.now.value.call witness.now.value) }
+        ensures covers { OnOk result (AreLeft self.old.store self.new.store covers.old covers.new) }
         ensures err { OnErr result (IsCallLeft self.old self.new) }
         ensures cost { steps.new ≤ steps.old + length seats.now }
     {
         let floor = self.floor(seats.len(), tracker)?;
         touch_all(&mut self.store, seats, witness.call.thread, witness, steps)?;
-        self.sweep(floor);
+        self.sweep(floor, covers);
         Ok(())
     }
 
@@ -197,6 +214,7 @@ impl Detector {
         seats: &[Seat],
         seen: &WitnessRef,
         tracker: &Tracker,
+        covers: &mut Covers,
         steps: &mut Steps<L>,
     ) -> Result<Option<Race>, NoMemory>
         requires { AreSeats self.old.store seen.now.call.now.thread
@@ -205,12 +223,13 @@ impl Detector {
             (Answers (lent_witness seen.now) (option_map (λ held. held.value) latest)) }
         ensures taken { OnOk result (IsCallKept tracker.now.threads self.old self.new
             seen.now.call.now (lent_witness seen.now)) }
+        ensures covers { OnOk result (AreLeft self.old.store self.new.store covers.old covers.new) }
         ensures err { OnErr result (IsCallLeft self.old self.new) }
         ensures cost { steps.new ≤ steps.old + length seats.now }
     {
         let witness = Rc::new(self.alloc, seen.copy(self.alloc)?)?;
         let answer = answer(&witness, latest)?;
-        self.keep(seats, &witness, tracker, steps)?;
+        self.keep(seats, &witness, tracker, covers, steps)?;
         Ok(answer)
     }
 
@@ -221,20 +240,28 @@ impl Detector {
         &mut self,
         seen: &WitnessRef,
         tracker: &Tracker,
+        covers: &mut Covers,
         steps: &mut Steps<L>,
     ) -> Result<Option<Race>, NoMemory>
         requires next { (kinds : List SpecifiedKind) × (roots : ℕ → Bool) × (lines : List ℕ) × (es : List EventOf)
             × IsNextCall kinds self.old tracker.now roots lines es seen.now.place seen.now.call.now (lent_stamp seen.now.stamp) }
-        ensures { JudgesCall self.old self.new tracker.now seen.now.line seen.now.place seen.now.call.now (lent_stamp seen.now.stamp)
+        requires told { (es : List EventOf) × IsStamp (es ++ event.Call seen.now.call.now ∷ []) (length es) (lent_stamp seen.now.stamp)
+            × CoversStandFor es self.old.store covers.old }
+        ensures judged { JudgesCall self.old self.new tracker.now seen.now.line seen.now.place seen.now.call.now (lent_stamp seen.now.stamp)
             result steps.old steps.new }
+        ensures covers { OnOk result ((es : List EventOf) → IsStamp (es ++ event.Call seen.now.call.now ∷ []) (length es) (lent_stamp seen.now.stamp)
+            → CoversStandFor es self.old.store covers.old
+            → CoversStandFor (es ++ event.Call seen.now.call.now ∷ []) self.new.store covers.new) }
     {
         law_of_merging();
         let mut seats = ArrayVec::new();
-        let latest = self.look(seen.call, seen.stamp.clock, &mut seats, steps)?;
+        let latest = self.look(seen, covers, &mut seats, steps)?;
+        // `cells` is called for its clause that no point stands there twice.
+        let _cells = self.cells();
         if self.keep_over(latest.is_some(), seats.as_slice(), seen, steps)? {
             return Ok(None);
         }
-        self.keep_new(latest, seats.as_slice(), seen, tracker, steps)
+        self.keep_new(latest, seats.as_slice(), seen, tracker, covers, steps)
     }
 
     /// Takes the call at the next place of a trace that is well-formed with the specification, on the line of that number, with the
@@ -261,21 +288,30 @@ impl Detector {
             call,
             stamp: StampRef::new(stamp),
         };
-        self.judge(&seen, tracker, steps)
+        self.judge(&seen, tracker, &mut Covers::new(self.alloc), steps)
     }
 
-    /// Takes a call as `call` does, where the tracker passed it last, and so has its stamp.
+    /// Takes a call as `call` does, where the tracker passed it last, and so has its stamp. What is known of the points is lent, and followed,
+    /// so that a point whose calls are all known to an event that the call's thread has heard of takes one step. After want of memory nothing
+    /// is known of any point.
     pub fn take<L: Ledger>(
         &mut self,
         line: u64,
         place: u32,
         call: &Call,
         tracker: &Tracker,
+        covers: &mut Covers,
         steps: &mut Steps<L>,
     ) -> Result<Option<Race>, NoMemory>
         requires next { (kinds : List SpecifiedKind) × (roots : ℕ → Bool) × (lines : List ℕ) × (es : List EventOf)
             × IsNextCall kinds self.old tracker.now roots lines es place call.now (last_stamp tracker.now.threads call.now.thread) }
-        ensures { JudgesCall self.old self.new tracker.now line place call.now (last_stamp tracker.now.threads call.now.thread) result steps.old steps.new }
+        requires told { (es : List EventOf) × IsStamp (es ++ event.Call call.now ∷ []) (length es) (last_stamp tracker.now.threads call.now.thread)
+            × CoversStandFor es self.old.store covers.old }
+        ensures judged { JudgesCall self.old self.new tracker.now line place call.now (last_stamp tracker.now.threads call.now.thread) result steps.old steps.new }
+        ensures covers { OnOk result ((es : List EventOf) → IsStamp (es ++ event.Call call.now ∷ []) (length es) (last_stamp tracker.now.threads call.now.thread)
+            → CoversStandFor es self.old.store covers.old
+            → CoversStandFor (es ++ event.Call call.now ∷ []) self.new.store covers.new) }
+        ensures none { OnErr result (covers.new ≡ []) }
     {
         let seen = WitnessRef {
             line,
@@ -283,7 +319,11 @@ impl Detector {
             call,
             stamp: tracker.last_stamp(call.thread),
         };
-        self.judge(&seen, tracker, steps)
+        let answer = self.judge(&seen, tracker, covers, steps);
+        if answer.is_err() {
+            covers.clear();
+        }
+        answer
     }
 
     /// How many cells there are: one for each point and each thread that touched it, but for those that were swept. It takes no memory.

@@ -2,9 +2,11 @@
 #![tactic(auto)]
 
 mod asking;
+mod covers;
 mod detector;
 mod laws;
 mod touching;
 
+pub use covers::{Covers, Epoch};
 pub use detector::Detector;
-pub use laws::law_of_detectors;
+pub use laws::{law_of_covers, law_of_detectors};

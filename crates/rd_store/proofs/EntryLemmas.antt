@@ -431,6 +431,13 @@ length-swept_below clock [] i = refl
 length-swept_below clock (h ∷ store) zero = refl
 length-swept_below clock (h ∷ store) (suc i) = ap suc (length-swept_below clock store i)
 
+-- points keep their indices
+pub point_at-swept_below : (clock : List ℕ) (store : List PointCells) (i index : ℕ) → point_at (swept_below clock store i) index ≡ point_at store index
+point_at-swept_below clock [] i index = refl
+point_at-swept_below clock (held ∷ store) zero index = refl
+point_at-swept_below clock (held ∷ store) (suc i) zero = refl
+point_at-swept_below clock (held ∷ store) (suc i) (suc index) = point_at-swept_below clock store i index
+
 pub swept_none : (clock : List ℕ) (store : List PointCells) → swept_below clock store 0 ≡ store
 swept_none clock [] = refl
 swept_none clock (h ∷ store) = refl

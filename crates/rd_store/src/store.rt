@@ -1,9 +1,9 @@
 //! The cells of access points.
-ghost use Rattle.std.specs.Prelude.{◌≡◌, false, ◌+◌, ◌*◌, ◌<◌, ◌≤◌, ◌⊎◌, not, [], Contains, length, map, option_map, is_some, OnOk, OnErr, IfOk, IsSome, IsTrue, if◌then◌else◌};
+ghost use Rattle.std.specs.Prelude.{◌≡◌, ℕ, false, ◌+◌, ◌*◌, ◌<◌, ◌≤◌, ◌⊎◌, not, [], Contains, length, map, option_map, is_some, OnOk, OnErr, IfOk, IsSome, IsTrue, if◌then◌else◌};
 ghost use Rattle.rd_points.specs.declared.points.Point.{Point as PointOf};
 ghost use Rattle.rd_store.specs.StoreParts.{cell, cells_of, room_of, later_found, latest_in_cells, live, swept_at, with_cell};
 ghost use Rattle.rd_store.specs.Lent.{lent_witness};
-ghost use Rattle.rd_store.specs.Stores.{HasOneEach, HasRoom, IsLatestUncovered, IsOneEach, IsSameStore, IsSwept, IsTouched, cell_count, cell_of, cells_at, is_covered, others_of, place_of};
+ghost use Rattle.rd_store.specs.Stores.{HasOneEach, HasRoom, IsLatestUncovered, IsOneEach, IsSameStore, IsSwept, IsTouched, cell_count, cell_of, cells_at, is_covered, others_of, place_of, point_at};
 
 mod indexed;
 
@@ -305,9 +305,11 @@ impl Store {
 
     /// Drops exactly the cells that the clock covers, and counts no steps. Points without cells stay entered while there are no more points than
     /// four times the cells that there were; where there are, they go, so that the work of a sweep hangs on the cells that were made since the last
-    /// one, and not on all points that there ever were.
+    /// one, and not on all points that there ever were. Where none go, each keeps its index.
     pub fn sweep(&mut self, floor: &Clock)
         ensures swept { IsSwept floor.now self.old self.new }
+        ensures stay { length self.old < 4 * cell_count self.old + 4
+            → (index : ℕ) → point_at self.new index ≡ point_at self.old index }
         ensures few { (length self.new < 4 * cell_count self.old + 4)
             ⊎ (length self.new ≤ cell_count self.new) }
     {

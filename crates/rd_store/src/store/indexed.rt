@@ -13,8 +13,8 @@ use std::rc::Rc;
 use std::sync::ledger::Ledger;
 
 impl Store {
-    // The index of a point that was entered.
-    pub(super) fn index_of(&self, point: PointRef) -> Option<usize>
+    /// The index at which a point was entered; none where it wasn't. It takes no memory.
+    pub fn index_of(&self, point: PointRef) -> Option<usize>
         ensures { MatchOption result (held_of self.now (lent_point point.entry) ≡ None)
             (λ index. point_at self.now index ≡ Some (lent_point point.entry)) }
     {
@@ -143,6 +143,7 @@ impl Store {
             → IsTouched self.old self.new point thread witness.value }
         ensures one_each { (point : PointOf) → HasOneEach (cells_at self.old point) }
         ensures seats { (point : PointOf) (other : Seat) → IsSeat self.old thread point other → IsSeat self.new thread point other }
+        ensures points { (index : ℕ) → point_at self.new index ≡ point_at self.old index }
         ensures cost { steps.new ≡ steps.old + 1 }
     {
         law_of_equal_points();
@@ -172,6 +173,7 @@ impl Store {
             → IsTouched self.old self.new point seen.entry.call.now.thread (lent_witness seen.entry)) }
         ensures kept { IfOk result (λ done. done ≡ false → self.new ≡ self.old) }
         ensures count { cell_count self.new ≡ cell_count self.old }
+        ensures points { (index : ℕ) → point_at self.new index ≡ point_at self.old index }
         ensures err { OnErr result (self.new ≡ self.old) }
         ensures cost { steps.new ≡ steps.old + 1 }
     {

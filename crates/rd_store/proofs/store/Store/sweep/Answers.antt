@@ -1,7 +1,7 @@
 use Rattle.std.proofs.Common.{◌≡◌, length, add-one, inl, sym, ap, ◌∙◌, arith}
-use Rattle.rd_store.specs.Stores.{cell_count}
+use Rattle.rd_store.specs.Stores.{cell_count, point_at}
 use Rattle.rd_store.specs.StoreParts.{swept_at, swept_below}
-use Rattle.rd_store.proofs.EntryLemmas.{length-swept_below, swept_all, swept_more, swept_none, swept_same}
+use Rattle.rd_store.proofs.EntryLemmas.{length-swept_below, point_at-swept_below, swept_all, swept_more, swept_none, swept_same}
 use Rattle.rd_store.proofs.store.Store.sweep.Goals as goal
 
 pub loop-place-init : goal.loop-place-init
@@ -34,3 +34,12 @@ returns-else-many-clause-few c =
     let counted : c.self.inside.count ≡ cell_count c.args.self.now = c.self.invariant.counted ∙ ap cell_count c.self.view_is in
     let long : length c.loop-place.self ≡ length c.args.self.now = ap length c.loop-place.invariant ∙ length-swept_below c.args.floor.now c.args.self.now c.loop-place.place in
     inl (omega (arith, c.if-many.false, c.entered.ensures.len, counted, long))
+
+pub returns-then-many-clause-stay : goal.returns-then-many-clause-stay
+returns-then-many-clause-stay c = λ few index.
+    let counted : c.self.inside.count ≡ cell_count c.args.self.now = c.self.invariant.counted ∙ ap cell_count c.self.view_is in
+    absurd (omega (arith, c.if-many.true, c.entered.ensures.len, counted, few))
+
+pub returns-else-many-clause-stay : goal.returns-else-many-clause-stay
+returns-else-many-clause-stay c = λ few index.
+    ap (λ store. point_at store index) c.loop-place.invariant ∙ point_at-swept_below c.args.floor.now c.args.self.now c.loop-place.place index

@@ -4,7 +4,7 @@ use Rattle.std.specs.Map.{values_of}
 use Rattle.std.specs.Option.{option_copied_mut}
 use Rattle.indexmap.specs.Layout.{set_value_at}
 use Rattle.rd_points.specs.PointLists.{same_point}
-use Rattle.rd_store.specs.Stores.{HasOneEach, IsSeat, IsTouched, cells_at, place_of}
+use Rattle.rd_store.specs.Stores.{HasOneEach, IsSeat, IsTouched, cells_at, place_of, point_at}
 use Rattle.rd_store.specs.StoreParts.{held_entries, room_of}
 use Rattle.rd_store.proofs.EntryLemmas.{IsFound, fits_one_more, found_cells, kept_touched, one_each_at, room_found, seat_stays, touched}
 use Rattle.rd_store.proofs.IndexLemmas.{found_at, point_set}
@@ -62,3 +62,7 @@ returns-clause-seats g c = λ point other seat.
     seat_stays c.law_of_equal_points.ensures es c.args.seat.index c.requires.0 c.unwrap.result.now c.put-new.new.cells f c.args.thread c.args.witness.value c.put-new.ensures.cells done point other
     (point_set es c.args.seat.index c.put-new.new.cells other.index)
     (subst (λ store. IsSeat store c.args.thread point other) (sym c.self.view_is) seat)
+
+pub returns-clause-points : goal.returns-clause-points
+returns-clause-points g c = λ index.
+    point_set c.self.inside.points.entries c.args.seat.index c.put-new.new.cells index ∙ ap (λ store. point_at store index) c.self.view_is

@@ -6,10 +6,10 @@ use Rattle.std.proofs.lemmas.Result.{IfOk-weaker, on_err_weaker}
 use Rattle.indexmap.specs.Layout.{set_value_at}
 use Rattle.rd_points.specs.PointLists.{same_point}
 use Rattle.rd_store.specs.Lent.{lent_witness}
-use Rattle.rd_store.specs.Stores.{IsTouched, cell_count, cells_at, place_of}
+use Rattle.rd_store.specs.Stores.{IsTouched, cell_count, cells_at, place_of, point_at}
 use Rattle.rd_store.specs.StoreParts.{held_entries}
 use Rattle.rd_store.proofs.EntryLemmas.{both_ok, count_renewed, found_cells, kept_renewed, renewed_or_not, same_entries, touched_renewed}
-use Rattle.rd_store.proofs.IndexLemmas.{found_at}
+use Rattle.rd_store.proofs.IndexLemmas.{found_at, point_set}
 use Rattle.rd_store.proofs.store.Store.touch_over.Goals as goal
 
 pub renew_cell-requires : goal.renew_cell-requires
@@ -69,3 +69,7 @@ returns-clause-count g c =
     count_renewed es c.args.seat.index v new c.args.seen.call.now.thread (lent_witness c.args.seen) at
     (renewed_or_not c.renew_cell.result c.renew_cell.ensures.there c.renew_cell.ensures.renewed c.renew_cell.ensures.kept c.renew_cell.ensures.err)
     ∙ ap cell_count c.self.view_is
+
+pub returns-clause-points : goal.returns-clause-points
+returns-clause-points g c = λ index.
+    point_set c.self.inside.points.entries c.args.seat.index c.renew_cell.new.cells index ∙ ap (λ store. point_at store index) c.self.view_is

@@ -1,0 +1,107 @@
+//! What is known of points beside their cells, so that most points with many cells needn't be asked.
+ghost use Rattle.std.specs.Prelude.{◌≡◌, ◌≤◌, ◌⊎◌, ℕ, List, [], OnErr, OnOk, None, Some, length, true, ◌+◌};
+ghost use Rattle.rd_detect.specs.Covers.{cover_at, epoch_of, is_heard};
+
+use rd_base::NoMemory;
+use rd_clock::{Clock, StampRef};
+use std::alloc::Global;
+use std::marker::Model;
+
+/// The event of a thread with this number among those of the thread, from 1.
+#[derive(Clone, Copy)]
+pub struct Epoch {
+    pub thread: u32,
+    pub number: u32,
+}
+
+/// For points of a store, by their indices, the epoch of an event that knows all calls which are kept at the point: a clock that has heard of
+/// it covers them, however many there are (after the epochs of Flanagan and Freund 2009). Contracts see it as the list of these.
+#[derive(Drop)]
+pub struct Covers {
+    epochs: Vec<Option<Epoch>>,
+}
+
+impl Model for Covers {
+    ghost use Rattle.std.specs.Prelude.{List, Option};
+    ghost use Rattle.std.specs.Coded.{codes};
+    ghost use Rattle.rd_detect.specs.declared.covers.Epoch.{Epoch as EpochOf};
+
+    ghost Value = { List (Option EpochOf) };
+
+    ghost view = { λ c. c.epochs.items };
+}
+
+impl Covers {
+    /// Nothing is known of any point. It takes no memory.
+    pub fn new(alloc: Global) -> Covers
+        ensures { result ≡ [] }
+    {
+        Covers {
+            epochs: Vec::new(alloc),
+        }
+    }
+
+    // Whether the clock has heard of the epoch of the point at an index.
+    #[inline(always)]
+    pub(crate) fn are_heard(&self, index: usize, clock: &Clock) -> bool
+        ensures { result ≡ is_heard clock.now (cover_at self.now index) }
+    {
+        if index >= self.epochs.len() {
+            return false;
+        }
+        match self.epochs[index] {
+            None => false,
+            Some(epoch) => clock.reaches(epoch.thread, epoch.number),
+        }
+    }
+
+    // Makes the epoch of the point at an index that of a stamp.
+    #[inline(never)]
+    pub(crate) fn set(&mut self, index: usize, stamp: StampRef) -> Result<(), NoMemory>
+        ensures set { OnOk result
+            (cover_at self.new index ≡ Some (epoch_of stamp.entry)) }
+        ensures others { (other : ℕ) → (other ≡ index)
+            ⊎ (cover_at self.new other ≡ cover_at self.old other) }
+        ensures same { OnErr result (cover_at self.new index ≡ cover_at self.old index) }
+        ensures few { (most : ℕ) → length self.old ≤ most → index + 1 ≤ most
+            → length self.new ≤ most }
+    {
+        while self.epochs.len() <= index {
+            self.epochs.push(None)?;
+        }
+        self.epochs[index] = Some(Epoch {
+            thread: stamp.thread,
+            number: stamp.number,
+        });
+        Ok(())
+    }
+
+    // Makes the epoch of the point at an index that of a stamp whose clock has heard of it, and forgets one that it hasn't.
+    #[inline(always)]
+    pub(crate) fn renew(&mut self, index: usize, stamp: StampRef)
+        ensures renewed { ((cover_at self.new index ≡ Some (epoch_of stamp.entry))
+            × (is_heard stamp.entry.clock.now (cover_at self.old index) ≡ true)) ⊎ (cover_at self.new index ≡ None) }
+        ensures others { (other : ℕ) → (other ≡ index)
+            ⊎ (cover_at self.new other ≡ cover_at self.old other) }
+        ensures long { length self.new ≡ length self.old }
+    {
+        if index >= self.epochs.len() {
+            return;
+        }
+        self.epochs[index] = if self.are_heard(index, stamp.clock) {
+            Some(Epoch {
+                thread: stamp.thread,
+                number: stamp.number,
+            })
+        } else {
+            None
+        };
+    }
+
+    // Forgets all.
+    pub(crate) fn clear(&mut self)
+        ensures { self.new ≡ [] }
+    {
+        self.epochs.clear();
+    }
+}
