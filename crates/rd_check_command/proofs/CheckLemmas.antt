@@ -18,6 +18,8 @@ use Rattle.rd_order.specs.Order.{forked_thread}
 use Rattle.rd_order.specs.Order.{thread_of}
 use Rattle.rd_hb.specs.Tracker.{IsNextEvent, IsStamp, TrackerStandsFor, Tracking, event_bound, last_stamp}
 use Rattle.rd_detect.proofs.CellLemmas.{stands_quiet, stands_unbegun}
+use Rattle.rd_detect.proofs.LaterLemmas.{stand_longer}
+use Rattle.rd_detect.specs.Covers.{CoversStandFor}
 use Rattle.rd_rules.proofs.EventsLemmas.{all_roots, events_more, no_events, roots_more, threads_more, told_formed, told_more}
 use Rattle.rd_races.proofs.RaceLemmas.{not_reported}
 use Rattle.rd_check_command.proofs.ReportLemmas.{answer_text, event_numbers_more, events_all, next_races_is, next_text_is, numbers_counted, passing, quiet_events, quiet_numbers, quiet_races, quiet_texts, races_more, races_within, texts_more}
@@ -309,6 +311,7 @@ module _ (start now : Check) (tracker : Tracking) (before : List Entry) (entry :
     tracks = tracks_now;
     detects = subst (λ (T : Type 0). T)
         (λ i. DetectorStandsFor spec now.detector (roots_of (items (before ++ entry ∷ []))) (sym (quiet_numbers spec before entry quiet) i) (sym (quiet_events spec before entry quiet) i)) detects;
+    covers = subst (λ es. CoversStandFor es now.detector.store now.covers) (sym (quiet_events spec before entry quiet)) checks.covers;
     races = checks.races ∙ sym (quiet_races spec before entry quiet);
     told = subst (λ (T : Type 0). T)
         (λ i. IsToldIn (naming (items (before ++ entry ∷ []))) ((append-nil (event_numbers before) ∙ sym (quiet_numbers spec before entry quiet)) i)
@@ -331,6 +334,7 @@ module _ (start now : Check) (tracker : Tracking) (before : List Entry) (entry :
         detects = subst (λ (T : Type 0). T)
             (λ i. DetectorStandsFor spec now.detector (roots_of (items (before ++ entry ∷ []))) (sym (event_numbers_more spec before entry event is) i) (sym (events_all spec before entry event is) i))
             (stands_quiet spec now.detector (roots_of (items (before ++ entry ∷ []))) (event_numbers before) earlier entry.number e other formed (unrooted (ap is_root is)));
+        covers = subst (λ es. CoversStandFor es now.detector.store now.covers) (sym (events_all spec before entry event is)) (stand_longer earlier (e ∷ []) now.detector.store now.covers checks.covers);
         races = checks.races ∙ sym (races_more spec before entry event is ∙ ap (λ o. races_of spec before + cond (is_some o) 1 0) none ∙ omega arith);
         told = subst (λ (T : Type 0). T)
             (λ i. IsToldIn (naming (items (before ++ entry ∷ []))) (sym (event_numbers_more spec before entry event is) i) (sym (events_all spec before entry event is) i))
@@ -512,8 +516,8 @@ module _ (start now : Check) (before : List Entry) (entry : Entry) (e : Numbered
   -- what is kept, and what is written
   pub checks_call : (new : Check) → new.form ≡ now.form → new.spec.now ≡ now.spec.now → new.formulas ≡ now.formulas → Tracks known new.tracker (items before ++ entry.item ∷ [])
       → DetectorStandsFor asked new.detector (roots_of (items before)) (event_numbers before ++ entry.number ∷ []) (es ++ numbered.Call call ∷ [])
-      → new.races ≡ now.races + next_races asked es (numbered.Call call) → IsToldNow new.told new.told_place → Checks start (before ++ entry ∷ []) new
-  checks_call new one_form one_spec one_formulas tracks detects races told =
+      → CoversStandFor (es ++ numbered.Call call ∷ []) new.detector.store new.covers → new.races ≡ now.races + next_races asked es (numbered.Call call) → IsToldNow new.told new.told_place → Checks start (before ++ entry ∷ []) new
+  checks_call new one_form one_spec one_formulas tracks detects covers races told =
       let (event, is, same) = event_is in
       let roots_now : root_count (items (before ++ entry ∷ [])) ≡ root_count (items before) = ap root_count (items_more before entry) ∙ same_roots_then in record {
         starts = checks.starts;
@@ -524,6 +528,7 @@ module _ (start now : Check) (before : List Entry) (entry : Entry) (e : Numbered
         detects = subst (λ (T : Type 0). T)
             (λ i. DetectorStandsFor asked new.detector (λ t. ltb t (sym roots_now i)) (sym (event_numbers_more asked before entry event is) i)
             ((ap (λ e. es ++ e ∷ []) same ∙ sym (events_all asked before entry event is)) i)) detects;
+        covers = subst (λ es. CoversStandFor es new.detector.store new.covers) (ap (λ e. es ++ e ∷ []) same ∙ sym (events_all asked before entry event is)) covers;
         races = races ∙ ap (λ n. n + next_races asked es (numbered.Call call)) checks.races ∙ ap (λ e. races_of asked before + next_races asked es e) same ∙ sym (races_more asked before entry event is);
         told = subst (λ (T : Type 0). T)
             (λ i. IsToldAmong start.form asked ((ready.naming_is ∙ ap naming (sym (items_more before entry))) i) (sym (event_numbers_more asked before entry event is) i)

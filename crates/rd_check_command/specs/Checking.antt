@@ -8,6 +8,7 @@ use Rattle.rd_event.specs.declared.events.Event.TheVariants as event
 use Rattle.rd_event.specs.declared.items.Line.{Line}
 use Rattle.rd_hb.specs.Tracker.{TrackerStandsFor, Tracking}
 use Rattle.rd_races.specs.Commuting.{calls_commute}
+use Rattle.rd_detect.specs.Covers.{CoversStandFor}
 use Rattle.rd_detect.specs.Detect.{DetectorStandsFor}
 use Rattle.rd_races.specs.RaceTests.{latest_of}
 use Rattle.rd_ecl.specs.Kinds.{Kind, kinds_of}
@@ -65,16 +66,18 @@ IsToldAmong form kinds names numbers es told (Some place) = IsToldAt form kinds 
 
 -- ---- the state
 
--- it has taken no line, and its detector is one of no call for the kinds of its specification
+-- it has taken no line, and its detector is one of no call for the kinds of its specification, of whose points nothing is known
 pub record IsNew (start : Check) : Type 0 where
   pub no_event : start.tracker ≡ record { threads = []; locks = record { releases = []; unshares = [] } }
   pub no_call : (roots : ℕ → Bool) → WellFormedWith (kinds_of start.spec.now) roots [] → DetectorStandsFor start.spec.now start.detector roots [] []
+  pub no_cover : CoversStandFor [] start.detector.store start.covers
   pub no_race : start.races ≡ 0
   pub formulas : start.formulas ≡ record { form = start.form; kinds = start.spec.now }
   pub none_told : start.told_place ≡ None
 
 -- from a new one on, the tracker and the detector stand for the events of these accepted lines, whose objects are of the kinds of its
--- specification, the calls that are reported among them are counted, and what it keeps of the last of them is what a race tells of it
+-- specification, what is known of points is true for these and later events, the calls that are reported among them are counted, and what it
+-- keeps of the last of them is what a race tells of it
 pub record Checks (start : Check) (entries : List Entry) (now : Check) : Type 0 where
   pub starts : IsNew start
   pub form : now.form ≡ start.form
@@ -82,6 +85,7 @@ pub record Checks (start : Check) (entries : List Entry) (now : Check) : Type 0 
   pub formulas : now.formulas ≡ record { form = start.form; kinds = start.spec.now }
   pub tracks : Tracks (kinds_of start.spec.now) now.tracker (items entries)
   pub detects : DetectorStandsFor start.spec.now now.detector (roots_of (items entries)) (event_numbers entries) (entry_events start.spec.now entries)
+  pub covers : CoversStandFor (entry_events start.spec.now entries) now.detector.store now.covers
   pub races : now.races ≡ races_of start.spec.now entries
   pub told : IsToldAmong start.form start.spec.now (naming (items entries)) (event_numbers entries) (entry_events start.spec.now entries) now.told now.told_place
 

@@ -4,7 +4,7 @@ ghost use Rattle.rd_io.specs.Sinks.{Appends};
 ghost use Rattle.rd_walk.specs.Analysis.{TellsFault, WritesFront};
 
 use rd_base::{Bytes, NoMemory, Steps};
-use rd_detect::Detector;
+use rd_detect::{Covers, Detector, law_of_covers};
 use rd_ecl::Spec;
 use rd_event::{Call, Event};
 use rd_hb::Tracker;
@@ -37,6 +37,8 @@ pub struct Check<'a> {
     memory: Bytes,
     tracker: Tracker,
     detector: Detector,
+    /// what is known of the points of the detector
+    covers: Covers,
     pub(crate) races: u64,
 }
 
@@ -66,7 +68,8 @@ impl<'a> Check<'a> {
     ghost use Rattle.rd_event.specs.declared.events.Event.TheVariants as event;
     ghost use Rattle.rd_event.specs.declared.items.Line.{Line as LineOf};
     ghost use Rattle.rd_detect.specs.Detect.{IsAnswer, IsNextCall, DetectorStandsFor, detection_bound};
-    ghost use Rattle.rd_hb.specs.Tracker.{last_stamp};
+    ghost use Rattle.rd_detect.specs.Covers.{CoversStandFor};
+    ghost use Rattle.rd_hb.specs.Tracker.{IsStamp, last_stamp};
     ghost use Rattle.rd_report.specs.Races.{IsFailedRace, earlier_line, later_line, race_text, told_by};
     ghost use Rattle.rd_json.specs.Forms.{race_in};
     ghost use Rattle.rd_json.specs.Json.{race_json, race_object, told_json};
@@ -84,6 +87,7 @@ impl<'a> Check<'a> {
         ensures form { IfOk result (λ check. check.form ≡ form) }
         ensures spec { IfOk result (λ check. check.spec.now ≡ spec.now) }
     {
+        law_of_covers();
         let detector = Detector::new(alloc, spec)?;
         Ok(Check {
             alloc,
@@ -96,6 +100,7 @@ impl<'a> Check<'a> {
             memory: Bytes::new(alloc),
             tracker: Tracker::new(alloc),
             detector,
+            covers: Covers::new(alloc),
             races: 0,
         })
     }
@@ -113,6 +118,8 @@ impl<'a> Check<'a> {
     ) -> Result<Option<Race>, Halt>
         requires next { (kinds : List SpecifiedKind) × (roots : ℕ → Bool) × (numbers : List ℕ) × (es : List EventOf)
             × IsNextCall kinds self.old.detector self.old.tracker roots numbers es place call.now (last_stamp self.old.tracker.threads call.now.thread) }
+        requires known { (es : List EventOf) × IsStamp (es ++ event.Call call.now ∷ []) (length es) (last_stamp self.old.tracker.threads call.now.thread)
+            × CoversStandFor es self.old.detector.store self.old.covers }
         requires few { self.old.races + 1 < 2 ^ 64 }
 
         // the call is judged and kept, and other parts stay
@@ -128,6 +135,9 @@ impl<'a> Check<'a> {
             → IsNextCall kinds self.old.detector self.old.tracker roots numbers es place call.now (last_stamp self.old.tracker.threads call.now.thread)
             → DetectorStandsFor kinds self.new.detector roots (numbers ++ line ∷ [])
             (es ++ event.Call call.now ∷ [])) }
+        ensures covers { OnOk result ((es : List EventOf) → IsStamp (es ++ event.Call call.now ∷ []) (length es) (last_stamp self.old.tracker.threads call.now.thread)
+            → CoversStandFor es self.old.detector.store self.old.covers
+            → CoversStandFor (es ++ event.Call call.now ∷ []) self.new.detector.store self.new.covers) }
 
         // races are counted, only memory can stop it, and the steps are bounded
         ensures races { IfOk result
@@ -136,7 +146,10 @@ impl<'a> Check<'a> {
         ensures cost { steps.new ≤ steps.old
             + detection_bound self.old.detector.tables (length self.old.tracker.threads) call.now }
     {
-        let Ok(answer) = self.detector.take(line, place, call, &self.tracker, steps) else {
+        let Ok(answer) = self
+            .detector
+            .take(line, place, call, &self.tracker, &mut self.covers, steps)
+        else {
             return Err(Halt::NoMemory);
         };
         self.races += u64::from(answer.is_some());
@@ -157,7 +170,8 @@ impl<'a> Check<'a> {
             race.now.earlier.value self.old.told self.old.told_place }
         ensures same { (self.new.form ≡ self.old.form) × (self.new.spec.now ≡ self.old.spec.now)
             × (self.new.tracker ≡ self.old.tracker) × (self.new.detector ≡ self.old.detector)
-            × (self.new.races ≡ self.old.races) × (self.new.formulas ≡ self.old.formulas) }
+            × (self.new.races ≡ self.old.races) × (self.new.formulas ≡ self.old.formulas)
+            × (self.new.covers ≡ self.old.covers) }
         ensures told { OnOk result (IsToldOf Form.Text self.old.spec.now (naming_in names.now)
             race.now.later.value self.new.told self.new.told_place) }
         ensures later { OnOk result (self.new.told
@@ -193,7 +207,8 @@ impl<'a> Check<'a> {
             race.now.earlier.value self.old.told self.old.told_place }
         ensures same { (self.new.form ≡ self.old.form) × (self.new.spec.now ≡ self.old.spec.now)
             × (self.new.tracker ≡ self.old.tracker) × (self.new.detector ≡ self.old.detector)
-            × (self.new.races ≡ self.old.races) × (self.new.formulas ≡ self.old.formulas) }
+            × (self.new.races ≡ self.old.races) × (self.new.formulas ≡ self.old.formulas)
+            × (self.new.covers ≡ self.old.covers) }
         ensures told { OnOk result (IsToldOf Form.Text self.old.spec.now (naming_in names.now)
             race.now.later.value self.new.told self.new.told_place) }
         ensures ok { OnOk result (Appends (S.written out.old) (S.written out.new)
@@ -224,7 +239,8 @@ impl<'a> Check<'a> {
             race.now.earlier.value self.old.told self.old.told_place }
         ensures same { (self.new.form ≡ self.old.form) × (self.new.spec.now ≡ self.old.spec.now)
             × (self.new.tracker ≡ self.old.tracker) × (self.new.detector ≡ self.old.detector)
-            × (self.new.races ≡ self.old.races) × (self.new.formulas ≡ self.old.formulas) }
+            × (self.new.races ≡ self.old.races) × (self.new.formulas ≡ self.old.formulas)
+            × (self.new.covers ≡ self.old.covers) }
         ensures told { OnOk result (self.new.told
             ≡ told_json self.old.spec.now (naming_in names.now) (told_by race.now.later.value)) }
         ensures text { OnOk result (self.new.text
@@ -273,7 +289,8 @@ impl<'a> Check<'a> {
             race.now.earlier.value self.old.told self.old.told_place }
         ensures same { (self.new.form ≡ self.old.form) × (self.new.spec.now ≡ self.old.spec.now)
             × (self.new.tracker ≡ self.old.tracker) × (self.new.detector ≡ self.old.detector)
-            × (self.new.races ≡ self.old.races) × (self.new.formulas ≡ self.old.formulas) }
+            × (self.new.races ≡ self.old.races) × (self.new.formulas ≡ self.old.formulas)
+            × (self.new.covers ≡ self.old.covers) }
         ensures told { OnOk result (IsToldOf Form.Json self.old.spec.now (naming_in names.now)
             race.now.later.value self.new.told self.new.told_place) }
         ensures ok { OnOk result (Appends (S.written out.old) (S.written out.new)
@@ -300,7 +317,8 @@ impl<'a> Check<'a> {
             race.now.earlier.value self.old.told self.old.told_place }
         ensures same { (self.new.form ≡ self.old.form) × (self.new.spec.now ≡ self.old.spec.now)
             × (self.new.tracker ≡ self.old.tracker) × (self.new.detector ≡ self.old.detector)
-            × (self.new.races ≡ self.old.races) × (self.new.formulas ≡ self.old.formulas) }
+            × (self.new.races ≡ self.old.races) × (self.new.formulas ≡ self.old.formulas)
+            × (self.new.covers ≡ self.old.covers) }
         ensures told { OnOk result (IsToldOf self.old.form self.old.spec.now (naming_in names.now)
             race.now.later.value self.new.told self.new.told_place) }
         ensures ok { OnOk result (Appends (S.written out.old) (S.written out.new)

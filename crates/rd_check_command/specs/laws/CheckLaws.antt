@@ -55,6 +55,7 @@ checks_none kinds start begins = record {
     formulas = begins.new.formulas;
     tracks = tracks_none (kinds_of start.spec.now) start.tracker begins.new.no_event;
     detects = begins.new.no_call (roots_of []) (formed_none (kinds_of start.spec.now));
+    covers = begins.new.no_cover;
     races = begins.new.no_race;
     told = subst (IsToldAmong start.form start.spec.now (naming []) [] [] start.told) (sym begins.new.none_told) tt;
   };

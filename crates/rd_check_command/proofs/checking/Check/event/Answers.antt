@@ -3,6 +3,7 @@ use Rattle.std.proofs.lemmas.List.{append-nil}
 use Rattle.std.proofs.lemmas.Result.{on_ok_weaker, on_err_weaker}
 use Rattle.rd_io.proofs.SinkLemmas.{appends_none}
 use Rattle.rd_io.specs.Sinks.{Appends}
+use Rattle.rd_detect.specs.Covers.{CoversStandFor}
 use Rattle.rd_detect.specs.Detect.{DetectorStandsFor, IsAnswer}
 use Rattle.rd_ecl.specs.Kinds.{kinds_of}
 use Rattle.rd_ecl.specs.Specified.{SpecifiedKind}
@@ -72,6 +73,14 @@ detect-requires-clause-next g c =
           c.pass.new.self c.in-Ok.ensures.stamp c.in-Ok.ensures.stands,
     )
 
+pub detect-requires-clause-known : goal.detect-requires-clause-known
+detect-requires-clause-known g c =
+    let (start, before, item, ready) = c.requires in
+    let entry : Entry = record { number = c.args.number; item = item } in
+    let next = call_next start c.args.self.now before entry c.args.event.now c.in-Call.call c.in-Call.is (naming_in c.args.names.now) c.args.place ready
+    c.pass.new.self c.in-Ok.ensures.stamp c.in-Ok.ensures.stands in
+    (entry_events start.spec.now before, next.stamped, ready.checks.covers)
+
 pub detect-requires-clause-few : goal.detect-requires-clause-few
 detect-requires-clause-few g c =
     let (start, before, item, ready) = c.requires in
@@ -92,6 +101,7 @@ returns-in-Ok-None-clause-checks g c = λ start before item ready.
     checks_call start c.args.self.now before entry c.args.event.now c.in-Call.call c.in-Call.is names c.args.place ready c.detect.new.self said.same.0 said.same.1 said.same.3
     (subst (λ tracker. Tracks (kinds_of start.spec.now) tracker (items before ++ item ∷ [])) (sym said.same.2) tracked)
     (said.stands start.spec.now (roots_of (items before)) numbers es next)
+    (said.covers es next.stamped ready.checks.covers)
     (races_call start c.args.self.now before entry c.args.event.now c.in-Call.call c.in-Call.is names c.args.place ready c.in-Ok-None.field-0
     (said.answer start.spec.now (roots_of (items before)) numbers es next) c.detect.new.self.races said.races)
     (subst (λ (T : Type 0). T) (λ i. IsToldAmong start.form start.spec.now names (numbers ++ c.args.number ∷ []) (es ++ event.Call c.in-Call.call ∷ []) (sym said.told.0 i) (sym said.told.1 i))
@@ -159,6 +169,7 @@ returns-in-Ok-Some-clause-checks g c = on_ok_weaker c.report.result
     checks_call start c.args.self.now before entry c.args.event.now c.in-Call.call c.in-Call.is names c.args.place ready c.report.new.self (same.0 ∙ said.same.0) (same.1 ∙ said.same.1) (same.5 ∙ said.same.3)
     (subst (λ tracker. Tracks (kinds_of start.spec.now) tracker (items before ++ item ∷ [])) (sym (same.2 ∙ said.same.2)) tracked)
     (subst (λ d. DetectorStandsFor start.spec.now d (roots_of (items before)) (numbers ++ c.args.number ∷ []) (es ++ event.Call c.in-Call.call ∷ [])) (sym same.3) (said.stands start.spec.now (roots_of (items before)) numbers es next))
+    (subst (λ (T : Type 0). T) (λ i. CoversStandFor (es ++ event.Call c.in-Call.call ∷ []) (sym same.3 i).store (sym same.6 i)) (said.covers es next.stamped ready.checks.covers))
     (races_call start c.args.self.now before entry c.args.event.now c.in-Call.call c.in-Call.is names c.args.place ready c.in-Ok-Some.field-0
     (said.answer start.spec.now (roots_of (items before)) numbers es next) c.report.new.self.races (same.4 ∙ said.races))
     (told_later start c.args.self.now before entry c.args.event.now c.in-Call.call c.in-Call.is names c.args.place ready c.in-Ok-Some.race
