@@ -1,6 +1,6 @@
 -- The test of a name.
-use Rattle.std.proofs.Common.{◌≡◌, ℕ, ◌<◌, ◌≤◌, Bool, true, false, not, cond, nat_lt, Option, Some, None, List, [], ◌∷◌, length, get_or, leb, arith, refl, Decides}
-use Rattle.std.specs.List.{AllPass, position, prefix_len, position_or_len}
+use Rattle.std.proofs.Common.{◌≡◌, ℕ, ◌+◌, ◌<◌, ◌≤◌, Bool, true, false, nat_lt, List, length, get_or, leb, arith, refl, subst, Decides}
+use Rattle.std.specs.List.{AllPass, prefix_len, slice_index}
 use Rattle.std.proofs.lemmas.Bool.Decides.{Decides-and, Decides-ltb, Decides-like, nat_tests}
 use Rattle.std.proofs.lemmas.List.Sums.{AllPass-from_list_all, list_all-from_AllPass, prefix_len-le-length, prefix_len_passes, prefix_len_stops}
 use Rattle.rd_base.specs.declared.limits.TheConstants.{MOST_NAME_BYTES}
@@ -27,27 +27,32 @@ name_bytes_agree = refl
 pub name_byte_at : (byte : ℕ) (default : Bool) → byte < 256 → get_or NAME_BYTES byte default ≡ is_name_byte byte
 name_byte_at = flag_of_byte is_name_byte NAME_BYTES name_bytes_agree
 
--- the first byte that fails a test, as `position` looks for it
-not_twice : (test : Bool) → not (not test) ≡ test
-not_twice true = refl
-not_twice false = refl
+-- a byte of names behind those in front makes them longer, and another byte ends them
+pub one_more : (bytes : List ℕ) (place : ℕ) → place ≤ prefix_len is_name_byte bytes → place < length bytes
+    → is_name_byte (slice_index bytes place) ≡ true → 1 + place ≤ prefix_len is_name_byte bytes
+one_more bytes place front inside passes = by (nat_lt place (prefix_len is_name_byte bytes)) refl
+  where
+    by : (less : Bool) → nat_lt place (prefix_len is_name_byte bytes) ≡ less → 1 + place ≤ prefix_len is_name_byte bytes
+    by true less = grind (arith, nat_tests)
+    by false less =
+        let here : prefix_len is_name_byte bytes ≡ place = grind (arith, nat_tests) in
+        let stops : is_name_byte (slice_index bytes place) ≡ false =
+        subst (λ at. is_name_byte (slice_index bytes at) ≡ false) here (prefix_len_stops is_name_byte bytes 0 (omega (arith, here))) in
+        absurd (cc)
 
-pub first_other : (p : ℕ → Bool) (bytes : List ℕ) → position_or_len (λ byte. not (p byte)) bytes ≡ prefix_len p bytes
-first_other p [] = refl
-first_other p (byte ∷ bytes) = rw (not_twice (p byte), first_other p bytes) refl
+pub no_more : (bytes : List ℕ) (place : ℕ) → place ≤ prefix_len is_name_byte bytes
+    → is_name_byte (slice_index bytes place) ≡ false → place ≡ prefix_len is_name_byte bytes
+no_more bytes place front fails = by (nat_lt place (prefix_len is_name_byte bytes)) refl
+  where
+    by : (less : Bool) → nat_lt place (prefix_len is_name_byte bytes) ≡ less → place ≡ prefix_len is_name_byte bytes
+    by false less = grind (arith, nat_tests)
+    by true less =
+        let inside : place < prefix_len is_name_byte bytes = grind (arith, nat_tests) in
+        let passes = prefix_len_passes is_name_byte bytes place 0 inside in
+        absurd (cc)
 
-none_made : (test : Bool) (place : ℕ) → ◌≡◌ {A = Option ℕ} None (cond test (Some place) None) → test ≡ false
-none_made true place none = cc
-none_made false place none = refl
-
-pub no_other : (bytes : List ℕ) → ◌≡◌ {A = Option ℕ} None (position (λ byte. not (is_name_byte byte)) bytes)
-    → length bytes ≡ prefix_len is_name_byte bytes
-no_other bytes none =
-    let first = first_other is_name_byte bytes in
-    let most = prefix_len-le-length is_name_byte bytes in
-    let test = none_made (nat_lt (position_or_len (λ byte. not (is_name_byte byte)) bytes) (length bytes)) _ none in
-    let behind : length bytes ≤ position_or_len (λ byte. not (is_name_byte byte)) bytes = grind (arith, nat_tests) in
-    omega (arith, first, most, behind)
+pub no_longer : (bytes : List ℕ) → prefix_len is_name_byte bytes ≤ length bytes
+no_longer = prefix_len-le-length is_name_byte
 
 -- bytes that end behind those of names are bytes of names alone, and others are no name
 pub each_of_name : (bytes : List ℕ) → length bytes ≤ prefix_len is_name_byte bytes → AllPass is_name_byte bytes

@@ -230,3 +230,12 @@ inside_ends bytes text rest so_far end =
     let none : rest ≡ [] = nil_from_length rest end in
     sym (so_far ∙ ap (λ rest. option_map (λ more. text ++ more) (inside_of (255 - length text) rest)) none
     ∙ ap (option_map (λ more. text ++ more)) (nothing_inside (255 - length text)) ∙ ap (λ all. Some all) (append-nil text))
+
+-- a text of bytes that stand is spelled as it is
+pub own_spelling : (bytes : List ℕ) → list_all stands bytes ≡ true → bytes_spelling bytes ≡ bytes
+own_spelling [] standing = refl
+own_spelling (byte ∷ bytes) standing =
+    let parts = and_parts _ _ standing in
+    let first = and_parts _ _ parts.0 in
+    let others = and_parts _ _ first.1 in
+    rw (plain_spelling byte first.0 (not_this byte 34 others.0) (not_this byte 92 others.1), own_spelling bytes parts.1) refl

@@ -6,3 +6,4 @@ pub mod Order
 pub mod ReadingValues
 pub mod Slots
 pub mod Spelling
+pub mod Texts

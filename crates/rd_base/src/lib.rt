@@ -22,6 +22,6 @@ pub use limits::{
 pub use memory::NoMemory;
 pub use names::{BadName, Name, name_length};
 pub use numbers::append_number;
-pub use slots::{Slots, ValueList};
+pub use slots::{Slots, SpareList, ValueList};
 pub use spelling::{ValueRefused, append_value, is_value, law_of_values, read_value, spell_value};
 pub use values::{Text, TextRefused, Value, law_of_order};

@@ -1,6 +1,6 @@
 //! The names of threads, locks, objects, kinds and methods.
-ghost use Rattle.std.specs.Prelude.{◌≡◌, ◌↔◌, ◌≤◌, length, not, IsOk, IfOk};
-ghost use Rattle.std.specs.List.{AllPass, position, prefix_len};
+ghost use Rattle.std.specs.Prelude.{◌≡◌, ◌↔◌, ◌≤◌, length, IsOk, IfOk};
+ghost use Rattle.std.specs.List.{AllPass, prefix_len};
 ghost use Rattle.rd_base.specs.Names.{IsName, is_name_byte};
 
 use crate::limits::MOST_NAME_BYTES;
@@ -63,23 +63,41 @@ fn is_name_byte(byte: u8) -> bool
     NAME_BYTES[byte as usize]
 }
 
-// The first byte that no name has.
-fn first_other(bytes: &[u8]) -> Option<usize>
-    ensures { result ≡ position (λ byte. not (is_name_byte byte)) bytes.now }
+// How many bytes in front may stand in a name, counted in fours: with no way out between four, they are looked up at once.
+#[inline]
+#[tactic(auto, using(crate::proofs::NameLemmas::one_more, crate::proofs::NameLemmas::no_longer))]
+fn fours(bytes: &[u8]) -> usize
+    ensures names { result ≤ prefix_len is_name_byte bytes.now }
+    ensures bound { result ≤ length bytes.now }
 {
-    bytes.iter().position(|byte| !is_name_byte(*byte))
+    let mut length = 0;
+    while bytes.len() - length >= 4 {
+        let all = is_name_byte(bytes[length])
+            & is_name_byte(bytes[length + 1])
+            & is_name_byte(bytes[length + 2])
+            & is_name_byte(bytes[length + 3]);
+        if !all {
+            return length;
+        }
+        length += 4;
+    }
+    length
 }
 
 /// How many bytes stand in front of the first byte that no name has.
-#[tactic(auto, using(crate::proofs::NameLemmas::first_other, crate::proofs::NameLemmas::no_other))]
+#[tactic(auto, using(crate::proofs::NameLemmas::one_more, crate::proofs::NameLemmas::no_more, crate::proofs::NameLemmas::no_longer))]
 pub fn name_length(bytes: &[u8]) -> usize
     ensures value { result ≡ prefix_len is_name_byte bytes.now }
     ensures bound { result ≤ length bytes.now }
 {
-    let Some(place) = first_other(bytes) else {
-        return bytes.len();
-    };
-    place
+    let mut length = fours(bytes);
+    while length < bytes.len() {
+        if !is_name_byte(bytes[length]) {
+            return length;
+        }
+        length += 1;
+    }
+    length
 }
 
 // The bytes of a name.

@@ -1,5 +1,5 @@
 //! The values of a call, one after another.
-ghost use Rattle.std.specs.Prelude.{◌≡◌, [], ◌∷◌, ◌++◌, IfOk};
+ghost use Rattle.std.specs.Prelude.{◌≡◌, ◌≤◌, [], ◌∷◌, ◌++◌, length, false, IfOk, OnErr, IsTrue};
 
 use crate::memory::NoMemory;
 use crate::values::Value;
@@ -27,7 +27,7 @@ impl Model for ValueList {
 }
 
 impl ValueList {
-    ghost use Rattle.std.specs.Prelude.{◌≡◌, [], ◌∷◌, ◌++◌, OnOk, OnErr};
+    ghost use Rattle.std.specs.Prelude.{◌≡◌, [], ◌∷◌, ◌++◌, false, IfOk, OnOk, OnErr, IsTrue};
 
     /// No values. It takes no memory.
     pub fn new(alloc: Global) -> ValueList
@@ -48,6 +48,28 @@ impl ValueList {
         } else {
             self.many.as_slice()
         }
+    }
+
+    /// Takes all values away, and keeps the memory of the list for the next ones.
+    pub fn clear(&mut self)
+        ensures { self.new ≡ [] }
+    {
+        self.few.clear();
+        self.many.clear();
+    }
+
+    /// Makes the values equal to those of another list, where neither has more than three, and answers whether it did. Else the list is as
+    /// before, and so it is where copies of texts can't be made.
+    pub fn assign(&mut self, alloc: Global, other: &ValueList) -> Result<bool, NoMemory>
+        ensures assigned { IfOk result (λ done. IsTrue done → self.new ≡ other.now) }
+        ensures kept { IfOk result (λ done. done ≡ false → self.new ≡ self.old) }
+        ensures err { OnErr result (self.new ≡ self.old) }
+    {
+        if !self.many.is_empty() || !other.many.is_empty() {
+            return Ok(false);
+        }
+        self.few = few_copies(alloc, other.few.as_slice())?;
+        Ok(true)
     }
 
     /// Puts a value last. Only a fourth one and those behind it take memory; after want of it the list is as before.
@@ -108,6 +130,18 @@ fn copies(alloc: Global, values: &[Value]) -> Result<Vec<Value>, NoMemory>
     Ok(list)
 }
 
+// Copies of at most three values.
+fn few_copies(alloc: Global, values: &[Value]) -> Result<ArrayVec<Value, 3>, NoMemory>
+    requires { length values.now ≤ 3 }
+    ensures { IfOk result (λ few. few.items ≡ values.now) }
+{
+    let mut few = ArrayVec::new();
+    for value in values {
+        few.push(value.copy(alloc)?);
+    }
+    Ok(few)
+}
+
 // Copies of the values, and one value more.
 fn with_last(alloc: Global, values: &[Value], last: Value) -> Result<Rc<ValueList>, NoMemory>
     ensures { IfOk result (λ held. held.value ≡ values.now ++ last ∷ []) }
@@ -121,7 +155,7 @@ fn with_last(alloc: Global, values: &[Value], last: Value) -> Result<Rc<ValueLis
 }
 
 impl Slots {
-    ghost use Rattle.std.specs.Prelude.{◌≡◌, ◌≢◌, [], ◌∷◌, ◌++◌, IfOk, OnOk, OnErr};
+    ghost use Rattle.std.specs.Prelude.{◌≡◌, ◌≢◌, [], ◌∷◌, ◌++◌, false, IfOk, OnOk, OnErr, IsTrue};
 
     /// No values. It takes no memory.
     pub fn new(alloc: Global) -> Slots
@@ -165,6 +199,25 @@ impl Slots {
         Ok(())
     }
 
+    /// Makes the values equal to those of another list, in the memory of this one, where nothing else has that and neither has more than three, and
+    /// answers whether it did. Else the list is as before, and so it is where copies of texts can't be made.
+    pub fn assign(&mut self, other: &Slots) -> Result<bool, NoMemory>
+        ensures assigned { IfOk result (λ done. IsTrue done → self.new ≡ other.now) }
+        ensures kept { IfOk result (λ done. done ≡ false → self.new ≡ self.old) }
+        ensures err { OnErr result (self.new ≡ self.old) }
+    {
+        let Some(theirs) = &other.held else {
+            return Ok(false);
+        };
+        let Some(ours) = &mut self.held else {
+            return Ok(false);
+        };
+        match Rc::get_mut(ours) {
+            Some(list) => list.assign(self.alloc, theirs),
+            None => Ok(false),
+        }
+    }
+
     /// The values.
     pub fn items(&self) -> &[Value]
         ensures { result.now ≡ self.now }
@@ -188,6 +241,44 @@ impl Slots {
             }),
             _ => Ok(Slots::new(alloc)),
         }
+    }
+}
+
+/// The list of the values of a call that was read, kept so that the next call's lie in the same memory where nothing else has that. Contracts see
+/// nothing of it.
+#[derive(Drop)]
+pub struct SpareList {
+    held: Option<Rc<ValueList>>,
+}
+
+impl Model for SpareList {
+    ghost Value = { Unit {0} };
+
+    ghost view = { λ _. tt };
+}
+
+impl SpareList {
+    /// Without memory.
+    pub fn new(_alloc: Global) -> SpareList {
+        SpareList { held: None }
+    }
+
+    /// An empty list, in the memory that is kept, where nothing else has that.
+    pub fn take(&mut self, alloc: Global) -> Result<Rc<ValueList>, NoMemory>
+        ensures { IfOk result (λ list. list.value ≡ []) }
+    {
+        if let Some(mut list) = self.held.take()
+            && let Some(values) = Rc::get_mut(&mut list)
+        {
+            values.clear();
+            return Ok(list);
+        }
+        Ok(Rc::new(alloc, ValueList::new(alloc))?)
+    }
+
+    /// Keeps the memory of this list for the next one.
+    pub fn keep(&mut self, list: &Rc<ValueList>) {
+        self.held = list.clone().ok();
     }
 }
 

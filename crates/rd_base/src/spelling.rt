@@ -422,6 +422,29 @@ fn quoted(text: &[u8]) -> ArrayVec<u8, 1022>
     spelled
 }
 
+// Puts the spelling of a text with these bytes behind a text.
+#[tactic(auto, using(crate::proofs::TextLemmas::own_spelling))]
+fn append_text(text: &mut Bytes, content: &[u8]) -> Result<(), NoMemory>
+    requires { length content.now ≤ 255 }
+    ensures ok { OnOk result (text.new ≡ text.old ++ (34 ∷ bytes_spelling content.now ++ 34 ∷ [])) }
+    ensures err { OnErr result (text.new ≡ text.old) }
+{
+    if all_stand(content) {
+        return text.append_between(b'"', content);
+    }
+    append_escaped(text, content)
+}
+
+// The same, byte by byte. It is apart since its list of 1022 bytes is cleared at entry.
+#[inline(never)]
+fn append_escaped(text: &mut Bytes, content: &[u8]) -> Result<(), NoMemory>
+    requires { length content.now ≤ 255 }
+    ensures ok { OnOk result (text.new ≡ text.old ++ (34 ∷ bytes_spelling content.now ++ 34 ∷ [])) }
+    ensures err { OnErr result (text.new ≡ text.old) }
+{
+    text.append(quoted(content).as_slice())
+}
+
 /// Puts the spelling of a value behind a text. After want of memory the text is as before. Each value that code holds is in its range.
 pub fn append_value(text: &mut Bytes, value: &Value) -> Result<(), NoMemory>
     ensures ok { OnOk result (text.new ≡ text.old ++ value_spelling value.now) }
@@ -433,7 +456,7 @@ pub fn append_value(text: &mut Bytes, value: &Value) -> Result<(), NoMemory>
         Value::Bool(true) => text.append(b"true"),
         Value::Bool(false) => text.append(b"false"),
         Value::Int(number) => text.append(Buffer::new().format(*number).as_bytes()),
-        Value::Text(content) => text.append(quoted(content.items()).as_slice()),
+        Value::Text(content) => append_text(text, content.items()),
     }
 }
 

@@ -4,15 +4,18 @@ ghost use Rattle.std.specs.declared.cmp.Ordering.TheVariants.{Equal};
 ghost use Rattle.rd_base.specs.declared.values.Value.{Value};
 ghost use Rattle.rd_base.specs.Order.{bytes_cmp, value_cmp};
 ghost use Rattle.rd_base.specs.Spelling.{IsText};
+ghost use Rattle.rd_base.specs.Texts.{block_bytes};
 
 use crate::byte_order::order;
 use crate::hashing::hash_text;
-use crate::memory::{NoMemory, list_of_bytes};
+use crate::memory::NoMemory;
 use crate::names::Name;
+use arrayvec::ArrayVec;
 use std::alloc::{AllocError, Global};
 use std::cmp::Ordering;
 use std::hash::{Hash, Hasher};
 use std::marker::Model;
+use std::rc::Rc;
 use thiserror::Error;
 
 /// Why a text can't be made.
@@ -37,20 +40,57 @@ impl From<AllocError> for TextRefused {
     }
 }
 
-/// A text of at most 255 bytes, any bytes. Contracts see it as the list of its bytes, by which it is compared and hashed.
+// What copies of a text share: few bytes lie in it.
+#[derive(Drop)]
+enum Block {
+    Few(ArrayVec<u8, FEW_BYTES>),
+    Many(Vec<u8>),
+}
+
+const FEW_BYTES: usize = 24;
+
+/// A text of at most 255 bytes, any bytes. Copies share one block of memory. Contracts see it as the list of its bytes, by which it is
+/// compared and hashed.
 #[derive(Drop)]
 pub struct Text {
-    bytes: Vec<u8>,
+    // None where there is no byte
+    held: Option<Rc<Block>>,
 }
 
 impl Model for Text {
-    ghost use Rattle.std.specs.Prelude.{List, ℕ, ◌≤◌, length};
+    ghost use Rattle.std.specs.Prelude.{List, ℕ, ◌≤◌, length, [], unwrap_or};
+    ghost use Rattle.std.specs.Option.{option_map};
+    ghost use Rattle.rd_base.specs.Texts.{block_bytes};
 
     ghost Value = { List ℕ };
 
-    ghost view = { λ t. t.bytes.items };
+    ghost view = { λ t. unwrap_or (option_map (λ held. block_bytes held.value) t.held) [] };
 
-    ghost invariant = { λ t. length t.bytes.items ≤ 255 };
+    ghost invariant = { λ t. length (unwrap_or (option_map (λ held. block_bytes held.value) t.held) []) ≤ 255 };
+}
+
+// A block with these bytes, which copies will share.
+#[tactic(auto, unfolding(crate::specs::Texts::block_bytes))]
+fn shared(alloc: Global, bytes: &[u8]) -> Result<Rc<Block>, NoMemory>
+    ensures { IfOk result (λ held. block_bytes held.value ≡ bytes.now) }
+{
+    let mut few = ArrayVec::new();
+    if let Ok(()) = few.try_extend_from_slice(bytes) {
+        return Ok(Rc::new(alloc, Block::Few(few))?);
+    }
+    let many = Vec::from_slice(alloc, bytes)?;
+    Ok(Rc::new(alloc, Block::Many(many))?)
+}
+
+// The bytes in a block.
+#[tactic(auto, unfolding(crate::specs::Texts::block_bytes))]
+fn block_bytes(block: &Block) -> &[u8]
+    ensures { result.now ≡ block_bytes block.now }
+{
+    match block {
+        Block::Few(few) => few.as_slice(),
+        Block::Many(many) => many.as_slice(),
+    }
 }
 
 // The same bytes, of which each is below 256.
@@ -71,9 +111,24 @@ impl Text {
         if bytes.len() > 255 {
             return Err(TextRefused::TooLong);
         }
-        Ok(Text {
-            bytes: list_of_bytes(alloc, bytes)?,
-        })
+        if bytes.is_empty() {
+            return Ok(Text { held: None });
+        }
+        match shared(alloc, bytes) {
+            Ok(held) => Ok(Text { held: Some(held) }),
+            Err(_) => Err(TextRefused::NoMemory),
+        }
+    }
+
+    // The same.
+    fn bytes(&self) -> &[u8]
+        ensures value { result.now ≡ self.now }
+        ensures few { length self.now ≤ 255 }
+    {
+        match &self.held {
+            Some(held) => block_bytes(held),
+            None => &[],
+        }
     }
 
     /// Its bytes, at most 255.
@@ -82,17 +137,22 @@ impl Text {
         ensures few { length self.now ≤ 255 }
         ensures text { IsText self.now }
     {
-        ranged(self.bytes.as_slice())
+        ranged(self.bytes())
     }
 
-    /// An equal text. The empty one takes no memory.
+    /// An equal text, which shares this one's memory. `NoMemory` comes only where too many share it, and for the empty text it never
+    /// comes.
     pub fn copy(&self, alloc: Global) -> Result<Text, NoMemory>
         ensures value { IfOk result (λ text. text ≡ self.now) }
         ensures memory { OnErr result (self.now ≢ []) }
     {
-        Ok(Text {
-            bytes: list_of_bytes(alloc, self.bytes.as_slice())?,
-        })
+        let _alloc = alloc;
+        match &self.held {
+            Some(held) if !block_bytes(held).is_empty() => Ok(Text {
+                held: Some(held.clone()?),
+            }),
+            _ => Ok(Text { held: None }),
+        }
     }
 }
 
@@ -106,7 +166,7 @@ impl PartialEq for Text {
     ghost laws = { partial_equiv_from_equiv nat_list_eq_equiv };
 
     fn eq(&self, other: &Text) -> bool {
-        self.bytes.as_slice() == other.bytes.as_slice()
+        self.bytes() == other.bytes()
     }
 }
 
@@ -144,7 +204,7 @@ impl Ord for Text {
     ghost matches_eq = { texts_ties };
 
     fn cmp(&self, other: &Text) -> Ordering {
-        order(self.bytes.as_slice(), other.bytes.as_slice())
+        order(self.bytes(), other.bytes())
     }
 }
 
@@ -158,7 +218,7 @@ impl Hash for Text {
     ghost respects_eq = { Prim.search (hashing, rules) };
 
     fn hash<H: Hasher>(&self, state: &mut H) {
-        hash_text(self.bytes.as_slice(), state)
+        hash_text(self.bytes(), state)
     }
 }
 

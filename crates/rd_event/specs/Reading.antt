@@ -12,7 +12,7 @@ use Rattle.rd_event.specs.declared.reading.Pair.{Pair}
 use Rattle.rd_event.specs.declared.reading.Pair.TheVariants.{Object as ObjectPair, Fork as ForkPair, Join as JoinPair, Acquire as AcquirePair, Release as ReleasePair}
 use Rattle.rd_event.specs.Items.{is_skipped}
 use Rattle.rd_event.specs.ReadingSlots.{slots_read}
-use Rattle.rd_base.specs.Bytes.{is_space, space}
+use Rattle.rd_base.specs.Bytes.{is_space}
 
 -- the bytes, if they are a name
 unfoldable pub name_read : List ℕ → Option (List ℕ)

@@ -13,5 +13,5 @@ pub use items::{Line, LineEvent};
 pub use reading::{
     LineRefused, behind, is_skipped, law_of_calls, law_of_spelling, read_into, read_line,
 };
-pub use slots::read_slots;
-pub use spelling::{append_call, spell};
+pub use slots::{read_slots, read_slots_in};
+pub use spelling::{append_call, append_line, spell};

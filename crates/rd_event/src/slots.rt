@@ -7,7 +7,7 @@ ghost use Rattle.rd_event.specs.ReadingSlots.{ends_value, next_place, value_leng
 
 use crate::front::{Front, front_of};
 use crate::reading::{LineRefused, bytes_are};
-use rd_base::{Slots, Text, Value, ValueList, ValueRefused, is_value, read_value};
+use rd_base::{Slots, SpareList, Text, Value, ValueList, ValueRefused, is_value, read_value};
 use std::alloc::Global;
 use std::rc::Rc;
 
@@ -310,7 +310,22 @@ pub fn read_slots(alloc: Global, bytes: &[u8]) -> Result<Slots, LineRefused>
         (λ e. e ≡ LineRefused.NoMemory → (slots : List Value)
         × (slots_read 7 bytes.now ≡ Some slots)) }
 {
-    let Ok(mut shared) = Rc::new(alloc, ValueList::new(alloc)) else {
+    read_slots_in(alloc, bytes, &mut SpareList::new(alloc))
+}
+
+/// The same, in the memory of the values that were read last with this list, where nothing else has that.
+pub fn read_slots_in(
+    alloc: Global,
+    bytes: &[u8],
+    spare: &mut SpareList,
+) -> Result<Slots, LineRefused>
+    ensures slots { IfOk result (λ slots. slots_read 7 bytes.now ≡ Some slots) }
+    ensures none { IfErr result (λ e. e ≡ LineRefused.BadLine → slots_read 7 bytes.now ≡ None) }
+    ensures memory { IfErr result
+        (λ e. e ≡ LineRefused.NoMemory → (slots : List Value)
+        × (slots_read 7 bytes.now ≡ Some slots)) }
+{
+    let Ok(mut shared) = spare.take(alloc) else {
         return Err(want_of_memory(bytes));
     };
     // nothing else has it
@@ -320,5 +335,6 @@ pub fn read_slots(alloc: Global, bytes: &[u8]) -> Result<Slots, LineRefused>
     if let Err(refused) = push_slots(alloc, bytes, values) {
         return Err(why_refused(refused, bytes));
     }
+    spare.keep(&shared);
     Ok(Slots::from_shared(alloc, shared))
 }

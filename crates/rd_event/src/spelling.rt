@@ -94,8 +94,9 @@ fn append_event(text: &mut Bytes, event: &LineEvent) -> Result<(), NoMemory>
     }
 }
 
-// Puts the spelling of a line behind the text.
-fn append_line(text: &mut Bytes, line: &Line) -> Result<(), NoMemory>
+/// Puts the spelling of a line behind the text, without a line feed. A skipped line is spelled as the empty line. What is asked is version 1
+/// or 2 in a header and 1 to 7 slots in a call. After want of memory the text may have a front of it.
+pub fn append_line(text: &mut Bytes, line: &Line) -> Result<(), NoMemory>
     requires { IsSpellable line.now }
     ensures ok { OnOk result (text.new ≡ text.old ++ line_spelling line.now) }
     ensures range { OnOk result (LineInRange line.now) }
