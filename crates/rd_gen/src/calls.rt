@@ -2,14 +2,15 @@
 ghost use Rattle.std.specs.Prelude.{◌≡◌, ◌+◌, ◌<◌, [], ◌∷◌, ◌++◌, drop, IfOk, OnOk, codes};
 ghost use Rattle.rd_event.specs.Items.{IsSpellable};
 ghost use Rattle.rd_object.specs.Machines.{IsTaken};
-ghost use Rattle.rd_kinds.specs.Machines.{dictionary_machine};
-ghost use Rattle.rd_gen.specs.Generated.{acquire_of, arguments_for, arguments_chosen, call_line, call_of, entries_after, entries_behind, fork_of, join_of, dictionary_method, method_chosen, next_number, nil_or_number, opening_lines, release_of, worker_name, worker_of};
+ghost use Rattle.rd_kinds.specs.Machines.{dictionary_machine, dictionary_row};
+ghost use Rattle.rd_gen.specs.Generated.{acquire_of, arguments_for, arguments_chosen, call_line, call_of, entries_after, entries_behind, fork_of, join_of, dictionary_method, method_chosen, next_number, nil_or_number, opening_lines, release_of, result_in, worker_name, worker_of};
 
-use rd_base::{Name, NoMemory, Slots, Value};
+use rd_base::{Name, NoMemory, Slots, SpareList, Value, ValueList};
 use rd_event::{Line, LineEvent};
 use rd_kinds::Dictionary;
 use rd_object::{ApplyRefused, RefObject};
 use std::alloc::Global;
+use std::rc::Rc;
 
 // The number behind a number.
 pub(crate) fn next_number(number: u32) -> u32
@@ -25,10 +26,10 @@ fn worker_name(worker: u32) -> Name
     ensures { result ≡ worker_name worker }
 {
     match worker {
-        0 => Name::from_bytes(b"w0").unwrap(),
-        1 => Name::from_bytes(b"w1").unwrap(),
-        2 => Name::from_bytes(b"w2").unwrap(),
-        _ => Name::from_bytes(b"w3").unwrap(),
+        0 => Name::from_name_bytes(b"w0").unwrap(),
+        1 => Name::from_name_bytes(b"w1").unwrap(),
+        2 => Name::from_name_bytes(b"w2").unwrap(),
+        _ => Name::from_name_bytes(b"w3").unwrap(),
     }
 }
 
@@ -52,9 +53,9 @@ fn method_name(method: u8) -> Name
     ensures { result ≡ dictionary_method method }
 {
     match method {
-        0 => Name::from_bytes(b"put").unwrap(),
-        1 => Name::from_bytes(b"get").unwrap(),
-        _ => Name::from_bytes(b"size").unwrap(),
+        0 => Name::from_name_bytes(b"put").unwrap(),
+        1 => Name::from_name_bytes(b"get").unwrap(),
+        _ => Name::from_name_bytes(b"size").unwrap(),
     }
 }
 
@@ -69,72 +70,80 @@ fn nil_or_number(number: u32) -> Value
     }
 }
 
-// The arguments of a call of this method.
-fn arguments_for(alloc: Global, method: u8, key: u32, value: u32) -> Result<Vec<Value>, NoMemory>
-    ensures { IfOk result (λ arguments. arguments.items ≡ arguments_for method key value) }
+// Puts the arguments of a call of this method into an empty list.
+fn push_arguments(
+    alloc: Global,
+    values: &mut ValueList,
+    method: u8,
+    key: u32,
+    value: u32,
+) -> Result<(), NoMemory>
+    requires { values.old ≡ [] }
+    ensures { OnOk result (values.new ≡ arguments_for method key value) }
 {
-    let mut arguments = Vec::new(alloc);
     match method {
         0 => {
-            arguments.push(Value::Int(i64::from(key)))?;
-            arguments.push(nil_or_number(value))?;
+            values.push(alloc, Value::Int(i64::from(key)))?;
+            values.push(alloc, nil_or_number(value))
         }
-        1 => arguments.push(Value::Int(i64::from(key)))?,
-        _ => {}
+        1 => values.push(alloc, Value::Int(i64::from(key))),
+        _ => Ok(()),
     }
-    Ok(arguments)
 }
 
-// The arguments that a number says.
-fn arguments_of(alloc: Global, choice: u32) -> Result<Vec<Value>, NoMemory>
-    ensures { IfOk result (λ arguments. arguments.items ≡ arguments_chosen choice) }
+// Puts the arguments that a number says into an empty list.
+fn push_choice(alloc: Global, values: &mut ValueList, choice: u32) -> Result<(), NoMemory>
+    requires { values.old ≡ [] }
+    ensures { OnOk result (values.new ≡ arguments_chosen choice) }
 {
-    arguments_for(alloc, method_of(choice), choice / 16 % 32, choice / 512)
+    push_arguments(
+        alloc,
+        values,
+        method_of(choice),
+        choice / 16 % 32,
+        choice / 512,
+    )
 }
 
-// The arguments and the result of a call.
-fn slots_of(alloc: Global, arguments: Vec<Value>, given: Value) -> Result<Slots, NoMemory>
-    ensures { IfOk result (λ slots. slots ≡ arguments.items ++ given ∷ []) }
-{
-    let mut values = arguments;
-    values.push(given)?;
-    Slots::from_values(alloc, values)
-}
-
-// Runs a call of a thread on the dictionary, and gives its line.
-#[tactic(auto, unfolding(crate::specs::Generated::call_line, crate::specs::Generated::entries_behind))]
-fn call(
+// Runs a call with these arguments on the dictionary, and puts what it gives behind them.
+#[tactic(auto, unfolding(crate::specs::Generated::entries_behind))]
+fn run(
     alloc: Global,
     dictionary: &mut Dictionary,
-    thread: Name,
     method: u8,
-    arguments: Vec<Value>,
-) -> Result<Line, NoMemory>
-    requires { IsTaken dictionary_machine method arguments.items }
-    ensures line { IfOk result (λ line. line ≡ call_line thread method arguments.items dictionary.old) }
+    values: &mut ValueList,
+) -> Result<(), NoMemory>
+    requires { IsTaken dictionary_machine method values.old }
+    ensures values { OnOk result (values.new
+        ≡ values.old ++ result_in (dictionary_row method values.old dictionary.old) ∷ []) }
     ensures entries { OnOk result
-        (dictionary.new ≡ entries_behind method arguments.items dictionary.old) }
-    ensures spellable { IfOk result IsSpellable }
+        (dictionary.new ≡ entries_behind method values.old dictionary.old) }
 {
-    let given = match dictionary.apply(method, arguments.as_slice()) {
+    let given = match dictionary.apply(method, values.items()) {
         Ok(given) => given,
         Err(ApplyRefused::BadArgument(_)) => unreachable!(),
         Err(ApplyRefused::NoMemory) => return Err(NoMemory),
     };
-    let slots = slots_of(alloc, arguments, given)?;
-    Ok(Line::Event(LineEvent::Call {
+    values.push(alloc, given)
+}
+
+// The line of a call of a thread with these values.
+fn line_of(alloc: Global, thread: Name, method: u8, values: Rc<ValueList>) -> Line
+    ensures { result ≡ Line.Event (LineEvent.Call thread (codes "d") (dictionary_method method) values.value) }
+{
+    Line::Event(LineEvent::Call {
         thread,
-        object: Name::from_bytes(b"d").unwrap(),
+        object: Name::from_name_bytes(b"d").unwrap(),
         method: method_name(method),
-        slots,
-    }))
+        slots: Slots::from_shared(alloc, values),
+    })
 }
 
 // The thread that begins the workers.
 fn main_thread() -> Name
     ensures { result ≡ codes "main" }
 {
-    Name::from_bytes(b"main").unwrap()
+    Name::from_name_bytes(b"main").unwrap()
 }
 
 // The line that begins a worker.
@@ -161,7 +170,7 @@ pub(crate) fn join_of(worker: u32) -> Line
 fn lock() -> Name
     ensures { result ≡ codes "l" }
 {
-    Name::from_bytes(b"l").unwrap()
+    Name::from_name_bytes(b"l").unwrap()
 }
 
 // The line that takes the lock before the call that a number says.
@@ -194,7 +203,7 @@ pub(crate) fn opening_line(given: u8) -> Line
         0 => Line::Header { version: 1 },
         1 => Line::Thread(main_thread()),
         2 => Line::Object {
-            name: Name::from_bytes(b"d").unwrap(),
+            name: Name::from_name_bytes(b"d").unwrap(),
             kind: Name::from_bytes(b"dictionary").unwrap(),
         },
         3 => fork_of(0),
@@ -205,32 +214,34 @@ pub(crate) fn opening_line(given: u8) -> Line
     }
 }
 
-// The call that a number says, run on the dictionary.
-#[tactic(auto, using(crate::proofs::CallLemmas::choice_taken))]
+// The call that a number says, run on the dictionary. Its values lie in the memory of the last call's, where nothing else has that.
+#[tactic(auto, using(crate::proofs::CallLemmas::choice_taken), unfolding(crate::specs::Generated::call_line))]
 pub(crate) fn call_of(
     alloc: Global,
     dictionary: &mut Dictionary,
+    spare: &mut SpareList,
     choice: u32,
 ) -> Result<Line, NoMemory>
     ensures line { IfOk result (λ line. line ≡ call_of choice dictionary.old) }
     ensures entries { OnOk result (dictionary.new ≡ entries_after choice dictionary.old) }
     ensures spellable { IfOk result IsSpellable }
 {
-    let arguments = arguments_of(alloc, choice)?;
-    call(
-        alloc,
-        dictionary,
-        worker_of(choice),
-        method_of(choice),
-        arguments,
-    )
+    let mut list = spare.take(alloc)?;
+    let values = Rc::get_mut(&mut list).ok_or(NoMemory)?;
+    push_choice(alloc, values, choice)?;
+    run(alloc, dictionary, method_of(choice), values)?;
+    spare.keep(&list);
+    Ok(line_of(alloc, worker_of(choice), method_of(choice), list))
 }
 
 // The last call, which asks for the size.
-#[tactic(auto, using(crate::proofs::CallLemmas::size_taken))]
+#[tactic(auto, using(crate::proofs::CallLemmas::size_taken), unfolding(crate::specs::Generated::call_line))]
 pub(crate) fn last_call(alloc: Global, dictionary: &mut Dictionary) -> Result<Line, NoMemory>
     ensures line { IfOk result (λ line. line ≡ call_line (codes "main") 2 [] dictionary.old) }
     ensures spellable { IfOk result IsSpellable }
 {
-    call(alloc, dictionary, main_thread(), 2, Vec::new(alloc))
+    let mut values = ValueList::new(alloc);
+    run(alloc, dictionary, 2, &mut values)?;
+    let list = Rc::new(alloc, values)?;
+    Ok(line_of(alloc, main_thread(), 2, list))
 }

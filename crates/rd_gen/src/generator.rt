@@ -8,7 +8,7 @@ ghost use Rattle.rd_gen.specs.declared.counts.TheConstants.{MOST_CALLS};
 use crate::calls::{
     acquire_of, call_of, join_of, last_call, next_number, opening_line, release_of,
 };
-use rd_base::NoMemory;
+use rd_base::{NoMemory, SpareList};
 use rd_event::Line;
 use rd_kinds::Dictionary;
 use rd_object::RefObject;
@@ -41,6 +41,7 @@ pub struct Generator {
     number: u32,
     stage: Stage,
     dictionary: Dictionary,
+    spare: SpareList,
     failed: bool,
 }
 
@@ -69,6 +70,7 @@ impl Generator {
             number: (number % 65536) as u32,
             stage: Stage::Opening(0),
             dictionary: Dictionary::start(alloc),
+            spare: SpareList::new(alloc),
             failed: false,
         }
     }
@@ -100,12 +102,22 @@ impl Generator {
                     self.stage = Stage::Calling;
                     return Ok(Some(acquire_of(self.number / 16)));
                 }
-                let line = call_of(self.alloc, &mut self.dictionary, self.number / 16)?;
+                let line = call_of(
+                    self.alloc,
+                    &mut self.dictionary,
+                    &mut self.spare,
+                    self.number / 16,
+                )?;
                 Ok(Some(line))
             }
             Stage::Calling => {
                 self.stage = Stage::Releasing;
-                let line = call_of(self.alloc, &mut self.dictionary, self.number / 16)?;
+                let line = call_of(
+                    self.alloc,
+                    &mut self.dictionary,
+                    &mut self.spare,
+                    self.number / 16,
+                )?;
                 Ok(Some(line))
             }
             Stage::Releasing => {
