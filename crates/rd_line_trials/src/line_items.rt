@@ -1,8 +1,11 @@
 //! Lines with what they say, and events by numbers.
 ghost use Rattle.rd_event.specs.Items.{IsSpellable};
 
-use crate::rows::{Act, Wanted, are, event};
-use rd_event::{Call, Event, Line, LineEvent, LineRefused, read_into, read_line, spell};
+use crate::rows::{Act, Wanted, are, event, slots};
+use rd_base::{Slots, SpareList};
+use rd_event::{
+    Call, Event, Line, LineEvent, LineRefused, read_into, read_line, read_slots_in, spell,
+};
 use std::alloc::Global;
 use std::process::Abort;
 
@@ -262,6 +265,65 @@ fn reads_each_call(rt: HostRuntime) {
     for (text, names, slots) in &CALLS {
         let wanted = Read::Call(names[0], names[1], names[2], slots);
         assert!(rt; is_read(&rt, rt.alloc(), 1, text, wanted), "at {text}");
+    }
+}
+
+// Are the values of the call read as they are, in the memory of the last?
+fn are_read_in(
+    rt: &impl Abort,
+    alloc: Global,
+    text: &str,
+    wanted: &[Wanted],
+    spare: &mut SpareList,
+) -> Slots {
+    let read = read_slots_in(alloc, behind_names(rt, text), spare).expect(rt, "values");
+    assert!(rt; are(wanted, read.items()), "at {text}");
+    read
+}
+
+// What stands behind the three names of a call.
+fn behind_names<'a>(rt: &impl Abort, text: &'a str) -> &'a [u8] {
+    let mut rest = text.as_bytes();
+    for _ in 0..4 {
+        let space = rest.iter().position(|byte| *byte == b' ');
+        rest = &rest[space.expect(rt, "a space") + 1..];
+    }
+    rest
+}
+
+#[test]
+fn reads_calls_in_the_memory_of_the_last(rt: HostRuntime) {
+    let mut spare = SpareList::new(rt.alloc());
+    for (text, _, wanted) in &CALLS {
+        let kept = are_read_in(&rt, rt.alloc(), text, wanted, &mut spare);
+        for (other, _, values) in &CALLS {
+            are_read_in(&rt, rt.alloc(), other, values, &mut spare);
+        }
+        assert!(rt; are(wanted, kept.items()), "at {text}");
+    }
+}
+
+// Are values that a copy shares left as they are?
+fn are_left(rt: &impl Abort, alloc: Global, kept: &mut Slots, others: &Slots) -> bool {
+    let copy = kept.copy(alloc).expect(rt, "memory");
+    !kept.assign(others).expect(rt, "memory") && copy == *kept
+}
+
+// Are the values of a call written over those of the one before, where neither are more than three?
+fn are_written_over(rt: &impl Abort, kept: &mut Slots, others: &Slots) -> bool {
+    let few = kept.items().len() <= 3 && others.items().len() <= 3;
+    let done = kept.assign(others).expect(rt, "memory");
+    done == few && (!done || *kept == *others)
+}
+
+#[test]
+fn writes_values_over_others(rt: HostRuntime) {
+    let mut kept = slots(&rt, rt.alloc(), &[Wanted::Nil]);
+    for (text, _, wanted) in &CALLS {
+        let others = slots(&rt, rt.alloc(), wanted);
+        assert!(rt; are_left(&rt, rt.alloc(), &mut kept, &others), "at {text}");
+        assert!(rt; are_written_over(&rt, &mut kept, &others), "at {text}");
+        kept = others;
     }
 }
 

@@ -48,8 +48,8 @@ pub fn are(wanted: &[Wanted], values: &[Value]) -> bool {
     wanted.len() == values.len()
 }
 
-// A list with these values.
-fn slots(rt: &impl Abort, alloc: Global, wanted: &[Wanted]) -> Slots {
+/// A list with these values.
+pub fn slots(rt: &impl Abort, alloc: Global, wanted: &[Wanted]) -> Slots {
     let mut slots = Slots::new(alloc);
     for value in wanted {
         slots.push(value.value(rt, alloc)).expect(rt, "memory");

@@ -45,7 +45,16 @@ fn names(rt: HostRuntime) {
 }
 
 /// Texts with how many bytes at their front are of a name.
-const ENDS: [(&str, usize); 5] = [("", 0), ("a-b c", 3), (" a", 0), ("a/b", 1), ("ab", 2)];
+const ENDS: [(&str, usize); 8] = [
+    ("", 0),
+    ("a-b c", 3),
+    (" a", 0),
+    ("a/b", 1),
+    ("ab", 2),
+    ("abc d", 3),
+    ("main x", 4),
+    ("java.util.HashMap@1f2 put", 21),
+];
 
 #[test]
 fn ends_of_names(rt: HostRuntime) {
@@ -61,9 +70,13 @@ fn check_word(alloc: Global) -> Result<Word, NoMemory> {
     Ok(word)
 }
 
-// A line of an answer, of two texts with a byte between them.
+// A line of an answer, of two texts with a byte between them, in a text that was used before.
 fn races_line(alloc: Global) -> Result<Bytes, NoMemory> {
     let mut bytes = Bytes::new(alloc);
+    for _ in 0..100 {
+        bytes.append(b"calls 36000\n")?;
+    }
+    bytes.clear();
     bytes.append(b"races 1")?;
     bytes.push(b'0')?;
     bytes.append(b"\n")?;
