@@ -5,7 +5,7 @@ use Rattle.std.specs.Option.{option_map_or}
 use Rattle.std.specs.Prelude.{◌==◌, is_some, map, not, option_map}
 use Rattle.std.proofs.lemmas.Bool.{leb-true}
 use Rattle.std.proofs.lemmas.List.{append-nil}
-use Rattle.std.proofs.lemmas.Option.{none-some}
+use Rattle.std.proofs.lemmas.Option.{none-some, same_Some}
 use Rattle.rd_clock.specs.Clock.{component}
 use Rattle.rd_order.proofs.OrderLemmas.{length_more}
 use Rattle.rd_points.specs.declared.points.Point.{Point}
@@ -13,7 +13,7 @@ use Rattle.rd_store.specs.Stores.{IsSameStore, PointCells, cell_of, held_of, poi
 use Rattle.rd_store.specs.declared.Seat.{Seat}
 use Rattle.rd_store.specs.declared.Witness.{Witness}
 use Rattle.rd_store.proofs.IndexLemmas.{point_within}
-use Rattle.rd_detect.specs.Covers.{AreCoveredAt, AreOwn, AreTrueFor, CoversFollow, CoversKept, IsCoverOf, IsHeard, cover_at, is_heard}
+use Rattle.rd_detect.specs.Covers.{AreCoveredAt, AreOwn, AreTrueFor, CoversFollow, CoversKept, IsCoverOf, CountsEpoch, cover_at, counts_epoch}
 use Rattle.rd_detect.specs.declared.covers.Epoch.{Epoch}
 use Rattle.rd_detect.specs.Detect.{IsLatestOf, in_class, later_of}
 use Rattle.rd_detect.specs.Seats.{other_classes}
@@ -22,9 +22,6 @@ use Rattle.rd_detect.proofs.OwnLemmas.{all_others, latest_with_own, less}
 use Rattle.rd_detect.proofs.WitnessLemmas.{at_more}
 
 -- ---- lists
-
-same_Some : {X : Type 0} (a b : X) → Some a ≡ Some b → a ≡ b
-same_Some a b h = cc
 
 -- where there is an epoch, its place is within the list
 pub cover_within : (covers : List (Option Epoch)) (index : ℕ) (epoch : Epoch) → cover_at covers index ≡ Some epoch → index < length covers
@@ -40,7 +37,7 @@ point_there (held ∷ store) zero inside = (held.point, refl)
 point_there (held ∷ store) (suc index) inside = point_there store index (omega (arith, inside))
 
 -- a clock that has heard of an epoch
-pub heard_is : (clock : List ℕ) (cover : Option Epoch) → is_heard clock cover ≡ true → (epoch : Epoch) × (cover ≡ Some epoch) × IsHeard clock epoch
+pub heard_is : (clock : List ℕ) (cover : Option Epoch) → counts_epoch clock cover ≡ true → (epoch : Epoch) × (cover ≡ Some epoch) × CountsEpoch clock epoch
 heard_is clock None heard = absurd (true≢false (sym heard))
 heard_is clock (Some epoch) heard = (epoch, refl, leb-true epoch.number (component clock epoch.thread) heard)
 

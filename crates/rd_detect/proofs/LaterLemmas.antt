@@ -3,7 +3,7 @@ use Rattle.std.proofs.Common.{◌≡◌, ◌⊎◌, inl, inr, ℕ, ◌<◌, ◌�
 use Rattle.std.specs.Prelude.{Contains, OnOk, slice_get}
 use Rattle.std.proofs.lemmas.Bool.{cases_Bool, cases_eq}
 use Rattle.std.proofs.lemmas.List.{append-nil, append_assoc, length-append}
-use Rattle.std.proofs.lemmas.Option.{none-some, slice_get-get_or}
+use Rattle.std.proofs.lemmas.Option.{none-some, same_Some, slice_get-get_or}
 use Rattle.rd_clock.specs.Clock.{component}
 use Rattle.rd_clock.specs.declared.clock.Stamp.{Stamp}
 use Rattle.rd_event.specs.declared.events.Call.{Call as CallOf}
@@ -20,14 +20,12 @@ use Rattle.rd_points.specs.declared.points.Point.{Point}
 use Rattle.rd_store.specs.Stores.{IsCovered, IsOneEach, PointCells, cell_at, is_covered, point_at, uncovered}
 use Rattle.rd_store.specs.declared.Seat.{Seat}
 use Rattle.rd_store.specs.declared.Witness.{Witness}
-use Rattle.rd_detect.specs.Covers.{AreCoveredAt, AreLeft, AreOwn, AreTrueFor, CoversKept, CoversStandFor, IsHeard, IsLater, cover_at}
+use Rattle.rd_detect.specs.Covers.{AreCoveredAt, AreLeft, AreOwn, AreTrueFor, CoversKept, CoversStandFor, CountsEpoch, IsLater, cover_at}
 use Rattle.rd_detect.specs.Detect.{Detecting, IsCallKept, IsCallLeft, IsSweptWhere, touched_points}
 use Rattle.rd_detect.specs.Seats.{AreSeats}
 use Rattle.rd_detect.specs.declared.covers.Epoch.{Epoch}
 use Rattle.rd_detect.proofs.CoverLemmas.{cover_within, covered_entered, no_fewer, was_at}
-
-same_Some : {X : Type 0} (a b : X) → Some a ≡ Some b → a ≡ b
-same_Some a b h = cc
+use Rattle.rd_detect.proofs.SweepLemmas.{uncovered_was}
 
 -- ---- later clocks
 
@@ -115,13 +113,6 @@ module _ (es : List Event) (e : Event) (stamp : Stamp) (stamped : IsStamp (es ++
 
 -- ---- what a sweep leaves
 
-uncovered_was : (floor : List ℕ) (o : Option Witness) (thread : ℕ) (seen : Witness) → uncovered floor thread o ≡ Some seen → o ≡ Some seen
-uncovered_was floor None thread seen is = absurd (cc)
-uncovered_was floor (Some other) thread seen is = elim (cases_Bool (is_covered floor thread other)) [
-  | inl gone ↦ absurd (none-some _ (sym (ap (λ b. if b then None else Some other) gone) ∙ is))
-  | inr stays ↦ sym (ap (λ b. if b then None else Some other) stays) ∙ is
-]
-
 swept_was : (due : Bool) (threads : List Tracked) (kept : ℕ) (store new : List PointCells) (left : ℕ) → IsSweptWhere due threads kept store new left
     → (point : Point) (thread : ℕ) (seen : Witness) → cell_at new point thread ≡ Some seen → cell_at store point thread ≡ Some seen
 swept_was true threads kept store new left swept point thread seen cell = uncovered_was swept.0 (cell_at store point thread) thread seen (sym (swept.2 point thread) ∙ cell)
@@ -145,7 +136,7 @@ module _ (es : List Event) (call : CallOf) (stamp : Stamp) (stamped : IsStamp (e
   module _ (kept : CoversKept middle.store stamp.clock own before between) where
     -- behind the look
     covered : (index : ℕ) (epoch : Epoch) (point : Point) (clock : List ℕ) → cover_at between index ≡ Some epoch → point_at middle.store index ≡ Some point
-        → IsLater now clock → IsHeard clock epoch → AreCoveredAt middle.store point clock
+        → IsLater now clock → CountsEpoch clock epoch → AreCoveredAt middle.store point clock
     covered index epoch point clock at stands later heard = elim (kept.follow index) [
       | inl same ↦
           let was : cover_at before index ≡ Some epoch = sym same ∙ at in
@@ -157,7 +148,7 @@ module _ (es : List Event) (call : CallOf) (stamp : Stamp) (stamped : IsStamp (e
         | inl none ↦ absurd (none-some epoch (sym none ∙ at))
         | inr is ↦
             let same : own ≡ epoch = same_Some own epoch (sym is.0 ∙ at) in
-            λ thread seen cell. omega (arith, is.1 point stands thread seen cell, above es (Call call) stamp stamped clock later (subst (IsHeard clock) (sym same) heard) thread)
+            λ thread seen cell. omega (arith, is.1 point stands thread seen cell, above es (Call call) stamp stamped clock later (subst (CountsEpoch clock) (sym same) heard) thread)
       ]
     ]
 
@@ -178,7 +169,7 @@ module _ (es : List Event) (call : CallOf) (stamp : Stamp) (stamped : IsStamp (e
           ]
 
       covered_then : (index : ℕ) (epoch : Epoch) (point : Point) (clock : List ℕ) → cover_at between index ≡ Some epoch → point_at middle.store index ≡ Some point
-          → IsLater now clock → IsHeard clock epoch → AreCoveredAt new.store point clock
+          → IsLater now clock → CountsEpoch clock epoch → AreCoveredAt new.store point clock
       covered_then index epoch point clock at stands later heard thread seen cell =
           let was : cell_at taken.store point thread ≡ Some seen = swept_was _ threads middle.kept taken.store new.store new.kept taken.swept point thread seen cell in
           elim (cases_eq thread call.thread) [
@@ -187,7 +178,7 @@ module _ (es : List Event) (call : CallOf) (stamp : Stamp) (stamped : IsStamp (e
                   let is : record { line = line; place = place; call = call; stamp = stamp } ≡ seen
                   = same_Some _ seen (sym (taken.touched.own point among) ∙ ap (cell_at taken.store point) (sym same) ∙ was) in
                   let mine : epoch ≡ own = own_there index epoch point at stands among in
-                  let heard_own : IsHeard clock own = subst (IsHeard clock) mine heard in
+                  let heard_own : CountsEpoch clock own = subst (CountsEpoch clock) mine heard in
                   let of : stamp.thread ≡ call.thread = stamped.thread (Call call) (at_end es (Call call)) in
                   subst (IsCovered clock thread) is (subst (λ t. stamp.number ≤ component clock t) (of ∙ sym same) heard_own)
               | inr as_before ↦ covered index epoch point clock at stands later heard thread seen

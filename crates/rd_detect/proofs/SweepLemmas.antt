@@ -25,6 +25,14 @@ use Rattle.rd_detect.specs.Detect.{Detecting, DetectorStandsFor, IsCell, IsDead,
 use Rattle.rd_detect.proofs.CellLemmas.{stands_longer}
 use Rattle.rd_detect.proofs.TouchLemmas.{MergedTell}
 
+-- a cell that is left was there
+pub uncovered_was : (floor : List ℕ) (o : Option Witness) (thread : ℕ) (seen : Witness) → uncovered floor thread o ≡ Some seen → o ≡ Some seen
+uncovered_was floor None thread seen is = absurd (cc)
+uncovered_was floor (Some other) thread seen is = elim (cases_Bool (is_covered floor thread other)) [
+  | inl gone ↦ absurd (none-some _ (sym (ap (λ b. if b then None else Some other) gone) ∙ is))
+  | inr stays ↦ sym (ap (λ b. if b then None else Some other) stays) ∙ is
+]
+
 -- ---- a clock that covers a cell
 
 module _ (tracking : Tracking) (roots : ℕ → Bool) (lines : List ℕ) (es : List Event) (stands : TrackerStandsFor tracking roots es) (floor : List ℕ) (least : IsFloor tracking.threads floor) where
@@ -72,16 +80,8 @@ module _ (tracking : Tracking) (roots : ℕ → Bool) (lines : List ℕ) (es : L
       longer : (point : Point) (thread : ℕ) (seen : Witness) → IsCell old.tables lines es point thread seen → IsCell new.tables lines es point thread seen
       longer point thread seen cell = subst (λ t. IsCell t lines es point thread seen) (sym tables) cell
 
-      -- a cell that is left was there
-      by_old : (o : Option Witness) (thread : ℕ) (seen : Witness) → uncovered floor thread o ≡ Some seen → o ≡ Some seen
-      by_old None thread seen is = absurd (cc)
-      by_old (Some other) thread seen is = elim (cases_Bool (is_covered floor thread other)) [
-        | inl gone ↦ absurd (none-some _ (sym (ap (λ b. if b then None else Some other) gone) ∙ is))
-        | inr stays ↦ sym (ap (λ b. if b then None else Some other) stays) ∙ is
-      ]
-
       was_cell : (point : Point) (thread : ℕ) (seen : Witness) → cell_at new.store point thread ≡ Some seen → cell_at old.store point thread ≡ Some seen
-      was_cell point thread seen cell = by_old (cell_at old.store point thread) thread seen (sym (swept point thread) ∙ cell)
+      was_cell point thread seen cell = uncovered_was floor (cell_at old.store point thread) thread seen (sym (swept point thread) ∙ cell)
 
       held_or_dead : (i : ℕ) (call : CallOf) (point : Point) → slice_get es i ≡ Some (Call call) → IsInCell old.store point call i → IsInCell new.store point call i ⊎ IsDead roots es i
       held_or_dead i call point at held = elim (cases_Bool (is_covered floor call.thread held.0)) [

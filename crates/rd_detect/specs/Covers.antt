@@ -21,13 +21,13 @@ abbrev pub epoch_of : StampRef → Epoch
 epoch_of stamp = record { thread = stamp.thread; number = stamp.number }
 
 -- the clock counts the event of the epoch
-abbrev pub IsHeard : List ℕ → Epoch → Type 0
-IsHeard clock epoch = epoch.number ≤ component clock epoch.thread
+abbrev pub CountsEpoch : List ℕ → Epoch → Type 0
+CountsEpoch clock epoch = epoch.number ≤ component clock epoch.thread
 
 -- whether a clock counts the event, where there is one
-abbrev pub is_heard : List ℕ → Option Epoch → Bool
-is_heard clock None = false
-is_heard clock (Some epoch) = nat_le epoch.number (component clock epoch.thread)
+abbrev pub counts_epoch : List ℕ → Option Epoch → Bool
+counts_epoch clock None = false
+counts_epoch clock (Some epoch) = nat_le epoch.number (component clock epoch.thread)
 
 -- the clock covers each cell of the point
 abbrev pub AreCoveredAt : List PointCells → Point → List ℕ → Type 0
@@ -36,7 +36,7 @@ AreCoveredAt store point clock = (thread : ℕ) (seen : Witness) → cell_at sto
 -- where this clock counts the event of a point's epoch, it covers the point's cells
 pub record AreTrueFor (store : List PointCells) (covers : List (Option Epoch)) (clock : List ℕ) : Type 0 where
   pub few : length covers ≤ length store
-  pub each : (index : ℕ) (epoch : Epoch) (point : Point) → cover_at covers index ≡ Some epoch → point_at store index ≡ Some point → IsHeard clock epoch → AreCoveredAt store point clock
+  pub each : (index : ℕ) (epoch : Epoch) (point : Point) → cover_at covers index ≡ Some epoch → point_at store index ≡ Some point → CountsEpoch clock epoch → AreCoveredAt store point clock
 
 -- the clock is that of the last event of the list, or of a later one
 pub record IsLater (es : List Event) (clock : List ℕ) : Type 0 where
@@ -52,7 +52,7 @@ pub record IsLater (es : List Event) (clock : List ℕ) : Type 0 where
 pub record CoversStandFor (es : List Event) (store : List PointCells) (covers : List (Option Epoch)) : Type 0 where
   pub few : length covers ≤ length store
   pub each : (index : ℕ) (epoch : Epoch) (point : Point) (clock : List ℕ) → cover_at covers index ≡ Some epoch → point_at store index ≡ Some point → IsLater es clock
-      → IsHeard clock epoch → AreCoveredAt store point clock
+      → CountsEpoch clock epoch → AreCoveredAt store point clock
 
 -- an epoch is as it was, or there is none, or it is this one, and the clock covers the cells of the point
 abbrev pub IsCoverOf : List PointCells → List ℕ → Epoch → Option Epoch → Option Epoch → ℕ → Type 0

@@ -1,6 +1,6 @@
 //! What is known of points beside their cells, so that most points with many cells needn't be asked.
 ghost use Rattle.std.specs.Prelude.{◌≡◌, ◌≤◌, ◌⊎◌, ℕ, List, [], OnErr, OnOk, None, Some, length, true, ◌+◌};
-ghost use Rattle.rd_detect.specs.Covers.{cover_at, epoch_of, is_heard};
+ghost use Rattle.rd_detect.specs.Covers.{cover_at, epoch_of, counts_epoch};
 
 use rd_base::NoMemory;
 use rd_clock::{Clock, StampRef};
@@ -44,7 +44,7 @@ impl Covers {
     // Whether the clock has heard of the epoch of the point at an index.
     #[inline(always)]
     pub(crate) fn are_heard(&self, index: usize, clock: &Clock) -> bool
-        ensures { result ≡ is_heard clock.now (cover_at self.now index) }
+        ensures { result ≡ counts_epoch clock.now (cover_at self.now index) }
     {
         if index >= self.epochs.len() {
             return false;
@@ -80,7 +80,7 @@ impl Covers {
     #[inline(always)]
     pub(crate) fn renew(&mut self, index: usize, stamp: StampRef)
         ensures renewed { ((cover_at self.new index ≡ Some (epoch_of stamp.entry))
-            × (is_heard stamp.entry.clock.now (cover_at self.old index) ≡ true)) ⊎ (cover_at self.new index ≡ None) }
+            × (counts_epoch stamp.entry.clock.now (cover_at self.old index) ≡ true)) ⊎ (cover_at self.new index ≡ None) }
         ensures others { (other : ℕ) → (other ≡ index)
             ⊎ (cover_at self.new other ≡ cover_at self.old other) }
         ensures long { length self.new ≡ length self.old }

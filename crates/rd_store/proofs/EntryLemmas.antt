@@ -14,7 +14,7 @@ use Rattle.rd_points.specs.declared.points.Point.{Point}
 use Rattle.rd_store.specs.declared.Seat.{Seat}
 use Rattle.rd_store.specs.declared.Witness.{Witness}
 use Rattle.rd_store.specs.Stores.{Cell, HasOneEach, HasRoom, IsSameStore, IsSeat, IsSwept, IsTouched, PointCells, cell_at, cell_count, cell_of, cells_at, held_of, place_of, point_at, spare_at}
-use Rattle.rd_store.specs.StoreParts.{Cells, Held, cell, HaveOneEach, IsKept, cells_of, held_entries, live, room_of, swept, swept_at, swept_below, with_cell}
+use Rattle.rd_store.specs.StoreParts.{Cells, Held, cell, HaveOneEach, AreStoreFields, cells_of, held_entries, live, room_of, swept, swept_at, swept_below, with_cell}
 use Rattle.rd_store.proofs.CellLemmas.{live-cell_of, live-one_each, place_stays, with-length, with-one_each, with-others, with-own}
 
 abbrev pub Entries : Type 0
@@ -121,7 +121,7 @@ count-fits (e ∷ es) =
     rw (count-cons (held_entry e) (held_entries es))
     (omega (arith, count-fits es, length-map e.1.items cell, e.1.ok.0, e.1.ok.1, e.1.small))
 
-pub fits_one_more : (es : Entries) (count entered more : ℕ) (b : Bool) → IsKept es count → entered ≡ length es → entered < 9223372036854775808 → more ≡ cond b 0 1
+pub fits_one_more : (es : Entries) (count entered more : ℕ) (b : Bool) → AreStoreFields es count → entered ≡ length es → entered < 9223372036854775808 → more ≡ cond b 0 1
     → count + more < 340282366920938463463374607431768211456
 fits_one_more es count entered more true kept is few new = omega (arith, count-fits es, kept.counted)
 fits_one_more es count entered more false kept is few new = omega (arith, count-fits es, kept.counted)
@@ -141,8 +141,8 @@ room_found es store p t v is found room = elim (subst (λ s. HasRoom s t p) (sym
 
 -- ---- what changes
 
-pub kept_touched : (es : Entries) (i : ℕ) (v new : Cells) (count t : ℕ) (witness : Witness) (more : ℕ) → slice_get (values_of es) i ≡ Some v → IsKept es count → cells_of new ≡ with_cell (cells_of v) t witness
-    → more ≡ cond (is_some (cell_of (cells_of v) t)) 0 1 → IsKept (set_value_at es i new) (count + more)
+pub kept_touched : (es : Entries) (i : ℕ) (v new : Cells) (count t : ℕ) (witness : Witness) (more : ℕ) → slice_get (values_of es) i ≡ Some v → AreStoreFields es count → cells_of new ≡ with_cell (cells_of v) t witness
+    → more ≡ cond (is_some (cell_of (cells_of v) t)) 0 1 → AreStoreFields (set_value_at es i new) (count + more)
 kept_touched es i v new count t witness more at kept put is = record {
   one_each = one_each_set es i new kept.one_each (subst HasOneEach (sym put) (with-one_each t (cells_of v) witness (one_each_place es i v kept.one_each at)));
   counted = omega (arith, kept.counted, count-set es i v new at, ap length put, with-length t (cells_of v) witness);
@@ -247,9 +247,9 @@ module _ (es : Entries) (i : ℕ) (v new : Cells) where
       let more : length (with_cell (cells_of v) t w) ≡ length (cells_of v) + 0 = with-length t (cells_of v) w ∙ ap (λ b. length (cells_of v) + cond b 0 1) some in
       omega (arith, count-set es i v new at, ap length both.1, more)
 
-  pub kept_renewed : (count t : ℕ) (w : Witness) → slice_get (values_of es) i ≡ Some v → IsKept es count
+  pub kept_renewed : (count t : ℕ) (w : Witness) → slice_get (values_of es) i ≡ Some v → AreStoreFields es count
       → (cells_of new ≡ cells_of v) ⊎ (IsSome (cell_of (cells_of v) t) × (cells_of new ≡ with_cell (cells_of v) t w))
-      → IsKept (set_value_at es i new) count
+      → AreStoreFields (set_value_at es i new) count
   kept_renewed count t w at kept how = record {
     one_each = one_each_set es i new kept.one_each (elim how as (λ _. HasOneEach (cells_of new)) [
       | inl same ↦ subst HasOneEach (sym same) (one_each_place es i v kept.one_each at)
@@ -309,7 +309,7 @@ module _ (v new : Cells) (is : cells_of new ≡ cells_of v) (more : room_of v �
     spare = more_spare es i at;
   }
 
-  pub kept_set : (es : Entries) (i count : ℕ) → slice_get (values_of es) i ≡ Some v → IsKept es count → IsKept (set_value_at es i new) count
+  pub kept_set : (es : Entries) (i count : ℕ) → slice_get (values_of es) i ≡ Some v → AreStoreFields es count → AreStoreFields (set_value_at es i new) count
   kept_set es i count at kept = record {
     one_each = one_each_set es i new kept.one_each (subst HasOneEach (sym is) (one_each_place es i v kept.one_each at));
     counted = kept.counted ∙ omega (arith, count-set es i v new at, ap length is);
@@ -362,7 +362,7 @@ module _ (k : Point) (v : Cells) (is : cells_of v ≡ []) where
   pub same_entered : (es : Entries) → IsSameStore (held_entries es) (held_entries (es ++ (k, v) ∷ []))
   same_entered es = record { cells = entered_cells es; count = entered_count es; spare = entered_spare es }
 
-  pub kept_entered : (es : Entries) (count : ℕ) → IsKept es count → IsKept (es ++ (k, v) ∷ []) count
+  pub kept_entered : (es : Entries) (count : ℕ) → AreStoreFields es count → AreStoreFields (es ++ (k, v) ∷ []) count
   kept_entered es count kept = record { one_each = entered_one_each es kept.one_each; counted = kept.counted ∙ sym (entered_count es) }
 
 lookup_entered : (test : Point → Bool) (es : Entries) (k : Point) (v : Cells) → test k ≡ true → lookup test es ≡ None → lookup test (es ++ (k, v) ∷ []) ≡ Some v
@@ -398,7 +398,7 @@ swept_set clock v new is gone less room (e ∷ es) zero at = ap (λ h. h ∷ hel
 swept_set clock v new is gone less room (e ∷ es) (suc i) at = ap (λ l. held_entry e ∷ l) (swept_set clock v new is gone less room es i at)
 
 pub swept-kept : (clock : List ℕ) (es : Entries) (i count gone : ℕ) (v new : Cells) → cells_of new ≡ live clock (cells_of v) → length (cells_of new) + gone ≡ length (cells_of v)
-    → slice_get (values_of es) i ≡ Some v → IsKept es count → (gone ≤ count) × IsKept (set_value_at es i new) (count - gone)
+    → slice_get (values_of es) i ≡ Some v → AreStoreFields es count → (gone ≤ count) × AreStoreFields (set_value_at es i new) (count - gone)
 swept-kept clock es i count gone v new is less at kept = (
   omega (arith, kept.counted, part),
   record {
@@ -529,7 +529,7 @@ bare_one_each (e ∷ es) each = by (has_cells e) (bare_one_each es each.1)
     by true rest = (each.0, rest)
     by false rest = rest
 
-pub bare_kept : (es : Entries) (count : ℕ) → IsKept es count → IsKept (filter has_cells es) count
+pub bare_kept : (es : Entries) (count : ℕ) → AreStoreFields es count → AreStoreFields (filter has_cells es) count
 bare_kept es count kept = record { one_each = bare_one_each es kept.one_each; counted = kept.counted ∙ sym (bare_count es) }
 
 -- where the cells stay, what was swept is

@@ -37,7 +37,7 @@ HaveOneEach [] = Unit {0}
 HaveOneEach (e ∷ entries) = HasOneEach (cells_of e.1) × HaveOneEach entries
 
 -- what is true of the fields of every store: at most one cell for each thread at a point, and the count is that of the cells
-pub record IsKept (entries : List (Point × Cells)) (count : ℕ) : Type 0 where
+pub record AreStoreFields (entries : List (Point × Cells)) (count : ℕ) : Type 0 where
   pub one_each : HaveOneEach entries
   pub counted : count ≡ cell_count (held_entries entries)
 

@@ -197,11 +197,11 @@ impl Model for Store {
 
     ghost Value = { List PointCells };
 
-    ghost use Rattle.rd_store.specs.StoreParts.{held_entries, IsKept};
+    ghost use Rattle.rd_store.specs.StoreParts.{held_entries, AreStoreFields};
 
     ghost view = { λ s. held_entries s.points.entries };
 
-    ghost invariant = { λ s. IsKept s.points.entries s.count };
+    ghost invariant = { λ s. AreStoreFields s.points.entries s.count };
 }
 
 impl Store {

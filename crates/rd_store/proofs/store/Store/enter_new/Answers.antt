@@ -3,7 +3,7 @@ use Rattle.std.specs.Map.{lookup}
 use Rattle.indexmap.proofs.CallerLemmas.{insert_entry-new}
 use Rattle.rd_points.specs.PointLists.{same_point}
 use Rattle.rd_store.specs.Stores.{HasRoom, IsSameStore, held_of, point_at}
-use Rattle.rd_store.specs.StoreParts.{IsKept, cell, held_entries, room_of}
+use Rattle.rd_store.specs.StoreParts.{AreStoreFields, cell, held_entries, room_of}
 use Rattle.rd_store.proofs.EntryLemmas.{kept_entered, room_entered, same_entered}
 use Rattle.rd_store.proofs.IndexLemmas.{absent_held, point_last, point_stays}
 use Rattle.rd_store.proofs.store.Store.enter_new.Goals as goal
@@ -16,7 +16,7 @@ invariant_of-self c =
     let p = c.args.point in
     let absent : lookup (same_point p) es ≡ None = absent_held es p (ap (λ store. held_of store p) c.self.view_is ∙ c.requires) in
     let made : c.insert.new.self.entries ≡ es ++ (p, v) ∷ [] = c.in-Ok.ensures.entries ∙ insert_entry-new same_point c.self.inside.points p v absent in
-    subst (λ entries. IsKept entries c.self.inside.count) (sym made) (kept_entered p v (ap (map cell) c.in_ok-cells.ensures.items) es c.self.inside.count c.self.invariant)
+    subst (λ entries. AreStoreFields entries c.self.inside.count) (sym made) (kept_entered p v (ap (map cell) c.in_ok-cells.ensures.items) es c.self.inside.count c.self.invariant)
 
 pub returns-in-Ok-clause-entered : goal.returns-in-Ok-clause-entered
 unfolding same_point
