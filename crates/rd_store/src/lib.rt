@@ -10,7 +10,7 @@ pub use lent::{PointRef, WitnessRef};
 use rd_clock::Stamp;
 use rd_event::Call;
 use std::rc::Rc;
-pub use store::Store;
+pub use store::{Store, renewed_witness};
 
 /// A call that was seen: the number of its line, from 1, its place among the events, from 0, and where it stands by clocks.
 #[derive(Drop)]

@@ -6,14 +6,17 @@ ghost use Rattle.rd_store.specs.Lent.{lent_witness};
 ghost use Rattle.rd_store.specs.Stores.{HasOneEach, HasRoom, IsLatestUncovered, IsOneEach, IsSameStore, IsSwept, IsTouched, cell_count, cell_of, cells_at, is_covered, others_of, place_of, point_at};
 
 mod indexed;
+mod renewed;
 
 use crate::{PointRef, Witness, WitnessRef};
 use indexmap::IndexMap;
 use rd_base::{NoMemory, Steps};
 use rd_clock::Clock;
 use rd_points::{Point, Points, law_of_equal_points};
+pub use renewed::renewed_witness;
 use std::alloc::Global;
 use std::marker::Model;
+use std::mem;
 use std::rc::Rc;
 use std::sync::ledger::Ledger;
 
@@ -72,21 +75,25 @@ fn latest_of<'a, L: Ledger>(
     latest
 }
 
-// Puts a cell in the place of its thread, and answers how many more there are.
-fn put(cells: &mut Vec<(u32, Rc<Witness>)>, place: usize, thread: u32, witness: Rc<Witness>) -> u128
+// Puts a cell in the place of its thread, and answers what was kept in the one that stood there.
+fn put(
+    cells: &mut Vec<(u32, Rc<Witness>)>,
+    place: usize,
+    thread: u32,
+    witness: Rc<Witness>,
+) -> Option<Rc<Witness>>
     requires place { place ≡ place_of (cells_of cells.old) thread }
     requires room { IsSome (cell_of (cells_of cells.old) thread) ⊎ (1 ≤ room_of cells.old) }
     ensures cells { cells_of cells.new ≡ with_cell (cells_of cells.old) thread witness.value }
-    ensures new { result
-        ≡ (if is_some (cell_of (cells_of cells.old) thread) then 0 else 1) }
-    ensures room { room_of cells.new + result ≡ room_of cells.old }
+    ensures before { is_some result ≡ is_some (cell_of (cells_of cells.old) thread) }
+    ensures room { room_of cells.new + (if is_some result then 0 else 1) ≡ room_of cells.old }
 {
     if place < cells.len() {
-        cells[place] = (thread, witness);
-        return 0;
+        let (_thread, before) = mem::replace(&mut cells[place], (thread, witness));
+        return Some(before);
     }
     cells.push_reserved((thread, witness));
-    1
+    None
 }
 
 // Makes room for a cell of a thread that has none, and answers the place of its cell.

@@ -130,14 +130,14 @@ impl Store {
         }
     }
 
-    /// Sets the cell of a thread that has this seat. It takes no memory, and one step.
+    /// Sets the cell of a thread that has this seat, and answers what was kept there. It takes no memory, and one step.
     pub fn touch_at<L: Ledger>(
         &mut self,
         seat: Seat,
         thread: u32,
         witness: Rc<Witness>,
         steps: &mut Steps<L>,
-    )
+    ) -> Option<Rc<Witness>>
         requires { (point : PointOf) × IsSeat self.old thread point seat }
         ensures touched { (point : PointOf) → IsSeat self.old thread point seat
             → IsTouched self.old self.new point thread witness.value }
@@ -150,13 +150,14 @@ impl Store {
         steps.tick();
         // `len` is called for its clause that there are fewer than 2 ^ 63 points, so that the count fits.
         let _entered = self.points.len();
-        let new = put(
+        let before = put(
             self.points.get_index_mut(seat.index).unwrap(),
             seat.place,
             thread,
             witness,
         );
-        self.count += new;
+        self.count += before.is_none() as u128;
+        before
     }
 
     /// Sets the cell of a call's thread that has this seat in the memory of the cell that is there, where nothing else has that and the

@@ -1,7 +1,7 @@
 //! Tests of stores.
 ghost use Rattle.std.specs.Prelude.{◌≡◌, ◌<◌, length};
 
-use super::Store;
+use super::{Store, renewed_witness};
 use crate::{PointRef, Witness, WitnessRef};
 use indexmap::IndexMap;
 use rd_base::{NoMemory, Slots, Steps};
@@ -267,6 +267,28 @@ fn calls_in_the_same_memory<L: Ledger>(rt: &impl Abort, alloc: Global, blank: Bl
     assert!(rt; done);
     let behind = [Step::Latest(3, 0, Some(12)), Step::Cells(1)];
     takes(rt, alloc, &mut store, &behind, &mut steps);
+}
+
+/// What is kept of a call where there is a spare one that has another owner, one that has none, and no spare one. The other owner keeps
+/// what it has.
+#[test]
+fn keeps_a_call_by_a_spare_one(rt: HostRuntime) {
+    let alloc = rt.alloc();
+    let later = seen(alloc, 1, 12, 5).expect(&rt, "memory");
+    let over = WitnessRef {
+        line: 13,
+        place: 12,
+        call: &later.call,
+        stamp: StampRef::new(&later.stamp),
+    };
+    let shared = seen(alloc, 1, 11, 4).expect(&rt, "memory");
+    let spare = shared.clone().expect(&rt, "memory");
+    let held = renewed_witness(alloc, Some(spare), over).expect(&rt, "memory");
+    assert!(rt; held.place == 12 && shared.place == 11);
+    let held = renewed_witness(alloc, Some(shared), over).expect(&rt, "memory");
+    assert!(rt; held.place == 12);
+    let held = renewed_witness(alloc, None, over).expect(&rt, "memory");
+    assert!(rt; held.place == 12);
 }
 
 // Behind 300 points with a cell each.

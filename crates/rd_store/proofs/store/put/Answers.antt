@@ -10,12 +10,13 @@ pub returns-then-place-len-clause-cells : goal.returns-then-place-len-clause-cel
 returns-then-place-len-clause-cells c =
     let cells = cells_of c.args.cells.now in
     let within : place_of cells c.args.thread < length cells = omega (arith, c.if-place-len.true, c.requires.place, length-map c.args.cells.now.items cell) in
-    map-set cell c.args.cells.now.items c.args.place (c.args.thread, c.args.witness)
+    ap (λ held. map cell (set c.args.cells.now.items c.args.place held)) c.replace-thread.ensures.after
+    ∙ map-set cell c.args.cells.now.items c.args.place (c.args.thread, c.args.witness)
     ∙ subst (λ n. set cells n (own_cell c.args.thread c.args.witness.value) ≡ with_cell cells c.args.thread c.args.witness.value) (sym c.requires.place)
     (place_set c.args.thread cells c.args.witness.value within)
 
-pub returns-then-place-len-clause-new : goal.returns-then-place-len-clause-new
-returns-then-place-len-clause-new c =
+pub returns-then-place-len-clause-before : goal.returns-then-place-len-clause-before
+returns-then-place-len-clause-before c =
     let cells = cells_of c.args.cells.now in
     let within : place_of cells c.args.thread < length cells = omega (arith, c.if-place-len.true, c.requires.place, length-map c.args.cells.now.items cell) in
     rw (place_some c.args.thread cells within) refl
@@ -37,8 +38,8 @@ returns-clause-cells c =
     ap (map cell) c.push_reserved.ensures.items ∙ map-append cell c.args.cells.now.items _
     ∙ none-push c.args.thread cells c.args.witness.value (place_behind c.args.thread cells behind)
 
-pub returns-clause-new : goal.returns-clause-new
-returns-clause-new c =
+pub returns-clause-before : goal.returns-clause-before
+returns-clause-before c =
     let cells = cells_of c.args.cells.now in
     let behind : length cells ≤ place_of cells c.args.thread = omega (arith, c.if-place-len.false, c.requires.place, length-map c.args.cells.now.items cell) in
     rw (place_behind c.args.thread cells behind) refl
