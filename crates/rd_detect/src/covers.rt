@@ -4,8 +4,10 @@ ghost use Rattle.rd_detect.specs.Covers.{cover_at, epoch_of, counts_epoch};
 
 use rd_base::NoMemory;
 use rd_clock::{Clock, StampRef};
+use rd_store::Witness;
 use std::alloc::Global;
 use std::marker::Model;
+use std::rc::Rc;
 
 /// The event of a thread with this number among those of the thread, from 1.
 #[derive(Clone, Copy)]
@@ -15,10 +17,12 @@ pub struct Epoch {
 }
 
 /// For points of a store, by their indices, the epoch of an event that knows all calls which are kept at the point: a clock that has heard of
-/// it covers them, however many there are (after the epochs of Flanagan and Freund 2009). Contracts see it as the list of these.
+/// it covers them, however many there are (after the epochs of Flanagan and Freund 2009). Contracts see it as the list of these. Beside them it
+/// has for each thread at most one call whose place another has taken, so that the next call of the thread is written over that.
 #[derive(Drop)]
 pub struct Covers {
     epochs: Vec<Option<Epoch>>,
+    spares: Vec<Option<Rc<Witness>>>,
 }
 
 impl Model for Covers {
@@ -38,6 +42,7 @@ impl Covers {
     {
         Covers {
             epochs: Vec::new(alloc),
+            spares: Vec::new(alloc),
         }
     }
 
@@ -98,10 +103,36 @@ impl Covers {
         };
     }
 
-    // Forgets all.
+    // Forgets all that is known of points. Calls that may be written over stay.
     pub(crate) fn clear(&mut self)
         ensures { self.new ≡ [] }
     {
         self.epochs.clear();
+    }
+
+    // A call of the thread that may be written over, where there is one. It is taken out.
+    pub(crate) fn take_spare(&mut self, thread: u32) -> Option<Rc<Witness>>
+        ensures { self.new ≡ self.old }
+    {
+        match self.spares.get_mut(thread as usize) {
+            Some(spare) => spare.take(),
+            None => None,
+        }
+    }
+
+    // Keeps a call that the next one of the thread may be written over. It is dropped where there is no memory for its place.
+    pub(crate) fn keep_spare(&mut self, thread: u32, spare: Option<Rc<Witness>>)
+        ensures { self.new ≡ self.old }
+    {
+        if spare.is_none() {
+            return;
+        }
+        let place = thread as usize;
+        while self.spares.len() <= place {
+            if self.spares.push(None).is_err() {
+                return;
+            }
+        }
+        self.spares[place] = spare;
     }
 }

@@ -31,7 +31,7 @@ use rd_ecl::{KindSpec, Spec};
 use rd_event::Call;
 use rd_hb::Tracker;
 use rd_points::{Table, law_of_equal_points};
-use rd_store::{Race, Seat, Store, Witness, WitnessRef};
+use rd_store::{Race, Seat, Store, Witness, WitnessRef, renewed_witness};
 use std::alloc::Global;
 use std::marker::Model;
 use std::rc::Rc;
@@ -182,7 +182,8 @@ impl Detector {
         self.store.touch_over(*seat, *seen, steps)
     }
 
-    // Keeps a call in the cells of the points that it touches, which stand at these seats. Then a sweep comes where it is due.
+    // Keeps a call in the cells of the points that it touches, which stand at these seats. Then a sweep comes where it is due. A call that stood in
+    // one of the cells may then be written over.
     fn keep<L: Ledger>(
         &mut self,
         seats: &[Seat],
@@ -200,12 +201,14 @@ impl Detector {
         ensures cost { steps.new ≤ steps.old + length seats.now }
     {
         let floor = self.floor(seats.len(), tracker)?;
-        touch_all(&mut self.store, seats, witness.call.thread, witness, steps)?;
+        let before = touch_all(&mut self.store, seats, witness.call.thread, witness, steps)?;
         self.sweep(floor, covers);
+        covers.keep_spare(witness.call.thread, before);
         Ok(())
     }
 
-    // Keeps a call in memory of its own, and answers its race with the latest call that was found, if one was.
+    // Keeps a call in memory of its own, or in that of a call which isn't kept any longer, and answers its race with the latest call that was found, if
+    // one was.
     // kept out of line, so that a call that needs no memory doesn't pay for its locals
     #[inline(never)]
     fn keep_new<L: Ledger>(
@@ -227,7 +230,7 @@ impl Detector {
         ensures err { OnErr result (IsCallLeft self.old self.new) }
         ensures cost { steps.new ≤ steps.old + length seats.now }
     {
-        let witness = Rc::new(self.alloc, seen.copy(self.alloc)?)?;
+        let witness = renewed_witness(self.alloc, covers.take_spare(seen.call.thread), *seen)?;
         let answer = answer(&witness, latest)?;
         self.keep(seats, &witness, tracker, covers, steps)?;
         Ok(answer)

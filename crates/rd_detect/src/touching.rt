@@ -82,8 +82,8 @@ pub fn look<L: Ledger>(
     Ok(latest)
 }
 
-// Sets the cells of a thread that have these seats, as many as are told, to this call. Each growth comes first, so that after want of memory
-// all is as before.
+// Sets the cells of a thread that have these seats, as many as are told, to this call, and answers a call that stood in one of them, where there is
+// one. Each growth comes first, so that after want of memory all is as before.
 fn touch<L: Ledger>(
     store: &mut Store,
     seats: &[Seat],
@@ -91,7 +91,7 @@ fn touch<L: Ledger>(
     thread: u32,
     witness: &Rc<Witness>,
     steps: &mut Steps<L>,
-) -> Result<(), NoMemory>
+) -> Result<Option<Rc<Witness>>, NoMemory>
     requires seats { (points : List PointOf) × AreSeats store.old thread points seats.now }
     requires count { count ≤ length seats.now }
     ensures touched { OnOk result ((points : List PointOf) → AreSeats store.old thread points seats.now
@@ -104,22 +104,23 @@ fn touch<L: Ledger>(
 {
     law_of_equal_points();
     if count == 0 {
-        return Ok(());
+        return Ok(None);
     }
     let held = witness.clone()?;
-    touch(store, seats, count - 1, thread, witness, steps)?;
-    store.touch_at(seats[count - 1], thread, held, steps);
-    Ok(())
+    let before = touch(store, seats, count - 1, thread, witness, steps)?;
+    let own = store.touch_at(seats[count - 1], thread, held, steps);
+    Ok(own.or(before))
 }
 
-/// Sets the cells of a thread that have these seats to this call. After want of memory all is as before.
+/// Sets the cells of a thread that have these seats to this call, and answers a call that stood in one of them, where there is one. After want of
+/// memory all is as before.
 pub fn touch_all<L: Ledger>(
     store: &mut Store,
     seats: &[Seat],
     thread: u32,
     witness: &Rc<Witness>,
     steps: &mut Steps<L>,
-) -> Result<(), NoMemory>
+) -> Result<Option<Rc<Witness>>, NoMemory>
     requires { (points : List PointOf) × AreSeats store.old thread points seats.now }
     ensures touched { OnOk result ((points : List PointOf) → AreSeats store.old thread points seats.now
         → AreTouched store.old store.new points thread witness.now.value) }
@@ -131,8 +132,7 @@ pub fn touch_all<L: Ledger>(
     // Most calls touch one point.
     if let [seat] = seats {
         let held = witness.clone()?;
-        store.touch_at(*seat, thread, held, steps);
-        return Ok(());
+        return Ok(store.touch_at(*seat, thread, held, steps));
     }
     touch(store, seats, seats.len(), thread, witness, steps)
 }

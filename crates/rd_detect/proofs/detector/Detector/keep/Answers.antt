@@ -16,7 +16,7 @@ sweep-requires g c =
     let thread = c.deref.result.now.call.thread in
     let were = subst (λ (d : Detecting). AreSeats d.store seen.call.thread points c.args.seats.now) (sym c.self.view_is) c.requires in
     let are = subst (λ (w : Witness). AreSeats c.self.inside.store w.call.thread points c.args.seats.now) (sym c.deref.ensures) were in
-    let touched : AreTouched c.self.inside.store c.touch_all.new.store points thread seen = c.in_ok-touch_all.ensures.touched points are in
+    let touched : AreTouched c.self.inside.store c.touch_all.new.store points thread seen = c.in_ok-before.ensures.touched points are in
     let few : cell_count c.touch_all.new.store ≤ cell_count c.self.inside.store + length c.args.seats.now =
     omega (arith, touched.count, new_at_most c.self.inside.store points thread, c.requires.long) in
     none_due c.in_ok-floor.floor c.args.tracker.now.threads (cell_count c.self.inside.store) (length c.args.seats.now) (cell_count c.touch_all.new.store)
