@@ -61,7 +61,7 @@ fn first_other(bytes: &[u8]) -> Option<usize>
 }
 
 // How many bytes stand before it.
-#[tactic(auto, using(rd_base::proofs::NameLemmas::first_other, crate::proofs::LoopLemmas::no_other))]
+#[tactic(auto, using(crate::proofs::LoopLemmas::first_other, crate::proofs::LoopLemmas::no_other))]
 fn word_length(bytes: &[u8]) -> usize
     ensures value { result ≡ prefix_len is_word_byte bytes.now }
     ensures bound { result ≤ length bytes.now }
