@@ -123,15 +123,21 @@ fn renew(alloc: Global, held: &mut Witness, seen: WitnessRef) -> Result<bool, No
     ensures kept { IfOk result (λ done. done ≡ false → held.new ≡ held.old) }
     ensures err { OnErr result (held.new ≡ held.old) }
 {
-    let call = seen.call.copy(alloc)?;
-    if !held.stamp.clock.overwrite(seen.stamp.clock) {
+    if held.stamp.clock.room() != seen.stamp.clock.room() {
         return Ok(false);
     }
+    if !held.call.slots.assign(&seen.call.slots)? {
+        held.call.slots = seen.call.slots.copy(alloc)?;
+    }
+    held.call.thread = seen.call.thread;
+    held.call.object = seen.call.object;
+    held.call.kind = seen.call.kind;
+    held.call.method = seen.call.method;
+    held.stamp.clock.overwrite(seen.stamp.clock);
     held.stamp.thread = seen.stamp.thread;
     held.stamp.number = seen.stamp.number;
     held.line = seen.line;
     held.place = seen.place;
-    held.call = call;
     Ok(true)
 }
 
