@@ -9,6 +9,9 @@ use std::alloc::Global;
 use std::marker::Model;
 use std::rc::Rc;
 
+// How many threads have a call that may be written over.
+const MOST_SPARES: u32 = 64;
+
 /// The event of a thread with this number among those of the thread, from 1.
 #[derive(Clone, Copy)]
 pub struct Epoch {
@@ -18,7 +21,7 @@ pub struct Epoch {
 
 /// For points of a store, by their indices, the epoch of an event that knows all calls which are kept at the point: a clock that has heard of
 /// it covers them, however many there are (after the epochs of Flanagan and Freund 2009). Contracts see it as the list of these. Beside them it
-/// has for each thread at most one call whose place another has taken, so that the next call of the thread is written over that.
+/// has for each of the first threads at most one call whose place another has taken, so that the thread's next call is written over that.
 #[derive(Drop)]
 pub struct Covers {
     epochs: Vec<Option<Epoch>>,
@@ -120,11 +123,12 @@ impl Covers {
         }
     }
 
-    // Keeps a call that the next one of the thread may be written over. It is dropped where there is no memory for its place.
+    // Keeps a call that the next one of the thread may be written over. It is dropped where there is no memory for its place, and for
+    // threads with high numbers: each has a clock, whose length is the number of threads.
     pub(crate) fn keep_spare(&mut self, thread: u32, spare: Option<Rc<Witness>>)
         ensures { self.new ≡ self.old }
     {
-        if spare.is_none() {
+        if spare.is_none() || thread >= MOST_SPARES {
             return;
         }
         let place = thread as usize;
