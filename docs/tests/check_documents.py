@@ -378,7 +378,7 @@ def check_crates(document):
     below, rows, within = crates(), {}, False
     for number, line in document.prose.items():
         cells = [cell.strip() for cell in line.split('|')]
-        within = line.startswith('| crate | does |') or within and line.startswith('|')
+        within = line.startswith('| crate |') or within and line.startswith('|')
         if within and re.match(r'rd(2|_)', cells[1]):
             rows.update(dict.fromkeys(cells[1].split(', '), number))
     for name, number in rows.items():
@@ -393,6 +393,10 @@ def check_crates(document):
     for name in sorted(below):
         if not (TOP / 'crates' / name / 'README.md').is_file():
             fault(document, 1, f'{name} has no README.md')
+    drawn = subprocess.run([sys.executable, TOP / 'docs' / 'tools' / 'draw_crates.py', '--check'], capture_output=True, text=True)
+    checked['pictures'] += 1
+    if drawn.returncode:
+        fault(document, 1, drawn.stderr.strip())
 
 
 def check_names(document, words, own):
