@@ -459,6 +459,26 @@ def check_counts(trials, proved):
             fault(document, 1, f'rd_trials has {runs} runs')
 
 
+def check_tables(document):
+    """No table is wider than 120 columns."""
+    for number, line in document.prose.items():
+        checked['rows of tables'] += line.startswith('|')
+        if line.startswith('|') and len(line) > 120:
+            fault(document, number, f'a table of {len(line)} columns')
+
+
+def check_costs(document):
+    """The page of costs has the rows that measure_costs.py measures, but for the largest inputs."""
+    sys.dont_write_bytecode = True
+    sys.path.insert(0, str(TOP / 'docs' / 'tests'))
+    import measure_costs
+    told = set(measure_costs.on_page(document.path))
+    measured = {(table, row[0]) for table, rows in measure_costs.ROWS.items() if table != 'largest' for row in rows}
+    checked['rows of costs'] += len(measured)
+    for table, row in sorted(told ^ measured):
+        fault(document, 1, f'the page and measure_costs.py have other rows: {table}, {row}')
+
+
 def check_kit(document):
     """The kit that README names is the one that `rt` tells of itself."""
     if shutil.which('rt'):
@@ -499,6 +519,7 @@ def main():
         check_whole_texts(document, program)
         if path in NAMING or path.parent.parent == TOP / 'crates':
             check_names(document, words, own)
+            check_tables(document)
         if path.parent.parent == TOP / 'crates':
             check_excerpts(document, sources)
     check_usages(documents[TOP / 'README.md'], documents[TOP / 'docs' / 'formats.md'], known, program)
@@ -508,6 +529,7 @@ def main():
     check_crates(documents[TOP / 'docs' / 'architecture.md'])
     check_definitions(documents[TOP / 'docs' / 'definitions.md'])
     check_counts(documents[TOP / 'crates' / 'rd_trials' / 'README.md'], documents[TOP / 'docs' / 'proved.md'])
+    check_costs(documents[TOP / 'docs' / 'costs.md'])
     check_kit(documents[TOP / 'README.md'])
     shutil.rmtree(program.folder)
     if program:                                   # of the tools that docs/reporting.md tells of, by their own tests

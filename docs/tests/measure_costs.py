@@ -379,7 +379,7 @@ def on_page(page):
     found, table = {}, None
     for number, line in enumerate(page.read_text().split('\n')):
         table = next((name for name, head in HEADS.items() if line == head), table if line.startswith('|') else None)
-        if table and not line.startswith('|-'):
+        if table and line not in HEADS.values() and not line.startswith('|-'):
             found[table, line.split('|')[1].strip()] = number, line
     return found
 
