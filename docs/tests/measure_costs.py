@@ -74,14 +74,14 @@ def readers(count):
     return forks(8), out
 
 
-def dictionary(threads=4, keys=32, locked=True, texts=False, own=False):
-    """Puts, gets and sizes of one dictionary, each under its lock or alone; of keys of its own, a thread puts and gets alone."""
+def dictionary(threads=4, keys=32, locked=True, own=False, turns=False):
+    """Puts, gets and sizes of one dictionary, each under its lock or alone; of keys of their own, half of them texts, threads put and get alone."""
     def make(count):
         draw, held, out = random.Random(4), {}, []
         for i in range(count // 3 if locked else count):
-            thread = i % threads if threads > 16 else draw.randrange(threads)
+            thread = i % threads if turns else draw.randrange(threads)
             key = draw.randrange(keys // threads) * threads + thread if own else draw.randrange(keys)
-            told, what = f'"key-{key}"' if texts and key % 2 else str(key), draw.random()
+            told, what = f'"key-{key}"' if own and key % 2 else str(key), draw.random()
             if what < 0.5:
                 call = f'put {told} {i + 1} -> {held.get(key, "nil")}'
                 held[key] = i + 1
@@ -189,7 +189,7 @@ KINDS = [
     ('a lock of readers', 'check TRACE', SHARED, readers), ('300 calls', 'check TRACE', TRACE, lambda count: dictionary()(900)),
     ('a locked dictionary', 'check TRACE', TRACE, dictionary()), ('one key', 'check TRACE', TRACE, one_key),
     ('few items', 'check TRACE', TRACE, few_items), ('each call races', 'check TRACE', TRACE, races),
-    ('the same as JSON', 'check-json TRACE', TRACE, races), ('10,000 keys', 'check TRACE', TRACE, dictionary(8, 10000, False, True, True)),
+    ('the same as JSON', 'check-json TRACE', TRACE, races), ('10,000 keys', 'check TRACE', TRACE, dictionary(8, 10000, False, own=True)),
     ('tables of readers', 'check TRACE', SHARED, tables), ('`replay`', 'replay TRACE', TRACE, dictionary(locked=False)),
     ('`reorder`', 'reorder TRACE ' + NUMBER, TRACE, dictionary()), ('`gen`', 'gen 2 COUNT', None, None),
     ('`gen-text`', 'gen-text 2 COUNT', None, None), ('`spec`, large', 'spec TRACE', SPEC, kinds(4)),
@@ -197,11 +197,11 @@ KINDS = [
     ('`epochs`, reads', 'epochs TRACE', MEMORY, reads), ('`epochs`, own variables', 'epochs TRACE', MEMORY, own_variables),
     ('`epochs`, read, written', 'epochs TRACE', MEMORY, read_then_written),
 ]
-THREADS = [(f'{number:,}', 'check TRACE', TRACE, dictionary(number - 1)) for number in (4, 16, 64, 256, 1024, 4096)]
+THREADS = [(f'{number:,}', 'check TRACE', TRACE, dictionary(number - 1, turns=True)) for number in (4, 16, 64, 256, 1024, 4096)]
 # what grows, from and to which number, and what is measured of each: lines, or such a maker
 GROWTH = [
-    ('calls', 3000, 300000, None), ('threads', 16, 1024, dictionary), ('locks', 10, 10000, lambda number: locks(8, number)),
-    ('objects', 10, 60000, counters), ('keys', 80, 20000, lambda number: dictionary(8, number, False, True, True)),
+    ('calls', 3000, 300000, None), ('threads', 16, 1024, lambda number: dictionary(number - 1, turns=True)), ('locks', 10, 10000, lambda number: locks(8, number)),
+    ('objects', 10, 60000, counters), ('keys', 80, 20000, lambda number: dictionary(8, number, False, own=True)),
 ]
 
 
