@@ -362,12 +362,12 @@ def check_page(tools, large):
 
 def check_documents(tools):
     """What the guide shows, and the picture of the README, are what the tool writes."""
-    lines = (TOP / 'docs' / 'reporting.md').read_text().split('\n')
+    lines = (TOP / 'docs' / 'commands.md').read_text().split('\n')
     for at, line in enumerate(lines):
         if line.startswith('    python3 docs/tools/rdreport examples/'):
             shown = lines[at + 2:lines.index('    ..', at)]
             written = tools.report(*line.split()[2:], cwd=TOP).stdout.split('\n')
-            expect('documents: reporting.md', [text[4:] for text in shown], written[:len(shown)])
+            expect('documents: commands.md', [text[4:] for text in shown], written[:len(shown)])
     tools.report('examples/dictionary_update.trace', '--svg', f'{tools.folder}/picture.svg', cwd=TOP)
     picture = (TOP / 'docs' / 'pictures' / 'dictionary_update.svg').read_text()
     expect('documents: the picture', (pathlib.Path(tools.folder) / 'picture.svg').read_text() == picture, True)
