@@ -4,15 +4,18 @@
     check_documents.py [--rd2 PROGRAM] [--all]
 
 Lists each fault as FILE:LINE: WHAT, and ends with 1 where there is one. With --rd2 it runs the program on each command, trace and
-specification that a document shows, compares the output with the one shown beside it, and runs check_report.py. --all lists too what was checked.
+specification that a document shows, compares the output with the one shown beside it, and runs check_report.py and what docs/first-hour.md has for
+the languages that are here. --all lists too what was checked.
 """
-import argparse, collections, pathlib, re, shutil, subprocess, sys, tempfile
+import argparse, collections, os, pathlib, re, shutil, subprocess, sys, tempfile
 
 TOP = pathlib.Path(__file__).resolve().parents[2]
-DOCUMENTS = [TOP / 'README.md', *sorted((TOP / 'docs').rglob('*.md')), *sorted(TOP.glob('crates/*/README.md'))]
+DOCUMENTS = [TOP / 'README.md', TOP / 'CHANGELOG.md', *sorted((TOP / 'docs').rglob('*.md')), *sorted(TOP.glob('crates/*/README.md'))]
 NAMING = [TOP / 'docs' / name for name in ('proved.md', 'definitions.md', 'architecture.md', 'DECISIONS.md')]
+MOST = {'README.md': 850, 'first-hour.md': 1600, 'recording.md': 2600, 'specifications.md': 2600, 'commands.md': 2600, 'errors.md': 1600, 'formats.md': 2200,
+        'CHANGELOG.md': 400}                      # words of the documents for users
 OUTSIDE = {'out'}                                 # folders of crates that builds make
-MADE = {'run.trace', 'run.out', 'report.txt'}     # files that a command in a document writes
+MADE = {'run.trace', 'run.out', 'report.txt', 'shop.py'}     # files that a command in a document writes
 ENDINGS = r'\.(?:trace|spec|out|md|py|rt|antt|edit|txt|java|go|cpp|hpp)'
 PROGRAM = r'(?:crates/rd2/out/)?rd2'
 REPORT = re.compile(r'(race line \d|first \S+ line \d|races \d|replay (exact|differs line \d|not shipped)|verdict (deterministic|not shown)|refused (line|spec line) \d|refused usage)')
@@ -133,16 +136,17 @@ def commands_of(document):
                 given = dict(pair.split('=') for pair in re.findall(r'--data (\S+)', trial['given']))
                 words = [given.get(word, word) for word in trial['words'].split()]
                 yield block.first + at, [word.replace('../../', '') for word in words], None
+    wrong = {number for number, _ in table(document, '| you wrote')}
     for number, code in document.codes():
         found = re.fullmatch(PROGRAM + r'((?: [^|\s]+)+)(?: \|.*)?', code)
-        if found:
+        if found and number not in wrong and len(found[1].split()) > 1:
             yield number, found[1].split(), None
 
 
-def usages(formats):
-    """The commands with each number of words that they take, and words to try, by the table of the commands."""
+def usages(commands):
+    """The commands with each number of words that they take, and words to try, by the table of docs/commands.md."""
     known = {}
-    for line in formats.prose.values():
+    for line in commands.prose.values():
         row = re.match(r'\| `rd2 (\w[\w-]*)([^`]*)` \|', line)
         words = row[2].split() if row else []
         tries = ['set' if word.strip('[]') in ('TRACE', 'SPEC', 'FILE', 'NAME') else str(place) for place, word in enumerate(words, 1)]
@@ -154,16 +158,47 @@ def usages(formats):
     return known
 
 
-def check_usages(readme, formats, known, program):
-    """README names the commands of the table, and the program has each."""
-    for number, line in readme.prose.items():
-        if line.startswith('| 2 |'):
-            named = {code.split()[0] for code in re.findall(r'`([^`]+)`', line)}
-            for word in sorted(named ^ {word for word, _ in known}):
-                fault(readme, number, f'README and docs/formats.md have other commands: {word}')
+def check_usages(commands, known, program):
+    """The program has each command of the table."""
     for (word, count), words in sorted(known.items()) if program else ():
+        checked['usages, run'] += 1
         if program.run(word, *words) == ['refused usage']:
-            fault(formats, 1, f'the program has no command {word} with {count} more words')
+            fault(commands, 1, f'the program has no command {word} with {count} more words')
+
+
+def table(document, head):
+    """The rows of the tables that begin so, each with its line and its cells."""
+    within = False
+    for number, line in document.prose.items():
+        line = line.strip()
+        within = line.startswith(head) or within and line.startswith('|')
+        if within and not line.startswith((head, '|---')):
+            yield number, [cell.strip() for cell in re.split(r'(?<!\\)\|', line)[1:-1]]
+
+
+def check_wrong_words(document, program):
+    """The table of wrong words: each command ends with the answer beside it."""
+    for number, cells in table(document, '| you wrote') if program else ():
+        tried = re.findall(r'`([^`]+)`', cells[0]) if cells[0].startswith('`rd2 ') else []
+        answer = re.findall(r'`([^`]+)`', cells[1])[0]
+        for words in tried:
+            checked['wrong words, run'] += 1
+            said = program.run(*words.removeprefix('rd2 ').split())[-1]
+            if said != answer:
+                fault(document, number, f'`{words}` gives {said}')
+
+
+def check_sizes(document):
+    """The documents for users are no longer than they may be, and none of their tables is wider than 120 columns."""
+    text = document.path.read_text()
+    checked['sizes'] += 1
+    if len(text.split()) > MOST[document.path.name]:
+        fault(document, 1, f'{len(text.split())} words, and {MOST[document.path.name]} at most')
+    if document.path.name == 'README.md' and len(text.encode()) > 5120:
+        fault(document, 1, f'{len(text.encode())} bytes, and 5120 at most')
+    for number, line in document.prose.items():
+        if line.strip().startswith('|') and len(line) > 120:
+            fault(document, number, f'a table of {len(line)} columns')
 
 
 def check_commands(document, known):
@@ -225,6 +260,16 @@ class Program:
         run = subprocess.run([self.path, *words], cwd=TOP, capture_output=True)
         return run.stdout.decode().rstrip('\n').split('\n')
 
+    def shell(self, line, folder, **variables):
+        """The status and the output of a line of the shell, for which the program is rd2."""
+        own = pathlib.Path(self.folder) / 'bin'
+        if not own.exists():
+            own.mkdir()
+            (own / 'rd2').symlink_to(self.path)
+        run = subprocess.run(['bash', '-c', line], cwd=folder, capture_output=True, text=True,
+                             env={**os.environ, 'PATH': f'{own}:{os.environ["PATH"]}', 'PYTHONDONTWRITEBYTECODE': '1', **variables})
+        return run.returncode, run.stdout
+
     def run_on(self, command, *texts):
         names = []
         for number, text in enumerate(texts):
@@ -248,6 +293,11 @@ def check_outputs(document, program):
             checked['outputs, run'] += 1
             if program.run(*words) != wanted:
                 fault(document, number, f'rd2 {" ".join(words)} writes something else')
+    for block in document.blocks if program else ():
+        if block[0].startswith('$ ') and '|' in block[0] and all(map(shutil.which, re.findall(r'\| (\w+)', block[0]))):
+            checked['outputs, run'] += 1
+            if program.shell(block[0][2:], TOP)[1].splitlines() != block[1:]:
+                fault(document, block.first, f'{block[0][2:]} writes something else')
 
 
 def head(block):
@@ -298,7 +348,7 @@ def check_whole_texts(document, program):
                     fault(document, block.first, f'the text above it gives {" / ".join(answers[-1][:2])}')
         elif head(block).startswith('kind ') and program:
             name = block[0].split()[1]
-            if name in ('register', 'counter', 'set', 'dictionary'):
+            if name in ('register', 'counter', 'set', 'dictionary', 'bag', 'peak', 'queue', 'tally'):
                 checked['shown kinds, run'] += 1
                 if program.run('kind', name)[1:] != block:
                     fault(document, block.first, f'rd2 kind {name} writes something else')
@@ -356,16 +406,15 @@ def check_bad_lines(document, program):
 
 
 def check_causes(document):
-    """Each cause of the table of refused lines has a trace in examples/ whose report tells it."""
+    """Each cause of the tables of refused lines has an example whose report tells it."""
     told = ' '.join(path.read_text() for path in (TOP / 'examples').glob('*.out'))
-    within = False
-    for number, line in document.prose.items():
-        row = re.match(r'\| `([a-z-]+)( [A-Z]+)?` \|', line)
-        within = line.startswith('| cause |') or within and line.startswith('|')
-        if within and row:
-            checked['causes'] += 1
-            if not re.search(rf'refused line \d+ {row[1]}\b', told):
-                fault(document, number, f'no example of {row[1]}')
+    for head, place in (('| cause | where |', r'line \d+'), ('| cause | the line |', r'spec line \d+ place \d+')):
+        for number, cells in table(document, head):
+            cause = re.fullmatch(r'`([a-z-]+)( [A-Z]+)*`', cells[0])
+            if cause and cause[1] != 'limit':
+                checked['causes'] += 1
+                if not re.search(rf'refused {place} {cause[1]}\b', told):
+                    fault(document, number, f'no example of {cause[1]}')
 
 
 def crates():
@@ -489,6 +538,72 @@ def check_kit(document):
             fault(document, 1, f'`rt version` here prints {line}')
 
 
+def check_manual(document):
+    """The manual page has each heading and command of docs/commands.md, and the readers of such pages find no fault in it."""
+    page = subprocess.run([sys.executable, TOP / 'docs' / 'tools' / 'manual.py'], capture_output=True, text=True)
+    if page.returncode:
+        fault(document, 1, f'manual.py: {page.stderr}')
+        return
+    with tempfile.TemporaryDirectory() as folder:
+        path = pathlib.Path(folder) / 'rd2.1'
+        path.write_text(page.stdout)
+        for words in (['mandoc', '-T', 'lint', '-W', 'warning'], ['man', '--warnings', '-E', 'UTF-8', '-l', '-Tutf8']):
+            if shutil.which(words[0]):
+                checked['manual pages'] += 1
+                read = subprocess.run([*words, path], stdout=subprocess.PIPE, stderr=subprocess.STDOUT, text=True, env={**os.environ, 'MANPAGER': 'cat', 'MANWIDTH': '100'})
+                if read.returncode or words[0] == 'mandoc' and read.stdout or re.search('(?m)^(?:troff|groff|tbl|<standard input>|an.tmac).*(?:warning|error)', read.stdout):
+                    fault(document, 1, f'{" ".join(words)}: {read.stdout[:400]}')
+    words = ' '.join(re.sub(r'\\f[BIRP]|\\&', '', page.stdout).replace('\\-', '-').replace('\\e', '\\').split())
+    for number, cells in table(document, '| command |'):
+        checked['commands in the manual page'] += 1
+        if cells[0].strip('`') not in words:
+            fault(document, number, f'the manual page lacks {cells[0]}')
+
+
+FIRST_HOUR = {                                    # by its first words in the page: the folder in docs/tests/first_hour, what is needed, what comes first, what stands for names
+    '**Python**': ('python', 'python3', 'true', {}),
+    '**[Java]': ('java', 'javac', 'javac -d classes Shop.java', {'CLASSES PROGRAM': 'classes Shop'}),
+    '**[Go]': ('go', 'go', 'cp go.module go.mod', {'~/bin': '$HERE'}),
+    '**[C and C++]': ('c', 'gcc', 'gcc -I DOCS/recorders/cpp shop.c -pthread -o shop', {'PROGRAM': 'shop'}),
+    'Or all reads and writes': ('memory', 'gcc', 'true', {'PROGRAM': 'till'}),
+}
+
+
+def check_first_hour(document, program):
+    """What the page has for each language finds the race of a program in docs/tests/first_hour, or of the page's own."""
+    ends = sorted(number for number, line in document.prose.items() if line.startswith(('## ', *FIRST_HOUR)))
+    for begin, (name, needed, setting, names) in FIRST_HOUR.items() if program else ():
+        first = next((number for number in ends if document.prose[number].startswith(begin)), None)
+        if first is None:
+            fault(document, 1, f'no line begins with {begin}')
+            continue
+        if not shutil.which(needed) or name == 'java' and not pathlib.Path('/usr/share/java/asm.jar').exists():
+            continue
+        last = next(number for number in ends if number > first)
+        folder = pathlib.Path(program.folder) / name
+        source = TOP / 'docs' / 'tests' / 'first_hour' / name
+        shutil.copytree(source, folder) if source.exists() else folder.mkdir()
+        objects = [code for _, code in document.codes(first, last) if code.startswith('dictionary ')]
+        lines = ['trap "exit 99" ERR', setting]
+        for block in document.blocks:
+            if block.language == 'python' and first < block.first < last:
+                (folder / 'shop.py').write_text('\n'.join(block) + '\n')
+            elif block[0].startswith('dictionary ') and first < block.first < last:
+                objects += block
+            elif first < block.first < last:
+                lines += [line for line in block if not line.startswith('rd2 ')]
+        (folder / 'objects').write_text('\n'.join(objects) + '\n')
+        text = '\n'.join([*lines, 'trap - ERR', 'if [ -f run.mem ]; then rd2 epochs run.mem; else rd2 check run.trace; fi']).replace('DOCS', str(TOP / 'docs'))
+        for word, other in names.items():
+            text = text.replace(word, other)
+        statuses = []
+        while len(statuses) < 5 and not {1, 99}.intersection(statuses):
+            checked['first hours, run'] += 1
+            statuses.append(program.shell(text, folder, HERE=str(folder))[0])
+        if 1 not in statuses:
+            fault(document, first, f'what the page has ends with {statuses}, in {name}')
+
+
 def main():
     options = argparse.ArgumentParser(usage=__doc__)
     options.add_argument('--rd2')
@@ -509,7 +624,8 @@ def main():
             own[crate] |= set(re.findall(r'\w+', path.read_text(errors='replace'))) | {path.stem}
     sources = [squeezed(path.read_text().split('\n')) for path in files if path.suffix == '.rt']
     words = set().union(*own.values()) | {word for name, below in crates().items() for word in (name, *name.split('_'), *below)}
-    known = usages(documents[TOP / 'docs' / 'formats.md'])
+    pages = {path.name: document for path, document in documents.items() if path.parent in (TOP, TOP / 'docs')}
+    known = usages(pages['commands.md'])
     for path, document in documents.items():
         check_links(document, anchors)
         check_paths(document, names)
@@ -522,21 +638,25 @@ def main():
             check_tables(document)
         if path.parent.parent == TOP / 'crates':
             check_excerpts(document, sources)
-    check_usages(documents[TOP / 'README.md'], documents[TOP / 'docs' / 'formats.md'], known, program)
-    check_refusals(documents[TOP / 'docs' / 'specifications.md'], program)
-    check_bad_lines(documents[TOP / 'docs' / 'formats.md'], program)
-    check_causes(documents[TOP / 'docs' / 'formats.md'])
-    check_crates(documents[TOP / 'docs' / 'architecture.md'])
-    check_definitions(documents[TOP / 'docs' / 'definitions.md'])
-    check_counts(documents[TOP / 'crates' / 'rd_trials' / 'README.md'], documents[TOP / 'docs' / 'proved.md'])
-    check_costs(documents[TOP / 'docs' / 'costs.md'])
-    check_kit(documents[TOP / 'README.md'])
+    check_usages(pages['commands.md'], known, program)
+    for name in MOST:
+        check_sizes(pages[name])
+    for check in (check_refusals, check_bad_lines, check_wrong_words):
+        check(pages['errors.md'], program)
+    check_causes(pages['errors.md'])
+    check_manual(pages['commands.md'])
+    check_first_hour(pages['first-hour.md'], program)
+    check_crates(pages['architecture.md'])
+    check_definitions(pages['definitions.md'])
+    check_counts(documents[TOP / 'crates' / 'rd_trials' / 'README.md'], pages['proved.md'])
+    check_costs(pages['costs.md'])
+    check_kit(pages['README.md'])
     shutil.rmtree(program.folder)
-    if program:                                   # of the tools that docs/reporting.md tells of, by their own tests
+    if program:                                   # of the tools that docs/commands.md tells of, by their own tests
         own = subprocess.run([sys.executable, TOP / 'docs' / 'tests' / 'check_report.py', '--rd2', program.path, '--races', '1000'], capture_output=True, text=True)
         checked['tests of rdreport'] += 1
         if own.returncode:
-            fault(documents[TOP / 'docs' / 'reporting.md'], 1, f'check_report.py: {own.stdout[-2000:]}{own.stderr[-2000:]}')
+            fault(pages['commands.md'], 1, f'check_report.py: {own.stdout[-2000:]}{own.stderr[-2000:]}')
     if given.all:
         for what, count in sorted(checked.items()):
             print(f'{count:6} {what}')
