@@ -188,6 +188,95 @@ def check_wrong_words(document, program):
                 fault(document, number, f'`{words}` gives {said}')
 
 
+def past_limits():
+    """Of each limit but two, which no text of a test can pass: the command, and a text that passes it."""
+    begin = 'rdtrace 1\nthread main\n'
+    yield 'line', 'check', begin + '#' * 8192 + '\n'
+    yield 'threads', 'check', begin + ''.join(f'fork main t{n}\n' for n in range(4096))
+    yield 'locks', 'check', begin + ''.join(f'acquire main l{n}\n' for n in range(65537))
+    yield 'objects', 'check', begin + ''.join(f'object o{n} set\n' for n in range(65537))
+    yield 'depth', 'check', begin + 'acquire main l\n' * 65536
+    method, pair = 'rdspec 1\nkind k\nmethod m a b c d e f -> g\n', 'commute m m when '
+    yield 'kinds', 'spec', 'rdspec 1\n' + ''.join(f'kind k{n}\n' for n in range(33))
+    yield 'methods', 'spec', 'rdspec 1\nkind k\n' + ''.join(f'method m{n} -> a\n' for n in range(17))
+    yield 'arguments', 'spec', 'rdspec 1\nkind k\nmethod m a b c d e f g -> h\n'
+    yield 'nodes', 'spec', method + pair + ' or '.join(['a@1 = 1'] * 33) + '\n'
+    yield 'depth of a formula', 'spec', method + pair + 'not ' * 32 + 'true\n'
+    yield 'predicates', 'spec', method + pair + ' or '.join(f'{name}@1 = nil' for name in 'abcdef') + '\n'
+    yield 'tokens', 'spec', method + pair + '(' * 256 + 'true' + ')' * 256 + '\n'
+    yield 'text', 'spec', '#' * 1048577
+
+
+def check_limits(traces, specs, program):
+    """The tables of limits have the numbers that the program refuses by; two are compared with the source."""
+    told = {}
+    for document in (traces, specs):
+        for number, cells in [*table(document, '| name | number |'), *table(document, '| limit | number |')]:
+            for name, most in zip(re.findall(r'`([a-z]+)`', cells[0]), cells[1].split(', ')):
+                told[name + ' of a formula' * (name in told)] = document, number, most
+    source = (TOP / 'crates' / 'rd_base' / 'src' / 'limits.rt').read_text().replace('_', '')
+    for name in ('bytes', 'events'):
+        document, number, most = told.pop(name)
+        checked['limits'] += 1
+        if f'{name}: {most},' not in source:
+            fault(document, number, f'the source has another limit {name}')
+    for name, command, text in past_limits() if program else ():
+        document, number, most = told.pop(name)
+        checked['limits, run'] += 1
+        said = program.run_on(command, text)[-1]
+        if not said.endswith(f' limit {name.split()[0]} {most}'):
+            fault(document, number, f'what passes the limit {name} gives {said}')
+    for name, (document, number, _) in told.items() if program else ():
+        fault(document, number, f'no text passes the limit {name}')
+
+
+def check_kinds(documents, program):
+    """Each built-in kind has its methods in the tables of the documents."""
+    kinds = ('register', 'counter', 'set', 'dictionary', 'bag', 'peak', 'queue', 'tally')
+    for document in documents:
+        told, kind = collections.defaultdict(set), None
+        for _, cells in table(document, '| kind |'):
+            kind = cells[0].strip('`') or kind
+            told[kind] |= {code.split()[0] for code in re.findall(r'`([^`]+)`', cells[-1])}
+        for kind in kinds if program else ():
+            methods = {line.split()[1] for line in program.run('kind', kind) if line.startswith('method ')}
+            checked['kinds'] += 1
+            for lacking in sorted(methods - told[kind] - told['most']):
+                fault(document, 1, f'the table of kinds has no {kind} {lacking}')
+
+
+def check_statuses(readme, commands):
+    """README has the statuses of the table of docs/commands.md, and each command ends with some of them."""
+    told = [[int(status) for _, cells in table(document, '| status |') for status in cells[0].split(', ')] for document in (readme, commands)]
+    checked['statuses'] += len(told[1])
+    if told[0] != told[1]:
+        fault(readme, 1, f'README has the statuses {told[0]}, and docs/commands.md {told[1]}')
+    for number, cells in table(commands, '| command |'):
+        if not set(map(int, cells[2].split(', '))) <= set(told[1]):
+            fault(commands, number, 'a status that no table has')
+
+
+def check_costs(document):
+    """The table of what recording costs has the least and the greatest number of each page of a recorder."""
+    picked = {'Python': ('python', r'', ['as it is', 'recorded, `--calm`', 'recorded']),
+              'Java, agent': ('java', r'a `put` of one map|own lock, taken and given back', ['alone', 'no yields', 'agent']),
+              'Go': ('go', r'assignment|lock pair', ['by Go', 'recorded, no shaking', 'recorded']),
+              'C, C++, preloaded': ('cpp', r'', ['unrecorded', 'preloaded, no shaking', 'preloaded'])}
+    for number, cells in table(document, '| | as it is |'):
+        folder, rows, names = picked[cells[0]]
+        page = Document(TOP / 'docs' / 'recorders' / folder / 'README.md')
+        for name, shown in zip(names, cells[1:]):
+            numbers = []
+            for head in sorted({line for line in page.prose.values() if line.startswith('| |')}):
+                columns = [cell.strip() for cell in head.split('|')[1:-1]]
+                for _, row in table(page, head):
+                    here = row[1:] if row[0] == name else [row[columns.index(name)]] if name in columns and re.match(rows, row[0]) else []
+                    numbers += [float(each) for cell in here for each in re.findall(r'[\d.]+', cell)]
+            checked['costs'] += 1
+            if [float(each) for each in re.findall(r'[\d.]+', shown)] != [min(numbers, default=0), max(numbers, default=0)]:
+                fault(document, number, f'{cells[0]}, {name}: {min(numbers, default=0)} to {max(numbers, default=0)}')
+
+
 def check_sizes(document):
     """The documents for users are no longer than they may be, and none of their tables is wider than 120 columns."""
     text = document.path.read_text()
@@ -644,6 +733,10 @@ def main():
     for check in (check_refusals, check_bad_lines, check_wrong_words):
         check(pages['errors.md'], program)
     check_causes(pages['errors.md'])
+    check_limits(pages['commands.md'], pages['errors.md'], program)
+    check_kinds([pages['formats.md'], pages['recording.md']], program)
+    check_statuses(pages['README.md'], pages['commands.md'])
+    check_costs(pages['first-hour.md'])
     check_manual(pages['commands.md'])
     check_first_hour(pages['first-hour.md'], program)
     check_crates(pages['architecture.md'])
