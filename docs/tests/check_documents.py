@@ -256,7 +256,7 @@ def check_statuses(readme, commands):
             fault(commands, number, 'a status that no table has')
 
 
-def check_costs(document):
+def check_recording_costs(document):
     """The table of what recording costs has the least and the greatest number of each page of a recorder."""
     picked = {'Python': ('python', r'', ['as it is', 'recorded, `--calm`', 'recorded']),
               'Java, agent': ('java', r'a `put` of one map|own lock, taken and given back', ['alone', 'no yields', 'agent']),
@@ -387,6 +387,21 @@ def check_outputs(document, program):
             checked['outputs, run'] += 1
             if program.shell(block[0][2:], TOP)[1].splitlines() != block[1:]:
                 fault(document, block.first, f'{block[0][2:]} writes something else')
+
+
+def check_sentences(document, program):
+    """Sentences that a command writes a file, or has the lines of the block below it."""
+    for number, line in document.prose.items() if program else ():
+        around = ' '.join(document.prose.get(at, '') for at in (number, number + 1))
+        for words, name in [found.groups() for found in re.finditer(r'`rd2 ([^`]+)` writes `(examples/[\w.]+)`', around) if found.start() < len(line)]:
+            checked['outputs, run'] += 1
+            if '\n'.join(program.run(*words.split())) + '\n' != (TOP / name).read_text():
+                fault(document, number, f'rd2 {words} writes another file than {name}')
+        for words in re.findall(r'`rd2 ([^`]+)` has, ', line):
+            checked['outputs, run'] += 1
+            block = next(block for block in document.blocks if block.first > number)
+            if '\n'.join(block) + '\n' not in '\n'.join(program.run(*words.split())) + '\n':
+                fault(document, number, f'rd2 {words} has other lines')
 
 
 def head(block):
@@ -721,6 +736,7 @@ def main():
         check_commands(document, known)
         check_numbered(document)
         check_outputs(document, program)
+        check_sentences(document, program)
         check_whole_texts(document, program)
         if path in NAMING or path.parent.parent == TOP / 'crates':
             check_names(document, words, own)
@@ -736,7 +752,7 @@ def main():
     check_limits(pages['commands.md'], pages['errors.md'], program)
     check_kinds([pages['formats.md'], pages['recording.md']], program)
     check_statuses(pages['README.md'], pages['commands.md'])
-    check_costs(pages['first-hour.md'])
+    check_recording_costs(pages['first-hour.md'])
     check_manual(pages['commands.md'])
     check_first_hour(pages['first-hour.md'], program)
     check_crates(pages['architecture.md'])
