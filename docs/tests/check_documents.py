@@ -708,6 +708,23 @@ def check_first_hour(document, program):
             fault(document, first, f'what the page has ends with {statuses}, in {name}')
 
 
+def check_levels(document, program):
+    """At the level of the object the race of its users is found, and at that of its lock it isn't."""
+    if not program:
+        return
+    folder = pathlib.Path(program.folder) / 'levels'
+    shutil.copytree(TOP / 'docs' / 'tests' / 'first_hour' / 'python', folder)
+    whole = [line for block in document.blocks for line in block if line.startswith('lru ')]
+    inner = [code for _, code in document.codes() if code.endswith('.Cache.items')]
+    for line, spec, wanted in ((whole, TOP / 'examples' / 'kinds' / 'lru.spec', 1), (inner, '', 0)):
+        checked['levels, run'] += 1
+        (folder / 'objects').write_text(''.join(each + '\n' for each in line))
+        status, told = program.shell(f'python3 -m rdrecord --objects objects cache.py && rd2 check run.trace {spec}', folder,
+                                     PYTHONPATH=str(TOP / 'docs' / 'recorders' / 'python'))
+        if not line or status != wanted or wanted == 0 and not told.endswith('verdict deterministic\n'):
+            fault(document, 1, f'{line} ends with {status}: {told[-200:]}')
+
+
 def main():
     options = argparse.ArgumentParser(usage=__doc__)
     options.add_argument('--rd2')
@@ -755,6 +772,7 @@ def main():
     check_recording_costs(pages['first-hour.md'])
     check_manual(pages['commands.md'])
     check_first_hour(pages['first-hour.md'], program)
+    check_levels(pages['first-hour.md'], program)
     check_crates(documents[TOP / 'docs' / 'architecture.md'])
     check_definitions(documents[TOP / 'docs' / 'definitions.md'])
     check_counts(documents[TOP / 'crates' / 'rd_trials' / 'README.md'], documents[TOP / 'docs' / 'proved.md'])
