@@ -7,7 +7,7 @@ Lists each fault as FILE:LINE: WHAT, and ends with 1 where there is one. With --
 specification that a document shows, compares the output with the one shown beside it, and runs check_report.py and what docs/first-hour.md has for
 the languages that are here. --all lists too what was checked.
 """
-import argparse, collections, os, pathlib, re, shutil, subprocess, sys, tempfile
+import argparse, collections, gzip, lzma, os, pathlib, re, shutil, subprocess, sys, tempfile
 
 TOP = pathlib.Path(__file__).resolve().parents[2]
 DOCUMENTS = [TOP / 'README.md', TOP / 'CHANGELOG.md', *sorted((TOP / 'docs').rglob('*.md')), *sorted(TOP.glob('crates/*/README.md'))]
@@ -177,14 +177,22 @@ def table(document, head):
 
 
 def check_wrong_words(document, program):
-    """The table of wrong words: each command ends with the answer beside it."""
+    """The table of wrong words: each command, and each wrong file, ends with the answer beside it."""
+    trace = (TOP / 'examples' / 'two_puts.trace').read_bytes()
+    files = {'a compressed file': [gzip.compress(trace), lzma.compress(trace)], 'an empty file': [b''],
+             '`share` after': [b'rdtrace 1\nthread a\nshare a l\n', b'rdtrace 3\n']}
     for number, cells in table(document, '| you wrote') if program else ():
+        answers = re.findall(r'`([^`]+)`', cells[1])
+        for text in next((texts for name, texts in files.items() if cells[0].startswith(name)), ()):
+            checked['wrong words, run'] += 1
+            said = program.run_on('check', text)[-1]
+            if not any(said.endswith(answer) for answer in answers):
+                fault(document, number, f'{cells[0]} gives {said}')
         tried = re.findall(r'`([^`]+)`', cells[0]) if cells[0].startswith('`rd2 ') else []
-        answer = re.findall(r'`([^`]+)`', cells[1])[0]
         for words in tried:
             checked['wrong words, run'] += 1
             said = program.run(*words.removeprefix('rd2 ').split())[-1]
-            if said != answer:
+            if said != answers[0]:
                 fault(document, number, f'`{words}` gives {said}')
 
 
