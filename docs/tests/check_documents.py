@@ -285,6 +285,16 @@ def check_recording_costs(document):
                 fault(document, number, f'{cells[0]}, {name}: {min(numbers, default=0)} to {max(numbers, default=0)}')
 
 
+def check_taken(document, program):
+    """The table of formulas that are taken or not: the program answers so."""
+    for number, cells in table(document, '| a formula |') if program else ():
+        text = f'rdspec 1\nkind k\nmethod put key value -> done\ncommute put put when {cells[0].strip("`")}\n'
+        said = program.run_on('spec', text)
+        checked['formulas, run'] += 1
+        if (said[0] == 'rdspec 1') != cells[1].startswith('yes') or not all(said[0].endswith(why) for why in re.findall(r'^no, `([^`]+)`', cells[1])):
+            fault(document, number, f'{cells[0]} gives {said[0]}')
+
+
 def check_sizes(document):
     """The documents for users are no longer than they may be, and none of their tables is wider than 120 columns."""
     text = document.path.read_text()
@@ -774,6 +784,7 @@ def main():
     for check in (check_refusals, check_bad_lines, check_wrong_words):
         check(pages['errors.md'], program)
     check_causes(pages['errors.md'])
+    check_taken(pages['specifications.md'], program)
     check_limits(pages['commands.md'], pages['errors.md'], program)
     check_kinds([pages['formats.md'], pages['recording.md']], program)
     check_statuses(pages['README.md'], pages['commands.md'])
