@@ -1,7 +1,7 @@
 -- What is known of points, for the clocks of later events.
-use Rattle.std.proofs.Common.{◌≡◌, ◌⊎◌, inl, inr, ℕ, ◌<◌, ◌≤◌, Bool, true, false, if◌then◌else◌, List, [], ◌∷◌, ◌++◌, length, Option, None, Some, Result, Ok, Err, refl, sym, ap, subst, ◌∙◌, arith}
+use Rattle.std.proofs.Common.{◌≡◌, ◌⊎◌, inl, inr, ℕ, ◌<◌, ◌≤◌, Bool, true, false, List, [], ◌∷◌, ◌++◌, length, Option, Some, Result, Ok, Err, refl, sym, ap, subst, ◌∙◌, arith}
 use Rattle.std.specs.Prelude.{Contains, OnOk, slice_get}
-use Rattle.std.proofs.lemmas.Bool.{cases_Bool, cases_eq}
+use Rattle.std.proofs.lemmas.Bool.{cases_eq}
 use Rattle.std.proofs.lemmas.List.{append-nil, append_assoc, length-append}
 use Rattle.std.proofs.lemmas.Option.{none-some, same_Some, slice_get-get_or}
 use Rattle.rd_clock.specs.Clock.{component}
@@ -17,7 +17,7 @@ use Rattle.rd_order.specs.Order.{IsOf, Reaches}
 use Rattle.rd_order.proofs.CountsLemmas.{counts_le}
 use Rattle.rd_order.proofs.OrderLemmas.{at_end, at_front, length_more, reaches_joined}
 use Rattle.rd_points.specs.declared.points.Point.{Point}
-use Rattle.rd_store.specs.Stores.{IsCovered, IsOneEach, PointCells, cell_at, is_covered, point_at, uncovered}
+use Rattle.rd_store.specs.Stores.{IsCovered, IsOneEach, PointCells, cell_at, point_at}
 use Rattle.rd_store.specs.declared.Seat.{Seat}
 use Rattle.rd_store.specs.declared.Witness.{Witness}
 use Rattle.rd_detect.specs.Covers.{AreCoveredAt, AreLeft, AreOwn, AreTrueFor, CoversKept, CoversStandFor, CountsEpoch, IsLater, cover_at}
