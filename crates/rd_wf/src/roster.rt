@@ -14,12 +14,13 @@ pub use keywords::{
     ThreadLine, UnshareLine,
 };
 pub use lines::{CallNumbers, Judged, KnownMethod};
-use rd_base::{Limits, Name, NoMemory, Slots};
+use rd_base::{Limits, Name, NoMemory, Slots, SpareList};
 use rd_ecl::Spec;
 use rd_event::{Line, LineEvent};
 use rd_rules::{Accepted, BytesRefused, WfCause, WfRefused};
 use rd_tables::{Lock, Methods, NEAR_LENGTH, Shares};
 use std::alloc::Global;
+use std::cell::Cell;
 
 /// The accepted lines of a trace, as names with numbers, flags and counts. It says of the next line
 /// whether it may follow.
@@ -43,6 +44,8 @@ pub struct Roster {
     near_awaited: [u32; NEAR_LENGTH],
     near_locks: [u32; NEAR_LENGTH],
     near_objects: [u32; NEAR_LENGTH],
+    /// the memory of the last call's values
+    spare: Cell<SpareList>,
     ghost few_kinds: { index_map_len kinds < 2 ^ 32 },
     ghost few_threads: { index_map_len threads < 2 ^ 32 },
     ghost few_locks: { index_map_len locks < 2 ^ 32 },
@@ -84,6 +87,7 @@ impl Roster {
             near_awaited: [0; NEAR_LENGTH],
             near_locks: [0; NEAR_LENGTH],
             near_objects: [0; NEAR_LENGTH],
+            spare: Cell::new(SpareList::new(alloc)),
         })
     }
 

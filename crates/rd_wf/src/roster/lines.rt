@@ -1,14 +1,19 @@
 //! What each sort of line does to a roster, by names that are lent.
+ghost use Rattle.std.specs.Prelude.{◌≡◌, List, None, Some, IfErr, IfOk};
+ghost use Rattle.rd_base.specs.declared.values.Value.{Value};
+ghost use Rattle.rd_event.specs.ReadingSlots.{slots_read};
 
 use super::Roster;
 use super::finding::{Anywhere, Finder};
-use rd_base::{Limits, Name, NoMemory, Slots};
-use rd_event::{Call, Event, Line, LineEvent, LineRefused, read_slots};
+use rd_base::{Limits, Name, NoMemory, Slots, SpareList};
+use rd_event::{Call, Event, Line, LineEvent, LineRefused, read_slots_in};
 use rd_rules::{Accepted, BytesRefused, WfCause, WfRefused};
 use rd_tables::{
     Declared, FREE, FoundMethod, FoundObject, FoundThread, Lock, NEAR_LENGTH, NameBytes,
     cut_at_space, near_bytes,
 };
+use std::alloc::Global;
+use std::cell::Cell;
 
 /// What becomes of a line by its bytes, or by names that are lent.
 pub type Judged = Result<Accepted, BytesRefused>;
@@ -37,6 +42,20 @@ pub(super) struct Called {
     actor: FoundThread,
     object: FoundObject,
     method: FoundMethod,
+}
+
+// The values of a call, in the memory of those of the last one where nothing else has that.
+fn read_values(alloc: Global, bytes: &[u8], spare: &Cell<SpareList>) -> Result<Slots, LineRefused>
+    ensures slots { IfOk result (λ slots. slots_read 7 bytes.now ≡ Some slots) }
+    ensures none { IfErr result (λ e. e ≡ LineRefused.BadLine → slots_read 7 bytes.now ≡ None) }
+    ensures memory { IfErr result
+        (λ e. e ≡ LineRefused.NoMemory → (slots : List Value)
+        × (slots_read 7 bytes.now ≡ Some slots)) }
+{
+    let mut list = spare.replace(SpareList::new(alloc));
+    let read = read_slots_in(alloc, bytes, &mut list);
+    spare.set(list);
+    read
 }
 
 impl Roster {
@@ -451,7 +470,7 @@ impl Roster {
         let Some(called) = self.find_called::<F>(thread, object, method) else {
             return Err(BytesRefused::BadLine);
         };
-        let slots = match read_slots(self.alloc, values) {
+        let slots = match read_values(self.alloc, values, &self.spare) {
             Ok(slots) => slots,
             Err(LineRefused::BadLine) => return Err(BytesRefused::BadLine),
             Err(LineRefused::NoMemory) => return Err(BytesRefused::NoMemory),
