@@ -8,32 +8,32 @@ ghost use Rattle.rd_walk.specs.Analysis.{TellsFault, WritesFront};
 ghost use Rattle.rd_walk.specs.Output.{IsOutput, ended_status};
 
 use rd_base::{Bytes, NoMemory};
-use rd_event::{Line, spell};
+use rd_event::{Line, append_line};
 use rd_gen::Generator;
 use rd_io::Sink;
 use rd_walk::{Ended, Halt, write_line};
 use std::alloc::Global;
 
-// The spelling of a line with its line feed.
-fn spelled(alloc: Global, line: Line) -> Result<Bytes, NoMemory>
-    requires { IsSpellable line }
-    ensures { IfOk result (λ text. text ≡ line_text line) }
+// Makes the text the spelling of a line, with its line feed.
+fn spell_line(text: &mut Bytes, line: &Line) -> Result<(), NoMemory>
+    requires { IsSpellable line.now }
+    ensures { OnOk result (text.new ≡ line_text line.now) }
 {
-    let mut text = spell(alloc, &line)?;
-    text.push(b'\n')?;
-    Ok(text)
+    text.clear();
+    append_line(text, line)?;
+    text.push(b'\n')
 }
 
-// Writes a line with its line feed.
-fn write_spelled<S: Sink>(alloc: Global, line: Line, out: &mut S) -> Result<(), Halt>
-    requires { IsSpellable line }
-    ensures ok { OnOk result (Appends (S.written out.old) (S.written out.new) (line_text line)) }
+// Writes a line with its line feed, by way of the text.
+fn write_spelled<S: Sink>(text: &mut Bytes, line: &Line, out: &mut S) -> Result<(), Halt>
+    requires { IsSpellable line.now }
+    ensures ok { OnOk result (Appends (S.written out.old) (S.written out.new) (line_text line.now)) }
     ensures front { OnErr result (WritesFront (S.written out.old) (S.written out.new) []
-        (line_text line)) }
+        (line_text line.now)) }
     ensures fault { TellsFault (S.faults out.old) (S.faults out.new) (S.at_fault out.new)
         (S.written out.new) result }
 {
-    let text = spelled(alloc, line)?;
+    spell_line(text, line)?;
     write_line(out, text.items())
 }
 
@@ -46,8 +46,9 @@ fn write_rest<S: Sink>(alloc: Global, generator: &mut Generator, out: &mut S) ->
     ensures fault { TellsFault (S.faults out.old) (S.faults out.new) (S.at_fault out.new)
         (S.written out.new) result }
 {
+    let mut text = Bytes::new(alloc);
     while let Some(line) = generator.next_line()? {
-        write_spelled(alloc, line, out)?;
+        write_spelled(&mut text, &line, out)?;
     }
     Ok(())
 }

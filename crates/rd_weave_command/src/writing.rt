@@ -5,30 +5,30 @@ ghost use Rattle.rd_io.specs.Sinks.{Appends};
 ghost use Rattle.rd_walk.specs.Analysis.{TellsFault, WritesFront};
 
 use rd_base::{Bytes, NoMemory};
-use rd_event::{Line, spell};
+use rd_event::{Line, append_line};
 use rd_io::Sink;
 use rd_walk::{Halt, write_line};
 use std::alloc::Global;
 
-// A line with its line feed.
-fn text_of(alloc: Global, line: &Line) -> Result<Bytes, NoMemory>
+// Makes the text that of a line, with its line feed.
+fn spell_line(text: &mut Bytes, line: &Line) -> Result<(), NoMemory>
     requires { IsSpellable line.now }
-    ensures { IfOk result (λ text. text ≡ line_text line.now) }
+    ensures { OnOk result (text.new ≡ line_text line.now) }
 {
-    let mut text = spell(alloc, line)?;
-    text.push(b'\n')?;
-    Ok(text)
+    text.clear();
+    append_line(text, line)?;
+    text.push(b'\n')
 }
 
-// Writes it.
-fn write_one<S: Sink>(alloc: Global, line: &Line, out: &mut S) -> Result<(), Halt>
+// Writes a line with its line feed, by way of the text.
+fn write_one<S: Sink>(text: &mut Bytes, line: &Line, out: &mut S) -> Result<(), Halt>
     requires { IsSpellable line.now }
     ensures ok { OnOk result (Appends (S.written out.old) (S.written out.new) (line_text line.now)) }
     ensures front { OnErr result (WritesFront (S.written out.old) (S.written out.new) [] (line_text line.now)) }
     ensures fault { TellsFault (S.faults out.old) (S.faults out.new) (S.at_fault out.new)
         (S.written out.new) result }
 {
-    let text = text_of(alloc, line)?;
+    spell_line(text, line)?;
     write_line(out, text.items())
 }
 
@@ -40,8 +40,9 @@ pub(crate) fn write_trace<S: Sink>(alloc: Global, lines: &[Line], out: &mut S) -
     ensures fault { TellsFault (S.faults out.old) (S.faults out.new) (S.at_fault out.new)
         (S.written out.new) result }
 {
+    let mut text = Bytes::new(alloc);
     for line in lines {
-        write_one(alloc, line, out)?;
+        write_one(&mut text, line, out)?;
     }
     Ok(())
 }
