@@ -8,12 +8,13 @@ ghost use Rattle.rd_gen.specs.declared.counts.TheConstants.{MOST_CALLS};
 use crate::calls::{
     acquire_of, call_of, join_of, last_call, next_number, opening_line, release_of,
 };
-use rd_base::{NoMemory, SpareList};
+use rd_base::{NoMemory, ValueList};
 use rd_event::Line;
 use rd_kinds::Dictionary;
 use rd_object::RefObject;
 use std::alloc::Global;
 use std::marker::Model;
+use std::rc::Rc;
 
 // Where a generator stands.
 #[derive(Clone, Copy)]
@@ -41,7 +42,8 @@ pub struct Generator {
     number: u32,
     stage: Stage,
     dictionary: Dictionary,
-    spare: SpareList,
+    // the values of the last call
+    last: Option<Rc<ValueList>>,
     failed: bool,
 }
 
@@ -70,7 +72,7 @@ impl Generator {
             number: (number % 65536) as u32,
             stage: Stage::Opening(0),
             dictionary: Dictionary::start(alloc),
-            spare: SpareList::new(alloc),
+            last: None,
             failed: false,
         }
     }
@@ -105,7 +107,7 @@ impl Generator {
                 let line = call_of(
                     self.alloc,
                     &mut self.dictionary,
-                    &mut self.spare,
+                    &mut self.last,
                     self.number / 16,
                 )?;
                 Ok(Some(line))
@@ -115,7 +117,7 @@ impl Generator {
                 let line = call_of(
                     self.alloc,
                     &mut self.dictionary,
-                    &mut self.spare,
+                    &mut self.last,
                     self.number / 16,
                 )?;
                 Ok(Some(line))
