@@ -14,6 +14,7 @@ RACE = sys.argv[1] == "race"
 class Desk:
     """What is shared; unchanged.objects names it."""
     turns = 0
+    board = {"open": True}
 
     def __init__(self):
         self.hits, self.shelf, self.names, self.row = 0, {}, set(), collections.deque()
@@ -51,6 +52,7 @@ def hit(alone=False):
         with guard, guard:
             desk.hits += 1
             desk.turns += 1
+            Desk.board["turns"] = desk.board.get("turns", 0) + 1
 
 
 def threads():

@@ -160,6 +160,8 @@ class Attribute:
         self.kind, self.name, self.cell = kind, name, f"_recorded_{name}"
         self.value = f"_watched_{name}"
         self.named, self.first = f"{cls.__name__}.{name}", vars(cls).get(name)
+        if kind != "register":                    # the class's own, which its objects share
+            self.first = recorded_holder(kind, self.first, self.named)
         ATTRIBUTES.append((cls, self))
         if kind == "register" and self.first is not None:
             self._declare_at_making(cls)
@@ -205,8 +207,10 @@ class Attribute:
         return found
 
     def __get__(self, of, cls=None):
-        if of is None:
-            return self
+        if of is None:                            # asked of the class: its own, which of a register has no calls
+            if self.first is None:
+                raise AttributeError(self.name)
+            return self.first
         to = recorder()
         if self.kind != "register" or to is None:
             return self._value(of)
