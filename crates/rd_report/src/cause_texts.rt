@@ -130,6 +130,26 @@ pub fn refused_text(
     Ok(text)
 }
 
+// Puts the text behind the races behind this one.
+fn append_ending(
+    text: &mut Bytes,
+    races: u64,
+    ending: &Ending,
+    names: &Roster,
+) -> Result<(), NoMemory>
+    ensures { OnOk result (text.new ≡ text.old ++ ending_text (names_in names.now) races ending.now) }
+{
+    append_races(text, races)?;
+    match ending {
+        Ending::End { replay, shown } => {
+            append_replay(text, replay)?;
+            append_verdict(text, *shown)
+        }
+        Ending::Refused { line, cause } => append_refused(text, names, *line, *cause),
+        Ending::Fault => text.append(b"fault input\n"),
+    }
+}
+
 /// The text behind the races: how many calls are reported, and how the replay ended and what is shown, or where and why the trace was
 /// refused, or that it could not be read on. The roster has the names of the threads.
 pub fn ending_text(
@@ -141,14 +161,6 @@ pub fn ending_text(
     ensures { IfOk result (λ text. text ≡ ending_text (names_in names.now) races ending.now) }
 {
     let mut text = Bytes::new(alloc);
-    append_races(&mut text, races)?;
-    match ending {
-        Ending::End { replay, shown } => {
-            append_replay(&mut text, replay)?;
-            append_verdict(&mut text, *shown)?;
-        }
-        Ending::Refused { line, cause } => append_refused(&mut text, names, *line, *cause)?,
-        Ending::Fault => text.append(b"fault input\n")?,
-    }
+    append_ending(&mut text, races, ending, names)?;
     Ok(text)
 }
