@@ -25,15 +25,15 @@ fn spell_line(text: &mut Bytes, line: &Line) -> Result<(), NoMemory>
 }
 
 // Writes a line with its line feed, by way of the text.
-fn write_spelled<S: Sink>(text: &mut Bytes, line: &Line, out: &mut S) -> Result<(), Halt>
-    requires { IsSpellable line.now }
-    ensures ok { OnOk result (Appends (S.written out.old) (S.written out.new) (line_text line.now)) }
+fn write_spelled<S: Sink>(text: &mut Bytes, line: Line, out: &mut S) -> Result<(), Halt>
+    requires { IsSpellable line }
+    ensures ok { OnOk result (Appends (S.written out.old) (S.written out.new) (line_text line)) }
     ensures front { OnErr result (WritesFront (S.written out.old) (S.written out.new) []
-        (line_text line.now)) }
+        (line_text line)) }
     ensures fault { TellsFault (S.faults out.old) (S.faults out.new) (S.at_fault out.new)
         (S.written out.new) result }
 {
-    spell_line(text, line)?;
+    spell_line(text, &line)?;
     write_line(out, text.items())
 }
 
@@ -48,7 +48,7 @@ fn write_rest<S: Sink>(alloc: Global, generator: &mut Generator, out: &mut S) ->
 {
     let mut text = Bytes::new(alloc);
     while let Some(line) = generator.next_line()? {
-        write_spelled(&mut text, &line, out)?;
+        write_spelled(&mut text, line, out)?;
     }
     Ok(())
 }
