@@ -344,8 +344,9 @@ class Bench:
         if not timed:
             return told + ' .. | .. |'
         words, before, count = self.of_lines(row, TIMED)
-        passed = max(self.seconds(words) - self.seconds(before), 1e-6)
-        return f'{told} {count / passed / 1e6:.3g} | {self.processor(words)[1]:.1f} |'
+        passed = self.seconds(words) - self.seconds(before)
+        told += f' {count / passed / 1e6:.3g} |' if passed > 0.002 else ' - |'      # a start takes about that long
+        return f'{told} {self.processor(words)[1]:.1f} |'
 
     def growth(self, what, least, most, maker):
         command, header = 'check TRACE', TRACE
