@@ -244,6 +244,14 @@ impl Slots {
     }
 }
 
+// An empty list in memory of its own. It stands apart, since its room on the stack is cleared first.
+#[inline(never)]
+fn shared_list(alloc: Global) -> Result<Rc<ValueList>, NoMemory>
+    ensures { IfOk result (λ list. list.value ≡ []) }
+{
+    Ok(Rc::new(alloc, ValueList::new(alloc))?)
+}
+
 /// The list of the values of a call that was read, kept so that the next call's lie in the same memory where nothing else has that. Contracts see
 /// nothing of it.
 #[derive(Drop)]
@@ -264,6 +272,7 @@ impl SpareList {
     }
 
     /// An empty list, in the memory that is kept, where nothing else has that.
+    #[inline(always)]
     pub fn take(&mut self, alloc: Global) -> Result<Rc<ValueList>, NoMemory>
         ensures { IfOk result (λ list. list.value ≡ []) }
     {
@@ -273,7 +282,7 @@ impl SpareList {
             values.clear();
             return Ok(list);
         }
-        Ok(Rc::new(alloc, ValueList::new(alloc))?)
+        shared_list(alloc)
     }
 
     /// Keeps the memory of this list for the next one.

@@ -14,4 +14,4 @@ pub use reading::{
     LineRefused, behind, is_skipped, law_of_calls, law_of_spelling, read_into, read_line,
 };
 pub use slots::{read_slots, read_slots_in};
-pub use spelling::{append_call, append_line, spell};
+pub use spelling::{append_call, append_line, spell, spell_line};

@@ -2,7 +2,7 @@
 ghost use Rattle.std.specs.Prelude.{◌≡◌, ℕ, [], ◌∷◌, ◌++◌, All, Some, OnOk, IfOk};
 ghost use Rattle.rd_base.specs.Names.{IsName};
 ghost use Rattle.rd_base.specs.Spelling.{IsValue};
-ghost use Rattle.rd_event.specs.Items.{HasItem, LineInRange, IsEvent, IsSpellable, HasFewSlots, Says, call_text, words_apart, slots_spelling, event_spelling, line_spelling};
+ghost use Rattle.rd_event.specs.Items.{HasItem, LineInRange, IsEvent, IsSpellable, HasFewSlots, Says, call_text, words_apart, slots_spelling, event_spelling, line_spelling, line_text};
 ghost use Rattle.rd_event.specs.Reading.{item_of};
 
 use crate::items::{Line, LineEvent};
@@ -114,6 +114,16 @@ pub fn append_line(text: &mut Bytes, line: &Line) -> Result<(), NoMemory>
         Line::Object { name, kind } => append_names(text, b"object ", name, kind),
         Line::Event(event) => append_event(text, event),
     }
+}
+
+/// Makes the text the spelling of a line, with its line feed. After want of memory it may have a front of that.
+pub fn spell_line(text: &mut Bytes, line: &Line) -> Result<(), NoMemory>
+    requires { IsSpellable line.now }
+    ensures { OnOk result (text.new ≡ line_text line.now) }
+{
+    text.clear();
+    append_line(text, line)?;
+    text.push(b'\n')
 }
 
 /// The spelling of a line, without a line feed. A skipped line is spelled as the empty line. What is spelled is read as the

@@ -5,7 +5,7 @@ ghost use Rattle.rd_object.specs.Machines.{IsTaken};
 ghost use Rattle.rd_kinds.specs.Machines.{dictionary_machine, dictionary_row};
 ghost use Rattle.rd_gen.specs.Generated.{acquire_of, arguments_for, arguments_chosen, call_line, call_of, entries_after, entries_behind, fork_of, join_of, dictionary_method, method_chosen, next_number, nil_or_number, opening_lines, release_of, result_in, worker_name, worker_of};
 
-use rd_base::{Name, NoMemory, Slots, Value, ValueList};
+use rd_base::{Name, NoMemory, Slots, SpareList, Value, ValueList};
 use rd_event::{Line, LineEvent};
 use rd_kinds::Dictionary;
 use rd_object::{ApplyRefused, RefObject};
@@ -214,36 +214,23 @@ pub(crate) fn opening_line(given: u8) -> Line
     }
 }
 
-// An empty list, in the memory of the last call's values, where nothing else has that.
-fn empty_list(alloc: Global, last: &mut Option<Rc<ValueList>>) -> Result<Rc<ValueList>, NoMemory>
-    ensures { IfOk result (λ list. list.value ≡ []) }
-{
-    if let Some(mut list) = last.take()
-        && let Some(values) = Rc::get_mut(&mut list)
-    {
-        values.clear();
-        return Ok(list);
-    }
-    Ok(Rc::new(alloc, ValueList::new(alloc))?)
-}
-
 // The call that a number says, run on the dictionary. Its values lie in the memory of the last call's, where nothing else has that.
 #[tactic(auto, using(crate::proofs::CallLemmas::choice_taken), unfolding(crate::specs::Generated::call_line))]
 pub(crate) fn call_of(
     alloc: Global,
     dictionary: &mut Dictionary,
-    last: &mut Option<Rc<ValueList>>,
+    spare: &mut SpareList,
     choice: u32,
 ) -> Result<Line, NoMemory>
     ensures line { IfOk result (λ line. line ≡ call_of choice dictionary.old) }
     ensures entries { OnOk result (dictionary.new ≡ entries_after choice dictionary.old) }
     ensures spellable { IfOk result IsSpellable }
 {
-    let mut list = empty_list(alloc, last)?;
+    let mut list = spare.take(alloc)?;
     let values = Rc::get_mut(&mut list).ok_or(NoMemory)?;
     push_choice(alloc, values, choice)?;
     run(alloc, dictionary, method_of(choice), values)?;
-    *last = list.clone().ok();
+    spare.keep(&list);
     Ok(line_of(alloc, worker_of(choice), method_of(choice), list))
 }
 

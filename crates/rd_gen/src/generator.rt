@@ -8,13 +8,12 @@ ghost use Rattle.rd_gen.specs.declared.counts.TheConstants.{MOST_CALLS};
 use crate::calls::{
     acquire_of, call_of, join_of, last_call, next_number, opening_line, release_of,
 };
-use rd_base::{NoMemory, ValueList};
+use rd_base::{NoMemory, SpareList};
 use rd_event::Line;
 use rd_kinds::Dictionary;
 use rd_object::RefObject;
 use std::alloc::Global;
 use std::marker::Model;
-use std::rc::Rc;
 
 // Where a generator stands.
 #[derive(Clone, Copy)]
@@ -42,8 +41,8 @@ pub struct Generator {
     number: u32,
     stage: Stage,
     dictionary: Dictionary,
-    // the values of the last call
-    last: Option<Rc<ValueList>>,
+    // the memory of the last call's values
+    spare: SpareList,
     failed: bool,
 }
 
@@ -72,7 +71,7 @@ impl Generator {
             number: (number % 65536) as u32,
             stage: Stage::Opening(0),
             dictionary: Dictionary::start(alloc),
-            last: None,
+            spare: SpareList::new(alloc),
             failed: false,
         }
     }
@@ -107,7 +106,7 @@ impl Generator {
                 let line = call_of(
                     self.alloc,
                     &mut self.dictionary,
-                    &mut self.last,
+                    &mut self.spare,
                     self.number / 16,
                 )?;
                 Ok(Some(line))
@@ -117,7 +116,7 @@ impl Generator {
                 let line = call_of(
                     self.alloc,
                     &mut self.dictionary,
-                    &mut self.last,
+                    &mut self.spare,
                     self.number / 16,
                 )?;
                 Ok(Some(line))

@@ -14,7 +14,7 @@ use Rattle.rd_ecl.specs.Specified.{SpecifiedKind, formula_at, method_predicates}
 use Rattle.rd_points.specs.declared.parts.Part.{Part}
 use Rattle.rd_points.specs.declared.parts.Part.TheVariants.{Unknown}
 use Rattle.rd_points.specs.Classes.{reduced_pair}
-use Rattle.rd_points.specs.Parts.{Agrees, AreParts, AreRows, Stands, both_known, either_known, known, reads}
+use Rattle.rd_points.specs.Parts.{Agrees, IsRow, AreRows, IsPartOf, both_known, either_known, known, reads}
 
 -- ---- parts of a formula in the fragment
 
@@ -108,12 +108,12 @@ either_agrees (Some x) y r s h l = subst (λ z. Agrees (either_known (Some x) y)
     by (Pairs xs) (Some (Pairs ys)) s l = tt
 
 module _ (p q : List Predicate) (x y : Part) (whole f g : Tree) where
-  pub both_stand : whole ≡ both f g → Stands x f p q → Stands y g p q → (v w : ℕ) → Agrees (both_known (known x v w) (known y v w)) (reduce_of whole p v q w)
+  pub both_stand : whole ≡ both f g → IsPartOf x f p q → IsPartOf y g p q → (v w : ℕ) → Agrees (both_known (known x v w) (known y v w)) (reduce_of whole p v q w)
   both_stand is h l v w =
       subst (λ z. Agrees (both_known (known x v w) (known y v w)) (reduce_of z p v q w)) (sym is)
       (both_agrees (known x v w) (known y v w) (reduce_of f p v q w) (reduce_of g p v q w) (h v w) (l v w))
 
-  pub either_stand : whole ≡ either f g → Stands x f p q → Stands y g p q → (v w : ℕ) → Agrees (either_known (known x v w) (known y v w)) (reduce_of whole p v q w)
+  pub either_stand : whole ≡ either f g → IsPartOf x f p q → IsPartOf y g p q → (v w : ℕ) → Agrees (either_known (known x v w) (known y v w)) (reduce_of whole p v q w)
   either_stand is h l v w =
       subst (λ z. Agrees (either_known (known x v w) (known y v w)) (reduce_of z p v q w)) (sym is)
       (either_agrees (known x v w) (known y v w) (reduce_of f p v q w) (reduce_of g p v q w) (h v w) (l v w))
@@ -128,7 +128,7 @@ each_more P (y ∷ xs) x d all one none zero = all 0
 each_more P (y ∷ xs) x d all one none (suc i) = each_more (λ k. P (suc k)) xs x d (λ k. all (suc k)) one (λ k. none (suc k)) i
 
 module _ (kind : SpecifiedKind) (n : ℕ) where
-  pub stands_pair : (m : ℕ) (part : Part) (f : Tree) (p q : List Predicate) → p ≡ method_predicates kind m → q ≡ method_predicates kind n → formula_at kind m n ≡ Some f → Stands part f p q
+  pub stands_pair : (m : ℕ) (part : Part) (f : Tree) (p q : List Predicate) → p ≡ method_predicates kind m → q ≡ method_predicates kind n → formula_at kind m n ≡ Some f → IsPartOf part f p q
       → (v w : ℕ) → Agrees (known part v w) (reduced_pair kind m v n w)
   stands_pair m part f p q first second found h v w =
       let same : reduce_of f p v q w ≡ reduced_pair kind m v n w =
@@ -136,17 +136,17 @@ module _ (kind : SpecifiedKind) (n : ℕ) where
       ∙ ap (λ o. reduce_of (unwrap_or o (truth true)) (method_predicates kind m) v (method_predicates kind n) w) (sym found) in
       subst (Agrees (known part v w)) same (h v w)
 
-  pub parts_more : (m : ℕ) (old new : List Part) (part : Part) → length old ≡ m → new ≡ old ++ part ∷ [] → AreParts kind n old
-      → ((v w : ℕ) → Agrees (known part v w) (reduced_pair kind m v n w)) → AreParts kind n new
+  pub parts_more : (m : ℕ) (old new : List Part) (part : Part) → length old ≡ m → new ≡ old ++ part ∷ [] → IsRow kind n old
+      → ((v w : ℕ) → Agrees (known part v w) (reduced_pair kind m v n w)) → IsRow kind n new
   parts_more m old new part long more all one =
       let Right : ℕ → Part → Type 0 = λ i x. (v w : ℕ) → Agrees (known x v w) (reduced_pair kind i v n w) in
-      subst (AreParts kind n) (sym more) (each_more Right old part Unknown all (subst (λ k. Right k part) (sym long) one) (λ i v w. tt))
+      subst (IsRow kind n) (sym more) (each_more Right old part Unknown all (subst (λ k. Right k part) (sym long) one) (λ i v w. tt))
 
 pub rows_more : {X : Type 0} (view : X → List Part) (kind : SpecifiedKind) (n : ℕ) (old new : List X) (row : X) → length old ≡ n → new ≡ old ++ row ∷ [] → AreRows kind (map view old)
-    → AreParts kind n (view row) → AreRows kind (map view new)
+    → IsRow kind n (view row) → AreRows kind (map view new)
 rows_more view kind n old new row long more all one =
     subst (AreRows kind) (sym (ap (map view) more ∙ map_push view old row))
-    (each_more (AreParts kind) (map view old) (view row) [] all (subst (λ k. AreParts kind k (view row)) (sym (length-map old view ∙ long)) one) (λ i m v w. tt))
+    (each_more (IsRow kind) (map view old) (view row) [] all (subst (λ k. IsRow kind k (view row)) (sym (length-map old view ∙ long)) one) (λ i m v w. tt))
 
 -- what is found is what the formula reduces to
 pub one_way_found : {E : Type 0} (result : Result Reduced E) (kind : SpecifiedKind) (m n v w : ℕ) (r : Reduced) (o : Option Reduced) → m ≤ n → Some r ≡ o

@@ -61,16 +61,16 @@ Agrees None r = ⊤
 Agrees (Some x) r = x ≡ r
 
 -- what is known of the part is what the formula reduces to, whose sides have these predicates
-abbrev pub Stands : Part → Tree → List Predicate → List Predicate → Type 0
-Stands part f p q = (v w : ℕ) → Agrees (known part v w) (reduce_of f p v q w)
+abbrev pub IsPartOf : Part → Tree → List Predicate → List Predicate → Type 0
+IsPartOf part f p q = (v w : ℕ) → Agrees (known part v w) (reduce_of f p v q w)
 
 -- the formulas with this method on side 2, by the method on side 1
-abbrev pub AreParts : SpecifiedKind → ℕ → List Part → Type 0
-AreParts kind n parts = (m v w : ℕ) → Agrees (known (slice_index_or parts m Unknown) v w) (reduced_pair kind m v n w)
+abbrev pub IsRow : SpecifiedKind → ℕ → List Part → Type 0
+IsRow kind n parts = (m v w : ℕ) → Agrees (known (slice_index_or parts m Unknown) v w) (reduced_pair kind m v n w)
 
 -- those of a kind, by the method on side 2
 abbrev pub AreRows : SpecifiedKind → List (List Part) → Type 0
-AreRows kind rows = (n : ℕ) → AreParts kind n (slice_index_or rows n [])
+AreRows kind rows = (n : ℕ) → IsRow kind n (slice_index_or rows n [])
 
 abbrev pub part_in : List (List Part) → ℕ → ℕ → Part
 part_in rows m n = slice_index_or (slice_index_or rows n []) m Unknown

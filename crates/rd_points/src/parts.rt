@@ -7,7 +7,7 @@ ghost use Rattle.rd_ecl.specs.Formulas.{InFragment, tree_of};
 ghost use Rattle.rd_ecl.specs.Reduction.{AreListed, reduce_of};
 ghost use Rattle.rd_ecl.specs.Specified.{IsKind};
 ghost use Rattle.rd_points.specs.Blocks.{ArePredicates};
-ghost use Rattle.rd_points.specs.Parts.{AreParts, AreRows, Stands, both_known, either_known, known, part_in, reads, same_side};
+ghost use Rattle.rd_points.specs.Parts.{IsRow, AreRows, IsPartOf, both_known, either_known, known, part_in, reads, same_side};
 ghost use Rattle.rd_points.specs.declared.parts.Part.TheVariants.{Unknown};
 
 use crate::blocks::valuation_count;
@@ -110,7 +110,7 @@ fn part_of(
     requires few { (length first.now ≤ MOST_PREDICATES) × (length second.now ≤ MOST_PREDICATES) }
     requires inside { InFragment (tree_of formula.now) }
     requires listed { AreListed (tree_of formula.now) first.now second.now }
-    ensures { IfOk result (λ part. Stands part (tree_of formula.now) first.now second.now) }
+    ensures { IfOk result (λ part. IsPartOf part (tree_of formula.now) first.now second.now) }
 {
     if !reads(formula, Side::Second) {
         return Ok(Part::First(first_table(alloc, formula, first, second)?));
@@ -184,7 +184,7 @@ fn part_row(
     requires valid { IsKind kind.now }
     requires known { second < length kind.now.methods }
     requires predicates { ArePredicates kind.now predicates.now }
-    ensures { IfOk result (λ parts. AreParts kind.now second parts.items) }
+    ensures { IfOk result (λ parts. IsRow kind.now second parts.items) }
 {
     let mut parts = Vec::new(alloc);
     for first in 0..second + 1 {

@@ -2,7 +2,7 @@
 //! line that tells them.
 //!
 //! A text has a header and blocks. A block is a kind, its methods, and for each pair of them the formula by which their calls
-//! commute; in version 2 also names for formulas of one method, and a formula for each pair without a line. `docs/specifications.md` has the format and each cause.
+//! commute; in version 2 also names for formulas of one method, and a formula for each pair without a line. `docs/specifications.md` has the format, and `docs/errors.md` each cause.
 #![tactic(auto)]
 
 mod cutting;

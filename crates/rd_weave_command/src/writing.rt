@@ -5,20 +5,10 @@ ghost use Rattle.rd_io.specs.Sinks.{Appends};
 ghost use Rattle.rd_walk.specs.Analysis.{TellsFault, WritesFront};
 
 use rd_base::{Bytes, NoMemory};
-use rd_event::{Line, append_line};
+use rd_event::{Line, spell_line};
 use rd_io::Sink;
 use rd_walk::{Halt, write_line};
 use std::alloc::Global;
-
-// Makes the text that of a line, with its line feed.
-fn spell_line(text: &mut Bytes, line: &Line) -> Result<(), NoMemory>
-    requires { IsSpellable line.now }
-    ensures { OnOk result (text.new ≡ line_text line.now) }
-{
-    text.clear();
-    append_line(text, line)?;
-    text.push(b'\n')
-}
 
 // Writes a line with its line feed, by way of the text.
 fn write_one<S: Sink>(text: &mut Bytes, line: &Line, out: &mut S) -> Result<(), Halt>

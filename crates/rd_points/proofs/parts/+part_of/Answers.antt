@@ -2,7 +2,7 @@ use Rattle.std.proofs.Common.{◌≡◌, rules, sym, subst, ap, ◌∙◌}
 use Rattle.rd_ecl.specs.declared.formulas.Formula.{the_lemmas}
 use Rattle.rd_ecl.specs.Formulas.{InFragment, both, either, tree_of}
 use Rattle.rd_ecl.specs.Reduction.{AreListed}
-use Rattle.rd_points.specs.Parts.{Stands}
+use Rattle.rd_points.specs.Parts.{IsPartOf}
 use Rattle.rd_points.proofs.PartLemmas.{both_inside, both_stand, either_inside, either_stand, stands_first, stands_second}
 use Rattle.rd_points.proofs.parts.+part_of.Goals as goal
 
@@ -58,20 +58,20 @@ pub returns-in_ok-new-in-And-2 : goal.returns-in_ok-new-in-And-2
 returns-in_ok-new-in-And-2 t c =
     let p = c.args.first.now in
     let q = c.args.second.now in
-    let left : Stands c.in_ok-new-in-And.field-0.value (tree_of c.in-And.left.value) p q =
-    subst (λ x. Stands x (tree_of c.in-And.left.value) p q) (sym c.in_ok-new-in-And.ensures.ok) (subst (λ x. Stands c.in_ok-left-in-And.left (tree_of x) p q) c.deref.ensures c.in_ok-left-in-And.ensures) in
-    let right : Stands c.in_ok-new-in-And-2.field-0.value (tree_of c.in-And.right.value) p q =
-    subst (λ x. Stands x (tree_of c.in-And.right.value) p q) (sym c.in_ok-new-in-And-2.ensures.ok) (subst (λ x. Stands c.in_ok-right-in-And.right (tree_of x) p q) c.deref-in-And.ensures c.in_ok-right-in-And.ensures) in
+    let left : IsPartOf c.in_ok-new-in-And.field-0.value (tree_of c.in-And.left.value) p q =
+    subst (λ x. IsPartOf x (tree_of c.in-And.left.value) p q) (sym c.in_ok-new-in-And.ensures.ok) (subst (λ x. IsPartOf c.in_ok-left-in-And.left (tree_of x) p q) c.deref.ensures c.in_ok-left-in-And.ensures) in
+    let right : IsPartOf c.in_ok-new-in-And-2.field-0.value (tree_of c.in-And.right.value) p q =
+    subst (λ x. IsPartOf x (tree_of c.in-And.right.value) p q) (sym c.in_ok-new-in-And-2.ensures.ok) (subst (λ x. IsPartOf c.in_ok-right-in-And.right (tree_of x) p q) c.deref-in-And.ensures c.in_ok-right-in-And.ensures) in
     both_stand p q c.in_ok-new-in-And.field-0.value c.in_ok-new-in-And-2.field-0.value (tree_of c.args.formula.now) (tree_of c.in-And.left.value) (tree_of c.in-And.right.value) (ap tree_of c.in-And.is) left right
 
 pub returns-in_ok-new-in-Or-2 : goal.returns-in_ok-new-in-Or-2
 returns-in_ok-new-in-Or-2 t c =
     let p = c.args.first.now in
     let q = c.args.second.now in
-    let left : Stands c.in_ok-new-in-Or.field-0.value (tree_of c.in-Or.left.value) p q =
-    subst (λ x. Stands x (tree_of c.in-Or.left.value) p q) (sym c.in_ok-new-in-Or.ensures.ok) (subst (λ x. Stands c.in_ok-left-in-Or.left (tree_of x) p q) c.deref-in-Or.ensures c.in_ok-left-in-Or.ensures) in
-    let right : Stands c.in_ok-new-in-Or-2.field-0.value (tree_of c.in-Or.right.value) p q =
-    subst (λ x. Stands x (tree_of c.in-Or.right.value) p q) (sym c.in_ok-new-in-Or-2.ensures.ok) (subst (λ x. Stands c.in_ok-right-in-Or.right (tree_of x) p q) c.deref-in-Or-2.ensures c.in_ok-right-in-Or.ensures) in
+    let left : IsPartOf c.in_ok-new-in-Or.field-0.value (tree_of c.in-Or.left.value) p q =
+    subst (λ x. IsPartOf x (tree_of c.in-Or.left.value) p q) (sym c.in_ok-new-in-Or.ensures.ok) (subst (λ x. IsPartOf c.in_ok-left-in-Or.left (tree_of x) p q) c.deref-in-Or.ensures c.in_ok-left-in-Or.ensures) in
+    let right : IsPartOf c.in_ok-new-in-Or-2.field-0.value (tree_of c.in-Or.right.value) p q =
+    subst (λ x. IsPartOf x (tree_of c.in-Or.right.value) p q) (sym c.in_ok-new-in-Or-2.ensures.ok) (subst (λ x. IsPartOf c.in_ok-right-in-Or.right (tree_of x) p q) c.deref-in-Or-2.ensures c.in_ok-right-in-Or.ensures) in
     either_stand p q c.in_ok-new-in-Or.field-0.value c.in_ok-new-in-Or-2.field-0.value (tree_of c.args.formula.now) (tree_of c.in-Or.left.value) (tree_of c.in-Or.right.value) (ap tree_of c.in-Or.is) left right
 
 pub returns-in_default : goal.returns-in_default
