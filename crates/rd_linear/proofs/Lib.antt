@@ -1,4 +1,5 @@
 pub mod ActingLemmas
+pub mod AskingLemmas
 pub mod CountLemmas
 pub mod DeterminismLemmas
 pub mod ExchangeLemmas
@@ -7,11 +8,11 @@ pub mod FollowLemmas
 pub mod Insertion
 pub mod LaneLemmas
 pub mod LinearLemmas
+pub mod LinkLemmas
 pub mod MachineLemmas
 pub mod NotingLemmas
 pub mod OrderLemmas
 pub mod OrderingLemmas
-pub mod PickLemmas
 pub mod Placing
 pub mod ReachedLemmas
 pub mod ReplayLemmas

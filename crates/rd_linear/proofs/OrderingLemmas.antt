@@ -1,6 +1,6 @@
 -- A turn, by the lanes.
 use Rattle.std.proofs.Common.{◌≡◌, ◌<◌, ◌≤◌, ◌+◌, ◌-◌, ◌/◌, ◌%◌, ◌++◌, ℕ, zero, suc, Bool, true, false, cond, List, [], ◌∷◌, Option, Some, None, length, slice_get, filter_map, arith, refl, sym, ◌∙◌, ap, subst, length-append}
-use Rattle.std.specs.Prelude.{IsSome, IfSome, IfNone, replicate, slice_index_or, slice_set}
+use Rattle.std.specs.Prelude.{IsSome, IfNone, replicate, slice_index_or, slice_set}
 use Rattle.std.proofs.lemmas.List.{length-replicate}
 use Rattle.std.proofs.lemmas.Option.{none-some, same_Some}
 use Rattle.rd_event.specs.declared.events.Event.{Event}
@@ -9,7 +9,7 @@ use Rattle.rd_order.specs.OrderTests.{reaches}
 use Rattle.rd_order.proofs.OrderLemmas.{reaches_decides}
 use Rattle.rd_linear.specs.declared.lanes.Lane.{Lane}
 use Rattle.rd_linear.specs.declared.waits.Waits.{Waits}
-use Rattle.rd_linear.specs.Lanes.{AreLanes, AreTurning, HaveThreads, IsChoice, IsNoneReady, AreThreadsRising, are_over, order_by, ready_in, thread_at, threads_in}
+use Rattle.rd_linear.specs.Lanes.{AreLanes, AreTurning, HaveThreads, AreThreadsRising, are_over, order_by, ready_in, thread_at, threads_in}
 use Rattle.rd_linear.specs.Linear.{Marks, Placed, Stands}
 use Rattle.rd_linear.specs.Orders.{IsLinear}
 use Rattle.rd_linear.specs.Noting.{HaveWaits}
@@ -106,18 +106,6 @@ turning_ends es number turn left threads lanes seen places past state =
 pub some_if : {X : Type 0} (o : Option X) (n : ℕ) → IfNone o (n ≡ 0) → 0 < n → IsSome o
 some_if (Some x) n none some = refl
 some_if None n none some = absurd (omega (arith, none, some))
-
-pub choice_of : (waits : Waits) (o : Option (ℕ × ℕ × ℕ)) (found : ℕ × ℕ × ℕ) (sn seen : List Bool) (ls lanes : List Lane) (left : ℕ)
-    → IfSome o (λ f. IsChoice waits sn ls left f) → o ≡ Some found → sn ≡ seen → ls ≡ lanes → IsChoice waits seen lanes left found
-choice_of waits o found sn seen ls lanes left some is same_seen same_lanes =
-    subst (λ l. IsChoice waits seen l left found) same_lanes (subst (λ s. IsChoice waits s ls left found) same_seen
-    (subst (λ q. IfSome q (λ f. IsChoice waits sn ls left f)) is some))
-
-pub some_chosen : (waits : Waits) (o : Option (ℕ × ℕ × ℕ)) (sn seen : List Bool) (ls lanes : List Lane)
-    → IfNone o (IsNoneReady waits sn ls) → sn ≡ seen → ls ≡ lanes → 0 < length (filter_map (ready_in waits seen) lanes) → IsSome o
-some_chosen waits o sn seen ls lanes none same_seen same_lanes some =
-    some_if o (length (filter_map (ready_in waits seen) lanes))
-    (subst (λ l. IfNone o (IsNoneReady waits seen l)) same_lanes (subst (λ s. IfNone o (IsNoneReady waits s ls)) same_seen none)) some
 
 pub order_linear : (es : List Event) (threads : List ℕ) (number : ℕ) → HaveThreads es threads → IsLinear es (order_by es threads number)
 unfolding order_by

@@ -103,7 +103,3 @@ abbrev pub IsChoice : Waits → List Bool → List Lane → ℕ → ℕ × ℕ �
 IsChoice waits seen lanes left found = (lane : Lane) × (slice_get lanes found.0 ≡ Some lane) × (ready_in waits seen lane ≡ Some found.1)
     × (slice_get (filter_map (ready_in waits seen) lanes) (left % length (filter_map (ready_in waits seen) lanes)) ≡ Some found.1)
     × (found.2 ≡ left / length (filter_map (ready_in waits seen) lanes))
-
--- nothing is ready
-abbrev pub IsNoneReady : Waits → List Bool → List Lane → Type 0
-IsNoneReady waits seen lanes = length (filter_map (ready_in waits seen) lanes) ≡ 0

@@ -3,7 +3,7 @@ use Rattle.std.specs.Prelude.{◌≡◌, ◌≢◌, ◌⊎◌, ◌<◌, ◌≤�
 use Rattle.indexmap.specs.IndexMap.{get}
 use Rattle.rd_event.specs.declared.events.Event.{Event}
 use Rattle.rd_event.specs.declared.events.Event.TheVariants.{Join, Acquire, Release, Share, Unshare}
-use Rattle.rd_order.specs.Order.{GivesBack, Hold, IsOf, Reaches, Uses, exclusive, forked_thread, hold_given, shared, thread_of}
+use Rattle.rd_order.specs.Order.{GivesBack, IsOf, Reaches, Uses, exclusive, forked_thread, shared, thread_of}
 use Rattle.rd_linear.specs.declared.waits.Notes.{Notes}
 use Rattle.rd_linear.specs.declared.waits.Part.{Part}
 use Rattle.rd_linear.specs.declared.waits.Unshared.{Unshared}

@@ -1,16 +1,19 @@
 //! The events of each thread, and which of them comes next.
-ghost use Rattle.std.specs.Prelude.{ℕ, Bool, List, [], ◌<◌, ◌↔◌, ◌⊎◌, IfOk, OnOk, ◌≡◌, ◌≤◌, length, filter_map, slice_get, IfSome, IfNone, Some};
+ghost use Rattle.std.specs.Prelude.{ℕ, Bool, List, [], ◌+◌, ◌<◌, ◌≤◌, ◌↔◌, ◌⊎◌, IfOk, OnOk, ◌≡◌, length, filter_map, map, slice_get, slice_set, IfSome, IfNone, Some};
 ghost use Rattle.rd_order.specs.EventLists.{WellFormed};
-ghost use Rattle.rd_linear.specs.Lanes.{AreLanes, AreLanesBelow, HaveThreads, IsChoice, IsNoneReady, IsPlaceAdded, AreThreadsRising, are_over, is_over, order_by, part_over, ready_in, threads_in};
+ghost use Rattle.rd_linear.specs.Lanes.{AreLanes, AreLanesBelow, HaveThreads, IsPlaceAdded, AreThreadsRising, are_over, is_over, order_by, part_over, ready_in, threads_in};
 ghost use Rattle.rd_linear.specs.Linear.{Stands};
+ghost use Rattle.rd_linear.specs.Links.{AreAskedBut, AreChained, HaveLanes, IsPicked};
 ghost use Rattle.rd_linear.specs.Orders.{IsLinear};
 ghost use Rattle.rd_linear.specs.declared.lanes.Lane.{Lane as LaneOf};
 
 use crate::linear::no_marks;
+use crate::links::{Links, links_of};
 use crate::waits::{Part, Waits, waits_of};
 use rd_base::NoMemory;
 use rd_event::Event;
 use rd_order::{Places, thread_of};
+use rd_ranks::Ranks;
 use std::alloc::Global;
 
 // The places of a thread's events, and how many of them were given.
@@ -68,50 +71,70 @@ fn ready(waits: &Waits, seen: &[bool], lane: &Lane) -> Option<u32>
     }
 }
 
-// How many lanes are ready.
-fn count_ready(waits: &Waits, seen: &[bool], lanes: &[Lane]) -> usize
-    ensures { result ≡ length (filter_map (ready_in waits.now seen.now) lanes.now) }
+// ---- what lanes have
+
+// Sets what a lane has: its next place, where that is ready.
+fn ask(waits: &Waits, seen: &[bool], lanes: &[Lane], at: usize, ranks: &mut Ranks)
+    requires inside { at < length lanes.now }
+    requires count { length ranks.old ≡ length lanes.now }
+    ensures { (lane : LaneOf) → slice_get lanes.now at ≡ Some lane →
+        ranks.new ≡ slice_set ranks.old at (ready_in waits.now seen.now lane) }
 {
-    let mut count = 0;
-    for at in 0..lanes.len() {
-        if ready(waits, seen, &lanes[at]).is_some() {
-            count += 1;
-        }
-    }
-    count
+    ranks.set(at, ready(waits, seen, &lanes[at]));
 }
 
-// The ready lane at this position among those that are ready, and its next place.
-fn pick(waits: &Waits, seen: &[bool], lanes: &[Lane], position: usize) -> Option<(usize, u32)>
-    ensures some { IfSome result (λ found. (lane : LaneOf) × (slice_get lanes.now found.0 ≡ Some lane)
-        × (ready_in waits.now seen.now lane ≡ Some found.1)
-        × (slice_get (filter_map (ready_in waits.now seen.now) lanes.now) position ≡ Some found.1)) }
-    ensures none { IfNone result
-        (length (filter_map (ready_in waits.now seen.now) lanes.now) ≤ position) }
+// What each lane has.
+fn ask_all(
+    alloc: Global,
+    waits: &Waits,
+    seen: &[bool],
+    lanes: &[Lane],
+) -> Result<Ranks, NoMemory>
+    requires few { length lanes.now < 4294967296 }
+    ensures { IfOk result (λ ranks. ranks ≡ map (ready_in waits.now seen.now) lanes.now) }
 {
-    let mut left = position;
+    let mut ranks = Ranks::new(alloc, lanes.len())?;
     for at in 0..lanes.len() {
-        if let Some(place) = ready(waits, seen, &lanes[at]) {
-            if left == 0 {
-                return Some((at, place));
-            }
-            left -= 1;
-        }
+        ask(waits, seen, lanes, at, &mut ranks);
     }
-    None
+    Ok(ranks)
 }
 
-// The ready lane that the number picks, its next place, and the number for the next turn; `None` exactly where none is ready.
-fn choose(waits: &Waits, seen: &[bool], lanes: &[Lane], left: u64) -> Option<(usize, u32, u64)>
-    ensures some { IfSome result (λ found. IsChoice waits.now seen.now lanes.now left found) }
-    ensures none { IfNone result (IsNoneReady waits.now seen.now lanes.now) }
+// Sets what the lanes have that are linked to a place.
+fn ask_linked(
+    waits: &Waits,
+    seen: &[bool],
+    lanes: &[Lane],
+    links: &Links,
+    place: u32,
+    ranks: &mut Ranks,
+)
+    requires inside { place < length links.now.last.items }
+    requires chained { AreChained links.now }
+    requires lanes { HaveLanes (threads_in lanes.now) links.now.items.items }
+    requires asked { AreAskedBut waits.now seen.now lanes.now ranks.old links.now.items.items place
+        (length links.now.items.items) }
+    ensures { ranks.new ≡ map (ready_in waits.now seen.now) lanes.now }
 {
-    let count = count_ready(waits, seen, lanes);
+    let mut number = links.last[place as usize];
+    while number > 0 {
+        let link = links.items[number - 1];
+        ask(waits, seen, lanes, link.lane as usize, ranks);
+        number = link.before;
+    }
+}
+
+// The lane that the number picks of those that have a place, what it has, and the number for the next turn; `None` exactly where none has one.
+fn choose(ranks: &Ranks, left: u64) -> Option<(usize, u32, u64)>
+    ensures some { IfSome result (IsPicked ranks.now left) }
+    ensures none { IfNone result (length (filter_map (λ given. given) ranks.now) ≡ 0) }
+{
+    let count = ranks.count();
     if count == 0 {
         return None;
     }
     let number = left % count as u64;
-    match pick(waits, seen, lanes, number as usize) {
+    match ranks.nth(number as usize) {
         Some((at, place)) => Some((at, place, left / count as u64)),
         None => None,
     }
@@ -125,6 +148,7 @@ fn add_thread(threads: &mut Vec<u32>, thread: u32) -> Result<(), NoMemory>
     ensures rising { OnOk result (AreThreadsRising threads.new.items) }
     ensures has { OnOk result ((t : ℕ) →
         (Stands threads.new.items t ↔ ((t ≡ thread) ⊎ Stands threads.old.items t))) }
+    ensures more { OnOk result (length threads.new.items ≤ length threads.old.items + 1) }
 {
     if let Err(at) = threads.as_slice().binary_search(&thread) {
         threads.insert(at, thread)?;
@@ -134,7 +158,8 @@ fn add_thread(threads: &mut Vec<u32>, thread: u32) -> Result<(), NoMemory>
 
 // The threads of the events, in the order of their numbers.
 fn threads_of(alloc: Global, events: &[Event]) -> Result<Vec<u32>, NoMemory>
-    ensures { IfOk result (λ threads. HaveThreads events.now threads.items) }
+    ensures threads { IfOk result (λ threads. HaveThreads events.now threads.items) }
+    ensures few { IfOk result (λ threads. length threads.items ≤ length events.now) }
 {
     let mut threads = Vec::new(alloc);
     for place in 0..events.len() {
@@ -168,15 +193,15 @@ fn add_place(lanes: &mut Vec<Lane>, at: usize, place: u32) -> Result<(), NoMemor
 }
 
 // The lanes of the threads that act, in the order of their numbers.
-fn lanes_of(alloc: Global, events: &[Event]) -> Result<Vec<Lane>, NoMemory>
+fn lanes_of(alloc: Global, events: &[Event], threads: &[u32]) -> Result<Vec<Lane>, NoMemory>
     requires few { length events.now < 4294967296 }
+    requires threads { HaveThreads events.now threads.now }
     ensures lanes { IfOk result (λ lanes. AreLanes events.now [] lanes.items) }
-    ensures threads { IfOk result (λ lanes. HaveThreads events.now (threads_in lanes.items)) }
+    ensures threads { IfOk result (λ lanes. threads_in lanes.items ≡ threads.now) }
 {
-    let threads = threads_of(alloc, events)?;
-    let mut lanes = empty_lanes(alloc, threads.as_slice())?;
+    let mut lanes = empty_lanes(alloc, threads)?;
     for place in 0..events.len() {
-        let found = threads.as_slice().binary_search(&thread_of(&events[place]));
+        let found = threads.binary_search(&thread_of(&events[place]));
         if let Ok(at) = found {
             add_place(&mut lanes, at, place as u32)?;
         }
@@ -187,8 +212,8 @@ fn lanes_of(alloc: Global, events: &[Event]) -> Result<Vec<Lane>, NoMemory>
 /// The places of the events in the order that the number picks, which is linear. It is made one event at a time. A thread is ready where
 /// it has an event that isn't placed, and all events that reach the first of these are placed. At each turn the remainder of the
 /// number by how many threads are ready picks one of them, in the order of their numbers and from 0. This one gives its event, and
-/// the quotient is the number for the next turn. The time grows with the events times the threads: a turn looks at the next event of
-/// each thread that acts, and there at places for which it waits, of which there are at most two more than threads.
+/// the quotient is the number for the next turn. A turn takes the logarithm of how many threads act for the picked one and for each that
+/// waits for its event, and it looks at the places for which their next events wait.
 pub fn reorder(alloc: Global, events: &[Event], number: u64) -> Result<Places, NoMemory>
     requires formed { (roots : ℕ → Bool) × WellFormed roots events.now }
     ensures order { IfOk result (λ places. (threads : List ℕ) × HaveThreads events.now threads
@@ -196,16 +221,27 @@ pub fn reorder(alloc: Global, events: &[Event], number: u64) -> Result<Places, N
     ensures linear { IfOk result (λ places. IsLinear events.now places) }
 {
     let waits = waits_of(alloc, events)?;
-    let mut lanes = lanes_of(alloc, events)?;
+    let threads = threads_of(alloc, events)?;
+    let links = links_of(alloc, events, threads.as_slice(), &waits)?;
+    let mut lanes = lanes_of(alloc, events, threads.as_slice())?;
     let mut seen = no_marks(alloc, events.len())?;
+    let mut ranks = ask_all(alloc, &waits, seen.as_slice(), lanes.as_slice())?;
     let mut places = Places::new(alloc);
     let mut left = number;
     for turn in 0..events.len() {
-        let chosen = choose(&waits, seen.as_slice(), lanes.as_slice(), left);
-        let (at, place, rest) = chosen.unwrap();
+        let (at, place, rest) = choose(&ranks, left).unwrap();
         left = rest;
         lanes[at].given += 1;
         seen[place as usize] = true;
+        ask(&waits, seen.as_slice(), lanes.as_slice(), at, &mut ranks);
+        ask_linked(
+            &waits,
+            seen.as_slice(),
+            lanes.as_slice(),
+            &links,
+            place,
+            &mut ranks,
+        );
         places.push(place)?;
     }
     Ok(places)

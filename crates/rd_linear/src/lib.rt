@@ -4,6 +4,7 @@
 mod lanes;
 mod laws;
 mod linear;
+mod links;
 mod waits;
 
 pub use lanes::reorder;

@@ -125,7 +125,7 @@ fn note_releases(
 }
 
 // Is the event at the place of the thread?
-fn is_of(events: &[Event], place: u32, thread: u32) -> bool
+pub(crate) fn is_of(events: &[Event], place: u32, thread: u32) -> bool
     ensures { IsTrue result → IsOf events.now thread place }
 {
     match events.get(place as usize) {
@@ -275,7 +275,7 @@ pub(crate) fn waits_of(alloc: Global, events: &[Event]) -> Result<Waits, NoMemor
     };
     let mut waits = Waits {
         places: Vec::new(alloc),
-        parts: Vec::new(alloc),
+        parts: Vec::with_capacity(alloc, events.len())?,
     };
     put_waits(alloc, events, &mut notes, &mut waits)?;
     Ok(waits)
