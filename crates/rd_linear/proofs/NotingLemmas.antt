@@ -1,5 +1,5 @@
 -- What is noted, with one event more, and the waits that it tells.
-use Rattle.std.proofs.Common.{◌≡◌, ◌≢◌, ◌<◌, ◌+◌, ◌⊎◌, ◌==◌, ℕ, zero, suc, false, cond, List, [], ◌∷◌, ◌++◌, Option, Some, None, length, slice_get, arith, inl, inr, refl, sym, ◌∙◌, ap, subst}
+use Rattle.std.proofs.Common.{◌≡◌, ◌≢◌, ◌<◌, ◌+◌, ◌⊎◌, ℕ, zero, suc, cond, List, [], ◌∷◌, ◌++◌, Option, Some, None, length, slice_get, arith, inl, inr, refl, sym, ◌∙◌, ap, subst}
 use Rattle.std.specs.Prelude.{slice_set}
 use Rattle.std.proofs.lemmas.Bool.{cases_eq, eq-eqb, ne_eqb}
 use Rattle.std.proofs.lemmas.Option.{none-some, same_Some, slice_get_within}
@@ -14,12 +14,6 @@ use Rattle.rd_linear.proofs.LaneLemmas.{changed}
 use Rattle.rd_linear.proofs.LinearLemmas.{stands_last, stands_more, stands_still}
 
 -- ---- what the code writes
-
-pub put_at : (old now : ℕ → Option ℕ) (key place : ℕ) → now key ≡ Some place → ((q : ℕ) → (key == q) ≡ false → now q ≡ old q) → (q : ℕ) → now q ≡ noted_at old key place q
-put_at old now key place here others q = elim (cases_eq key q) [
-  | inl same ↦ subst (λ k. now k ≡ Some place) same here ∙ ap (λ b. cond b (Some place) (old q)) (sym (eq-eqb key q same))
-  | inr apart ↦ others q (ne_eqb key q apart) ∙ ap (λ b. cond b (Some place) (old q)) (sym (ne_eqb key q apart))
-]
 
 set_here : (xs : List ℕ) (i x : ℕ) → i < length xs → slice_get (slice_set xs i x) i ≡ Some x
 set_here [] i x inside = absurd (omega arith)

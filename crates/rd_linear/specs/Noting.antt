@@ -1,5 +1,5 @@
 -- What is noted of threads and locks, event by event, and which waits are told from it.
-use Rattle.std.specs.Prelude.{◌≡◌, ◌≢◌, ◌⊎◌, ◌<◌, ◌≤◌, ◌+◌, ℕ, ◌==◌, if◌then◌else◌, nat_eq, List, [], ◌∷◌, ◌++◌, length, Option, Some, None, slice_get}
+use Rattle.std.specs.Prelude.{◌≡◌, ◌≢◌, ◌⊎◌, ◌<◌, ◌≤◌, ◌+◌, ℕ, ◌==◌, if◌then◌else◌, nat_eq, List, [], ◌∷◌, ◌++◌, length, Option, Some, None, slice_get, slice_index_or}
 use Rattle.indexmap.specs.IndexMap.{get}
 use Rattle.rd_event.specs.declared.events.Event.{Event}
 use Rattle.rd_event.specs.declared.events.Event.TheVariants.{Join, Acquire, Release, Share, Unshare}
@@ -33,11 +33,15 @@ abbrev pub places_in : Option Unshared → List ℕ
 places_in None = []
 places_in (Some unshared) = unshared.places.items
 
+-- what is noted of a number
+abbrev pub known : List (Option ℕ) → ℕ → Option ℕ
+known noted key = slice_index_or noted key None
+
 abbrev pub touch_noted : Notes → ℕ → Option ℕ
-touch_noted notes thread = get nat_eq notes.threads thread
+touch_noted notes thread = known notes.threads.items thread
 
 abbrev pub release_noted : Notes → ℕ → Option ℕ
-release_noted notes lock = get nat_eq notes.releases lock
+release_noted notes lock = known notes.releases.items lock
 
 abbrev pub unshares_noted : Notes → ℕ → List ℕ
 unshares_noted notes lock = places_in (get nat_eq notes.unshares lock)

@@ -38,7 +38,7 @@ fn is_part_over(waits: &Waits, seen: &[bool], part: Part) -> bool
     ensures { result ≡ part_over waits.now seen.now part }
 {
     for at in part.from..part.to {
-        if !is_over(waits, seen, at) {
+        if !is_over(waits, seen, at as usize) {
             return false;
         }
     }
@@ -118,7 +118,7 @@ fn ask_linked(
 {
     let mut number = links.last[place as usize];
     while number > 0 {
-        let link = links.items[number - 1];
+        let link = links.items[number as usize - 1];
         ask(waits, seen, lanes, link.lane as usize, ranks);
         number = link.before;
     }

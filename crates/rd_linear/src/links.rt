@@ -5,7 +5,7 @@ ghost use Rattle.rd_linear.specs.Linear.{Stands};
 ghost use Rattle.rd_linear.specs.Links.{AreChained, AreKept, HaveLanes, HaveLinks, HaveLinksBelow, IsHeard};
 ghost use Rattle.rd_linear.specs.Noting.{HaveWaits};
 
-use crate::waits::{Waits, is_of};
+use crate::waits::{Waits, is_of, short};
 use rd_base::NoMemory;
 use rd_event::Event;
 use rd_order::thread_of;
@@ -16,7 +16,7 @@ use std::alloc::Global;
 pub(crate) struct Link {
     pub(crate) place: u32,
     pub(crate) lane: u32,
-    pub(crate) before: usize,
+    pub(crate) before: u32,
 }
 
 /// The lanes that wait for places of other lanes.
@@ -24,7 +24,7 @@ pub(crate) struct Link {
 pub(crate) struct Links {
     pub(crate) items: Vec<Link>,
     /// by the place: one more than the number of the last link to it, or 0
-    pub(crate) last: Vec<usize>,
+    pub(crate) last: Vec<u32>,
 }
 
 // Puts a link last.
@@ -42,7 +42,7 @@ fn add_link(links: &mut Links, place: u32, lane: u32) -> Result<(), NoMemory>
         lane,
         before,
     })?;
-    links.last[place as usize] = links.items.len();
+    links.last[place as usize] = short(links.items.len())?;
     Ok(())
 }
 
@@ -94,7 +94,7 @@ fn link_event(
     let thread = thread_of(&events[place]);
     let part = waits.parts[place];
     for at in part.from..part.to {
-        link_wait(links, events, threads, thread, waits.places[at])?;
+        link_wait(links, events, threads, thread, waits.places[at as usize])?;
     }
     Ok(())
 }

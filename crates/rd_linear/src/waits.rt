@@ -1,9 +1,9 @@
 //! The places for which each event waits.
-ghost use Rattle.std.specs.Prelude.{◌≡◌, ◌≢◌, ℕ, Bool, ◌++◌, nat_eq, IfOk, OnOk, Some, None, IsTrue, option_copied};
+ghost use Rattle.std.specs.Prelude.{◌≡◌, ◌≢◌, ◌<◌, ℕ, Bool, ◌++◌, length, nat_eq, IfOk, OnOk, Some, None, IsTrue, option_copied};
 ghost use Rattle.indexmap.specs.IndexMap.{get};
 ghost use Rattle.rd_order.specs.EventLists.{WellFormed};
 ghost use Rattle.rd_order.specs.Order.{IsOf, forked_thread, thread_of};
-ghost use Rattle.rd_linear.specs.Noting.{AreFirstWaits, AreNotedBelow, AreUnsharesAfter, HaveWaits, IsReplaced, noted_at, noted_if, one_if, other_waits, places_in, release_noted, lock_in_release, touch_noted, unshares_noted, waits_by};
+ghost use Rattle.rd_linear.specs.Noting.{AreFirstWaits, AreNotedBelow, AreUnsharesAfter, HaveWaits, IsReplaced, known, noted_at, noted_if, one_if, other_waits, places_in, release_noted, lock_in_release, touch_noted, unshares_noted, waits_by};
 
 use indexmap::IndexMap;
 use rd_base::NoMemory;
@@ -14,8 +14,8 @@ use std::alloc::Global;
 /// Which of all waits are those of one event: those from one number to another.
 #[derive(Clone, Copy, Drop)]
 pub(crate) struct Part {
-    pub(crate) from: usize,
-    pub(crate) to: usize,
+    pub(crate) from: u32,
+    pub(crate) to: u32,
 }
 
 /// The places for which each event waits, those of one event behind those of another, and for each event which of them are its own.
@@ -34,24 +34,47 @@ struct Unshared {
 // What is noted of the events so far: the last place of each thread or of its fork, the last release of each lock, and its unshares.
 #[derive(Drop)]
 struct Notes {
-    threads: IndexMap<u32, u32>,
-    releases: IndexMap<u32, u32>,
+    // by the number of the thread
+    threads: Vec<Option<u32>>,
+    // by the number of the lock
+    releases: Vec<Option<u32>>,
     unshares: IndexMap<u32, Unshared>,
 }
 
-fn place_of(map: &IndexMap<u32, u32>, key: u32) -> Option<u32>
-    ensures { result ≡ get nat_eq map.now key }
+fn place_of(noted: &[Option<u32>], key: u32) -> Option<u32>
+    ensures { result ≡ known noted.now key }
 {
-    map.get(&key).copied()
+    match noted.get(key as usize) {
+        Some(place) => *place,
+        None => None,
+    }
 }
 
-#[tactic(auto, using(crate::proofs::NotingLemmas::put_at))]
-fn put(map: &mut IndexMap<u32, u32>, key: u32, place: u32) -> Result<(), NoMemory>
-    ensures { OnOk result ((q : ℕ) →
-        get nat_eq map.new q ≡ noted_at (get nat_eq map.old) key place q) }
+// Makes the list long enough for a number. Nothing is noted of those that are new.
+fn make_room(noted: &mut Vec<Option<u32>>, key: u32) -> Result<(), NoMemory>
+    ensures room { OnOk result (key < length noted.new.items) }
+    ensures same { (q : ℕ) → known noted.new.items q ≡ known noted.old.items q }
 {
-    map.insert(key, place)?;
+    while noted.len() <= key as usize {
+        noted.push(None)?;
+    }
     Ok(())
+}
+
+fn put(noted: &mut Vec<Option<u32>>, key: u32, place: u32) -> Result<(), NoMemory>
+    ensures { OnOk result ((q : ℕ) →
+        known noted.new.items q ≡ noted_at (known noted.old.items) key place q) }
+{
+    make_room(noted, key)?;
+    noted[key as usize] = Some(place);
+    Ok(())
+}
+
+/// The number, where it has 32 bits. More waits than that find no memory.
+pub(crate) fn short(number: usize) -> Result<u32, NoMemory>
+    ensures { IfOk result (λ short. short ≡ number) }
+{
+    u32::try_from(number).map_err(|_| NoMemory)
 }
 
 // ---- waits
@@ -79,12 +102,12 @@ fn push_others(places: &mut Vec<u32>, notes: &Notes, event: &Event) -> Result<()
     ensures { OnOk result (places.new.items ≡ places.old.items ++ other_waits notes.now event.now) }
 {
     match event {
-        Event::Join { child, .. } => push_if(places, place_of(&notes.threads, *child)),
+        Event::Join { child, .. } => push_if(places, place_of(notes.threads.as_slice(), *child)),
         Event::Acquire { lock, .. } => {
-            push_if(places, place_of(&notes.releases, *lock))?;
+            push_if(places, place_of(notes.releases.as_slice(), *lock))?;
             push_unshares(places, notes.unshares.get(lock))
         }
-        Event::Share { lock, .. } => push_if(places, place_of(&notes.releases, *lock)),
+        Event::Share { lock, .. } => push_if(places, place_of(notes.releases.as_slice(), *lock)),
         _ => Ok(()),
     }
 }
@@ -92,16 +115,20 @@ fn push_others(places: &mut Vec<u32>, notes: &Notes, event: &Event) -> Result<()
 fn push_waits(places: &mut Vec<u32>, notes: &Notes, event: &Event) -> Result<(), NoMemory>
     ensures { OnOk result (places.new.items ≡ places.old.items ++ waits_by notes.now event.now) }
 {
-    push_if(places, place_of(&notes.threads, thread_of(event)))?;
+    push_if(places, place_of(notes.threads.as_slice(), thread_of(event)))?;
     push_others(places, notes, event)
 }
 
 // ---- noting
 
 // The event at this place is the last of its thread, or the fork of one, so far.
-fn note_threads(threads: &mut IndexMap<u32, u32>, event: &Event, place: u32) -> Result<(), NoMemory>
-    ensures { OnOk result ((t : ℕ) → get nat_eq threads.new t
-        ≡ noted_if (noted_at (get nat_eq threads.old) (thread_of event.now) place) (forked_thread event.now) place t) }
+fn note_threads(
+    threads: &mut Vec<Option<u32>>,
+    event: &Event,
+    place: u32,
+) -> Result<(), NoMemory>
+    ensures { OnOk result ((t : ℕ) → known threads.new.items t
+        ≡ noted_if (noted_at (known threads.old.items) (thread_of event.now) place) (forked_thread event.now) place t) }
 {
     put(threads, thread_of(event), place)?;
     if let Event::Fork { child, .. } = event {
@@ -111,12 +138,12 @@ fn note_threads(threads: &mut IndexMap<u32, u32>, event: &Event, place: u32) -> 
 }
 
 fn note_releases(
-    releases: &mut IndexMap<u32, u32>,
+    releases: &mut Vec<Option<u32>>,
     event: &Event,
     place: u32,
 ) -> Result<(), NoMemory>
-    ensures { OnOk result ((lock : ℕ) → get nat_eq releases.new lock
-        ≡ noted_if (get nat_eq releases.old) (lock_in_release event.now) place lock) }
+    ensures { OnOk result ((lock : ℕ) → known releases.new.items lock
+        ≡ noted_if (known releases.old.items) (lock_in_release event.now) place lock) }
 {
     match event {
         Event::Release { lock, .. } => put(releases, *lock, place),
@@ -251,12 +278,10 @@ fn put_waits(
 {
     for place in 0..events.len() {
         let event = &events[place];
-        let from = waits.places.len();
+        let from = short(waits.places.len())?;
         push_waits(&mut waits.places, notes, event)?;
-        waits.parts.push(Part {
-            from,
-            to: waits.places.len(),
-        })?;
+        let to = short(waits.places.len())?;
+        waits.parts.push(Part { from, to })?;
         note(alloc, notes, events, event, place as u32)?;
     }
     Ok(())
@@ -269,8 +294,8 @@ pub(crate) fn waits_of(alloc: Global, events: &[Event]) -> Result<Waits, NoMemor
     ensures { IfOk result (λ waits. HaveWaits events.now waits) }
 {
     let mut notes = Notes {
-        threads: IndexMap::new(alloc),
-        releases: IndexMap::new(alloc),
+        threads: Vec::new(alloc),
+        releases: Vec::new(alloc),
         unshares: IndexMap::new(alloc),
     };
     let mut waits = Waits {
