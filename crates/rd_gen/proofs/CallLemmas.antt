@@ -3,10 +3,13 @@ use Rattle.std.proofs.Common.{◌≡◌, ◌<◌, ◌-◌, ◌/◌, ◌%◌, ℕ
 use Rattle.rd_kinds.specs.Machines.{dictionary_machine}
 use Rattle.rd_kinds.specs.Shipped.{dictionary_kind}
 use Rattle.rd_object.specs.Machines.{IsTaken}
-use Rattle.std.proofs.Common.{true, false}
+use Rattle.std.proofs.Common.{Bool, true, false, sym, true≢false}
 use Rattle.rd_kinds.specs.Machines.{Entries}
-use Rattle.rd_gen.specs.Generated.{arguments_for, arguments_chosen, call_of, choice_of, entries_after, method_chosen, next_number, release_of, lines_of_turns}
-use Rattle.rd_gen.specs.Generator.{behind_first}
+use Rattle.rd_event.specs.declared.items.Line.{Line}
+use Rattle.rd_gen.specs.Generated.{acquire_of, arguments_for, arguments_chosen, call_of, choice_of, entries_after, method_chosen, next_number, release_of, lines_of_turns}
+use Rattle.rd_gen.specs.Generator.{lines_from}
+use Rattle.rd_gen.specs.declared.generator.Stage.{Stage}
+use Rattle.rd_gen.specs.declared.generator.Stage.TheVariants.{Turning}
 
 taken_by : (method key value : ℕ) → method < 3 → IsTaken dictionary_machine method (arguments_for method key value)
 unfolding dictionary_kind
@@ -22,18 +25,22 @@ pub size_taken : IsTaken dictionary_machine 2 []
 unfolding dictionary_kind
 size_taken = (lit< tt, refl)
 
--- the lines behind the first of a turn
-pub locked_rest : (left number next : ℕ) (entries : Entries) → ¬ (left ≡ 0) → next ≡ next_number number
-    → call_of (choice_of next) entries ∷ release_of (choice_of next) ∷ lines_of_turns true (left - 1) next (entries_after (choice_of next) entries)
-    ≡ behind_first (lines_of_turns true left number entries)
-locked_rest zero number next entries some is = absurd (some refl)
-locked_rest (suc left) number next entries some is =
+-- the first line of a turn, and those behind it
+pub locked_turn : (stage : Stage) (locked : Bool) (left number next : ℕ) (entries : Entries) (line : Line) → stage ≡ Turning → locked ≡ true → ¬ (left ≡ 0)
+    → next ≡ next_number number → line ≡ acquire_of (choice_of next)
+    → lines_from stage locked left number entries
+    ≡ line ∷ call_of (choice_of next) entries ∷ release_of (choice_of next) ∷ lines_of_turns locked (left - 1) next (entries_after (choice_of next) entries)
+locked_turn stage false left number next entries line turning locks some is first = absurd (true≢false (sym locks))
+locked_turn stage true zero number next entries line turning locks some is first = absurd (some refl)
+locked_turn stage true (suc left) number next entries line turning locks some is first =
     let e : suc left - 1 ≡ left = omega arith in
-    rw (is, e) refl
+    rw (turning, first, is, e) refl
 
-pub unlocked_rest : (left number next : ℕ) (entries : Entries) → ¬ (left ≡ 0) → next ≡ next_number number
-    → lines_of_turns false (left - 1) next (entries_after (choice_of next) entries) ≡ behind_first (lines_of_turns false left number entries)
-unlocked_rest zero number next entries some is = absurd (some refl)
-unlocked_rest (suc left) number next entries some is =
+pub unlocked_turn : (stage : Stage) (locked : Bool) (left number next : ℕ) (entries behind : Entries) (line : Line) → stage ≡ Turning → locked ≡ false → ¬ (left ≡ 0)
+    → next ≡ next_number number → line ≡ call_of (choice_of next) entries → behind ≡ entries_after (choice_of next) entries
+    → lines_from stage locked left number entries ≡ line ∷ lines_from stage locked (left - 1) next behind
+unlocked_turn stage true left number next entries behind line turning free some is call after = absurd (true≢false free)
+unlocked_turn stage false zero number next entries behind line turning free some is call after = absurd (some refl)
+unlocked_turn stage false (suc left) number next entries behind line turning free some is call after =
     let e : suc left - 1 ≡ left = omega arith in
-    rw (is, e) refl
+    rw (turning, call, after, is, e) refl

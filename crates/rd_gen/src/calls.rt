@@ -1,9 +1,9 @@
 //! The parts of a generated trace.
-ghost use Rattle.std.specs.Prelude.{◌≡◌, ◌+◌, ◌<◌, [], ◌∷◌, ◌++◌, drop, IfOk, OnOk, codes};
+ghost use Rattle.std.specs.Prelude.{◌≡◌, ◌+◌, ◌<◌, [], ◌∷◌, ◌++◌, drop, OnOk, codes};
 ghost use Rattle.rd_event.specs.Items.{IsSpellable};
 ghost use Rattle.rd_object.specs.Machines.{IsTaken};
 ghost use Rattle.rd_kinds.specs.Machines.{dictionary_machine, dictionary_row};
-ghost use Rattle.rd_gen.specs.Generated.{acquire_of, arguments_for, arguments_chosen, call_line, call_of, entries_after, entries_behind, fork_of, join_of, dictionary_method, method_chosen, next_number, nil_or_number, opening_lines, release_of, result_in, worker_name, worker_of};
+ghost use Rattle.rd_gen.specs.Generated.{acquire_of, arguments_for, arguments_chosen, call_line, call_of, closing_lines, entries_after, entries_behind, fork_of, join_of, dictionary_method, method_chosen, next_number, nil_or_number, opening_lines, release_of, result_in, worker_name, worker_of};
 
 use rd_base::{Name, NoMemory, Slots, SpareList, Value, ValueList};
 use rd_event::{Line, LineEvent};
@@ -25,12 +25,13 @@ pub(crate) fn next_number(number: u32) -> u32
 fn worker_name(worker: u32) -> Name
     ensures { result ≡ worker_name worker }
 {
-    match worker {
-        0 => Name::from_name_bytes(b"w0").unwrap(),
-        1 => Name::from_name_bytes(b"w1").unwrap(),
-        2 => Name::from_name_bytes(b"w2").unwrap(),
-        _ => Name::from_name_bytes(b"w3").unwrap(),
-    }
+    let bytes = match worker {
+        0 => b"w0",
+        1 => b"w1",
+        2 => b"w2",
+        _ => b"w3",
+    };
+    Name::from_name_bytes(bytes).unwrap()
 }
 
 // The worker that a number says.
@@ -127,16 +128,17 @@ fn run(
     values.push(alloc, given)
 }
 
-// The line of a call of a thread with these values.
-fn line_of(alloc: Global, thread: Name, method: u8, values: Rc<ValueList>) -> Line
-    ensures { result ≡ Line.Event (LineEvent.Call thread (codes "d") (dictionary_method method) values.value) }
+// Makes the line the call of a thread with these values. It is built where the caller has it.
+#[inline(always)]
+fn put_values(alloc: Global, thread: Name, method: u8, values: Rc<ValueList>, line: &mut Line)
+    ensures { line.new ≡ Line.Event (LineEvent.Call thread (codes "d") (dictionary_method method) values.value) }
 {
-    Line::Event(LineEvent::Call {
+    *line = Line::Event(LineEvent::Call {
         thread,
         object: Name::from_name_bytes(b"d").unwrap(),
         method: method_name(method),
         slots: Slots::from_shared(alloc, values),
-    })
+    });
 }
 
 // The thread that begins the workers.
@@ -146,24 +148,25 @@ fn main_thread() -> Name
     Name::from_name_bytes(b"main").unwrap()
 }
 
-// The line that begins a worker.
-fn fork_of(worker: u32) -> Line
-    ensures { result ≡ fork_of worker }
+// Makes the line the begin of a worker.
+fn put_fork(worker: u32, line: &mut Line)
+    ensures { line.new ≡ fork_of worker }
 {
-    Line::Event(LineEvent::Fork {
+    *line = Line::Event(LineEvent::Fork {
         thread: main_thread(),
         child: worker_name(worker),
-    })
+    });
 }
 
-// The line that waits for a worker.
-pub(crate) fn join_of(worker: u32) -> Line
-    ensures { result ≡ join_of worker }
+// Makes the line the wait for a worker. As each of the rare ones it stands apart, since its room on the stack is cleared first.
+#[inline(never)]
+pub(crate) fn put_join(worker: u32, line: &mut Line)
+    ensures { line.new ≡ join_of worker }
 {
-    Line::Event(LineEvent::Join {
+    *line = Line::Event(LineEvent::Join {
         thread: main_thread(),
         child: worker_name(worker),
-    })
+    });
 }
 
 // The one lock.
@@ -173,75 +176,113 @@ fn lock() -> Name
     Name::from_name_bytes(b"l").unwrap()
 }
 
-// The line that takes the lock before the call that a number says.
-pub(crate) fn acquire_of(choice: u32) -> Line
-    ensures { result ≡ acquire_of choice }
+// Makes the line the one that takes the lock before the call that a number says.
+pub(crate) fn put_acquire(choice: u32, line: &mut Line)
+    ensures { line.new ≡ acquire_of choice }
 {
-    Line::Event(LineEvent::Acquire {
+    *line = Line::Event(LineEvent::Acquire {
         thread: worker_of(choice),
         lock: lock(),
-    })
+    });
 }
 
-// The line that gives it back.
-pub(crate) fn release_of(choice: u32) -> Line
-    ensures { result ≡ release_of choice }
+// Makes the line the one that gives it back.
+pub(crate) fn put_release(choice: u32, line: &mut Line)
+    ensures { line.new ≡ release_of choice }
 {
-    Line::Event(LineEvent::Release {
+    *line = Line::Event(LineEvent::Release {
         thread: worker_of(choice),
         lock: lock(),
-    })
+    });
 }
 
-// The line behind so many of the first ones.
-pub(crate) fn opening_line(given: u8) -> Line
+// Makes the line the one behind so many of the first ones.
+#[inline(never)]
+pub(crate) fn put_opening(given: u8, line: &mut Line)
     requires { given < 7 }
-    ensures line { drop given opening_lines ≡ result ∷ drop (given + 1) opening_lines }
-    ensures spellable { IsSpellable result }
+    ensures line { drop given opening_lines ≡ line.new ∷ drop (given + 1) opening_lines }
+    ensures spellable { IsSpellable line.new }
 {
     match given {
-        0 => Line::Header { version: 1 },
-        1 => Line::Thread(main_thread()),
-        2 => Line::Object {
-            name: Name::from_name_bytes(b"d").unwrap(),
-            kind: Name::from_bytes(b"dictionary").unwrap(),
-        },
-        3 => fork_of(0),
-        4 => fork_of(1),
-        5 => fork_of(2),
-        6 => fork_of(3),
+        0 => *line = Line::Header { version: 1 },
+        1 => *line = Line::Thread(main_thread()),
+        2 => {
+            *line = Line::Object {
+                name: Name::from_name_bytes(b"d").unwrap(),
+                kind: Name::from_bytes(b"dictionary").unwrap(),
+            };
+        }
+        3 => put_fork(0, line),
+        4 => put_fork(1, line),
+        5 => put_fork(2, line),
+        6 => put_fork(3, line),
         _ => unreachable!(),
     }
 }
 
-// The call that a number says, run on the dictionary. Its values lie in the memory of the last call's, where nothing else has that.
+// Lets the values of the line before go, so that those of a call may lie in their memory.
+fn clear_values(alloc: Global, line: &mut Line) {
+    if let Line::Event(LineEvent::Call { slots, .. }) = line {
+        *slots = Slots::new(alloc);
+    }
+}
+
+// Makes the line the call that a number says, run on the dictionary. Its values lie in the memory of the last call's, where nothing else has that.
 #[tactic(auto, using(crate::proofs::CallLemmas::choice_taken), unfolding(crate::specs::Generated::call_line))]
-pub(crate) fn call_of(
+pub(crate) fn put_call(
     alloc: Global,
     dictionary: &mut Dictionary,
     spare: &mut SpareList,
     choice: u32,
-) -> Result<Line, NoMemory>
-    ensures line { IfOk result (λ line. line ≡ call_of choice dictionary.old) }
+    line: &mut Line,
+) -> Result<(), NoMemory>
+    ensures line { OnOk result (line.new ≡ call_of choice dictionary.old) }
     ensures entries { OnOk result (dictionary.new ≡ entries_after choice dictionary.old) }
-    ensures spellable { IfOk result IsSpellable }
+    ensures spellable { OnOk result (IsSpellable line.new) }
 {
+    clear_values(alloc, line);
     let mut list = spare.take(alloc)?;
     let values = Rc::get_mut(&mut list).ok_or(NoMemory)?;
     push_choice(alloc, values, choice)?;
     run(alloc, dictionary, method_of(choice), values)?;
     spare.keep(&list);
-    Ok(line_of(alloc, worker_of(choice), method_of(choice), list))
+    put_values(alloc, worker_of(choice), method_of(choice), list, line);
+    Ok(())
 }
 
-// The last call, which asks for the size.
+// Makes the line the last call, which asks for the size.
 #[tactic(auto, using(crate::proofs::CallLemmas::size_taken), unfolding(crate::specs::Generated::call_line))]
-pub(crate) fn last_call(alloc: Global, dictionary: &mut Dictionary) -> Result<Line, NoMemory>
-    ensures line { IfOk result (λ line. line ≡ call_line (codes "main") 2 [] dictionary.old) }
-    ensures spellable { IfOk result IsSpellable }
+fn put_last_call(
+    alloc: Global,
+    dictionary: &mut Dictionary,
+    line: &mut Line,
+) -> Result<(), NoMemory>
+    ensures line { OnOk result (line.new ≡ call_line (codes "main") 2 [] dictionary.old) }
+    ensures spellable { OnOk result (IsSpellable line.new) }
 {
     let mut values = ValueList::new(alloc);
     run(alloc, dictionary, 2, &mut values)?;
     let list = Rc::new(alloc, values)?;
-    Ok(line_of(alloc, main_thread(), 2, list))
+    put_values(alloc, main_thread(), 2, list, line);
+    Ok(())
+}
+
+// Makes the line the one behind so many of the last ones.
+#[inline(never)]
+pub(crate) fn put_closing(
+    alloc: Global,
+    dictionary: &mut Dictionary,
+    given: u8,
+    line: &mut Line,
+) -> Result<(), NoMemory>
+    requires { given < 5 }
+    ensures line { OnOk result (drop given (closing_lines dictionary.old)
+        ≡ line.new ∷ drop (given + 1) (closing_lines dictionary.new)) }
+    ensures spellable { OnOk result (IsSpellable line.new) }
+{
+    if given == 4 {
+        return put_last_call(alloc, dictionary, line);
+    }
+    put_join(u32::from(given), line);
+    Ok(())
 }

@@ -1,12 +1,12 @@
 //! The generator of a trace.
-ghost use Rattle.std.specs.Prelude.{◌≡◌, ◌≤◌, false, true, IfOk, OnOk, OnErr, IfSome};
+ghost use Rattle.std.specs.Prelude.{◌≡◌, ◌≤◌, [], ◌∷◌, false, true, IfOk, OnOk, OnErr, IfSome, IsTrue};
 ghost use Rattle.rd_event.specs.Items.{IsSpellable};
 ghost use Rattle.rd_gen.specs.Generated.{generated};
 ghost use Rattle.rd_gen.specs.Generator.{behind_first, first_of};
 ghost use Rattle.rd_gen.specs.declared.counts.TheConstants.{MOST_CALLS};
 
 use crate::calls::{
-    acquire_of, call_of, join_of, last_call, next_number, opening_line, release_of,
+    next_number, put_acquire, put_call, put_closing, put_join, put_opening, put_release,
 };
 use rd_base::{NoMemory, SpareList};
 use rd_event::Line;
@@ -76,11 +76,13 @@ impl Generator {
         }
     }
 
-    // The next line, where it has not failed.
-    fn make_line(&mut self) -> Result<Option<Line>, NoMemory>
-        ensures line { IfOk result (λ line. line ≡ first_of self.old.lines) }
-        ensures rest { OnOk result (self.new.lines ≡ behind_first self.old.lines) }
-        ensures spellable { IfOk result (λ line. IfSome line IsSpellable) }
+    // Makes the line the next one, where it has not failed, and answers whether there is one.
+    fn put_line(&mut self, line: &mut Line) -> Result<bool, NoMemory>
+        ensures next { IfOk result
+            (λ found. IsTrue found → self.old.lines ≡ line.new ∷ self.new.lines) }
+        ensures end { IfOk result
+            (λ found. found ≡ false → (self.old.lines ≡ []) × (self.new.lines ≡ [])) }
+        ensures spellable { IfOk result (λ found. IsTrue found → IsSpellable line.new) }
         ensures failed { self.new.failed ≡ self.old.failed }
     {
         match self.stage {
@@ -90,53 +92,77 @@ impl Generator {
                 } else {
                     Stage::Opening(given + 1)
                 };
-                Ok(Some(opening_line(given)))
+                put_opening(given, line);
+                Ok(true)
             }
             Stage::Turning => {
                 if self.left == 0 {
                     self.stage = Stage::Closing(1);
-                    return Ok(Some(join_of(0)));
+                    put_join(0, line);
+                    return Ok(true);
                 }
                 self.left -= 1;
                 self.number = next_number(self.number);
                 if self.locked {
                     self.stage = Stage::Calling;
-                    return Ok(Some(acquire_of(self.number / 16)));
+                    put_acquire(self.number / 16, line);
+                    return Ok(true);
                 }
-                let line = call_of(
+                put_call(
                     self.alloc,
                     &mut self.dictionary,
                     &mut self.spare,
                     self.number / 16,
+                    line,
                 )?;
-                Ok(Some(line))
+                Ok(true)
             }
             Stage::Calling => {
                 self.stage = Stage::Releasing;
-                let line = call_of(
+                put_call(
                     self.alloc,
                     &mut self.dictionary,
                     &mut self.spare,
                     self.number / 16,
+                    line,
                 )?;
-                Ok(Some(line))
+                Ok(true)
             }
             Stage::Releasing => {
                 self.stage = Stage::Turning;
-                Ok(Some(release_of(self.number / 16)))
+                put_release(self.number / 16, line);
+                Ok(true)
             }
             Stage::Closing(given) => {
                 if given == 5 {
-                    return Ok(None);
+                    return Ok(false);
                 }
                 self.stage = Stage::Closing(given + 1);
-                if given == 4 {
-                    let line = last_call(self.alloc, &mut self.dictionary)?;
-                    return Ok(Some(line));
-                }
-                Ok(Some(join_of(u32::from(given))))
+                put_closing(self.alloc, &mut self.dictionary, given, line)?;
+                Ok(true)
             }
         }
+    }
+
+    /// Makes the line the next one, in its place, and answers whether there is one: `false` comes exactly behind the last. Each has a
+    /// spelling. After want of memory each further call answers it too. After another answer than `true` the line may be anything.
+    pub fn next_into(&mut self, line: &mut Line) -> Result<bool, NoMemory>
+        ensures next { IfOk result
+            (λ found. IsTrue found → self.old.lines ≡ line.new ∷ self.new.lines) }
+        ensures end { IfOk result
+            (λ found. found ≡ false → (self.old.lines ≡ []) × (self.new.lines ≡ [])) }
+        ensures spellable { IfOk result (λ found. IsTrue found → IsSpellable line.new) }
+
+        // after an `Err` it has failed, and answers nothing else
+        ensures well { OnOk result (self.old.failed ≡ false × self.new.failed ≡ false) }
+        ensures failed { OnErr result (self.new.failed ≡ true) }
+    {
+        if self.failed {
+            return Err(NoMemory);
+        }
+        let found = self.put_line(line);
+        self.failed = found.is_err();
+        found
     }
 
     /// The next line, which has a spelling; `None` exactly behind the last. After want of memory each further call answers it too.
@@ -149,11 +175,11 @@ impl Generator {
         ensures well { OnOk result (self.old.failed ≡ false × self.new.failed ≡ false) }
         ensures failed { OnErr result (self.new.failed ≡ true) }
     {
-        if self.failed {
-            return Err(NoMemory);
+        let mut line = Line::Skip;
+        if self.next_into(&mut line)? {
+            Ok(Some(line))
+        } else {
+            Ok(None)
         }
-        let line = self.make_line();
-        self.failed = line.is_err();
-        line
     }
 }

@@ -15,15 +15,16 @@ use rd_walk::{Ended, Halt, write_line};
 use std::alloc::Global;
 
 // Writes a line with its line feed, by way of the text.
-fn write_spelled<S: Sink>(text: &mut Bytes, line: Line, out: &mut S) -> Result<(), Halt>
-    requires { IsSpellable line }
-    ensures ok { OnOk result (Appends (S.written out.old) (S.written out.new) (line_text line)) }
+fn write_spelled<S: Sink>(text: &mut Bytes, line: &Line, out: &mut S) -> Result<(), Halt>
+    requires { IsSpellable line.now }
+    ensures ok { OnOk result (Appends (S.written out.old) (S.written out.new)
+        (line_text line.now)) }
     ensures front { OnErr result (WritesFront (S.written out.old) (S.written out.new) []
-        (line_text line)) }
+        (line_text line.now)) }
     ensures fault { TellsFault (S.faults out.old) (S.faults out.new) (S.at_fault out.new)
         (S.written out.new) result }
 {
-    spell_line(text, &line)?;
+    spell_line(text, line)?;
     write_line(out, text.items())
 }
 
@@ -37,8 +38,9 @@ fn write_rest<S: Sink>(alloc: Global, generator: &mut Generator, out: &mut S) ->
         (S.written out.new) result }
 {
     let mut text = Bytes::new(alloc);
-    while let Some(line) = generator.next_line()? {
-        write_spelled(&mut text, line, out)?;
+    let mut line = Line::Skip;
+    while generator.next_into(&mut line)? {
+        write_spelled(&mut text, &line, out)?;
     }
     Ok(())
 }

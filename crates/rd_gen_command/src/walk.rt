@@ -8,18 +8,10 @@ ghost use Rattle.rd_walk.specs.Walk.{Entry, Walked, after, ends, items, step_bou
 ghost use Rattle.rd_wf.specs.Roster.{RosterStandsFor, kinds_in};
 
 use rd_base::Steps;
-use rd_event::Line;
 use rd_gen::Generator;
 use rd_io::Sink;
 use rd_walk::{Analysis, Halt, Taken, WalkEnd, Walker, at_end, take};
 use std::sync::ledger::Ledger;
-
-// Puts a line in the place of the last one.
-fn keep(last: &mut Line, line: Line)
-    ensures { last.new ≡ line }
-{
-    *last = line;
-}
 
 /// Walks over the lines that a generator has still to give, from the first on, and hands each accepted line to the analysis. The roster
 /// then has all of them. The answer says how the lines end, or why the walk stopped before that: a write failed, or memory ran out.
@@ -61,9 +53,8 @@ pub(crate) fn walk_generated<A: Analysis, S: Sink, L: Ledger>(
         (S.written out.new) result }
 {
     let mut number = 0u64;
-    'lines: while let Some(line) = generator.next_line()? {
+    'lines: while generator.next_into(&mut walker.line)? {
         number += 1;
-        keep(&mut walker.line, line);
         match take(walker, number, out, steps) {
             Ok(Taken::Accepted) => {}
             Ok(Taken::Refused) => return Ok(WalkEnd::Refused {

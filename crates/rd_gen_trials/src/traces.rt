@@ -2,7 +2,7 @@
 ghost use Rattle.std.specs.Prelude.{◌≤◌};
 
 use rd_base::{Bytes, NoMemory};
-use rd_event::spell;
+use rd_event::{Line, spell};
 use rd_gen::{Generator, calls_in, lines_in};
 use std::alloc::Global;
 use std::process::Abort;
@@ -86,10 +86,11 @@ fn text_of(alloc: Global, number: u64, count: u32) -> Result<Bytes, NoMemory>
 {
     let mut generator = Generator::new(alloc, number, count);
     let mut text = Bytes::new(alloc);
+    let mut line = Line::Skip;
     for _ in 0..100 {
-        let Some(line) = generator.next_line()? else {
+        if !generator.next_into(&mut line)? {
             break;
-        };
+        }
         text.append(spell(alloc, &line)?.items())?;
         text.push(b'\n')?;
     }

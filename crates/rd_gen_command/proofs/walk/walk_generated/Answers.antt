@@ -2,7 +2,6 @@ use Rattle.std.proofs.Common.{◌≡◌, ◌+◌, ◌<◌, true, [], ◌∷◌, 
 use Rattle.std.proofs.lemmas.List.{append_assoc, append-nil}
 use Rattle.std.proofs.lemmas.List.Elements.{All-nil}
 use Rattle.rd_gen_command.proofs.ReportLemmas.{counts_begun}
-use Rattle.rd_gen_command.proofs.TextLemmas.{split, split_none}
 use Rattle.rd_gen_command.proofs.WalkLemmas.{begun, walks_end, walks_on, walks_refused}
 use Rattle.rd_io.proofs.SinkLemmas.{appends_none, appends_on}
 use Rattle.rd_io.specs.Sinks.{Appends}
@@ -32,8 +31,8 @@ lines-init g c =
       All-nil (λ (entry : Entry). is_event entry.item ≡ true → entry.number < 1),
     )
 
-pub returns-in_err-line-clause-halted : goal.returns-in_err-line-clause-halted
-returns-in_err-line-clause-halted g c =
+pub returns-in_err-next_into-clause-halted : goal.returns-in_err-next_into-clause-halted
+returns-in_err-next_into-clause-halted g c =
     let (entries, so_far, stands, leads, text, cost, calm, same, left, before) = c.lines.invariant in
     let kinds = kinds_in c.args.walker.now.roster in
     let start = c.args.walker.now.analysis in
@@ -58,10 +57,9 @@ returns-in-Err-clause-halted g c =
     let limits = c.args.walker.now.limits in
     let start = c.args.walker.now.analysis in
     let wrote = g.A.Analysis.text kinds start entries in
-    let line = c.keep.new.last in
-    let rest = c.next_line.new.self.lines in
-    let lines = split c.lines.generator.lines rest c.in-Some.line c.in_ok-line.field-0 c.in_ok-line.ensures.line c.in-Some.is c.in_ok-line.ensures.rest
-    ∙ ap (λ l. l ∷ rest) (sym c.keep.ensures) in
+    let line = c.next_into.new.line in
+    let rest = c.next_into.new.self.lines in
+    let lines = c.in_ok-next_into.ensures.next c.if-branch.true in
     elim (c.in-Err.ensures.halted kinds start entries stands leads before) [
       | inl (quiet, steps) ↦ (
         entries,
@@ -96,10 +94,9 @@ returns-in-Ok-Refused-clause-walked g c =
     let (entries, so_far, stands, leads, text, cost, calm, same, left, before) = c.lines.invariant in
     let kinds = kinds_in c.args.walker.now.roster in
     let limits = c.args.walker.now.limits in
-    let line = c.keep.new.last in
-    let rest = c.next_line.new.self.lines in
-    let lines = split c.lines.generator.lines rest c.in-Some.line c.in_ok-line.field-0 c.in_ok-line.ensures.line c.in-Some.is c.in_ok-line.ensures.rest
-    ∙ ap (λ l. l ∷ rest) (sym c.keep.ensures) in
+    let line = c.next_into.new.line in
+    let rest = c.next_into.new.self.lines in
+    let lines = c.in_ok-next_into.ensures.next c.if-branch.true in
     let (broken, one, breaks, stays) = c.in-Ok-Refused.ensures.refused (ap Ok c.in-Ok-Refused.field-0-is) c.unwrap.result c.unwrap.ensures kinds entries stands in
     let silent = c.in-Ok-Refused.ensures.silent (ap Ok c.in-Ok-Refused.field-0-is) in (
       entries,
@@ -117,10 +114,9 @@ lines-preserved g c =
     let kinds = kinds_in c.args.walker.now.roster in
     let limits = c.args.walker.now.limits in
     let start = c.args.walker.now.analysis in
-    let line = c.keep.new.last in
-    let rest = c.next_line.new.self.lines in
-    let lines = split c.lines.generator.lines rest c.in-Some.line c.in_ok-line.field-0 c.in_ok-line.ensures.line c.in-Some.is c.in_ok-line.ensures.rest
-    ∙ ap (λ l. l ∷ rest) (sym c.keep.ensures) in
+    let line = c.next_into.new.line in
+    let rest = c.next_into.new.self.lines in
+    let lines = c.in_ok-next_into.ensures.next c.if-branch.true in
     let (accepted, handed) = c.in-Ok-Accepted.ensures.taken (ap Ok c.in-Ok-Accepted.field-0-is) kinds start entries stands leads before in
     let writes = handed.written in
     let entry : Entry = record { number = c.lines.number + 1; item = line } in (
@@ -142,7 +138,7 @@ returns-clause-walked g c =
     let (entries, so_far, stands, leads, text, cost, calm, same, left, before) = c.lines.invariant in
     let kinds = kinds_in c.args.walker.now.roster in
     let limits = c.args.walker.now.limits in
-    let none = split_none c.lines.generator.lines (sym c.in_default.is ∙ c.in_ok-line.ensures.line) in
+    let (none, _) = c.in_ok-next_into.ensures.end c.if-branch.false in
     let ending = c.at_end.ensures.ending kinds (items entries) stands limits in (
       entries,
       leads,
