@@ -13,7 +13,7 @@ use Rattle.rd_linear.specs.declared.waits.Part.{Part}
 use Rattle.rd_linear.specs.declared.waits.Waits.{Waits}
 use Rattle.rd_linear.specs.Lanes.{AreThreadsRising, thread_at}
 use Rattle.rd_linear.specs.Linear.{Stands}
-use Rattle.rd_linear.specs.Links.{AreChained, AreKept, HaveLanes, HaveLinksBelow, IsHeard, IsLinked}
+use Rattle.rd_linear.specs.Links.{AreChained, LinksStay, HaveLanes, HaveLinksBelow, IsOwnOrLinked, IsLinked}
 use Rattle.rd_linear.specs.Noting.{HaveWaits}
 use Rattle.rd_linear.proofs.ThreadLemmas.{Gap}
 
@@ -113,7 +113,7 @@ module _ (old new : Links) (place lane : ℕ) (chained : AreChained old) (inside
   link_more = record { last_is = last_is; last_to = last_to; before_is = before_is; before_to = before_to; }
 
 -- the same is so of the lists alone
-pub kept_more : (old new : List Link) (link : Link) → new ≡ old ++ link ∷ [] → AreKept old new
+pub kept_more : (old new : List Link) (link : Link) → new ≡ old ++ link ∷ [] → LinksStay old new
 kept_more old new link is k x at = ap (λ xs. slice_get xs k) is ∙ still_there old link k x at
 
 pub lanes_more_linked : (threads : List ℕ) (old new : List Link) (link : Link) → new ≡ old ++ link ∷ [] → link.lane < length threads → HaveLanes threads old → HaveLanes threads new
@@ -125,7 +125,7 @@ lanes_more_linked threads old new link is inside all k x at = elim (was_or_last 
 pub linked_last : (threads : List ℕ) (old new : List Link) (link : Link) (thread place : ℕ) → new ≡ old ++ link ∷ [] → link.place ≡ place → slice_get threads link.lane ≡ Some thread → IsLinked new threads thread place
 linked_last threads old new link thread place is to at = (length old, link, ap (λ xs. slice_get xs (length old)) is ∙ last_there old link, to, at)
 
-pub linked_still : (threads : List ℕ) (old new : List Link) (thread place : ℕ) → AreKept old new → IsLinked old threads thread place → IsLinked new threads thread place
+pub linked_still : (threads : List ℕ) (old new : List Link) (thread place : ℕ) → LinksStay old new → IsLinked old threads thread place → IsLinked new threads thread place
 linked_still threads old new thread place kept l = (l.0, l.1, kept l.0 l.1 l.2, l.3, l.4)
 
 -- nothing is linked
@@ -186,8 +186,8 @@ pub record IsLinking (es : List Event) (threads : List ℕ) (waits : Waits) (thr
   pub chained : AreChained new
   pub places_are : length new.last.items ≡ length old.last.items
   pub lanes_are : HaveLanes threads new.items.items
-  pub kept : AreKept old.items.items new.items.items
-  pub heard : (i w : ℕ) → from ≤ i → i < at → slice_get waits.places.items i ≡ Some w → IsHeard es new.items.items threads thread w
+  pub kept : LinksStay old.items.items new.items.items
+  pub heard : (i w : ℕ) → from ≤ i → i < at → slice_get waits.places.items i ≡ Some w → IsOwnOrLinked es new.items.items threads thread w
 
 pub linking_starts : (es : List Event) (threads : List ℕ) (waits : Waits) (count thread from : ℕ) (links : Links) → HaveLinksBelow es threads waits count links
     → IsLinking es threads waits thread from from links links
@@ -199,19 +199,19 @@ linking_starts es threads waits count thread from links have = record {
   heard = λ i w lo hi. absurd (omega (arith, lo, hi));
 }
 
-heard_still : (es : List Event) (threads : List ℕ) (old new : List Link) (thread place : ℕ) → AreKept old new → IsHeard es old threads thread place → IsHeard es new threads thread place
+heard_still : (es : List Event) (threads : List ℕ) (old new : List Link) (thread place : ℕ) → LinksStay old new → IsOwnOrLinked es old threads thread place → IsOwnOrLinked es new threads thread place
 heard_still es threads old new thread place kept heard = elim heard [ inl own ↦ inl own | inr l ↦ inr (linked_still threads old new thread place kept l) ]
 
 pub linking_more : (es : List Event) (threads : List ℕ) (waits : Waits) (thread from at place : ℕ) (first old new : Links) → IsLinking es threads waits thread from at first old
-    → AreChained new → HaveLanes threads new.items.items → length new.last.items ≡ length old.last.items → AreKept old.items.items new.items.items → slice_get waits.places.items at ≡ Some place
-    → IsHeard es new.items.items threads thread place → IsLinking es threads waits thread from (at + 1) first new
+    → AreChained new → HaveLanes threads new.items.items → length new.last.items ≡ length old.last.items → LinksStay old.items.items new.items.items → slice_get waits.places.items at ≡ Some place
+    → IsOwnOrLinked es new.items.items threads thread place → IsLinking es threads waits thread from (at + 1) first new
 linking_more es threads waits thread from at place first old new was chained lanes places kept is heard = record {
   chained = chained;
   places_are = places ∙ was.places_are;
   lanes_are = lanes;
   kept = λ k x there. kept k x (was.kept k x there);
   heard = λ i w lo hi found. elim (cases_eq i at) [
-    | inl e ↦ subst (IsHeard es new.items.items threads thread) (same_Some place w (sym is ∙ (ap (slice_get waits.places.items) (sym e) ∙ found))) heard
+    | inl e ↦ subst (IsOwnOrLinked es new.items.items threads thread) (same_Some place w (sym is ∙ (ap (slice_get waits.places.items) (sym e) ∙ found))) heard
     | inr ne ↦ heard_still es threads old.items.items new.items.items thread w kept (was.heard i w lo (omega (arith, hi, ne)) found)
   ];
 }
@@ -224,7 +224,7 @@ linking_ends es threads waits p from at to part old new have is begins ends past
   lanes_are = done.lanes_are;
   each = λ q one i w below found lo hi there. elim (cases_eq q p) [
     | inl e ↦ (let same = same_Some part one (sym is ∙ (ap (slice_get waits.parts.items) (sym e) ∙ found)) in
-        subst (λ r. IsHeard es new.items.items threads (thread_at es r) w) (sym e)
+        subst (λ r. IsOwnOrLinked es new.items.items threads (thread_at es r) w) (sym e)
         (done.heard i w (let f = ap (λ x. x.from) same in omega (arith, f, begins, lo)) (let t = ap (λ x. x.to) same in omega (arith, t, ends, past, hi)) there))
     | inr ne ↦ heard_still es threads old.items.items new.items.items (thread_at es q) w done.kept (have.each q one i w (omega (arith, below, ne)) found lo hi there)
   ];

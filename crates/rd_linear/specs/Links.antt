@@ -23,16 +23,16 @@ abbrev pub HaveLanes : List ℕ → List Link → Type 0
 HaveLanes threads items = (k : ℕ) (link : Link) → slice_get items k ≡ Some link → link.lane < length threads
 
 -- the links that there were stay
-abbrev pub AreKept : List Link → List Link → Type 0
-AreKept old new = (k : ℕ) (link : Link) → slice_get old k ≡ Some link → slice_get new k ≡ Some link
+abbrev pub LinksStay : List Link → List Link → Type 0
+LinksStay old new = (k : ℕ) (link : Link) → slice_get old k ≡ Some link → slice_get new k ≡ Some link
 
 -- one of the links goes from the thread's lane to the place
 abbrev pub IsLinked : List Link → List ℕ → ℕ → ℕ → Type 0
 IsLinked items threads thread place = (k : ℕ) × (link : Link) × (slice_get items k ≡ Some link) × (link.place ≡ place) × (slice_get threads link.lane ≡ Some thread)
 
 -- the place is the thread's own, or its lane is linked to it
-abbrev pub IsHeard : List Event → List Link → List ℕ → ℕ → ℕ → Type 0
-IsHeard es items threads thread place = (thread_at es place ≡ thread) ⊎ IsLinked items threads thread place
+abbrev pub IsOwnOrLinked : List Event → List Link → List ℕ → ℕ → ℕ → Type 0
+IsOwnOrLinked es items threads thread place = (thread_at es place ≡ thread) ⊎ IsLinked items threads thread place
 
 -- the lanes of the first events are linked to each place of another lane for which one of these waits
 pub record HaveLinksBelow (es : List Event) (threads : List ℕ) (waits : Waits) (count : ℕ) (links : Links) : Type 0 where
@@ -40,7 +40,7 @@ pub record HaveLinksBelow (es : List Event) (threads : List ℕ) (waits : Waits)
   pub places_are : length links.last.items ≡ length es
   pub lanes_are : HaveLanes threads links.items.items
   pub each : (p : ℕ) (part : Part) (at w : ℕ) → p < count → slice_get waits.parts.items p ≡ Some part → part.from ≤ at → at < part.to → slice_get waits.places.items at ≡ Some w
-      → IsHeard es links.items.items threads (thread_at es p) w
+      → IsOwnOrLinked es links.items.items threads (thread_at es p) w
 
 -- those of all events are
 abbrev pub HaveLinks : List Event → List ℕ → Waits → Links → Type 0

@@ -34,14 +34,14 @@ places_in None = []
 places_in (Some unshared) = unshared.places.items
 
 -- what is noted of a number
-abbrev pub known : List (Option ℕ) → ℕ → Option ℕ
-known noted key = slice_index_or noted key None
+abbrev pub place_noted : List (Option ℕ) → ℕ → Option ℕ
+place_noted noted key = slice_index_or noted key None
 
 abbrev pub touch_noted : Notes → ℕ → Option ℕ
-touch_noted notes thread = known notes.threads.items thread
+touch_noted notes thread = place_noted notes.threads.items thread
 
 abbrev pub release_noted : Notes → ℕ → Option ℕ
-release_noted notes lock = known notes.releases.items lock
+release_noted notes lock = place_noted notes.releases.items lock
 
 abbrev pub unshares_noted : Notes → ℕ → List ℕ
 unshares_noted notes lock = places_in (get nat_eq notes.unshares lock)

@@ -2,7 +2,7 @@
 ghost use Rattle.std.specs.Prelude.{◌≡◌, ◌+◌, ◌<◌, ◌++◌, ◌∷◌, [], length, slice_index_or, IfOk, OnOk};
 ghost use Rattle.rd_linear.specs.Lanes.{AreThreadsRising, HaveThreads};
 ghost use Rattle.rd_linear.specs.Linear.{Stands};
-ghost use Rattle.rd_linear.specs.Links.{AreChained, AreKept, HaveLanes, HaveLinks, HaveLinksBelow, IsHeard};
+ghost use Rattle.rd_linear.specs.Links.{AreChained, LinksStay, HaveLanes, HaveLinks, HaveLinksBelow, IsOwnOrLinked};
 ghost use Rattle.rd_linear.specs.Noting.{HaveWaits};
 
 use crate::waits::{Waits, is_of, short};
@@ -63,9 +63,9 @@ fn link_wait(
     ensures chained { OnOk result (AreChained links.new) }
     ensures lanes { OnOk result (HaveLanes threads.now links.new.items.items) }
     ensures places { length links.new.last.items ≡ length links.old.last.items }
-    ensures kept { OnOk result (AreKept links.old.items.items links.new.items.items) }
+    ensures kept { OnOk result (LinksStay links.old.items.items links.new.items.items) }
     ensures heard { OnOk result
-        (IsHeard events.now links.new.items.items threads.now thread place) }
+        (IsOwnOrLinked events.now links.new.items.items threads.now thread place) }
 {
     if is_of(events, place, thread) {
         return Ok(());

@@ -3,7 +3,7 @@ ghost use Rattle.std.specs.Prelude.{◌≡◌, ◌≢◌, ◌<◌, ℕ, Bool, �
 ghost use Rattle.indexmap.specs.IndexMap.{get};
 ghost use Rattle.rd_order.specs.EventLists.{WellFormed};
 ghost use Rattle.rd_order.specs.Order.{IsOf, forked_thread, thread_of};
-ghost use Rattle.rd_linear.specs.Noting.{AreFirstWaits, AreNotedBelow, AreUnsharesAfter, HaveWaits, IsReplaced, known, noted_at, noted_if, one_if, other_waits, places_in, release_noted, lock_in_release, touch_noted, unshares_noted, waits_by};
+ghost use Rattle.rd_linear.specs.Noting.{AreFirstWaits, AreNotedBelow, AreUnsharesAfter, HaveWaits, IsReplaced, place_noted, noted_at, noted_if, one_if, other_waits, places_in, release_noted, lock_in_release, touch_noted, unshares_noted, waits_by};
 
 use indexmap::IndexMap;
 use rd_base::NoMemory;
@@ -42,7 +42,7 @@ struct Notes {
 }
 
 fn place_of(noted: &[Option<u32>], key: u32) -> Option<u32>
-    ensures { result ≡ known noted.now key }
+    ensures { result ≡ place_noted noted.now key }
 {
     match noted.get(key as usize) {
         Some(place) => *place,
@@ -53,7 +53,7 @@ fn place_of(noted: &[Option<u32>], key: u32) -> Option<u32>
 // Makes the list long enough for a number. Nothing is noted of those that are new.
 fn make_room(noted: &mut Vec<Option<u32>>, key: u32) -> Result<(), NoMemory>
     ensures room { OnOk result (key < length noted.new.items) }
-    ensures same { (q : ℕ) → known noted.new.items q ≡ known noted.old.items q }
+    ensures same { (q : ℕ) → place_noted noted.new.items q ≡ place_noted noted.old.items q }
 {
     while noted.len() <= key as usize {
         noted.push(None)?;
@@ -63,7 +63,7 @@ fn make_room(noted: &mut Vec<Option<u32>>, key: u32) -> Result<(), NoMemory>
 
 fn put(noted: &mut Vec<Option<u32>>, key: u32, place: u32) -> Result<(), NoMemory>
     ensures { OnOk result ((q : ℕ) →
-        known noted.new.items q ≡ noted_at (known noted.old.items) key place q) }
+        place_noted noted.new.items q ≡ noted_at (place_noted noted.old.items) key place q) }
 {
     make_room(noted, key)?;
     noted[key as usize] = Some(place);
@@ -127,8 +127,8 @@ fn note_threads(
     event: &Event,
     place: u32,
 ) -> Result<(), NoMemory>
-    ensures { OnOk result ((t : ℕ) → known threads.new.items t
-        ≡ noted_if (noted_at (known threads.old.items) (thread_of event.now) place) (forked_thread event.now) place t) }
+    ensures { OnOk result ((t : ℕ) → place_noted threads.new.items t
+        ≡ noted_if (noted_at (place_noted threads.old.items) (thread_of event.now) place) (forked_thread event.now) place t) }
 {
     put(threads, thread_of(event), place)?;
     if let Event::Fork { child, .. } = event {
@@ -142,8 +142,8 @@ fn note_releases(
     event: &Event,
     place: u32,
 ) -> Result<(), NoMemory>
-    ensures { OnOk result ((lock : ℕ) → known releases.new.items lock
-        ≡ noted_if (known releases.old.items) (lock_in_release event.now) place lock) }
+    ensures { OnOk result ((lock : ℕ) → place_noted releases.new.items lock
+        ≡ noted_if (place_noted releases.old.items) (lock_in_release event.now) place lock) }
 {
     match event {
         Event::Release { lock, .. } => put(releases, *lock, place),
