@@ -72,13 +72,15 @@ pub asked_more : (waits : Waits) (seen : List Bool) (lanes : List Lane) (old new
     → ((lane : Lane) → slice_get lanes at ≡ Some lane → new ≡ slice_set old at (ready_in waits seen lane)) → (lane : Lane) → slice_get lanes at ≡ Some lane → AreAskedBelow waits seen lanes new (at + 1)
 asked_more waits seen lanes old new at inside asked set lane is =
     let same = set lane is in
-    subst (λ ranks. AreAskedBelow waits seen lanes ranks (at + 1)) (sym same) (set_length old at (ready_in waits seen lane) ∙ asked.0,
-    λ i other below found. elim (cases_eq at i) [
-      | inl e ↦ (let one = same_Some lane other (sym is ∙ (ap (slice_get lanes) e ∙ found)) in
-          subst (λ k. slice_get (slice_set old at (ready_in waits seen lane)) k ≡ Some (ready_in waits seen other)) e
-          (set_there old at (ready_in waits seen lane) (let l = asked.0 in omega (arith, inside, l)) ∙ ap (λ l. Some (ready_in waits seen l)) one))
-      | inr ne ↦ set_other old at i (ready_in waits seen lane) ne ∙ asked.1 i other (omega (arith, below, ne)) found
-    ])
+    subst (λ ranks. AreAskedBelow waits seen lanes ranks (at + 1)) (sym same) (
+      set_length old at (ready_in waits seen lane) ∙ asked.0,
+      λ i other below found. elim (cases_eq at i) [
+        | inl e ↦ (let one = same_Some lane other (sym is ∙ (ap (slice_get lanes) e ∙ found)) in
+            subst (λ k. slice_get (slice_set old at (ready_in waits seen lane)) k ≡ Some (ready_in waits seen other)) e
+            (set_there old at (ready_in waits seen lane) (let l = asked.0 in omega (arith, inside, l)) ∙ ap (λ l. Some (ready_in waits seen l)) one))
+        | inr ne ↦ set_other old at i (ready_in waits seen lane) ne ∙ asked.1 i other (omega (arith, below, ne)) found
+      ],
+    )
 
 pub all_asked : (waits : Waits) (seen : List Bool) (lanes : List Lane) (ranks : List (Option ℕ)) (at : ℕ) → length lanes ≤ at → AreAskedBelow waits seen lanes ranks at → ranks ≡ map (ready_in waits seen) lanes
 all_asked waits seen lanes ranks at past asked =
@@ -120,28 +122,33 @@ link_there items place number link has some is =
 
 pub asked_from : (waits : Waits) (seen : List Bool) (lanes : List Lane) (ranks : List (Option ℕ)) (links : Links) (place : ℕ) → AreChained links
     → AreAskedBut waits seen lanes ranks links.items.items place (length links.items.items) → AreAskedBut waits seen lanes ranks links.items.items place (slice_index_or links.last.items place 0)
-asked_from waits seen lanes ranks links place chained asked = (asked.0, λ i lane is. elim (asked.1 i lane is) [
-  | inl right ↦ inl right
-  | inr l ↦ inr (l.0, l.1, subst (λ q. l.0 < slice_index_or links.last.items q 0) l.4 (chained.last_is l.0 l.1 l.3), l.3, l.4, l.5)
-])
+asked_from waits seen lanes ranks links place chained asked = (
+  asked.0,
+  λ i lane is. elim (asked.1 i lane is) [
+    | inl right ↦ inl right
+    | inr l ↦ inr (l.0, l.1, subst (λ q. l.0 < slice_index_or links.last.items q 0) l.4 (chained.last_is l.0 l.1 l.3), l.3, l.4, l.5)
+  ],
+)
 
 pub asked_along : (waits : Waits) (seen : List Bool) (lanes : List Lane) (old new : List (Option ℕ)) (links : Links) (place number : ℕ) (link : Link) → AreChained links
     → slice_get links.items.items number ≡ Some link → link.place ≡ place → (lane : Lane) → slice_get lanes link.lane ≡ Some lane → new ≡ slice_set old link.lane (ready_in waits seen lane)
     → AreAskedBut waits seen lanes old links.items.items place (number + 1) → AreAskedBut waits seen lanes new links.items.items place link.before
 asked_along waits seen lanes old new links place number link chained there to lane is set asked =
-    subst (λ ranks. AreAskedBut waits seen lanes ranks links.items.items place link.before) (sym set) (set_length old link.lane (ready_in waits seen lane) ∙ asked.0,
-    λ i other found. elim (cases_eq link.lane i) [
-      | inl e ↦ (let one = same_Some lane other (sym is ∙ (ap (slice_get lanes) e ∙ found)) in
-          inl (subst (λ k. slice_get (slice_set old link.lane (ready_in waits seen lane)) k ≡ Some (ready_in waits seen other)) e
-          (set_there old link.lane (ready_in waits seen lane) (let l = asked.0 in let w = slice_get_within lanes link.lane lane is in omega (arith, w, l)) ∙ ap (λ l. Some (ready_in waits seen l)) one)))
-      | inr ne ↦ elim (asked.1 i other found) [
-        | inl right ↦ inl (set_other old link.lane i (ready_in waits seen lane) ne ∙ right)
-        | inr l ↦ elim (cases_eq l.0 number) [
-          | inl same ↦ (let one = same_Some link l.1 (sym there ∙ (ap (slice_get links.items.items) (sym same) ∙ l.3)) in absurd (ne (ap (λ x. x.lane) one ∙ l.5)))
-          | inr apart ↦ inr (l.0, l.1, chained.before_is number l.0 link l.1 there l.3 (l.4 ∙ sym to) (let less = l.2 in omega (arith, less, apart)), l.3, l.4, l.5)
+    subst (λ ranks. AreAskedBut waits seen lanes ranks links.items.items place link.before) (sym set) (
+      set_length old link.lane (ready_in waits seen lane) ∙ asked.0,
+      λ i other found. elim (cases_eq link.lane i) [
+        | inl e ↦ (let one = same_Some lane other (sym is ∙ (ap (slice_get lanes) e ∙ found)) in
+            inl (subst (λ k. slice_get (slice_set old link.lane (ready_in waits seen lane)) k ≡ Some (ready_in waits seen other)) e
+            (set_there old link.lane (ready_in waits seen lane) (let l = asked.0 in let w = slice_get_within lanes link.lane lane is in omega (arith, w, l)) ∙ ap (λ l. Some (ready_in waits seen l)) one)))
+        | inr ne ↦ elim (asked.1 i other found) [
+          | inl right ↦ inl (set_other old link.lane i (ready_in waits seen lane) ne ∙ right)
+          | inr l ↦ elim (cases_eq l.0 number) [
+            | inl same ↦ (let one = same_Some link l.1 (sym there ∙ (ap (slice_get links.items.items) (sym same) ∙ l.3)) in absurd (ne (ap (λ x. x.lane) one ∙ l.5)))
+            | inr apart ↦ inr (l.0, l.1, chained.before_is number l.0 link l.1 there l.3 (l.4 ∙ sym to) (let less = l.2 in omega (arith, less, apart)), l.3, l.4, l.5)
+          ]
         ]
-      ]
-    ])
+      ],
+    )
 
 pub asked_through : (waits : Waits) (seen : List Bool) (lanes : List Lane) (ranks : List (Option ℕ)) (items : List Link) (place number : ℕ) → number ≤ 0 → AreAskedBut waits seen lanes ranks items place number
     → ranks ≡ map (ready_in waits seen) lanes
@@ -235,8 +242,14 @@ turn_asked es placed waits links lanes seen ranks new t place lane next are risi
             elim (have.each p w.0 w.1 place mine.0 w.2 w.3 w.4 w.5) [
               | inl here ↦ absurd (n.0 (one_place (threads_in lanes) u t lane.thread rising
                   (thread_at_lane lanes u other n.1 ∙ ap Some (sym mine.1 ∙ (sym here ∙ own))) (thread_at_lane lanes t lane at)))
-              | inr l ↦ inr (l.0, l.1, slice_get_within links.items.items l.0 l.1 l.2, l.2, l.3,
-                  one_place (threads_in lanes) l.1.lane u (thread_at es p) rising l.4 (thread_at_lane lanes u other n.1 ∙ ap Some (sym mine.1)))
+              | inr l ↦ inr (
+                l.0,
+                l.1,
+                slice_get_within links.items.items l.0 l.1 l.2,
+                l.2,
+                l.3,
+                one_place (threads_in lanes) l.1.lane u (thread_at es p) rising l.4 (thread_at_lane lanes u other n.1 ∙ ap Some (sym mine.1)),
+              )
             ])
       ]
     ]

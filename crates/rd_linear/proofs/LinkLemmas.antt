@@ -110,7 +110,7 @@ module _ (old new : Links) (place lane : ℕ) (chained : AreChained old) (inside
   ]
 
   pub link_more : AreChained new
-  link_more = record { last_is = last_is; last_to = last_to; before_is = before_is; before_to = before_to; }
+  link_more = record { last_is = last_is; last_to = last_to; before_is = before_is; before_to = before_to }
 
 -- the same is so of the lists alone
 pub kept_more : (old new : List Link) (link : Link) → new ≡ old ++ link ∷ [] → LinksStay old new

@@ -84,12 +84,7 @@ fn ask(waits: &Waits, seen: &[bool], lanes: &[Lane], at: usize, ranks: &mut Rank
 }
 
 // What each lane has.
-fn ask_all(
-    alloc: Global,
-    waits: &Waits,
-    seen: &[bool],
-    lanes: &[Lane],
-) -> Result<Ranks, NoMemory>
+fn ask_all(alloc: Global, waits: &Waits, seen: &[bool], lanes: &[Lane]) -> Result<Ranks, NoMemory>
     requires few { length lanes.now < 4294967296 }
     ensures { IfOk result (λ ranks. ranks ≡ map (ready_in waits.now seen.now) lanes.now) }
 {

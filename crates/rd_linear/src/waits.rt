@@ -122,11 +122,7 @@ fn push_waits(places: &mut Vec<u32>, notes: &Notes, event: &Event) -> Result<(),
 // ---- noting
 
 // The event at this place is the last of its thread, or the fork of one, so far.
-fn note_threads(
-    threads: &mut Vec<Option<u32>>,
-    event: &Event,
-    place: u32,
-) -> Result<(), NoMemory>
+fn note_threads(threads: &mut Vec<Option<u32>>, event: &Event, place: u32) -> Result<(), NoMemory>
     ensures { OnOk result ((t : ℕ) → place_noted threads.new.items t
         ≡ noted_if (noted_at (place_noted threads.old.items) (thread_of event.now) place) (forked_thread event.now) place t) }
 {
@@ -137,11 +133,7 @@ fn note_threads(
     Ok(())
 }
 
-fn note_releases(
-    releases: &mut Vec<Option<u32>>,
-    event: &Event,
-    place: u32,
-) -> Result<(), NoMemory>
+fn note_releases(releases: &mut Vec<Option<u32>>, event: &Event, place: u32) -> Result<(), NoMemory>
     ensures { OnOk result ((lock : ℕ) → place_noted releases.new.items lock
         ≡ noted_if (place_noted releases.old.items) (lock_in_release event.now) place lock) }
 {

@@ -8,10 +8,11 @@ use Rattle.rd_linear.proofs.lanes.ask_linked.Goals as goal
 pub loop-number-init : goal.loop-number-init
 loop-number-init c =
     let links = c.args.links.now in let place = c.args.place in let items = links.items.items in
-    let is = c.index-number.ensures ∙ index_default links.last.items place c.index-number.result.now c.requires.inside in
-    (subst (λ n. HasNumber items place n) (sym is) (first_number links place c.requires.chained),
-    subst (λ n. AreAskedBut c.args.waits.now c.args.seen.now c.args.lanes.now c.args.ranks.now items place n) (sym is)
-    (asked_from c.args.waits.now c.args.seen.now c.args.lanes.now c.args.ranks.now links place c.requires.chained c.requires.asked))
+    let is = c.index-number.ensures ∙ index_default links.last.items place c.index-number.result.now c.requires.inside in (
+      subst (λ n. HasNumber items place n) (sym is) (first_number links place c.requires.chained),
+      subst (λ n. AreAskedBut c.args.waits.now c.args.seen.now c.args.lanes.now c.args.ranks.now items place n) (sym is)
+          (asked_from c.args.waits.now c.args.seen.now c.args.lanes.now c.args.ranks.now links place c.requires.chained c.requires.asked),
+    )
 
 pub index-link-requires : goal.index-link-requires
 index-link-requires c =
@@ -38,10 +39,11 @@ loop-number-preserved c =
     let there = link_there items place number link c.loop-number.invariant.0 (omega (arith, c.loop-number-test.true)) c.index-link.ensures in
     let l = c.requires.lanes (number - 1) link there.0 in
     let one = has_one lanes link.lane (omega (arith, l, lane_count lanes)) in
-    let same : number ≡ (number - 1) + 1 = omega (arith, c.loop-number-test.true) in
-    (next_number links place (number - 1) link c.requires.chained there.0 there.1,
-    asked_along c.args.waits.now c.args.seen.now lanes c.loop-number.ranks c.ask.new.ranks links place (number - 1) link c.requires.chained there.0 there.1 one.0 one.1
-    (c.ask.ensures one.0 one.1) (subst (λ n. AreAskedBut c.args.waits.now c.args.seen.now lanes c.loop-number.ranks items place n) same c.loop-number.invariant.1))
+    let same : number ≡ (number - 1) + 1 = omega (arith, c.loop-number-test.true) in (
+      next_number links place (number - 1) link c.requires.chained there.0 there.1,
+      asked_along c.args.waits.now c.args.seen.now lanes c.loop-number.ranks c.ask.new.ranks links place (number - 1) link c.requires.chained there.0 there.1 one.0 one.1
+          (c.ask.ensures one.0 one.1) (subst (λ n. AreAskedBut c.args.waits.now c.args.seen.now lanes c.loop-number.ranks items place n) same c.loop-number.invariant.1),
+    )
 
 pub returns : goal.returns
 returns c =

@@ -12,10 +12,11 @@ use Rattle.rd_linear.proofs.lanes.reorder.Goals as goal
 
 pub loop-turn-init : goal.loop-turn-init
 loop-turn-init c =
-    let waits = c.in_ok-waits.waits in let same = c.in_ok-lanes.ensures.threads ∙ c.as_slice-2.ensures.value in
-    (turning_starts c.args.events.now c.in_ok-threads.threads.items c.args.number c.in_ok-lanes.lanes.items c.in_ok-seen.seen.items c.new-places.result
-    c.new-places.ensures c.in_ok-seen.ensures c.in_ok-lanes.ensures.lanes same,
-    c.in_ok-ranks.ensures ∙ ap (λ seen. map (ready_in waits seen) c.as_slice-4.result.now) c.as_slice-3.ensures.value ∙ ap (map (ready_in waits c.in_ok-seen.seen.items)) c.as_slice-4.ensures.value)
+    let waits = c.in_ok-waits.waits in let same = c.in_ok-lanes.ensures.threads ∙ c.as_slice-2.ensures.value in (
+      turning_starts c.args.events.now c.in_ok-threads.threads.items c.args.number c.in_ok-lanes.lanes.items c.in_ok-seen.seen.items c.new-places.result
+          c.new-places.ensures c.in_ok-seen.ensures c.in_ok-lanes.ensures.lanes same,
+      c.in_ok-ranks.ensures ∙ ap (λ seen. map (ready_in waits seen) c.as_slice-4.result.now) c.as_slice-3.ensures.value ∙ ap (map (ready_in waits c.in_ok-seen.seen.items)) c.as_slice-4.ensures.value,
+    )
 
 pub unwrap-at-requires : goal.unwrap-at-requires
 unwrap-at-requires c =
@@ -112,10 +113,11 @@ loop-turn-preserved c =
     l.lanes.items l.seen.items l.places l.left l.invariant.0 c.loop-turn-test.true found.0 found.1 choice.0 next choice.1 choice.2 choice.3
     (ap (λ lane. lane.thread) same) (ap (λ lane. lane.places.items) same) (ap (λ lane. lane.given + 1) same) (length-set l.seen.items found.1 true) in
     let lanes = slice_set l.lanes.items found.0 next in let seen = slice_set l.seen.items found.1 true in
-    let readies = filter_map (ready_in waits l.seen.items) l.lanes.items in
-    (subst (AreTurning es c.args.number (l.turn + 1) threads lanes seen c.push.new.self) (sym choice.4)
-    (subst (λ ps. AreTurning es c.args.number (l.turn + 1) threads lanes seen ps (l.left / length readies)) (sym c.in_ok-push.ensures.ok) taken),
-    c.ask_linked.ensures ∙ ap (λ s. map (ready_in waits s) c.as_slice-in-loop-turn-4.result.now) c.as_slice-in-loop-turn-3.ensures.value ∙ ap (map (ready_in waits seen)) c.as_slice-in-loop-turn-4.ensures.value)
+    let readies = filter_map (ready_in waits l.seen.items) l.lanes.items in (
+      subst (AreTurning es c.args.number (l.turn + 1) threads lanes seen c.push.new.self) (sym choice.4)
+          (subst (λ ps. AreTurning es c.args.number (l.turn + 1) threads lanes seen ps (l.left / length readies)) (sym c.in_ok-push.ensures.ok) taken),
+      c.ask_linked.ensures ∙ ap (λ s. map (ready_in waits s) c.as_slice-in-loop-turn-4.result.now) c.as_slice-in-loop-turn-3.ensures.value ∙ ap (map (ready_in waits seen)) c.as_slice-in-loop-turn-4.ensures.value,
+    )
 
 pub returns-clause-order : goal.returns-clause-order
 returns-clause-order c =
