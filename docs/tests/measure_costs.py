@@ -198,10 +198,11 @@ KINDS = [
     ('`epochs`, read, written', 'epochs TRACE', MEMORY, read_then_written),
 ]
 THREADS = [(f'{number:,}', 'check TRACE', TRACE, dictionary(number - 1, turns=True)) for number in (4, 16, 64, 256, 1024, 4096)]
-# what grows, from and to which number, and what is measured of each: lines, or such a maker
+# what grows, from and to which number, and what is measured of each: lines, or such a maker; and the command, where it isn't `check`
 GROWTH = [
     ('calls', 3000, 300000, None), ('threads', 16, 1024, lambda number: dictionary(number - 1, turns=True)), ('locks', 10, 10000, lambda number: locks(8, number)),
     ('objects', 10, 60000, counters), ('keys', 80, 20000, lambda number: dictionary(8, number, False, own=True)),
+    ('threads of `reorder`', 16, 4096, lambda number: dictionary(number - 1, turns=True), 'reorder TRACE ' + NUMBER),
 ]
 
 
@@ -271,6 +272,7 @@ LARGEST = [
     ('4,096 threads, forked, called, joined', 'check', [(TRACE, each_thread)]), ('4,096 threads that hand a lock on', 'check', [(TRACE, threads_that_meet)]),
     ('65,536 locks', 'check', [(TRACE, all_locks)]), ('65,536 locks, each with news', 'check', [(TRACE, locks_with_news)]),
     ('65,536 dictionaries with a key each', 'check', [(TRACE, dictionaries)]),
+    ('400,000 calls of 4,000 threads: `reorder`', 'reorder ' + NUMBER, [(TRACE, lambda: dictionary(3999)(1200000))]),
     ('65,536 variables, read by 64 threads', 'epochs', [(MEMORY, open_reads)]), ('lines of 8,191 bytes', 'check', [(TRACE, long_lines), (SPEC, long_kind)]),
     ('17 dear kinds: `spec`', 'spec', [(SPEC, dear_kinds)]), ('the same: `points`', 'points', [(SPEC, dear_kinds)]),
     ('the same: `check`', 'check', [(TRACE, calls_of_dear_kinds), (SPEC, dear_kinds)]),
@@ -348,8 +350,8 @@ class Bench:
         told += f' {count / passed / 1e6:.3g} |' if passed > 0.002 else ' - |'      # a start takes about that long
         return f'{told} {self.processor(words)[1]:.1f} |'
 
-    def growth(self, what, least, most, maker):
-        command, header = 'check TRACE', TRACE
+    def growth(self, what, least, most, maker, command='check TRACE'):
+        header = TRACE
         if maker is None:
             few, many = (self.a_line((what, command, header, dictionary()), lines) for lines in (least, most))
         else:
@@ -358,7 +360,8 @@ class Bench:
 
     def largest(self, name, command, files):
         paths = [self.written(f'{name} {header}', header, make)[0] for header, make in files]
-        seconds, peak = self.processor([command, *paths])
+        words = command.split()
+        seconds, peak = self.processor([words[0], *paths, *words[1:]])
         return f'| {name} | {sum(path.stat().st_size for path in paths) / 1e6:.1f} | {seconds:.2f} | {peak:.0f} |'
 
 
