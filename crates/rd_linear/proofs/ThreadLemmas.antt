@@ -1,5 +1,5 @@
 -- The threads of events in the order of their numbers, and how their lanes are made.
-use Rattle.std.proofs.Common.{◌≡◌, ◌≢◌, ◌↔◌, ◌<◌, ◌≤◌, ◌+◌, ◌⊎◌, ◌==◌, ◌++◌, ℕ, zero, suc, Bool, cond, List, [], ◌∷◌, Some, length, slice_get, get_or, take, arith, inl, inr, refl, sym, ◌∙◌, ap, subst}
+use Rattle.std.proofs.Common.{◌≡◌, ◌≢◌, ◌↔◌, ◌<◌, ◌≤◌, ◌+◌, ◌-◌, ◌⊎◌, ◌==◌, ◌++◌, ℕ, zero, suc, Bool, cond, List, [], ◌∷◌, Some, length, slice_get, get_or, take, arith, inl, inr, refl, sym, ◌∙◌, ap, subst}
 use Rattle.std.specs.Prelude.{insert, slice_set, Result, Ok, Err}
 use Rattle.std.specs.Ordering.{nat_cmp}
 use Rattle.std.specs.List.Sorted.{IsBinarySearchResult}
@@ -109,6 +109,17 @@ no_threads es threads none = subst (AreThreadsBelow es 0) (sym none) (record {
   all = λ p below. absurd (omega (arith, below));
   only = λ t stands. absurd (none-some t stands.1);
 })
+
+-- the same threads, where one goes on
+pub threads_same : (es : List Event) (n : ℕ) (threads : List ℕ) → AreThreadsBelow es n threads → 0 < n → thread_at es n ≡ thread_at es (n - 1) → AreThreadsBelow es (n + 1) threads
+threads_same es n threads are some same = record {
+  rising = are.rising;
+  all = λ p below. elim (cases_eq p n) [
+    | inl e ↦ subst (Stands threads) (sym (ap (thread_at es) e ∙ same)) (are.all (n - 1) (omega (arith, some)))
+    | inr ne ↦ are.all p (omega (arith, below, ne))
+  ];
+  only = λ t stands. (let x = are.only t stands in let l = x.1 in (x.0, omega (arith, l), x.2));
+}
 
 pub threads_more : (es : List Event) (n t : ℕ) (old new : List ℕ) → AreThreadsBelow es n old → thread_at es n ≡ t → AreThreadsRising new
     → ((u : ℕ) → Stands new u ↔ ((u ≡ t) ⊎ Stands old u)) → AreThreadsBelow es (n + 1) new

@@ -1,7 +1,7 @@
 //! The events of each thread, and which of them comes next.
-ghost use Rattle.std.specs.Prelude.{ℕ, Bool, List, [], ◌+◌, ◌<◌, ◌≤◌, ◌↔◌, ◌⊎◌, IfOk, OnOk, ◌≡◌, length, filter_map, map, slice_get, slice_set, IfSome, IfNone, Some};
+ghost use Rattle.std.specs.Prelude.{ℕ, Bool, List, [], ◌+◌, ◌-◌, ◌<◌, ◌≤◌, ◌↔◌, ◌⊎◌, IfOk, OnOk, ◌≡◌, length, filter_map, map, slice_get, slice_set, IfSome, IfNone, IsTrue, Some};
 ghost use Rattle.rd_order.specs.EventLists.{WellFormed};
-ghost use Rattle.rd_linear.specs.Lanes.{AreLanes, AreLanesBelow, HaveThreads, IsPlaceAdded, AreThreadsRising, are_over, is_over, order_by, part_over, ready_in, threads_in};
+ghost use Rattle.rd_linear.specs.Lanes.{AreLanes, AreLanesBelow, HaveThreads, IsPlaceAdded, AreThreadsRising, are_over, is_over, order_by, part_over, ready_in, thread_at, threads_in};
 ghost use Rattle.rd_linear.specs.Linear.{Stands};
 ghost use Rattle.rd_linear.specs.Links.{AreAskedBut, AreChained, HaveLanes, IsPicked};
 ghost use Rattle.rd_linear.specs.Orders.{IsLinear};
@@ -151,6 +151,15 @@ fn add_thread(threads: &mut Vec<u32>, thread: u32) -> Result<(), NoMemory>
     Ok(())
 }
 
+// Is the event at the place of the thread of the one before it?
+fn goes_on(events: &[Event], place: usize) -> bool
+    requires inside { place < length events.now }
+    ensures { IsTrue result → (0 < place)
+        × (thread_at events.now place ≡ thread_at events.now (place - 1)) }
+{
+    place > 0 && thread_of(&events[place]) == thread_of(&events[place - 1])
+}
+
 // The threads of the events, in the order of their numbers.
 fn threads_of(alloc: Global, events: &[Event]) -> Result<Vec<u32>, NoMemory>
     ensures threads { IfOk result (λ threads. HaveThreads events.now threads.items) }
@@ -158,9 +167,26 @@ fn threads_of(alloc: Global, events: &[Event]) -> Result<Vec<u32>, NoMemory>
 {
     let mut threads = Vec::new(alloc);
     for place in 0..events.len() {
-        add_thread(&mut threads, thread_of(&events[place]))?;
+        if !goes_on(events, place) {
+            add_thread(&mut threads, thread_of(&events[place]))?;
+        }
     }
     Ok(threads)
+}
+
+// Where the thread stands among these. The guess may be its place, and is looked at first.
+pub(crate) fn lane_of(threads: &[u32], guess: usize, thread: u32) -> usize
+    requires rising { AreThreadsRising threads.now }
+    requires stands { Stands threads.now thread }
+    ensures { slice_get threads.now result ≡ Some thread }
+{
+    if threads.get(guess).copied() == Some(thread) {
+        return guess;
+    }
+    match threads.binary_search(&thread) {
+        Ok(at) => at,
+        Err(_) => unreachable!(),
+    }
 }
 
 // A lane for each of these threads, without places.
@@ -195,11 +221,10 @@ fn lanes_of(alloc: Global, events: &[Event], threads: &[u32]) -> Result<Vec<Lane
     ensures threads { IfOk result (λ lanes. threads_in lanes.items ≡ threads.now) }
 {
     let mut lanes = empty_lanes(alloc, threads)?;
+    let mut at = 0;
     for place in 0..events.len() {
-        let found = threads.binary_search(&thread_of(&events[place]));
-        if let Ok(at) = found {
-            add_place(&mut lanes, at, place as u32)?;
-        }
+        at = lane_of(threads, at, thread_of(&events[place]));
+        add_place(&mut lanes, at, place as u32)?;
     }
     Ok(lanes)
 }

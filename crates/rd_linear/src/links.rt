@@ -5,6 +5,7 @@ ghost use Rattle.rd_linear.specs.Linear.{Stands};
 ghost use Rattle.rd_linear.specs.Links.{AreChained, LinksStay, HaveLanes, HaveLinks, HaveLinksBelow, IsOwnOrLinked};
 ghost use Rattle.rd_linear.specs.Noting.{HaveWaits};
 
+use crate::lanes::lane_of;
 use crate::waits::{Waits, is_of, short};
 use rd_base::NoMemory;
 use rd_event::Event;
@@ -70,10 +71,7 @@ fn link_wait(
     if is_of(events, place, thread) {
         return Ok(());
     }
-    match threads.binary_search(&thread) {
-        Ok(lane) => add_link(links, place, lane as u32),
-        Err(_) => unreachable!(),
-    }
+    add_link(links, place, lane_of(threads, 0, thread) as u32)
 }
 
 // Links the lane of the event at a place to the places of other lanes for which it waits.

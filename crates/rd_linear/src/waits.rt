@@ -268,12 +268,13 @@ fn put_waits(
     requires first { AreFirstWaits events.now 0 waits.old }
     ensures { OnOk result (HaveWaits events.now waits.new) }
 {
+    let mut from = short(waits.places.len())?;
     for place in 0..events.len() {
         let event = &events[place];
-        let from = short(waits.places.len())?;
         push_waits(&mut waits.places, notes, event)?;
         let to = short(waits.places.len())?;
         waits.parts.push(Part { from, to })?;
+        from = to;
         note(alloc, notes, events, event, place as u32)?;
     }
     Ok(())

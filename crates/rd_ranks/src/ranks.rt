@@ -84,13 +84,17 @@ impl Ranks {
         Ok(Ranks { given, counts })
     }
 
-    /// Sets what one has. It takes no memory, and time in the logarithm of how many there are.
+    /// Sets what one has. It takes no memory, and at most time in the logarithm of how many there are.
     pub fn set(&mut self, at: usize, given: Option<u32>)
         requires { at < length self.old }
         ensures { self.new ≡ slice_set self.old at given }
     {
+        let had = self.given[at].is_some();
         self.given[at] = given;
-        count_above(self.given.as_slice(), self.counts.as_mut_slice(), at);
+        // where it has something as before, the counts stay
+        if had != given.is_some() {
+            count_above(self.given.as_slice(), self.counts.as_mut_slice(), at);
+        }
     }
 
     /// How many have something. It takes no memory.

@@ -1,27 +1,35 @@
-use Rattle.std.proofs.Common.{◌≡◌, ◌+◌, Some, length, ap, arith, refl, subst, sym, ◌∙◌}
+use Rattle.std.proofs.Common.{◌≡◌, Some, length, ap, arith, subst, sym, ◌∙◌}
 use Rattle.std.specs.Option.{option_map_or}
-use Rattle.std.proofs.lemmas.Option.{slice_get-get_or}
+use Rattle.std.proofs.lemmas.Option.{get_or_from_slice_get, slice_get-get_or, slice_get_within}
 use Rattle.rd_order.specs.Order.{thread_of}
 use Rattle.rd_linear.specs.Lanes.{AreLanesBelow, thread_at}
-use Rattle.rd_linear.proofs.ThreadLemmas.{gap_at, hit_at, never_lacks, none_given, place_added}
+use Rattle.rd_linear.specs.Linear.{Stands}
+use Rattle.rd_linear.proofs.AskingLemmas.{lane_count}
+use Rattle.rd_linear.proofs.ThreadLemmas.{none_given, place_added}
 use Rattle.rd_linear.proofs.lanes.lanes_of.Goals as goal
-use Rattle.rd_linear.proofs.lanes.lanes_of.Goals.{in-Ok+in_ok-add_place, in_default}
+
+pub lane_of-at-requires-clause-stands : goal.lane_of-at-requires-clause-stands
+lane_of-at-requires-clause-stands c =
+    let es = c.args.events.now in let place = c.loop-place.place in
+    let event = slice_get-get_or es place c.index-events-place.result c.loop-place-test.true ∙ ap Some (sym c.index-events-place.is) in
+    let of : thread_at es place ≡ c.thread_of.result = ap (λ o. option_map_or thread_of o 0) event ∙ sym c.thread_of.ensures in
+    subst (Stands c.args.threads.now) of (c.requires.threads.all place c.loop-place-test.true)
+
+pub add_place-requires : goal.add_place-requires
+add_place-requires c = record {
+  inside = let within = slice_get_within c.args.threads.now c.lane_of-at.result c.thread_of.result c.lane_of-at.ensures in
+      let long = ap length c.loop-place.invariant.threads_are in omega (arith, within, long, lane_count c.loop-place.lanes.items);
+}
 
 pub loop-place-preserved : goal.loop-place-preserved
 loop-place-preserved c =
     let es = c.args.events.now in let place = c.loop-place.place in let threads = c.args.threads.now in
     let event = slice_get-get_or es place c.index-events-place.result c.loop-place-test.true ∙ ap Some (sym c.index-events-place.is) in
-    let of : c.thread_of.result ≡ thread_at es place = c.thread_of.ensures ∙ sym (ap (λ o. option_map_or thread_of o 0) event) in
-    let rising = c.requires.threads.rising in
-    elim c.match-found.branch [
-      | in-Ok+in_ok-add_place w ↦
-          (let hit = hit_at threads threads c.thread_of.result w.in-Ok.at c.binary_search-found.result refl rising c.binary_search-found.ensures.position w.in-Ok.is in
-          subst (λ lanes. AreLanesBelow es (place + 1) threads lanes.items) (sym w.lanes-is)
-          (place_added es place w.in-Ok.at threads c.loop-place.lanes.items w.add_place.new.lanes.items c.loop-place.invariant rising (hit.0, hit.1 ∙ of) w.in_ok-add_place.ensures))
-      | in_default w ↦
-          (let gap = gap_at threads threads c.thread_of.result w.in_default.field-0 c.binary_search-found.result refl rising c.binary_search-found.ensures.position w.in_default.is in
-          absurd (never_lacks es place w.in_default.field-0 threads c.requires.threads c.loop-place-test.true of gap))
-    ]
+    let of : thread_at es place ≡ c.thread_of.result = ap (λ o. option_map_or thread_of o 0) event ∙ sym c.thread_of.ensures in
+    let within = slice_get_within threads c.lane_of-at.result c.thread_of.result c.lane_of-at.ensures in
+    let is = get_or_from_slice_get threads c.lane_of-at.result c.thread_of.result 0 c.lane_of-at.ensures in
+    place_added es place c.lane_of-at.result threads c.loop-place.lanes.items c.add_place.new.lanes.items c.loop-place.invariant c.requires.threads.rising (within, is ∙ sym of)
+    c.in_ok-add_place.ensures
 
 pub returns-clause-lanes : goal.returns-clause-lanes
 returns-clause-lanes c =

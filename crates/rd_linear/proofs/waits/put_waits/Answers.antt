@@ -15,9 +15,10 @@ loop-place-preserved c =
     let notes = c.loop-place.notes in
     let old = c.loop-place.waits in
     let new : Waits = record { places = c.push_waits.new.places; parts = c.push.new.self } in
-    let part : Part = record { from = c.in_ok-from.from; to = c.in_ok-to.to } in
+    let part : Part = record { from = c.loop-place.from; to = c.in_ok-to.to } in
     record {
       noted = noted_more es n event at notes c.note.new.notes c.loop-place.invariant.noted c.in_ok-note.ensures.threads c.in_ok-note.ensures.releases c.in_ok-note.ensures.unshares;
       waits = waits_more es n old new (waits_by notes event) part c.loop-place.invariant.waits (waits_hold c.requires.formed.0 es c.requires.formed.1 n event at notes c.loop-place.invariant.noted)
-          c.in_ok-push_waits.ensures c.in_ok-push.ensures.items (omega (arith, c.in_ok-from.ensures, c.len.ensures, c.loop-place.waits.places.ok.0)) (omega (arith, c.in_ok-to.ensures, c.len-in-loop-place.ensures, c.push_waits.new.places.ok.0));
+          c.in_ok-push_waits.ensures c.in_ok-push.ensures.items c.loop-place.invariant.from (omega (arith, c.in_ok-to.ensures, c.len-in-loop-place.ensures, c.push_waits.new.places.ok.0));
+      from = omega (arith, c.in_ok-to.ensures, c.len-in-loop-place.ensures, c.push_waits.new.places.ok.0);
     }

@@ -1,7 +1,7 @@
 use Rattle.std.proofs.Common.{refl}
 use Rattle.rd_linear.proofs.LinkLemmas.{gap_lacks}
 use Rattle.rd_linear.proofs.ThreadLemmas.{gap_at}
-use Rattle.rd_linear.proofs.links.link_wait.Goals as goal
+use Rattle.rd_linear.proofs.lanes.lane_of.Goals as goal
 
 pub unreachable-requires : goal.unreachable-requires
 unreachable-requires c =
