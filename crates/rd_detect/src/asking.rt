@@ -97,7 +97,7 @@ pub fn ask_others<L: Ledger>(
             class: *class,
             value: point.value,
         };
-        match store.index_of(asked) {
+        match covers.index_of(store, asked) {
             Some(index) => found = ask_at(store, covers, index, stamp, found, steps)?,
             None => steps.tick(),
         }

@@ -2,6 +2,8 @@
 ghost use Rattle.std.specs.Prelude.{◌≡◌, ◌≤◌, ◌⊎◌, ℕ, List, [], OnErr, OnOk, None, Some, length, true, ◌+◌};
 ghost use Rattle.rd_detect.specs.Covers.{cover_at, epoch_of, counts_epoch};
 
+mod near;
+
 use rd_base::NoMemory;
 use rd_clock::{Clock, StampRef};
 use rd_store::Witness;
@@ -21,11 +23,13 @@ pub struct Epoch {
 
 /// For points of a store, by their indices, the epoch of an event that knows all calls which are kept at the point: a clock that has heard of
 /// it covers them, however many there are (after the epochs of Flanagan and Freund 2009). Contracts see it as the list of these. Beside them it
-/// has for each of the first threads at most one call whose place another has taken, so that the thread's next call is written over that.
+/// has for each of the first threads at most one call whose place another has taken, so that the thread's next call is written over that; and
+/// guesses at the indices of points that were entered, of which nothing is claimed.
 #[derive(Drop)]
 pub struct Covers {
     epochs: Vec<Option<Epoch>>,
     spares: Vec<Option<Rc<Witness>>>,
+    guesses: Vec<u32>,
 }
 
 impl Model for Covers {
@@ -46,6 +50,7 @@ impl Covers {
         Covers {
             epochs: Vec::new(alloc),
             spares: Vec::new(alloc),
+            guesses: Vec::new(alloc),
         }
     }
 

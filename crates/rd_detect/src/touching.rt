@@ -74,7 +74,7 @@ pub fn look<L: Ledger>(
         let own = point.class;
         let classes = table.conflicts(own);
         latest = ask_others(store, covers, point, classes, seen.stamp, latest, steps)?;
-        let seat = store.enter(point, call.thread)?;
+        let seat = covers.enter(store, point, call.thread)?;
         let asked = classes.contains(&own);
         latest = ask_own(store, covers, seat.index, asked, seen.stamp, latest, steps)?;
         seats.push(seat);

@@ -64,10 +64,16 @@ absent_held (e ∷ es) p absent = by (same_point p e.0) absent (absent_held es p
     by true h rest = cc
     by false h rest = rest h
 
-point_of_entry : (es : Entries) (i : ℕ) (q : Point) (v : Cells) → slice_get es i ≡ Some (q, v) → point_at (held_entries es) i ≡ Some q
+-- the point of an entry is that at its index
+pub point_of_entry : (es : Entries) (i : ℕ) (q : Point) (v : Cells) → slice_get es i ≡ Some (q, v) → point_at (held_entries es) i ≡ Some q
 point_of_entry [] i q v at = cc
 point_of_entry (e ∷ es) zero q v at = cc
 point_of_entry (e ∷ es) (suc i) q v at = point_of_entry es i q v at
+
+pub point_of_none : (es : Entries) (i : ℕ) → slice_get es i ≡ None → point_at (held_entries es) i ≡ None
+point_of_none [] i none = refl
+point_of_none (e ∷ es) zero none = cc
+point_of_none (e ∷ es) (suc i) none = point_of_none es i none
 
 -- what a look-up of the entry's own point finds is what is held of the point at its index
 pub entry_found : (es : Entries) (store : List PointCells) (i : ℕ) (p q : Point) (v : Cells) → held_entries es ≡ store → point_at store i ≡ Some p → slice_get es i ≡ Some (q, v)

@@ -1,11 +1,12 @@
 //! The cells of a point by the index at which it was entered, so that a caller who keeps the index looks the point up once.
-ghost use Rattle.std.specs.Prelude.{◌≡◌, false, IsTrue, OnErr, ◌+◌, ◌<◌, ◌≤◌, ℕ, length, option_map, IfOk, OnOk, MatchOption, None, Some};
+ghost use Rattle.std.specs.Prelude.{◌≡◌, ◌↔◌, false, IsTrue, OnErr, ◌+◌, ◌<◌, ◌≤◌, ℕ, length, option_map, IfOk, OnOk, MatchOption, None, Some};
 ghost use Rattle.rd_points.specs.declared.points.Point.{Point as PointOf};
 ghost use Rattle.rd_store.specs.Lent.{lent_point, lent_witness};
 ghost use Rattle.rd_store.specs.Stores.{HasOneEach, HasRoom, IsLatestUncovered, IsSameStore, IsSeat, IsTouched, cell_count, cells_at, held_of, place_of, point_at};
 
 use super::{Store, latest_of, place_of, put, renew_cell, reserve_cell};
 use crate::{PointRef, Seat, Witness, WitnessRef};
+use indexmap::Equivalent;
 use rd_base::{NoMemory, Steps};
 use rd_clock::Clock;
 use rd_points::{Point, law_of_equal_points};
@@ -20,6 +21,17 @@ impl Store {
     {
         law_of_equal_points();
         self.points.get_index_of(point)
+    }
+
+    /// Whether a point was entered at this index. It takes no memory, and hashes nothing.
+    pub fn is_at(&self, index: usize, point: PointRef) -> bool
+        ensures { IsTrue result ↔ (point_at self.now index ≡ Some (lent_point point.entry)) }
+    {
+        law_of_equal_points();
+        match self.points.get_index(index) {
+            Some((held, _cells)) => point.equivalent(held),
+            None => false,
+        }
     }
 
     // Makes room for a cell of this thread at the point at an index, and answers the place of the cell.
@@ -54,6 +66,19 @@ impl Store {
         }
     }
 
+    /// Makes room for a cell of this thread at the point at an index, and answers where it stands, or will stand. The cells are as before, also
+    /// after want of memory. It hashes nothing.
+    pub fn enter_at(&mut self, index: usize, thread: u32) -> Result<Seat, NoMemory>
+        requires { index < length self.old }
+        ensures entered { IfOk result (λ seat. (point : PointOf) → point_at self.old index ≡ Some point
+            → IsSeat self.new thread point seat) }
+        ensures stay { (other : ℕ) → point_at self.new other ≡ point_at self.old other }
+        ensures same { IsSameStore self.old self.new }
+    {
+        let place = self.reserve_at(index, thread)?;
+        Ok(Seat { index, place })
+    }
+
     /// Enters a point, if it isn't there, and makes room for a cell of this thread there. It answers where the cell stands, or will
     /// stand. The cells are as before, also after want of memory. Only a point that isn't there is copied.
     pub fn enter(&mut self, point: PointRef, thread: u32) -> Result<Seat, NoMemory>
@@ -63,10 +88,7 @@ impl Store {
         ensures same { IsSameStore self.old self.new }
     {
         match self.index_of(point) {
-            Some(index) => {
-                let place = self.reserve_at(index, thread)?;
-                Ok(Seat { index, place })
-            }
+            Some(index) => self.enter_at(index, thread),
             None => {
                 let index = self.enter_new(point.copy(self.alloc)?)?;
                 Ok(Seat { index, place: 0 })
