@@ -1,5 +1,5 @@
 -- The places of calls on lines.
-use Rattle.std.proofs.Common.{◌≡◌, ◌≢◌, ℕ, ◌<◌, ◌==◌, Bool, true, false, cond, List, length, get_or, Option, Some, None, refl, sym, ap, subst, ◌∙◌, arith, position, true≢false}
+use Rattle.std.proofs.Common.{◌≡◌, ◌≢◌, ℕ, ◌<◌, ◌==◌, Bool, true, false, cond, List, get_or, Option, Some, None, refl, sym, ap, subst, ◌∙◌, arith, position, true≢false}
 use Rattle.std.specs.Option.{option_and_then, option_map_or}
 use Rattle.std.specs.Prelude.{max, min, slice_get}
 use Rattle.std.proofs.lemmas.Bool.Decides.{Decides-eqb}

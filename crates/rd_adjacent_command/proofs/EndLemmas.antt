@@ -1,6 +1,5 @@
 -- What is told at the end of a trace.
-use Rattle.std.proofs.Common.{◌≡◌, ◌↔◌, ℕ, ◌<◌, Bool, true, false, cond, List, [], ◌++◌, Some, None, Option, refl, sym, ap, subst, ◌∙◌, inl, inr, true≢false}
-use Rattle.std.specs.Prelude.{max, min}
+use Rattle.std.proofs.Common.{◌≡◌, ◌↔◌, ℕ, Bool, true, false, cond, List, [], Some, None, Option, refl, sym, ap, subst, ◌∙◌}
 use Rattle.rd_base.specs.Bytes.{IsFront}
 use Rattle.rd_adjacent.specs.Beside.{beside}
 use Rattle.rd_adjacent_command.specs.Outcomes.{adjacent_end, adjacent_outcome, call_on, event_lines, path_line, told_of, two_text}
@@ -18,7 +17,7 @@ use Rattle.rd_rewriting.specs.Ended.{ended_as}
 use Rattle.rd_rewriting.specs.Reordered.{reordered}
 use Rattle.rd_rules.specs.Events.{events_of}
 use Rattle.rd_walk.proofs.FileLemmas.{ending_at, entries_at}
-use Rattle.rd_walk.specs.Output.{IsOutput, IsWell, Outcome}
+use Rattle.rd_walk.specs.Output.{IsOutput, IsWell}
 use Rattle.rd_walk.specs.Walk.{Entry, Walked, after, ending_of, ends, entries_of, items}
 use Rattle.rd_walk.specs.declared.status.Status.{Status}
 use Rattle.rd_walk.specs.declared.walk.WalkEnd.TheVariants.{End}

@@ -1,22 +1,26 @@
 -- How many events are kept, and how many lines of events.
-use Rattle.std.proofs.Common.{◌≡◌, ℕ, suc, ◌<◌, Bool, true, false, cond, List, [], ◌∷◌, length, refl, sym, ap, ◌∙◌, arith}
+use Rattle.std.proofs.Common.{◌≡◌, suc, ◌<◌, Bool, true, false, cond, List, [], ◌∷◌, length, refl, sym, ap, ◌∙◌, arith}
 use Rattle.std.specs.Prelude.{filter, map}
-use Rattle.std.proofs.lemmas.List.{length-map}
+use Rattle.rd_adjacent_command.specs.Adjoining.{AdjoinsNamed}
 use Rattle.rd_adjacent_command.specs.Outcomes.{event_lines}
+use Rattle.rd_adjacent_command.specs.declared.adjoining.Adjoining.{Adjoining}
 use Rattle.rd_ecl.specs.Kinds.{Kind}
 use Rattle.rd_event.specs.declared.items.Line.{Line}
-use Rattle.rd_rewriting.proofs.KeepingLemmas.{follow_told}
-use Rattle.rd_rewriting.proofs.NamingLemmas.{as_line, lines_spelled}
-use Rattle.rd_rewriting.specs.Keeping.{KeepsLines}
-use Rattle.rd_rewriting.specs.declared.kept.Kept.{Kept}
-use Rattle.rd_rules.specs.Events.{events_of}
+use Rattle.rd_rewriting.proofs.KeepingLemmas.{events_counted, follow_told}
+use Rattle.rd_rewriting.proofs.LineLemmas.{lines_kept}
 use Rattle.rd_rules.specs.MayFollow.{is_event}
 use Rattle.rd_walk.specs.Walk.{Entry, items}
+use Rattle.rd_wf.specs.declared.roster.Roster.{Roster}
 
 -- events are few
-pub kept_few : (kinds : List Kind) (lines : List Line) (kept : Kept) → KeepsLines kinds kept lines → length kept.events.items < 4294967296
-kept_few kinds lines kept keeps =
-    let few = (follow_told kinds lines keeps.follow).told.formed.bounded.few_events in omega (arith, few, ap length keeps.events)
+pub kept_few : (kinds : List Kind) (lines : List Line) (now : Adjoining) (names : Roster) → AdjoinsNamed kinds now names lines → length now.events.items < 4294967296
+kept_few kinds lines now names kept =
+    let few = (follow_told kinds lines kept.named.keeps.follow).told.formed.bounded.few_events in omega (arith, few, ap length kept.events)
+
+-- as many as lines of events
+pub as_many : (kinds : List Kind) (lines : List Line) (now : Adjoining) (names : Roster) → AdjoinsNamed kinds now names lines → length now.events.items ≡ length now.kept.lines
+as_many kinds lines now names kept =
+    ap length kept.events ∙ (events_counted kinds lines kept.named.keeps.follow ∙ sym (lines_kept kinds now.kept lines kept.named.keeps))
 
 -- and each has a line
 lines_counted : (entries : List Entry) → length (event_lines entries) ≡ length (filter is_event (items entries))
@@ -29,9 +33,8 @@ lines_counted (entry ∷ entries) = by (is_event entry.item) (lines_counted entr
     by true same = ap suc same
     by false same = same
 
-pub lines_same : (kinds : List Kind) (entries : List Entry) (kept : Kept) (lines : List ℕ) → KeepsLines kinds kept (items entries) → lines ≡ event_lines entries
-    → length lines ≡ length kept.events.items
-lines_same kinds entries kept lines keeps are =
+pub lines_same : (kinds : List Kind) (entries : List Entry) (now : Adjoining) (names : Roster) → AdjoinsNamed kinds now names (items entries) → now.lines.items ≡ event_lines entries
+    → length now.lines.items ≡ length now.events.items
+lines_same kinds entries now names kept are =
     ap length are
-    ∙ (lines_counted entries
-    ∙ (ap length (lines_spelled kinds (items entries) keeps.follow) ∙ (length-map (events_of kinds (items entries)) (as_line kinds (items entries)) ∙ sym (ap length keeps.events))))
+    ∙ (lines_counted entries ∙ (sym (events_counted kinds (items entries) kept.named.keeps.follow) ∙ sym (ap length kept.events)))

@@ -1,9 +1,8 @@
 -- What `adjacent` writes and answers, in the words of accepted lines, of linear orders and of paths.
-use Rattle.std.proofs.Common.{◌≡◌, ◌≢◌, ℕ, zero, suc, ◌^◌, ◌+◌, ◌<◌, List, [], ◌∷◌, ◌++◌, length, Some, slice_get, refl, sym, ap, subst, ◌∙◌, arith, inl, inr}
+use Rattle.std.proofs.Common.{◌≡◌, ◌≢◌, ℕ, suc, ◌^◌, ◌+◌, ◌<◌, List, [], ◌∷◌, ◌++◌, length, Some, slice_get, refl, sym, subst, arith, inl, inr}
 use Rattle.std.proofs.lemmas.Bool.{cases_lt}
 use Rattle.std.specs.Prelude.{All, IsPermutation, filter, max, min}
 use Rattle.std.specs.List.{range_with_len}
-use Rattle.std.proofs.lemmas.List.{length-map}
 use Rattle.std.proofs.lemmas.Option.{slice_get_within}
 use Rattle.rd_adjacent.proofs.BesideLemmas.{beside_linear}
 use Rattle.rd_adjacent.specs.Adjacent.{IsCallAt}
@@ -16,11 +15,9 @@ use Rattle.rd_base.specs.declared.limits.Limits.{Limits}
 use Rattle.rd_event.specs.declared.events.Event.{Event}
 use Rattle.rd_io.specs.Lines.{Stop, reading}
 use Rattle.rd_linear.proofs.LinearLemmas.{linear_inside}
-use Rattle.rd_linear.specs.Orders.{IsLinear}
-use Rattle.rd_order.specs.Order.{Reaches}
 use Rattle.rd_order.proofs.FarthestLemmas.{path_is_farthest}
 use Rattle.rd_replay_command.specs.States.{built_in_kinds}
-use Rattle.rd_rewriting.proofs.NamingLemmas.{as_line, lines_spelled}
+use Rattle.rd_rewriting.proofs.KeepingLemmas.{events_counted}
 use Rattle.rd_rewriting.proofs.PermutationLemmas.{accepted_follow, events_permuted, headed, lines_permuted}
 use Rattle.rd_rewriting.specs.Keeping.{FollowFrom}
 use Rattle.rd_rules.specs.Events.{events_of}
@@ -97,7 +94,7 @@ adjacent_so first second order limits usable range stop bytes =
     let walk = trace_walk built_in_kinds limits stop bytes in
     let follow : FollowFrom built_in_kinds [] lines = accepted_follow built_in_kinds [] lines (told_none built_in_kinds) (trace_accepted built_in_kinds limits usable range stop bytes) in
     let es = events_of built_in_kinds lines in
-    let many : length (filter is_event lines) ≡ length es = ap length (lines_spelled built_in_kinds lines follow) ∙ length-map es (as_line built_in_kinds lines) in record {
+    let many : length (filter is_event lines) ≡ length es = sym (events_counted built_in_kinds lines follow) in record {
       entries = entries;
       ending = ending_of walked;
       walk = walk;

@@ -5,7 +5,6 @@ use Rattle.rd_adjacent.specs.Beside.{beside}
 use Rattle.rd_adjacent_command.specs.Outcomes.{adjacent_end, call_on, event_lines}
 use Rattle.rd_base.specs.declared.limits.Limits.{Limits}
 use Rattle.rd_event.specs.declared.events.Event.{Event}
-use Rattle.rd_event.specs.declared.items.Line.{Line}
 use Rattle.rd_io.specs.Lines.{Stop, reading}
 use Rattle.rd_linear.specs.Orders.{IsLinear}
 use Rattle.rd_order.specs.Order.{Reaches}

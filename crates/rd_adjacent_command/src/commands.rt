@@ -33,7 +33,7 @@ pub fn adjacent<I: Inputs, S: Sink, L: Ledger>(
         (ended_status result) }
 {
     let spec = shipped(alloc)?;
-    let adjoining = Adjoining::new(alloc, calls.0, calls.1, &spec);
+    let adjoining = Adjoining::new(alloc, calls.0, calls.1);
     let mut walker = Walker::new(alloc, limits, &spec, adjoining)?;
     let ended = report_trace(&TraceLines, &mut walker, trace, inputs, out, steps);
     // what the walk held is left to the end of the process, which takes it back at once

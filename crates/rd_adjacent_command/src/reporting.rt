@@ -1,10 +1,10 @@
 //! What `adjacent` writes behind the last line of a trace.
 ghost use Rattle.std.specs.Prelude.{◌≡◌, ◌<◌, ◌++◌, ◌==◌, ℕ, true, List, [], codes, decimal, flat_map, if◌then◌else◌, length, position, Some, None, IfOk, IfSome, OnOk, OnErr};
+ghost use Rattle.rd_adjacent_command.specs.Adjoining.{AdjoinsNamed};
 ghost use Rattle.rd_adjacent_command.specs.Outcomes.{adjacent_end, call_on, event_lines, is_call_at, not_a_call, path_line, place_text, two_text};
 ghost use Rattle.rd_ecl.specs.Kinds.{Kind};
 ghost use Rattle.rd_event.specs.declared.items.Line.{Line as LineOf};
 ghost use Rattle.rd_io.specs.Sinks.{Appends};
-ghost use Rattle.rd_rewriting.specs.Keeping.{KeepsNamed};
 ghost use Rattle.rd_walk.specs.Analysis.{TellsFault, WritesFront};
 ghost use Rattle.rd_walk.specs.Output.{IsOutput, IsTraceEnd, ended_status};
 ghost use Rattle.rd_walk.specs.Walk.{Entry, items};
@@ -83,15 +83,15 @@ fn append_places(text: &mut Bytes, lines: &[u64], places: &[u32]) -> Result<(), 
     Ok(())
 }
 
-impl<'a> Adjoining<'a> {
+impl Adjoining {
     // The place of the call on a line.
     fn call_on(&self, line: u64) -> Option<u32>
-        requires few { length self.now.kept.events.items < 4294967296 }
-        requires same { length self.now.lines.items ≡ length self.now.kept.events.items }
-        ensures { result ≡ call_on self.now.kept.events.items self.now.lines.items line }
+        requires few { length self.now.events.items < 4294967296 }
+        requires same { length self.now.lines.items ≡ length self.now.events.items }
+        ensures { result ≡ call_on self.now.events.items self.now.lines.items line }
     {
         match place_of(self.lines.as_slice(), line) {
-            Some(place) => call_at(self.kept.events.as_slice(), place),
+            Some(place) => call_at(self.events.as_slice(), place),
             None => None,
         }
     }
@@ -129,22 +129,22 @@ impl<'a> Adjoining<'a> {
         j: u32,
         out: &mut S,
     ) -> Result<(), Halt>
-        requires kept { (kinds : List Kind) × (lines : List LineOf) × KeepsNamed kinds self.now.kept names.now lines }
-        requires same { length self.now.lines.items ≡ length self.now.kept.events.items }
+        requires kept { (kinds : List Kind) × (lines : List LineOf) × AdjoinsNamed kinds self.now names.now lines }
+        requires same { length self.now.lines.items ≡ length self.now.events.items }
         requires order { i < j }
-        requires calls { (is_call_at self.now.kept.events.items i ≡ true) × (is_call_at self.now.kept.events.items j ≡ true) }
+        requires calls { (is_call_at self.now.events.items i ≡ true) × (is_call_at self.now.events.items j ≡ true) }
         ensures ok { OnOk result ((kinds : List Kind) (lines : List LineOf) →
-            KeepsNamed kinds self.now.kept names.now lines →
+            AdjoinsNamed kinds self.now names.now lines →
             Appends (S.written out.old) (S.written out.new)
-            (two_text self.now.kept.events.items lines self.now.lines.items i j)) }
+            (two_text self.now.events.items lines self.now.lines.items i j)) }
         ensures front { OnErr result ((kinds : List Kind) (lines : List LineOf) →
-            KeepsNamed kinds self.now.kept names.now lines →
+            AdjoinsNamed kinds self.now names.now lines →
             WritesFront (S.written out.old) (S.written out.new) []
-            (two_text self.now.kept.events.items lines self.now.lines.items i j)) }
+            (two_text self.now.events.items lines self.now.lines.items i j)) }
         ensures fault { TellsFault (S.faults out.old) (S.faults out.new) (S.at_fault out.new)
             (S.written out.new) result }
     {
-        match adjacent(alloc, self.kept.events.as_slice(), i, j) {
+        match adjacent(alloc, self.events.as_slice(), i, j) {
             Ok(places) => self.kept.write_lines(alloc, names, places.items(), out),
             Err(NotAdjacent::Ordered(path)) => self.write_path(alloc, path.items(), out),
             Err(NotAdjacent::NotACall(_)) => unreachable!(),
@@ -155,10 +155,10 @@ impl<'a> Adjoining<'a> {
     // Writes what is told of the two calls at the end of a trace.
     fn write_told<S: Sink>(&self, alloc: Global, names: &Roster, out: &mut S) -> Result<Ended, Halt>
         requires { (kinds : List Kind) × (entries : List Entry)
-            × KeepsNamed kinds self.now.kept names.now (items entries) × (self.now.lines.items ≡ event_lines entries)
+            × AdjoinsNamed kinds self.now names.now (items entries) × (self.now.lines.items ≡ event_lines entries)
             × (self.now.first < self.now.second) }
         ensures output { (kinds : List Kind) (entries : List Entry) →
-            KeepsNamed kinds self.now.kept names.now (items entries) → self.now.lines.items ≡ event_lines entries →
+            AdjoinsNamed kinds self.now names.now (items entries) → self.now.lines.items ≡ event_lines entries →
             (part : List ℕ) × Appends (S.written out.old) (S.written out.new) part
             × IsOutput (ended_status result) part (adjacent_end kinds entries self.now.first self.now.second) }
         ensures ends { IfOk result IsTraceEnd }
@@ -177,7 +177,7 @@ impl<'a> Adjoining<'a> {
     }
 }
 
-impl<'a> Report for Adjoining<'a> {
+impl Report for Adjoining {
     ghost use Rattle.rd_io.specs.Inputs.{fault_line};
     ghost use Rattle.rd_adjacent_command.specs.Outcomes.{adjacent_outcome};
 

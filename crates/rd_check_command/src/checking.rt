@@ -414,16 +414,21 @@ impl<'a> Analysis for Check<'a> {
 
     ghost text = { λ _ start. race_texts start.form start.spec.now };
 
+    ghost asks = { λ _ _. Unit {0} };
+
     ghost bound = { λ _ start. check_bound start.spec.now };
 
     ghost starts = { checks_none };
 
     ghost silent = { λ _ start. no_text start };
 
+    ghost said = { λ _ _ _ _. tt };
+
     #[inline(always)]
     fn accept<S: Sink, L: Ledger>(
         &mut self,
         number: u64,
+        _bytes: &[u8],
         accepted: &Accepted,
         roster: &Roster,
         out: &mut S,

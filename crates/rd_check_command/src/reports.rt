@@ -54,6 +54,8 @@ impl<'a> Analysis for CheckReport<'a> {
 
     ghost text = { λ _ start. race_texts start.check.form start.check.spec.now };
 
+    ghost asks = { λ _ _. Unit {0} };
+
     ghost bound = { λ _ start. check_bound start.check.spec.now };
 
     ghost starts = { λ kinds start begins. record {
@@ -63,16 +65,22 @@ impl<'a> Analysis for CheckReport<'a> {
 
     ghost silent = { λ _ start. no_text start.check };
 
+    ghost said = { λ _ _ _ _. tt };
+
     #[inline(always)]
     fn accept<S: Sink, L: Ledger>(
         &mut self,
         number: u64,
+        bytes: &[u8],
         accepted: &Accepted,
         roster: &Roster,
         out: &mut S,
         steps: &mut Steps<L>,
     ) -> Result<(), Halt> {
-        match self.check.accept(number, accepted, roster, out, steps) {
+        match self
+            .check
+            .accept(number, bytes, accepted, roster, out, steps)
+        {
             Ok(()) => follow(&mut self.replayer, number, accepted),
             Err(halt) => Err(halt),
         }

@@ -75,6 +75,7 @@ fn hand_on<A: Analysis, S: Sink, L: Ledger>(
     steps: &mut Steps<L>,
 ) -> Result<Taken, Halt>
     requires usable { AreUsable walker.old.limits }
+    requires asks { (item : Item) → A.asks [] item }
     requires next { (old : Walker A) × (item : Item) × WasJudged old walker.old item (Ok accepted.now)
         × (kinds : List Kind) × (start : A) × (before : List Entry)
         × RosterStandsFor kinds old.roster (items before)
@@ -89,7 +90,7 @@ fn hand_on<A: Analysis, S: Sink, L: Ledger>(
 {
     match walker
         .analysis
-        .accept(number, accepted, &walker.roster, out, steps)
+        .accept(number, b"", accepted, &walker.roster, out, steps)
     {
         Ok(()) => Ok(Taken::Accepted),
         Err(halt) => Err(halt),
@@ -105,6 +106,7 @@ fn finish<A: Analysis, S: Sink, L: Ledger>(
     steps: &mut Steps<L>,
 ) -> Result<Taken, Halt>
     requires usable { AreUsable walker.old.limits }
+    requires asks { (item : Item) → A.asks [] item }
     requires next { (old : Walker A) × (item : Item) × WasJudged old walker.old item judged
         × (kinds : List Kind) × (start : A) × (before : List Entry)
         × RosterStandsFor kinds old.roster (items before)

@@ -238,16 +238,21 @@ impl Analysis for FirstRaces {
 
     ghost text = { λ _ _. first_texts };
 
+    ghost asks = { λ _ _. Unit {0} };
+
     ghost bound = { λ _ _. epochs_bound };
 
     ghost starts = { watches_none };
 
     ghost silent = { λ _ _. nothing_told };
 
+    ghost said = { λ _ _ _ _. tt };
+
     #[inline(always)]
     fn accept<S: Sink, L: Ledger>(
         &mut self,
         number: u64,
+        _bytes: &[u8],
         accepted: &Accepted,
         roster: &Roster,
         out: &mut S,

@@ -1,6 +1,7 @@
 //! A report on a generated trace.
 ghost use Rattle.std.specs.Prelude.{◌≡◌, ◌≢◌, ◌≤◌, ℕ, List, [], Ok, IfOk, OnOk, OnErr};
 ghost use Rattle.rd_base.specs.Limits.{AreUsable};
+ghost use Rattle.rd_event.specs.declared.items.Line.{Line as Item};
 ghost use Rattle.rd_gen.specs.declared.counts.TheConstants.{MOST_CALLS};
 ghost use Rattle.rd_gen_command.specs.GeneratedWalks.{CountsGenerated, trace_counts_text, gen_outcome, behind_counts, generated_walk};
 ghost use Rattle.rd_io.specs.Sinks.{Appends};
@@ -55,6 +56,7 @@ fn report_generated<A: Report, S: Sink, L: Ledger>(
 ) -> Result<Ended, Halt>
     requires few { count ≤ MOST_CALLS }
     requires usable { AreUsable walker.old.limits }
+    requires asks { (item : Item) → A.asks [] item }
     requires none { RosterStandsFor (kinds_in walker.old.roster) walker.old.roster [] }
     requires begins { A.begins (kinds_in walker.old.roster) walker.old.analysis }
     ensures output { (part : List ℕ) × Appends (S.written out.old) (S.written out.new) part
@@ -92,6 +94,7 @@ pub(crate) fn gen_check<A: Report, S: Sink, L: Ledger>(
 ) -> Result<Ended, Halt>
     requires few { count ≤ MOST_CALLS }
     requires usable { AreUsable walker.old.limits }
+    requires asks { (item : Item) → A.asks [] item }
     requires none { RosterStandsFor (kinds_in walker.old.roster) walker.old.roster [] }
     requires begins { A.begins (kinds_in walker.old.roster) walker.old.analysis }
 

@@ -1,6 +1,7 @@
 //! The walk over the lines of a generated trace.
 ghost use Rattle.std.specs.Prelude.{◌≡◌, ◌≢◌, ℕ, ◌+◌, ◌<◌, ◌≤◌, ◌^◌, List, [], ◌++◌, Ok, length, IfOk, OnErr};
 ghost use Rattle.rd_base.specs.Limits.{AreUsable};
+ghost use Rattle.rd_event.specs.declared.items.Line.{Line as Item};
 ghost use Rattle.rd_gen_command.specs.GeneratedWalks.{CountsGenerated, walk_items};
 ghost use Rattle.rd_io.specs.Sinks.{Appends};
 ghost use Rattle.rd_walk.specs.Analysis.{TellsFault};
@@ -22,6 +23,7 @@ pub(crate) fn walk_generated<A: Analysis, S: Sink, L: Ledger>(
     steps: &mut Steps<L>,
 ) -> Result<WalkEnd, Halt>
     requires usable { AreUsable walker.old.limits }
+    requires asks { (item : Item) → A.asks [] item }
     requires none { RosterStandsFor (kinds_in walker.old.roster) walker.old.roster [] }
     requires begins { A.begins (kinds_in walker.old.roster) walker.old.analysis }
     requires few { length generator.old.lines < 2 ^ 63 }

@@ -1,3 +1,5 @@
+pub mod KeptLemmas
 pub mod OrderLemmas
 pub mod OutcomeLemmas
 pub mod ReportLemmas
+pub mod ValueLemmas

@@ -1,8 +1,7 @@
 -- What `reorder` writes and answers, in the words of accepted lines and of linear orders.
-use Rattle.std.proofs.Common.{◌≡◌, ℕ, ◌^◌, ◌<◌, List, [], length, refl, sym, ap, subst, ◌∙◌}
+use Rattle.std.proofs.Common.{◌≡◌, ℕ, ◌^◌, ◌<◌, List, [], length, refl, sym, subst}
 use Rattle.std.specs.Prelude.{All, IsPermutation, filter}
 use Rattle.std.specs.List.{range_with_len}
-use Rattle.std.proofs.lemmas.List.{length-map}
 use Rattle.rd_base.specs.Limits.{AreUsable}
 use Rattle.rd_base.specs.declared.limits.Limits.{Limits}
 use Rattle.rd_io.specs.Lines.{Stop, reading}
@@ -11,7 +10,7 @@ use Rattle.rd_reorder_command.proofs.OrderLemmas.{picked_linear}
 use Rattle.rd_reorder_command.specs.Outcomes.{places_by, reorder_outcome}
 use Rattle.rd_reorder_command.specs.Reports.{IsReordered}
 use Rattle.rd_replay_command.specs.States.{built_in_kinds}
-use Rattle.rd_rewriting.proofs.NamingLemmas.{as_line, lines_spelled}
+use Rattle.rd_rewriting.proofs.KeepingLemmas.{events_counted}
 use Rattle.rd_rewriting.proofs.PermutationLemmas.{accepted_follow, events_permuted, headed, lines_permuted}
 use Rattle.rd_rewriting.specs.Keeping.{FollowFrom}
 use Rattle.rd_walk.proofs.AcceptedLemmas.{trace_accepted}
@@ -31,7 +30,7 @@ reordered_so number limits usable range stop bytes =
     let follow : FollowFrom built_in_kinds [] lines = accepted_follow built_in_kinds [] lines (told_none built_in_kinds) (trace_accepted built_in_kinds limits usable range stop bytes) in
     let linear = picked_linear built_in_kinds lines follow number in
     let es = events_of built_in_kinds lines in
-    let many : length (filter is_event lines) ≡ length es = ap length (lines_spelled built_in_kinds lines follow) ∙ length-map es (as_line built_in_kinds lines) in
+    let many : length (filter is_event lines) ≡ length es = sym (events_counted built_in_kinds lines follow) in
     let places = places_by built_in_kinds lines number in record {
       entries = entries;
       ending = ending_of walked;

@@ -31,7 +31,7 @@ pub fn reorder<I: Inputs, S: Sink, L: Ledger>(
         (ended_status result) }
 {
     let spec = shipped(alloc)?;
-    let reordering = Reordering::new(alloc, number, &spec);
+    let reordering = Reordering::new(alloc, number);
     let mut walker = Walker::new(alloc, limits, &spec, reordering)?;
     let ended = report_trace(&TraceLines, &mut walker, trace, inputs, out, steps);
     // what the walk held is left to the end of the process, which takes it back at once

@@ -4,7 +4,7 @@ ghost use Rattle.rd_ecl.specs.Kinds.{Kind};
 ghost use Rattle.rd_event.specs.declared.items.Line.{Line as LineOf};
 ghost use Rattle.rd_io.specs.Sinks.{Appends};
 ghost use Rattle.rd_reorder_command.specs.Outcomes.{picked_text};
-ghost use Rattle.rd_rewriting.specs.Keeping.{KeepsNamed};
+ghost use Rattle.rd_reorder_command.specs.Reordering.{ReordersNamed};
 ghost use Rattle.rd_walk.specs.Analysis.{TellsFault, WritesFront};
 
 use crate::reordering::Reordering;
@@ -15,27 +15,27 @@ use rd_walk::{Ended, Halt, Report, WalkEnd, write_line};
 use rd_wf::Roster;
 use std::alloc::Global;
 
-impl<'a> Reordering<'a> {
+impl Reordering {
     /// Writes the trace in the order that the number picks.
     fn write_picked<S: Sink>(&self, alloc: Global, names: &Roster, out: &mut S) -> Result<(), Halt>
         requires { (kinds : List Kind) × (lines : List LineOf)
-            × KeepsNamed kinds self.now.kept names.now lines }
+            × ReordersNamed kinds self.now names.now lines }
         ensures ok { OnOk result ((kinds : List Kind) (lines : List LineOf) →
-            KeepsNamed kinds self.now.kept names.now lines →
+            ReordersNamed kinds self.now names.now lines →
             Appends (S.written out.old) (S.written out.new) (picked_text kinds lines self.now.number)) }
         ensures front { OnErr result ((kinds : List Kind) (lines : List LineOf) →
-            KeepsNamed kinds self.now.kept names.now lines →
+            ReordersNamed kinds self.now names.now lines →
             WritesFront (S.written out.old) (S.written out.new) []
             (picked_text kinds lines self.now.number)) }
         ensures fault { TellsFault (S.faults out.old) (S.faults out.new) (S.at_fault out.new)
             (S.written out.new) result }
     {
-        let places = reorder(alloc, self.kept.events.as_slice(), self.number)?;
+        let places = reorder(alloc, self.events.as_slice(), self.number)?;
         self.kept.write_lines(alloc, names, places.items(), out)
     }
 }
 
-impl<'a> Report for Reordering<'a> {
+impl Report for Reordering {
     ghost use Rattle.rd_io.specs.Inputs.{fault_line};
     ghost use Rattle.rd_reorder_command.specs.Outcomes.{reorder_outcome};
 

@@ -49,16 +49,21 @@ impl Analysis for Replaying {
 
     ghost text = { λ _ _ _. [] };
 
+    ghost asks = { λ _ _. Unit {0} };
+
     ghost bound = { λ _ _ _ _. 0 };
 
     ghost starts = { λ kinds start begins. begins };
 
     ghost silent = { λ _ _. refl };
 
+    ghost said = { λ _ _ _ _. tt };
+
     #[inline(always)]
     fn accept<S: Sink, L: Ledger>(
         &mut self,
         number: u64,
+        _bytes: &[u8],
         accepted: &Accepted,
         _roster: &Roster,
         _out: &mut S,

@@ -1,20 +1,22 @@
 -- What is kept of the accepted lines, with one line more.
-use Rattle.std.proofs.Common.{◌≡◌, ℕ, ◌+◌, ◌<◌, List, [], ◌∷◌, ◌++◌, length, refl, sym, ap, subst, ◌∙◌, arith}
-use Rattle.std.specs.List.{cons_option}
-use Rattle.std.proofs.lemmas.List.{append-nil, append_assoc, length-append}
-use Rattle.std.proofs.lemmas.List.Elements.{filter_map-append}
-use Rattle.rd_ecl.specs.Kinds.{Kind, kinds_of}
+use Rattle.std.proofs.Common.{◌≡◌, ℕ, Bool, List, [], ◌∷◌, ◌++◌, length, map, refl, sym, ap, subst, ◌∙◌}
+use Rattle.std.specs.Prelude.{codes, filter}
+use Rattle.std.proofs.lemmas.List.{append-nil, append_assoc, map-append}
+use Rattle.std.proofs.lemmas.List.Elements.{filter-append}
+use Rattle.std.proofs.lemmas.List.Sums.{length-filter}
+use Rattle.rd_ecl.specs.Kinds.{Kind}
+use Rattle.rd_event.specs.Items.{line_text}
 use Rattle.rd_event.specs.declared.items.Line.{Line}
 use Rattle.rd_event.specs.declared.items.Line.TheVariants.{Skip, Header, Thread, Object, Event}
-use Rattle.rd_rewriting.specs.Keeping.{FollowFrom, IsFollower, KeepsLines, KeepsMore, event_told, kind_told, roots_with}
+use Rattle.rd_rewriting.specs.Keeping.{FollowFrom, IsFollower, KeepsLines, KeepsMore, Spells, tells_event, tells_object, tells_root, text_if}
+use Rattle.rd_rewriting.specs.Reordered.{is_declaration}
 use Rattle.rd_rewriting.specs.declared.kept.Kept.{Kept}
 use Rattle.rd_walk.proofs.WalkLemmas.{items_more}
 use Rattle.rd_walk.specs.Analysis.{IsNextEntry}
 use Rattle.rd_walk.specs.Walk.{Entry, items}
-use Rattle.rd_rules.proofs.EventsLemmas.{all_roots, events_more, roots_more, threads_more, told_more}
-use Rattle.rd_rules.proofs.FollowLemmas.{met}
-use Rattle.rd_rules.specs.Events.{AreTold, event_of, root_count}
-use Rattle.rd_rules.specs.MayFollow.{accepted_of, declared_kind, is_skip, threads_of}
+use Rattle.rd_rules.proofs.EventsLemmas.{told_more}
+use Rattle.rd_rules.specs.Events.{AreTold, events_of}
+use Rattle.rd_rules.specs.MayFollow.{accepted_of, is_event, is_root}
 use Rattle.rd_rules.specs.declared.causes.Accepted.{Accepted}
 use Rattle.rd_rules.specs.declared.causes.Accepted.TheVariants as accepted
 use Rattle.rd_wf.specs.declared.roster.Roster.{Roster}
@@ -39,75 +41,76 @@ told_from kinds before (line ∷ lines) told follow =
 pub follow_told : (kinds : List Kind) (lines : List Line) → FollowFrom kinds [] lines → AreTold kinds lines
 follow_told kinds lines follow = told_from kinds [] lines (told_none kinds) follow
 
--- ---- what a line is in numbers
+-- as many events as lines of events
+pub events_counted : (kinds : List Kind) (lines : List Line) → FollowFrom kinds [] lines → length (events_of kinds lines) ≡ length (filter is_event lines)
+events_counted kinds lines follow = (follow_told kinds lines follow).told.counted ∙ sym (length-filter is_event lines)
 
-kind_is : (kinds : List Kind) (before : List Line) (item : Line) → kind_told (accepted_of kinds before item) ≡ declared_kind kinds item
-unfolding accepted_of
-kind_is kinds before Skip = refl
-kind_is kinds before (Header version) = refl
-kind_is kinds before (Thread name) = refl
-kind_is kinds before (Object name kind) = refl
-kind_is kinds before (Event event) = refl
+-- ---- what a line is in numbers, and its text
 
-event_is : (kinds : List Kind) (before : List Line) (item : Line) → event_told (accepted_of kinds before item) ≡ event_of kinds before item
-unfolding accepted_of
-event_is kinds before Skip = refl
-event_is kinds before (Header version) = refl
-event_is kinds before (Thread name) = refl
-event_is kinds before (Object name kind) = refl
-event_is kinds before (Event event) = refl
+module _ (kinds : List Kind) (before : List Line) where
+  root_is : (item : Line) (bytes : List ℕ) → Spells bytes item → text_if (tells_root (accepted_of kinds before item)) bytes ≡ map line_text (filter is_root (item ∷ []))
+  unfolding accepted_of
+  root_is Skip bytes spells = refl
+  root_is (Header version) bytes spells = refl
+  root_is (Thread name) bytes spells = ap (λ b. (b ++ codes "\n") ∷ []) (spells refl)
+  root_is (Object name kind) bytes spells = refl
+  root_is (Event event) bytes spells = refl
 
-roots_are : (kinds : List Kind) (before : List Line) (item : Line) → AreTold kinds before → IsFollower kinds before item
-    → roots_with (root_count before) (accepted_of kinds before item) ≡ root_count (before ++ item ∷ [])
-unfolding accepted_of
-roots_are kinds before Skip told next = omega (arith, roots_more before Skip)
-roots_are kinds before (Header version) told next = omega (arith, roots_more before (Header version))
-roots_are kinds before (Object name kind) told next = omega (arith, roots_more before (Object name kind))
-roots_are kinds before (Event event) told next = omega (arith, roots_more before (Event event))
-roots_are kinds before (Thread name) told next =
-    let none = (met kinds next.limits before (Thread name) (λ skip. let e = ap is_skip skip in cc) next.follows).early_root refl in
-    let all : root_count before ≡ length (threads_of before) = all_roots kinds before told none in
-    omega (arith, all, roots_more before (Thread name))
+  object_is : (item : Line) (bytes : List ℕ) → Spells bytes item → text_if (tells_object (accepted_of kinds before item)) bytes ≡ map line_text (filter is_declaration (item ∷ []))
+  unfolding accepted_of
+  object_is Skip bytes spells = refl
+  object_is (Header version) bytes spells = refl
+  object_is (Thread name) bytes spells = refl
+  object_is (Object name kind) bytes spells = ap (λ b. (b ++ codes "\n") ∷ []) (spells refl)
+  object_is (Event event) bytes spells = refl
 
--- a root's number leaves room for the next
-pub root_below : (kinds : List Kind) (before : List Line) (item : Line) (thread : ℕ) → IsFollower kinds before item
-    → accepted_of kinds before item ≡ accepted.Root thread → thread < 4294967295
-unfolding accepted_of
-root_below kinds before (Thread name) thread next is =
-    let same : length (threads_of before) ≡ thread = cc in
-    let more : length (threads_of (before ++ Thread name ∷ [])) ≡ length (threads_of before) + 1 =
-    ap length (threads_more before (Thread name)) ∙ length-append (threads_of before) (name ∷ []) in
-    omega (arith, same, more, next.few)
-root_below kinds before Skip thread next is = cc
-root_below kinds before (Header version) thread next is = cc
-root_below kinds before (Object name kind) thread next is = cc
-root_below kinds before (Event event) thread next is = cc
+  text_is : (item : Line) (bytes : List ℕ) → Spells bytes item → text_if (tells_event (accepted_of kinds before item)) bytes ≡ map line_text (filter is_event (item ∷ []))
+  unfolding accepted_of
+  text_is Skip bytes spells = refl
+  text_is (Header version) bytes spells = refl
+  text_is (Thread name) bytes spells = refl
+  text_is (Object name kind) bytes spells = refl
+  text_is (Event event) bytes spells = ap (λ b. (b ++ codes "\n") ∷ []) (spells refl)
 
 -- ---- one line more
+
+-- the texts of those that pass, and of one more
+texts_more : (test : Line → Bool) (lines : List Line) (item : Line) (old new told : List (List ℕ)) → old ≡ map line_text (filter test lines)
+    → told ≡ map line_text (filter test (item ∷ [])) → new ≡ old ++ told → new ≡ map line_text (filter test (lines ++ item ∷ []))
+texts_more test lines item old new told are is more =
+    more
+    ∙ ((λ i. are i ++ is i)
+    ∙ sym (ap (map line_text) (filter-append test lines (item ∷ [])) ∙ map-append line_text (filter test lines) (filter test (item ∷ []))))
 
 pub next_follower : {number : ℕ} (kinds : List Kind) (roster : Roster) (before : List Entry) (item : Line) (numbers : Accepted) → IsNextEntry kinds roster before number item numbers
     → IsFollower kinds (items before) item
 next_follower kinds roster before item numbers next = record { limits = next.limits; usable = next.usable; follows = next.follows; few = next.few }
 
-module _ (kinds : List Kind) (lines : List Line) (item : Line) (old new : Kept) (keeps : KeepsLines kinds old lines) (next : IsFollower kinds lines item) where
-  keeps_more : KeepsMore old new (accepted_of kinds lines item) → KeepsLines kinds new (lines ++ item ∷ [])
-  keeps_more more = record {
-    kinds_are = ap kinds_of more.spec ∙ keeps.kinds_are;
+module _ (kinds : List Kind) (lines : List Line) (item : Line) (bytes : List ℕ) (old new : Kept) (keeps : KeepsLines kinds old lines) (next : IsFollower kinds lines item) where
+  keeps_more : Spells bytes item → KeepsMore old new bytes (accepted_of kinds lines item) → KeepsLines kinds new (lines ++ item ∷ [])
+  keeps_more spells more = record {
     follow = follow_more kinds [] lines item keeps.follow next;
-    roots = more.roots ∙ (ap (λ n. roots_with n (accepted_of kinds lines item)) keeps.roots ∙ roots_are kinds lines item (follow_told kinds lines keeps.follow) next);
-    objects = more.objects
-        ∙ ((λ i. keeps.objects i ++ cons_option (kind_is kinds lines item i) []) ∙ sym (filter_map-append (declared_kind kinds) lines (item ∷ [])));
-    events = more.events ∙ ((λ i. keeps.events i ++ cons_option (event_is kinds lines item i) []) ∙ sym (events_more kinds lines item));
+    roots = texts_more is_root lines item old.roots new.roots _ keeps.roots (root_is kinds lines item bytes spells) more.roots;
+    objects = texts_more is_declaration lines item old.objects new.objects _ keeps.objects (object_is kinds lines item bytes spells) more.objects;
+    texts = texts_more is_event lines item old.lines new.lines _ keeps.texts (text_is kinds lines item bytes spells) more.texts;
   }
 
 -- what is kept of entries and one more
-pub keeps_entry : (kinds : List Kind) (before : List Entry) (entry : Entry) (old new : Kept) (roster : Roster) (numbers : Accepted) → KeepsLines kinds old (items before)
-    → IsNextEntry kinds roster before entry.number entry.item numbers → KeepsMore old new numbers → KeepsLines kinds new (items (before ++ entry ∷ []))
-keeps_entry kinds before entry old new roster numbers keeps next more =
+pub keeps_entry : (kinds : List Kind) (before : List Entry) (entry : Entry) (bytes : List ℕ) (old new : Kept) (roster : Roster) (numbers : Accepted) → KeepsLines kinds old (items before)
+    → IsNextEntry kinds roster before entry.number entry.item numbers → Spells bytes entry.item → KeepsMore old new bytes numbers → KeepsLines kinds new (items (before ++ entry ∷ []))
+keeps_entry kinds before entry bytes old new roster numbers keeps next spells more =
     subst (KeepsLines kinds new) (sym (items_more before entry))
-    (keeps_more kinds (items before) entry.item old new keeps (next_follower kinds roster before entry.item numbers next)
-    (subst (KeepsMore old new) next.numbers more))
+    (keeps_more kinds (items before) entry.item bytes old new keeps (next_follower kinds roster before entry.item numbers next) spells
+    (subst (KeepsMore old new bytes) next.numbers more))
 
 -- nothing more is kept of a line that is nothing
-pub nothing_more : (now : Kept) → KeepsMore now now accepted.Nothing
-nothing_more now = record { spec = refl; roots = refl; objects = sym (append-nil now.objects.items); events = sym (append-nil now.events.items) }
+pub nothing_more : (now : Kept) (bytes : List ℕ) → KeepsMore now now bytes accepted.Nothing
+nothing_more now bytes = record {
+  roots = sym (append-nil now.roots);
+  objects = sym (append-nil now.objects);
+  texts = sym (append-nil now.lines);
+}
+
+-- of a line that is skipped nothing is asked
+pub skip_spelled : (bytes : List ℕ) → Spells bytes Skip
+skip_spelled bytes is = cc

@@ -1,8 +1,7 @@
 pub mod EndedLemmas
 pub mod KeepingLemmas
-pub mod KindLemmas
 pub mod LineLemmas
-pub mod NamingLemmas
 pub mod PermutationLemmas
 pub mod ReorderedLemmas
 pub mod TextLemmas
+pub mod TextsLemmas

@@ -1,90 +1,59 @@
--- The lines that are written, by what is kept and the names of a roster.
-use Rattle.std.proofs.Common.{◌≡◌, ℕ, ◌+◌, ◌<◌, List, ◌++◌, length, Option, Some, get_or, slice_get, sym, ap, subst, ◌∙◌, arith}
-use Rattle.std.specs.Prelude.{All}
-use Rattle.std.proofs.lemmas.Option.{same_Some, slice_get-get_or}
-use Rattle.rd_ecl.specs.Kinds.{Kind, kinds_of}
+-- The lines that are kept, and those that are written.
+use Rattle.std.proofs.Common.{◌≡◌, ℕ, ◌+◌, ◌<◌, List, length, map, Some, slice_get, sym, ap, subst, ◌∙◌, arith}
+use Rattle.std.specs.Prelude.{All, filter, option_map}
 use Rattle.std.proofs.lemmas.List.{length-map}
-use Rattle.rd_ecl.specs.Kinds.{kind_of}
-use Rattle.rd_event.specs.Items.{line_spelling}
-use Rattle.rd_event.specs.declared.events.Event.{Event as Numbered}
+use Rattle.std.proofs.lemmas.List.Sums.{length-filter}
+use Rattle.std.proofs.lemmas.Option.{same_Some, slice_get-map}
+use Rattle.rd_ecl.specs.Kinds.{Kind}
+use Rattle.rd_event.specs.Items.{line_text}
 use Rattle.rd_event.specs.declared.items.Line.{Line}
-use Rattle.rd_event.specs.declared.items.Line.TheVariants.{Event, Header, Object, Thread}
-use Rattle.rd_rewriting.proofs.KeepingLemmas.{follow_told}
-use Rattle.rd_rewriting.proofs.NamingLemmas.{all_named}
-use Rattle.rd_rewriting.proofs.ReorderedLemmas.{all_counted, event_line, header_line, object_line_at, root_line, roots_few}
-use Rattle.rd_rewriting.specs.Keeping.{ArePlaces, KeepsNamed}
-use Rattle.rd_rewriting.specs.Naming.{HasNames, name_of_kind, named_event, object_name, thread_name}
-use Rattle.rd_rewriting.specs.Reordered.{reordered}
+use Rattle.rd_rewriting.proofs.ReorderedLemmas.{all_counted, declaration_line, event_line, objects_counted, root_line}
+use Rattle.rd_rewriting.specs.Keeping.{ArePlaces, KeepsLines}
+use Rattle.rd_rewriting.specs.Reordered.{is_declaration, reordered}
 use Rattle.rd_rewriting.specs.declared.kept.Kept.{Kept}
-use Rattle.rd_rules.proofs.EventsLemmas.{kinds_placed}
-use Rattle.rd_rules.specs.Events.{AreTold, events_of}
-use Rattle.rd_rules.specs.MayFollow.{events, object_kinds, version_of}
-use Rattle.rd_wf.specs.Roster.{lock_count, object_count, thread_count}
-use Rattle.rd_wf.specs.declared.roster.Roster.{Roster}
+use Rattle.rd_rules.specs.MayFollow.{events, is_event, is_root, objects_of}
 
--- a line that is found at a place is the one that stands there
-pub same_line : (text old : List ℕ) (one line : Line) (at : Option Line) → at ≡ Some one → at ≡ Some line → text ≡ old ++ line_spelling one → text ≡ old ++ line_spelling line
-same_line text old one line at is also told = told ∙ ap (λ l. old ++ line_spelling l) (same_Some one line (sym is ∙ also))
+-- the text with a number is that of the line with it
+text_is : (all : List Line) (texts : List (List ℕ)) (i : ℕ) (line : Line) (text : List ℕ) → texts ≡ map line_text all → slice_get all i ≡ Some line → slice_get texts i ≡ Some text → text ≡ line_text line
+text_is all texts i line text are at got =
+    same_Some text (line_text line) (sym got ∙ (ap (λ l. slice_get l i) are ∙ (slice_get-map line_text all i ∙ ap (option_map line_text) at)))
 
-module _ (kinds : List Kind) (now : Kept) (names : Roster) (lines : List Line) (kept : KeepsNamed kinds now names lines) where
-  told : AreTold kinds lines
-  told = follow_told kinds lines kept.keeps.follow
+module _ (kinds : List Kind) (now : Kept) (lines : List Line) (keeps : KeepsLines kinds now lines) where
+  pub roots_kept : length now.roots ≡ length (filter is_root lines)
+  roots_kept = ap length keeps.roots ∙ length-map (filter is_root lines) line_text
 
-  -- as many objects as kinds of objects, and as many events as were counted
-  pub objects_kept : length now.objects.items ≡ object_count names
-  objects_kept = ap length kept.keeps.objects ∙ (kinds_placed kinds lines ∙ sym kept.stands.object_total)
+  pub objects_kept : length now.objects ≡ length (filter is_declaration lines)
+  objects_kept = ap length keeps.objects ∙ length-map (filter is_declaration lines) line_text
 
-  pub events_kept : length now.events.items ≡ events lines
-  events_kept = ap length kept.keeps.events ∙ told.told.counted
+  pub lines_kept : length now.lines ≡ length (filter is_event lines)
+  lines_kept = ap length keeps.texts ∙ length-map (filter is_event lines) line_text
 
-  -- a root is a thread
-  pub root_known : (i : ℕ) → i < now.roots → i < thread_count names
-  root_known i below = omega (arith, below, kept.keeps.roots, roots_few kinds lines kept.keeps.follow, kept.stands.thread_total)
+  -- as many objects and events as are counted
+  pub objects_many : length now.objects ≡ length (objects_of lines)
+  objects_many = objects_kept ∙ objects_counted lines
 
-  -- an object's kind is one
-  pub kind_known : (i kind : ℕ) → i < length now.objects.items → kind ≡ get_or now.objects.items i kind → kind < length now.spec.now
-  kind_known i kind inside is =
-      let same : kind ≡ get_or (object_kinds kinds lines) i kind = is ∙ ap (λ l. get_or l i kind) kept.keeps.objects in
-      let below : get_or (object_kinds kinds lines) i kind < length kinds = told.declared i kind (omega (arith, inside, ap length kept.keeps.objects)) in
-      omega (arith, same, below, ap length kept.keeps.kinds_are, length-map now.spec.now kind_of)
-
-  -- an event's numbers have names
-  pub event_known : (p : ℕ) (e : Numbered) → p < length now.events.items → e ≡ get_or now.events.items p e
-      → HasNames (kinds_of now.spec.now) (thread_count names) (lock_count names) (object_count names) e
-  event_known p e inside is =
-      let same : e ≡ get_or (events_of kinds lines) p e = is ∙ ap (λ l. get_or l p e) kept.keeps.events in
-      let named = all_named kinds lines kept.keeps.follow p e (omega (arith, inside, ap length kept.keeps.events)) in
-      subst (λ (T : Type 0). T) (λ i. HasNames (sym kept.keeps.kinds_are i) (sym kept.stands.thread_total i) (sym kept.stands.lock_total i) (sym kept.stands.object_total i) (sym same i)) named
+  pub lines_many : length now.lines ≡ events lines
+  lines_many = lines_kept ∙ length-filter is_event lines
 
   module _ (places : List ℕ) (inside : ArePlaces now places) where
-    places_inside : All (λ p. p < length (events_of kinds lines)) places
-    places_inside = subst (λ es. All (λ p. p < length es) places) kept.keeps.events inside
+    places_inside : All (λ p. p < length (filter is_event lines)) places
+    places_inside = subst (λ n. All (λ p. p < n) places) lines_kept inside
 
-    pub counted : length (reordered lines places) ≡ 1 + now.roots + object_count names + length places
-    counted = omega (arith, all_counted kinds lines kept.keeps.follow places places_inside, kept.keeps.roots, kept.stands.object_total)
+    pub counted : length (reordered lines places) ≡ 1 + length now.roots + length now.objects + length places
+    counted = omega (arith, all_counted lines places places_inside, roots_kept, objects_kept)
 
-    pub header_at : slice_get (reordered lines places) 0 ≡ Some (Header (version_of lines))
-    header_at = header_line kinds lines kept.keeps.follow places places_inside
+    module _ (index i : ℕ) (line : Line) (text : List ℕ) (at : slice_get (reordered lines places) index ≡ Some line) where
+      pub root_text : index ≡ i + 1 → i < length now.roots → slice_get now.roots i ≡ Some text → text ≡ line_text line
+      root_text is below got =
+          text_is (filter is_root lines) now.roots i line text keeps.roots
+          (sym (root_line lines places places_inside index i is (omega (arith, below, roots_kept))) ∙ at) got
 
-    pub root_at : (index i : ℕ) → index ≡ i + 1 → i < now.roots → slice_get (reordered lines places) index ≡ Some (Thread (thread_name lines i))
-    root_at index i is below = root_line kinds lines kept.keeps.follow places places_inside index i is (omega (arith, below, kept.keeps.roots))
+      pub object_text : index ≡ i + length now.roots + 1 → i < length now.objects → slice_get now.objects i ≡ Some text → text ≡ line_text line
+      object_text is below got =
+          text_is (filter is_declaration lines) now.objects i line text keeps.objects
+          (sym (declaration_line lines places places_inside index i (omega (arith, is, roots_kept)) (omega (arith, below, objects_kept))) ∙ at) got
 
-    pub object_at : (index i kind : ℕ) → index ≡ i + now.roots + 1 → i < object_count names → kind ≡ get_or now.objects.items i kind
-        → slice_get (reordered lines places) index ≡ Some (Object (object_name lines i) (name_of_kind (kinds_of now.spec.now) kind))
-    object_at index i kind is below at =
-        let below_kinds : i < length (object_kinds kinds lines) = omega (arith, below, objects_kept, ap length kept.keeps.objects) in
-        let same : get_or (object_kinds kinds lines) i 0 ≡ kind =
-        same_Some (get_or (object_kinds kinds lines) i 0) kind
-        (sym (slice_get-get_or (object_kinds kinds lines) i 0 below_kinds) ∙ (slice_get-get_or (object_kinds kinds lines) i kind below_kinds
-        ∙ ap Some (sym (at ∙ ap (λ l. get_or l i kind) kept.keeps.objects)))) in
-        object_line_at kinds lines kept.keeps.follow places places_inside index i (omega (arith, is, kept.keeps.roots)) (omega (arith, below, kept.stands.object_total))
-        ∙ (λ j. Some (Object (object_name lines i) (name_of_kind (sym kept.keeps.kinds_are j) (same j))))
-
-    pub event_at : (index i p : ℕ) (e : Numbered) → index ≡ i + object_count names + now.roots + 1 → i < length places → p ≡ get_or places i 0
-        → p < length now.events.items → e ≡ get_or now.events.items p e
-        → slice_get (reordered lines places) index ≡ Some (Event (named_event (kinds_of now.spec.now) lines e))
-    event_at index i p e is below at within event =
-        event_line kinds lines kept.keeps.follow places places_inside index i p e (omega (arith, is, kept.keeps.roots, kept.stands.object_total))
-        (slice_get-get_or places i 0 below ∙ ap Some (sym at))
-        (slice_get-get_or (events_of kinds lines) p e (omega (arith, within, ap length kept.keeps.events)) ∙ ap Some (sym (event ∙ ap (λ l. get_or l p e) kept.keeps.events)))
-        ∙ (λ j. Some (Event (named_event (sym kept.keeps.kinds_are j) lines e)))
+      pub event_text : (p : ℕ) → index ≡ i + length now.objects + length now.roots + 1 → slice_get places i ≡ Some p → slice_get now.lines p ≡ Some text → text ≡ line_text line
+      event_text p is placed got =
+          text_is (filter is_event lines) now.lines p line text keeps.texts
+          (sym (event_line lines places places_inside index i p (omega (arith, is, roots_kept, objects_kept)) placed) ∙ at) got

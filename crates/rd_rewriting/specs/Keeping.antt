@@ -1,14 +1,13 @@
 -- What is kept of the accepted lines. This project's profile.
-use Rattle.std.specs.Prelude.{◌≡◌, ℕ, ◌+◌, ◌<◌, ◌≤◌, List, [], ◌∷◌, ◌++◌, All, Option, Some, None, length}
-use Rattle.std.specs.List.{cons_option}
+use Rattle.std.specs.Prelude.{◌≡◌, ℕ, ◌<◌, ◌≤◌, Bool, true, false, if◌then◌else◌, List, [], ◌∷◌, ◌++◌, All, codes, filter, length, map}
 use Rattle.rd_base.specs.Limits.{AreUsable}
 use Rattle.rd_base.specs.declared.limits.Limits.{Limits}
-use Rattle.rd_ecl.specs.Kinds.{Kind, kinds_of}
-use Rattle.rd_event.specs.declared.events.Event.{Event}
+use Rattle.rd_ecl.specs.Kinds.{Kind}
+use Rattle.rd_event.specs.Items.{line_spelling, line_text}
 use Rattle.rd_event.specs.declared.items.Line.{Line}
 use Rattle.rd_rewriting.specs.declared.kept.Kept.{Kept}
-use Rattle.rd_rules.specs.Events.{events_of, root_count}
-use Rattle.rd_rules.specs.MayFollow.{MayFollow, object_kinds, threads_of}
+use Rattle.rd_rewriting.specs.Reordered.{is_declaration}
+use Rattle.rd_rules.specs.MayFollow.{MayFollow, is_event, is_root, is_skip, threads_of}
 use Rattle.rd_wf.specs.Roster.{RosterStandsFor}
 use Rattle.rd_rules.specs.declared.causes.Accepted.{Accepted}
 use Rattle.rd_rules.specs.declared.causes.Accepted.TheVariants as accepted
@@ -26,43 +25,48 @@ abbrev pub FollowFrom : List Kind → List Line → List Line → Type 0
 FollowFrom kinds before [] = Unit {0}
 FollowFrom kinds before (line ∷ lines) = IsFollower kinds before line × FollowFrom kinds (before ++ line ∷ []) lines
 
--- The roots, the kinds of the objects and the events of these lines are kept, each of which may follow those in front of it. The kinds are those of
--- the specification that is kept.
+-- The lines of the roots, of the objects and of the events among these are kept, each with its line feed. Each of the lines may follow those in
+-- front of it.
 pub record KeepsLines (kinds : List Kind) (now : Kept) (lines : List Line) : Type 0 where
-  pub kinds_are : kinds_of now.spec.now ≡ kinds
   pub follow : FollowFrom kinds [] lines
-  pub roots : now.roots ≡ root_count lines
-  pub objects : now.objects.items ≡ object_kinds kinds lines
-  pub events : now.events.items ≡ events_of kinds lines
+  pub roots : now.roots ≡ map line_text (filter is_root lines)
+  pub objects : now.objects ≡ map line_text (filter is_declaration lines)
+  pub texts : now.lines ≡ map line_text (filter is_event lines)
 
--- nothing is kept, and the kinds are those of the specification
-pub record KeepsNothing (kinds : List Kind) (start : Kept) : Type 0 where
-  pub kinds_are : kinds_of start.spec.now ≡ kinds
-  pub no_root : start.roots ≡ 0
-  pub no_object : start.objects.items ≡ []
-  pub no_event : start.events.items ≡ []
+-- nothing is kept
+pub record KeepsNothing (start : Kept) : Type 0 where
+  pub no_root : start.roots ≡ []
+  pub no_object : start.objects ≡ []
+  pub no_text : start.lines ≡ []
 
 -- ---- one line more
 
--- the number of roots with this line, the kind that it declares an object with, and the event that it is
-abbrev pub roots_with : ℕ → Accepted → ℕ
-roots_with roots (accepted.Root thread) = thread + 1
-roots_with roots _ = roots
+-- what is asked of the bytes of a line that isn't skipped: that they are its spelling
+abbrev pub Spells : List ℕ → Line → Type 0
+Spells bytes item = is_skip item ≡ false → bytes ≡ line_spelling item
 
-abbrev pub kind_told : Accepted → Option ℕ
-kind_told (accepted.Object object kind) = Some kind
-kind_told _ = None
+-- what the line is in numbers: a root, an object or an event
+abbrev pub tells_root : Accepted → Bool
+tells_root (accepted.Root thread) = true
+tells_root _ = false
 
-abbrev pub event_told : Accepted → Option Event
-event_told (accepted.Event event) = Some event
-event_told _ = None
+abbrev pub tells_object : Accepted → Bool
+tells_object (accepted.Object object kind) = true
+tells_object _ = false
 
--- what the line is in numbers is kept too
-pub record KeepsMore (old new : Kept) (numbers : Accepted) : Type 0 where
-  pub spec : new.spec.now ≡ old.spec.now
-  pub roots : new.roots ≡ roots_with old.roots numbers
-  pub objects : new.objects.items ≡ old.objects.items ++ cons_option (kind_told numbers) []
-  pub events : new.events.items ≡ old.events.items ++ cons_option (event_told numbers) []
+abbrev pub tells_event : Accepted → Bool
+tells_event (accepted.Event event) = true
+tells_event _ = false
+
+-- the line with these bytes, with its line feed, where it is one
+abbrev pub text_if : Bool → List ℕ → List (List ℕ)
+text_if is bytes = if is then (bytes ++ codes "\n") ∷ [] else []
+
+-- the line with these bytes, which is this in numbers, is kept too
+pub record KeepsMore (old new : Kept) (bytes : List ℕ) (numbers : Accepted) : Type 0 where
+  pub roots : new.roots ≡ old.roots ++ text_if (tells_root numbers) bytes
+  pub objects : new.objects ≡ old.objects ++ text_if (tells_object numbers) bytes
+  pub texts : new.lines ≡ old.lines ++ text_if (tells_event numbers) bytes
 
 -- ---- writing
 
@@ -73,4 +77,4 @@ pub record KeepsNamed (kinds : List Kind) (now : Kept) (names : Roster) (lines :
 
 -- these are places of events
 abbrev pub ArePlaces : Kept → List ℕ → Type 0
-ArePlaces now places = All (λ place. place < length now.events.items) places
+ArePlaces now places = All (λ place. place < length now.lines) places

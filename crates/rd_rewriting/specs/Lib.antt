@@ -1,4 +1,5 @@
 pub mod Ended
 pub mod Keeping
-pub mod Naming
 pub mod Reordered
+pub mod Texts
+pub mod laws

@@ -1,6 +1,5 @@
 -- The lines of a trace in another order. This project's profile.
-use Rattle.std.specs.Prelude.{ℕ, Bool, true, false, not, List, ◌∷◌, ◌++◌, codes, filter, filter_map, flat_map, slice_get}
-use Rattle.rd_event.specs.Items.{line_spelling, line_text}
+use Rattle.std.specs.Prelude.{ℕ, Bool, true, false, not, List, ◌∷◌, ◌++◌, filter, filter_map, slice_get}
 use Rattle.rd_event.specs.declared.items.Line.{Line}
 use Rattle.rd_event.specs.declared.items.Line.TheVariants.{Header, Object}
 use Rattle.rd_rules.specs.MayFollow.{is_event, is_root, is_skip, version_of}

@@ -1,9 +1,9 @@
-//! A trace by numbers: its accepted lines are kept, and written in any order of its events.
+//! The accepted lines of a trace are kept, and written in any order of its events.
 #![tactic(auto)]
 
 mod kept;
-mod names;
 mod refusals;
+mod texts;
 mod writing;
 
 pub use kept::Kept;

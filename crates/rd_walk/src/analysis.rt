@@ -1,5 +1,6 @@
 //! What a command does with each accepted line of a trace.
 ghost use Rattle.std.specs.Prelude.{◌≡◌, ◌+◌, ◌≤◌, ℕ, List, [], ◌∷◌, ◌++◌, OnOk, OnErr};
+ghost use Rattle.rd_event.specs.Items.{Says};
 ghost use Rattle.rd_event.specs.declared.items.Line.{Line as Item};
 ghost use Rattle.rd_walk.specs.Analysis.{IsNextEntry, TellsFault, WritesBetween, WritesFront};
 ghost use Rattle.rd_walk.specs.Walk.{Entry, items};
@@ -41,13 +42,17 @@ pub trait Analysis {
     /// What is written for these accepted lines, from the first on.
     ghost text: { List Kind → Self → List Entry → List ℕ };
 
+    /// What it asks of the bytes of a line that says an item.
+    ghost asks: { List ℕ → Item → Type 0 };
+
     /// How many steps it may take for a line behind other accepted ones, from the first on.
     ghost bound: { List Kind → Self → List Item → Item → ℕ };
 
-    /// Takes the next accepted line. After an `Err` the analysis is used no more.
+    /// Takes the next accepted line, with its bytes without the line feed. After an `Err` the analysis is used no more.
     fn accept<S: Sink, L: Ledger>(
         &mut self,
         number: u64,
+        bytes: &[u8],
         accepted: &Accepted,
         roster: &Roster,
         out: &mut S,
@@ -57,12 +62,12 @@ pub trait Analysis {
             × leads kinds start before self.old
             × IsNextEntry kinds roster.now before number item accepted.now }
 
-        // the lines lead on, and what is written for the line is written, or a front of it
+        // the lines lead on, where the bytes are as it asks, and what is written for the line is written, or a front of it
         ensures leads { OnOk result
             ((kinds : List Kind) (start : Self) (before : List Entry) (item : Item) →
             leads kinds start before self.old →
             IsNextEntry kinds roster.now before number item accepted.now →
-            leads kinds start
+            asks bytes.now item → leads kinds start
             (before ++ record { number = number; item = item } ∷ []) self.new) }
         ensures written { OnOk result
             ((kinds : List Kind) (start : Self) (before : List Entry) (item : Item) →
@@ -105,4 +110,8 @@ pub trait Analysis {
         leads kinds start [] start };
 
     ghost silent: { (kinds : List Kind) (start : Self) → text kinds start [] ≡ [] };
+
+    /// Bytes that say the item are as it asks.
+    ghost said: { (version : ℕ) (bytes : List ℕ) (item : Item) →
+        Says version bytes item → asks bytes item };
 }

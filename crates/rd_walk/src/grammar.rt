@@ -105,7 +105,7 @@ pub fn take_keyword<K: Keyword, A: Analysis, S: Sink, L: Ledger>(
     };
     match walker
         .analysis
-        .accept(number, &accepted, &walker.roster, out, steps)
+        .accept(number, bytes, &accepted, &walker.roster, out, steps)
     {
         Ok(()) => Ok(Taken::Accepted),
         Err(halt) => Err(halt),
@@ -136,7 +136,7 @@ pub fn take_anywhere<A: Analysis, S: Sink, L: Ledger>(
         Ok(accepted) => {
             let Err(halt) = walker
                 .analysis
-                .accept(number, &accepted, &walker.roster, out, steps)
+                .accept(number, bytes, &accepted, &walker.roster, out, steps)
             else {
                 return Ok(Taken::Accepted);
             };

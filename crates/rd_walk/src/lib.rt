@@ -15,4 +15,4 @@ pub use laws::law_of_walks;
 pub use reporting::{Report, report_named, report_trace};
 pub use status::{Ended, Status, ended_status};
 pub use walk::{Taken, WalkEnd, Walker, at_end, take, walk_lines};
-pub use writing::{status_of, write_line, write_lines, write_three};
+pub use writing::{status_of, write_line, write_lines};

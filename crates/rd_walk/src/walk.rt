@@ -122,8 +122,8 @@ fn at_refusal(refused: ReadEnd, number: u64, limits: &Limits) -> WalkEnd
     }
 }
 
-/// Takes an item that the line with this number says, which the walker keeps: where it may follow the accepted ones it is handed on, and
-/// else the walker has the cause. So each walk goes from an item to the next, whatever its lines are read from.
+/// Takes an item that the line with this number says, which the walker keeps, without the bytes of the line: where it may follow the accepted
+/// ones it is handed on, and else the walker has the cause. So each walk goes from an item to the next, whatever its lines are read from.
 pub fn take<A: Analysis, S: Sink, L: Ledger>(
     walker: &mut Walker<A>,
     number: u64,
@@ -131,6 +131,7 @@ pub fn take<A: Analysis, S: Sink, L: Ledger>(
     steps: &mut Steps<L>,
 ) -> Result<Taken, Halt>
     requires usable { AreUsable walker.old.limits }
+    requires asks { A.asks [] walker.old.line }
     requires stands { (kinds : List Kind) × (start : A) × (before : List Entry)
         × RosterStandsFor kinds walker.old.roster (items before)
         × A.leads kinds start before walker.old.analysis × AreBefore number before }
@@ -175,7 +176,7 @@ pub fn take<A: Analysis, S: Sink, L: Ledger>(
         Ok(accepted) => {
             let Err(halt) = walker
                 .analysis
-                .accept(number, &accepted, &walker.roster, out, steps)
+                .accept(number, b"", &accepted, &walker.roster, out, steps)
             else {
                 return Ok(Taken::Accepted);
             };

@@ -1,5 +1,5 @@
 //! Writing lines.
-ghost use Rattle.std.specs.Prelude.{◌≡◌, ◌≢◌, ◌<◌, ◌≤◌, [], ◌++◌, length, OnOk, OnErr, IfErr};
+ghost use Rattle.std.specs.Prelude.{◌≡◌, ◌≢◌, ◌<◌, [], ◌++◌, length, OnOk, OnErr, IfErr};
 ghost use Rattle.rd_io.specs.Sinks.{Appends};
 ghost use Rattle.rd_walk.specs.Analysis.{TellsFault, WritesFront};
 ghost use Rattle.rd_walk.specs.Output.{halted_with};
@@ -50,28 +50,6 @@ pub fn write_lines<S: Sink>(out: &mut S, text: &[u8]) -> Result<(), Halt>
         rest = behind;
     }
     Ok(())
-}
-
-/// The same for a text of three lines, of which the first two end at these places.
-pub fn write_three<S: Sink>(
-    out: &mut S,
-    text: &[u8],
-    first: usize,
-    second: usize,
-) -> Result<(), Halt>
-    requires first { first ≤ second }
-    requires second { second ≤ length text.now }
-    ensures ok { OnOk result (Appends (S.written out.old) (S.written out.new) text.now) }
-    ensures front { OnErr result (WritesFront (S.written out.old) (S.written out.new) [] text.now) }
-    ensures fault { TellsFault (S.faults out.old) (S.faults out.new) (S.at_fault out.new)
-        (S.written out.new) result }
-    ensures only { IfErr result (λ halt. halt ≡ Halt.OutputFault) }
-{
-    let (front, three) = text.split_at(second);
-    let (one, two) = front.split_at(first);
-    write_line(out, one)?;
-    write_line(out, two)?;
-    write_line(out, three)
 }
 
 /// The status of a run that was cut short.

@@ -12,11 +12,11 @@ adjoining_none kinds start begins = record {
   first = refl;
   second = refl;
   keeps = record {
-    kinds_are = begins.nothing.kinds_are;
     follow = tt;
     roots = begins.nothing.no_root;
     objects = begins.nothing.no_object;
-    events = begins.nothing.no_event;
+    texts = begins.nothing.no_text;
   };
+  events = begins.no_event;
   lines = begins.no_line;
 }

@@ -10,10 +10,10 @@ pub leads_none : (kinds : List Kind) (start : Reordering) → ReorderingBegins k
 leads_none kinds start begins = record {
   number = refl;
   keeps = record {
-    kinds_are = begins.kinds_are;
     follow = tt;
-    roots = begins.no_root;
-    objects = begins.no_object;
-    events = begins.no_event;
+    roots = begins.nothing.no_root;
+    objects = begins.nothing.no_object;
+    texts = begins.nothing.no_text;
   };
+  events = begins.no_event;
 }

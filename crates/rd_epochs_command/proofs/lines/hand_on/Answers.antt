@@ -22,7 +22,7 @@ returns-in-Ok-clause-item g c = λ old item was. record {
         (was.judged.1 kinds (items before) stands).0,
         record {
           stands = next.stands;
-          leads = c.in-Ok.ensures.leads kinds start before item led next;
+          leads = c.in-Ok.ensures.leads kinds start before item led next (c.requires.asks item);
           written = c.in-Ok.ensures.written kinds start before item led next;
           cost = c.in-Ok.ensures.cost kinds start before item led next;
         },

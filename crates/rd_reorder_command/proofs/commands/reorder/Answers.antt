@@ -29,7 +29,7 @@ returns-in_err-walker g c =
 pub report_trace-ended-requires-clause-begins : goal.report_trace-ended-requires-clause-begins
 report_trace-ended-requires-clause-begins g c =
     subst (ReorderingBegins (kinds_in c.in_ok-walker.walker.roster)) (sym c.in_ok-walker.ensures.analysis)
-    (subst (λ kinds. ReorderingBegins kinds c.new-reordering.result) (sym c.in_ok-walker.ensures.kinds) c.new-reordering.ensures.begins)
+    (c.new-reordering.ensures.begins (kinds_in c.in_ok-walker.walker.roster))
 
 pub returns : goal.returns
 returns g c =

@@ -1,6 +1,7 @@
 use Rattle.std.proofs.Common.{inl, inr, refl, ap, subst, ◌∙◌, Err}
 use Rattle.std.specs.Prelude.{⊤}
 use Rattle.std.proofs.lemmas.Option.{same_Some}
+use Rattle.rd_event.proofs.ReadingLemmas.{found_said}
 use Rattle.rd_walk.specs.Walk.{items}
 use Rattle.rd_walk.proofs.TakingLemmas.{still}
 use Rattle.rd_walk.proofs.WalkLemmas.{judged_as, judged_bad, judged_broken, next_as}
@@ -23,7 +24,7 @@ returns-in_default-clause-line g c = record {
         judged_as kinds limits (items before) c.args.bytes.now item c.in-Ok.accepted c.accept_bytes.new.self is,
         record {
           stands = is.stands;
-          leads = c.in_default.ensures.leads kinds start before item leads next;
+          leads = c.in_default.ensures.leads kinds start before item leads next (g.met.A.Analysis.said _ c.args.bytes.now item (found_said _ c.args.bytes.now item is.says).1);
           written = c.in_default.ensures.written kinds start before item leads next;
           cost = c.in_default.ensures.cost kinds start before item leads next;
         },

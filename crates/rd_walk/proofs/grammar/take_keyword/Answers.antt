@@ -1,4 +1,5 @@
 use Rattle.std.proofs.Common.{inr, refl}
+use Rattle.rd_event.proofs.ReadingLemmas.{found_said}
 use Rattle.rd_walk.specs.Walk.{items}
 use Rattle.rd_walk.proofs.TakingLemmas.{still, taken_later}
 use Rattle.rd_walk.proofs.WalkLemmas.{judged_as, next_as}
@@ -38,7 +39,7 @@ returns-in-Ok-accept-clause-line g c = record {
         judged_as kinds limits (items before) c.args.bytes.now item c.in-Ok.accepted c.accept_bytes.new.roster is,
         record {
           stands = is.stands;
-          leads = c.in-Ok-accept.ensures.leads kinds start before item leads next;
+          leads = c.in-Ok-accept.ensures.leads kinds start before item leads next (g.met.A.Analysis.said _ c.args.bytes.now item (found_said _ c.args.bytes.now item is.says).1);
           written = c.in-Ok-accept.ensures.written kinds start before item leads next;
           cost = c.in-Ok-accept.ensures.cost kinds start before item leads next;
         },

@@ -33,7 +33,7 @@ returns-in_default-clause-taken g c = λ taken kinds start before stands leads b
       okay.0,
       record {
         stands = okay.2;
-        leads = c.in_default.ensures.leads kinds start before c.args.walker.now.line leads next;
+        leads = c.in_default.ensures.leads kinds start before c.args.walker.now.line leads next c.requires.asks;
         written = c.in_default.ensures.written kinds start before c.args.walker.now.line leads next;
         cost = c.in_default.ensures.cost kinds start before c.args.walker.now.line leads next;
       },

@@ -1,8 +1,7 @@
-use Rattle.std.proofs.Common.{sym, ◌∙◌}
-use Rattle.std.proofs.lemmas.List.{append-nil}
-use Rattle.rd_adjacent_command.proofs.AdjoiningLemmas.{skipped_more}
+use Rattle.std.proofs.Common.{[], sym, ◌∙◌}
+use Rattle.rd_adjacent_command.proofs.AdjoiningLemmas.{events_skipped, skipped_more}
 use Rattle.rd_event.specs.declared.items.Line.TheVariants.{Skip}
-use Rattle.rd_rewriting.proofs.KeepingLemmas.{keeps_entry, nothing_more}
+use Rattle.rd_rewriting.proofs.KeepingLemmas.{keeps_entry, nothing_more, skip_spelled}
 use Rattle.rd_rules.specs.declared.causes.Accepted.TheVariants.{Nothing}
 use Rattle.rd_adjacent_command.proofs.adjoining.AdjoiningAnalysis.law_of_skipped_lines.Goals as goal
 
@@ -12,6 +11,7 @@ returns-clause-leads c = λ kinds start before leads next.
       order = leads.order;
       first = leads.first;
       second = leads.second;
-      keeps = keeps_entry kinds before (record { number = c.args._number; item = Skip }) kept kept c.args._roster.now Nothing leads.keeps next (nothing_more kept);
+      keeps = keeps_entry kinds before (record { number = c.args._number; item = Skip }) [] kept kept c.args._roster.now Nothing leads.keeps next (skip_spelled []) (nothing_more kept []);
+      events = leads.events ∙ sym (events_skipped kinds before c.args._number);
       lines = leads.lines ∙ sym (skipped_more before c.args._number);
     }

@@ -1,8 +1,8 @@
 use Rattle.std.proofs.Common.{refl, sym, subst, ◌∙◌}
 use Rattle.rd_adjacent_command.proofs.EndLemmas.{adjacent_concluded}
+use Rattle.rd_adjacent_command.specs.Adjoining.{AdjoinsNamed}
 use Rattle.rd_adjacent_command.specs.Outcomes.{adjacent_end}
 use Rattle.rd_rewriting.specs.Ended.{ended_as}
-use Rattle.rd_rewriting.specs.Keeping.{KeepsNamed}
 use Rattle.rd_walk.proofs.OutputLemmas.{report_cut}
 use Rattle.rd_walk.specs.Output.{IsOutput, ended_status, fault_outcome}
 use Rattle.rd_walk.specs.Walk.{items}
@@ -11,9 +11,14 @@ use Rattle.rd_wf.proofs.RosterLemmas.{thread_keys}
 use Rattle.rd_wf.specs.Roster.{names_in}
 use Rattle.rd_adjacent_command.proofs.reporting.AdjoiningReport.conclude.Goals as goal
 
+pub write_told-requires : goal.write_told-requires
+write_told-requires g c =
+    let (kinds, start, entries, leads, stands) = c.requires in
+    (kinds, entries, record { named = record { keeps = leads.keeps; stands = stands }; events = leads.events }, leads.lines, leads.order)
+
 pub returns-in-End-clause-output : goal.returns-in-End-clause-output
 returns-in-End-clause-output g c = λ kinds start entries leads stands.
-    let kept : KeepsNamed kinds c.args.self.now.kept c.args.names.now (items entries) = record { keeps = leads.keeps; stands = stands } in
+    let kept : AdjoinsNamed kinds c.args.self.now c.args.names.now (items entries) = record { named = record { keeps = leads.keeps; stands = stands }; events = leads.events } in
     let names = names_in c.args.names.now in
     let first = c.args.self.now.first in
     let second = c.args.self.now.second in

@@ -76,7 +76,7 @@ pub returns-in-Root-clause-leads : goal.returns-in-Root-clause-leads
 returns-in-Root-clause-leads g c = on_ok_weaker c.root.result
     (λ (all : (start : Check) (before : List Entry) (entry : Entry) → Checks start before c.args.self.now
     → IsNextLine (kinds_of start.spec.now) c.args.self.now.tracker (items before) entry.item (accepted.Root c.in-Root.thread) → Checks start (before ++ entry ∷ []) c.root.new.self)
-    kinds start before item leads next. record {
+    kinds start before item leads next asked. record {
       kinds_are = leads.kinds_are;
       checks = all start before (record { number = c.args.number; item = item }) leads.checks
           (subst (IsNextLine (kinds_of start.spec.now) c.args.self.now.tracker (items before) item) c.in-Root.is
@@ -107,7 +107,7 @@ pub returns-in-Event-clause-leads : goal.returns-in-Event-clause-leads
 returns-in-Event-clause-leads g c = on_ok_weaker c.event.result
     (λ (all : (start : Check) (before : List Entry) (item : Line)
     → IsNextEventLine start c.args.self.now before item c.in-Event.event (naming_in c.args.roster.now) (c.events.result - 1)
-    → Checks start (before ++ record { number = c.args.number; item = item } ∷ []) c.event.new.self) kinds start before item leads next. record {
+    → Checks start (before ++ record { number = c.args.number; item = item } ∷ []) c.event.new.self) kinds start before item leads next asked. record {
       kinds_are = leads.kinds_are;
       checks = all start before item
           (ready kinds start c.args.self.now before c.args.number item c.args.roster.now c.args.accepted.now c.in-Event.event c.in-Event.is leads next c.events.result
@@ -144,7 +144,7 @@ returns-in-Event-clause-cost g c = λ kinds start before item leads next.
     (c.events.ensures kinds (items before ++ item ∷ []) next.stands))
 
 pub returns-in-Nothing-clause-leads : goal.returns-in-Nothing-clause-leads
-returns-in-Nothing-clause-leads g c = λ kinds start before item leads next.
+returns-in-Nothing-clause-leads g c = λ kinds start before item leads next asked.
     quiet_leads kinds start c.args.self.now before (record { number = c.args.number; item = item }) c.args.roster.now c.args.accepted.now c.in-Nothing.is leads next
 
 pub returns-in-Nothing-clause-written : goal.returns-in-Nothing-clause-written
@@ -156,7 +156,7 @@ returns-in-Nothing-clause-written g c = λ kinds start before item leads next.
     )
 
 pub returns-in-Nothing-2-clause-leads : goal.returns-in-Nothing-2-clause-leads
-returns-in-Nothing-2-clause-leads g c = λ kinds start before item leads next.
+returns-in-Nothing-2-clause-leads g c = λ kinds start before item leads next asked.
     quiet_leads kinds start c.args.self.now before (record { number = c.args.number; item = item }) c.args.roster.now c.args.accepted.now c.in-Nothing.is leads next
 
 pub returns-in-Nothing-2-clause-written : goal.returns-in-Nothing-2-clause-written

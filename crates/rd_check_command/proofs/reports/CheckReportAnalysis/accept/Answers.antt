@@ -23,8 +23,8 @@ pub returns-in-Ok-clause-leads : goal.returns-in-Ok-clause-leads
 returns-in-Ok-clause-leads g c = on_ok_weaker c.follow.result
     (λ (all : (kinds : List Kind) (before : List Entry) (item : Item) (roster : Roster) → Replayed kinds before c.args.self.now.replayer
     → IsNextEntry kinds roster before c.args.number item c.args.accepted.now → Replayed kinds (before ++ record { number = c.args.number; item = item } ∷ []) c.follow.new.replayer)
-    kinds start before item leads next. record {
-      checks = c.in-Ok.ensures.leads kinds start.check before item leads.checks next;
+    kinds start before item leads next asked. record {
+      checks = c.in-Ok.ensures.leads kinds start.check before item leads.checks next tt;
       replayed = all kinds before item c.args.roster.now leads.replayed next;
     })
     c.follow.ensures.follows

@@ -38,7 +38,7 @@ event-requires g c =
 pub returns-in-Event-clause-leads : goal.returns-in-Event-clause-leads
 returns-in-Event-clause-leads g c = on_ok_weaker c.event.result
     (λ (all : (before : List Entry) (item : Line) → IsNextWatchedEvent before c.args.self.now c.args.number item c.in-Event.event (object_names_in c.args.roster.now) (c.events.result - 1)
-    → Watches (before ++ record { number = c.args.number; item = item } ∷ []) c.event.new.self) kinds start before item leads next. record {
+    → Watches (before ++ record { number = c.args.number; item = item } ∷ []) c.event.new.self) kinds start before item leads next asked. record {
       kinds_are = leads.kinds_are;
       starts = leads.starts;
       watches = all before item
@@ -86,7 +86,7 @@ root-requires g c =
 pub returns-in-Root-clause-leads : goal.returns-in-Root-clause-leads
 returns-in-Root-clause-leads g c = on_ok_weaker c.root.result
     (λ (all : (before : List Entry) (item : Line) → IsNextWatched before c.args.self.now c.args.number item (accepted.Root c.in-Root.thread) → Watches (before ++ record { number = c.args.number; item = item } ∷ []) c.root.new.self)
-    kinds start before item leads next. record {
+    kinds start before item leads next asked. record {
       kinds_are = leads.kinds_are;
       starts = leads.starts;
       watches = all before item
@@ -117,7 +117,7 @@ returns-in-Root-clause-halted g c = always_err _ c.root.result (λ kinds start b
 pub returns-in-Object-clause-leads : goal.returns-in-Object-clause-leads
 returns-in-Object-clause-leads g c = on_ok_weaker c.declare.result
     (λ (all : (before : List Entry) (entry : Entry) (object kind : ℕ) → IsNextWatched before c.args.self.now entry.number entry.item (accepted.Object object kind) → Watches (before ++ entry ∷ []) c.declare.new.self)
-    kinds start before item leads next. record {
+    kinds start before item leads next asked. record {
       kinds_are = leads.kinds_are;
       starts = leads.starts;
       watches = all before (record { number = c.args.number; item = item }) _ _
@@ -146,7 +146,7 @@ returns-in-Object-clause-halted g c = always_err _ c.declare.result (λ kinds st
 -- ---- a line that says nothing
 
 pub returns-in-Nothing-clause-leads : goal.returns-in-Nothing-clause-leads
-returns-in-Nothing-clause-leads g c = λ kinds start before item leads next.
+returns-in-Nothing-clause-leads g c = λ kinds start before item leads next asked.
     quiet_leads kinds start c.args.self.now before (record { number = c.args.number; item = item }) c.args.roster.now leads
     (subst (IsNextEntry kinds c.args.roster.now before c.args.number item) c.in-Nothing.is next)
 

@@ -1,8 +1,8 @@
 use Rattle.std.proofs.Common.{refl, sym, ◌∙◌, subst}
 use Rattle.rd_reorder_command.proofs.OutcomeLemmas.{reorder_concluded}
 use Rattle.rd_reorder_command.specs.Outcomes.{picked_text, written_whole}
+use Rattle.rd_reorder_command.specs.Reordering.{ReordersNamed}
 use Rattle.rd_rewriting.specs.Ended.{ended_as}
-use Rattle.rd_rewriting.specs.Keeping.{KeepsNamed}
 use Rattle.rd_walk.proofs.OutputLemmas.{report_cut}
 use Rattle.rd_walk.specs.Output.{IsOutput, fault_outcome, ended_status}
 use Rattle.rd_walk.specs.Walk.{items}
@@ -14,11 +14,11 @@ use Rattle.rd_reorder_command.proofs.reporting.ReorderingReport.conclude.Goals a
 pub write_picked-requires : goal.write_picked-requires
 write_picked-requires g c =
     let (kinds, start, entries, leads, stands) = c.requires in
-    (kinds, items entries, record { keeps = leads.keeps; stands = stands })
+    (kinds, items entries, record { named = record { keeps = leads.keeps; stands = stands }; events = leads.events })
 
 pub returns-in_ok-write_picked-in-End-clause-output : goal.returns-in_ok-write_picked-in-End-clause-output
 returns-in_ok-write_picked-in-End-clause-output g c = λ kinds start entries leads stands.
-    let kept : KeepsNamed kinds c.args.self.now.kept c.args.names.now (items entries) = record { keeps = leads.keeps; stands = stands } in
+    let kept : ReordersNamed kinds c.args.self.now c.args.names.now (items entries) = record { named = record { keeps = leads.keeps; stands = stands }; events = leads.events } in
     let names = names_in c.args.names.now in
     let number = c.args.self.now.number in
     let text = picked_text kinds (items entries) number in (
@@ -30,7 +30,7 @@ returns-in_ok-write_picked-in-End-clause-output g c = λ kinds start entries lea
 
 pub returns-in_err-write_picked-in-End-clause-output : goal.returns-in_err-write_picked-in-End-clause-output
 returns-in_err-write_picked-in-End-clause-output g c = λ kinds start entries leads stands.
-    let kept : KeepsNamed kinds c.args.self.now.kept c.args.names.now (items entries) = record { keeps = leads.keeps; stands = stands } in
+    let kept : ReordersNamed kinds c.args.self.now c.args.names.now (items entries) = record { named = record { keeps = leads.keeps; stands = stands }; events = leads.events } in
     let names = names_in c.args.names.now in
     let number = c.args.self.now.number in
     let text = picked_text kinds (items entries) number in

@@ -12,5 +12,5 @@ pub returns-clause-leads : goal.returns-clause-leads
 returns-clause-leads g c = on_ok_weaker c.follow.result
     (λ (all : (kinds : List Kind) (before : List Entry) (item : Item) (roster : Roster) → Replayed kinds before c.args.self.now.replayer
     → IsNextEntry kinds roster before c.args.number item c.args.accepted.now → Replayed kinds (before ++ record { number = c.args.number; item = item } ∷ []) c.follow.new.replayer)
-    kinds start before item leads next. all kinds before item c.args._roster.now leads next)
+    kinds start before item leads next asked. all kinds before item c.args._roster.now leads next)
     c.follow.ensures.follows
