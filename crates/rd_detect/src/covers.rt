@@ -4,6 +4,7 @@ ghost use Rattle.rd_detect.specs.Covers.{cover_at, epoch_of, counts_epoch};
 
 mod near;
 
+use near::Guess;
 use rd_base::NoMemory;
 use rd_clock::{Clock, StampRef};
 use rd_store::Witness;
@@ -29,7 +30,7 @@ pub struct Epoch {
 pub struct Covers {
     epochs: Vec<Option<Epoch>>,
     spares: Vec<Option<Rc<Witness>>>,
-    guesses: Vec<u32>,
+    guesses: Vec<Guess>,
 }
 
 impl Model for Covers {

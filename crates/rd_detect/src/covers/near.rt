@@ -26,9 +26,9 @@ fn last_bytes(bytes: &[u8]) -> u64 {
     }
 }
 
-// A number below 65,536 for a point, the same for equal ones: the upper bits of products with odd numbers.
+// The tag of a point, the same for equal ones: the upper half of a product of its parts with odd numbers.
 #[inline(always)]
-fn mixed(point: PointRef) -> usize {
+fn tag(point: PointRef) -> u32 {
     let value = match point.value {
         Some(Value::Int(number)) => number.cast_unsigned(),
         Some(Value::Text(text)) => last_bytes(text.items()),
@@ -39,38 +39,59 @@ fn mixed(point: PointRef) -> usize {
         .wrapping_mul(0x9E37_79B9_7F4A_7C15)
         .wrapping_add(value)
         .wrapping_mul(0xD1B5_4A32_D192_ED03);
-    (mixed >> 48) as usize
+    (mixed >> 32) as u32
+}
+
+/// The tag of a point, and the index at which a point with it was entered last.
+#[derive(Clone, Copy)]
+pub struct Guess {
+    tag: u32,
+    index: u32,
 }
 
 impl Covers {
-    // The place of a point among the guesses, where there are any: their number is a power of two.
+    // The place of a tag among the guesses, where there are any: their number is a power of two.
     #[inline(always)]
-    fn place(&self, point: PointRef) -> usize {
-        mixed(point) & self.guesses.len().wrapping_sub(1)
+    fn place(&self, tag: u32) -> usize {
+        (tag >> 16) as usize & self.guesses.len().wrapping_sub(1)
     }
 
-    // Guesses from now on that a point is at this index. Where more points are entered than there are places, there is room for twice as many.
+    // Makes room for twice as many guesses.
+    // kept out of line, so that a guess doesn't pay for its locals
     #[inline(never)]
-    fn guess(&mut self, point: PointRef, index: usize) -> Result<(), NoMemory>
+    fn make_places(&mut self) -> Result<(), NoMemory>
         ensures { self.new ≡ self.old }
     {
-        let places = self.guesses.len();
-        if index >= places && places < MOST_PLACES {
-            self.guesses.resize(FEWEST_PLACES.max(places * 2), 0)?;
+        let places = FEWEST_PLACES.max(self.guesses.len().saturating_mul(2));
+        self.guesses.resize(places, Guess { tag: 0, index: 0 })?;
+        Ok(())
+    }
+
+    // Guesses from now on that a point with this tag is at this index. There are as many places as points, until there are the most.
+    #[inline(always)]
+    fn guess(&mut self, tag: u32, index: usize) -> Result<(), NoMemory>
+        ensures { self.new ≡ self.old }
+    {
+        if index >= self.guesses.len() && self.guesses.len() < MOST_PLACES {
+            self.make_places()?;
         }
-        let place = self.place(point);
+        let place = self.place(tag);
         if let (Some(guess), Ok(index)) = (self.guesses.get_mut(place), u32::try_from(index)) {
-            *guess = index;
+            *guess = Guess { tag, index };
         }
         Ok(())
     }
 
-    // The index of a point, where the guess is right.
+    // The index of a point with this tag, where the guess is right.
     #[inline(always)]
-    fn near_index(&self, store: &Store, point: PointRef) -> Option<usize>
+    fn near_index(&self, store: &Store, point: PointRef, tag: u32) -> Option<usize>
         ensures { IfSome result (λ index. point_at store.now index ≡ Some (lent_point point.entry)) }
     {
-        let index = *self.guesses.get(self.place(point))? as usize;
+        let guess = self.guesses.get(self.place(tag))?;
+        if guess.tag != tag {
+            return None;
+        }
+        let index = guess.index as usize;
         if store.is_at(index, point) {
             Some(index)
         } else {
@@ -84,7 +105,7 @@ impl Covers {
         ensures { MatchOption result (held_of store.now (lent_point point.entry) ≡ None)
             (λ index. point_at store.now index ≡ Some (lent_point point.entry)) }
     {
-        match self.near_index(store, point) {
+        match self.near_index(store, point, tag(point)) {
             Some(index) => Some(index),
             None => store.index_of(point),
         }
@@ -105,11 +126,12 @@ impl Covers {
         ensures same { IsSameStore store.old store.new }
         ensures covers { self.new ≡ self.old }
     {
-        if let Some(index) = self.near_index(store, point) {
+        let tag = tag(point);
+        if let Some(index) = self.near_index(store, point, tag) {
             return store.enter_at(index, thread);
         }
         let seat = store.enter(point, thread)?;
-        self.guess(point, seat.index)?;
+        self.guess(tag, seat.index)?;
         Ok(seat)
     }
 }
