@@ -7,11 +7,11 @@ ghost use Rattle.rd_points.specs.declared.points.Point.{Point as PointOf};
 ghost use Rattle.rd_store.specs.Lent.{lent_point};
 ghost use Rattle.rd_store.specs.Stores.{point_at};
 
-use crate::covers::Covers;
+use crate::covers::{Covers, Sought};
 use rd_base::{NoMemory, Steps};
 use rd_clock::StampRef;
 use rd_points::law_of_equal_points;
-use rd_store::{PointRef, Store, Witness, law_of_stores};
+use rd_store::{Store, Witness, law_of_stores};
 use std::rc::Rc;
 use std::sync::ledger::Ledger;
 
@@ -71,7 +71,7 @@ fn ask_at<L: Ledger>(
 pub fn ask_others<L: Ledger>(
     store: &Store,
     covers: &mut Covers,
-    point: PointRef,
+    sought: Sought,
     classes: &[u32],
     stamp: StampRef,
     found: Option<Rc<Witness>>,
@@ -80,24 +80,19 @@ pub fn ask_others<L: Ledger>(
     requires { AreTrueFor store.now covers.old stamp.clock.now }
     ensures latest { IfOk result (λ latest. (points : List PointOf)
         → IsLatestOf store.now points stamp.entry.clock.now (option_map (λ held. held.value) found)
-        → IsLatestOf store.now (points ++ map (in_class (lent_point point.entry)) (other_classes point.entry.class classes.now)) stamp.entry.clock.now
+        → IsLatestOf store.now (points ++ map (in_class (lent_point sought.entry.point)) (other_classes sought.entry.point.class classes.now)) stamp.entry.clock.now
         (option_map (λ held. held.value) latest)) }
     ensures covers { CoversKept store.now stamp.entry.clock.now (epoch_of stamp.entry) covers.old covers.new }
     ensures cost { (threads : ℕ) → AreBelow threads store.now
-        → steps.new ≤ steps.old + length (other_classes point.entry.class classes.now) * (threads + 1) }
+        → steps.new ≤ steps.old + length (other_classes sought.entry.point.class classes.now) * (threads + 1) }
 {
     law_of_equal_points();
     let mut found = found;
     for class in classes {
-        if *class == point.class {
+        if *class == sought.point.class {
             continue;
         }
-        let asked = PointRef {
-            object: point.object,
-            class: *class,
-            value: point.value,
-        };
-        match covers.index_of(store, asked) {
+        match covers.index_of(store, sought.in_class(*class)) {
             Some(index) => found = ask_at(store, covers, index, stamp, found, steps)?,
             None => steps.tick(),
         }

@@ -5,6 +5,7 @@ ghost use Rattle.rd_detect.specs.Covers.{cover_at, epoch_of, counts_epoch};
 mod near;
 
 use near::Guess;
+pub use near::Sought;
 use rd_base::NoMemory;
 use rd_clock::{Clock, StampRef};
 use rd_store::Witness;

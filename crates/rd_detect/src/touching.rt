@@ -9,7 +9,7 @@ ghost use Rattle.rd_store.specs.Lent.{lent_point};
 ghost use Rattle.rd_store.specs.Stores.{IsSameStore, point_at};
 
 use crate::asking::{ask_others, ask_own};
-use crate::covers::Covers;
+use crate::covers::{Covers, Sought};
 use arrayvec::ArrayVec;
 use rd_base::{NoMemory, Steps, Value};
 use rd_event::Call;
@@ -71,10 +71,11 @@ pub fn look<L: Ledger>(
     let mut latest = None;
     for touch in touches {
         let point = point(call, *touch);
-        let own = point.class;
+        let sought = Sought::new(point);
+        let own = sought.point.class;
         let classes = table.conflicts(own);
-        latest = ask_others(store, covers, point, classes, seen.stamp, latest, steps)?;
-        let seat = covers.enter(store, point, call.thread)?;
+        latest = ask_others(store, covers, sought, classes, seen.stamp, latest, steps)?;
+        let seat = covers.enter(store, sought, call.thread)?;
         let asked = classes.contains(&own);
         latest = ask_own(store, covers, seat.index, asked, seen.stamp, latest, steps)?;
         seats.push(seat);

@@ -26,20 +26,58 @@ fn last_bytes(bytes: &[u8]) -> u64 {
     }
 }
 
-// The tag of a point, the same for equal ones: the upper half of a product of its parts with odd numbers.
+// What the value of a point counts for in its tags.
 #[inline(always)]
-fn tag(point: PointRef) -> u32 {
-    let value = match point.value {
+fn weight(value: Option<&Value>) -> u64 {
+    match value {
         Some(Value::Int(number)) => number.cast_unsigned(),
         Some(Value::Text(text)) => last_bytes(text.items()),
         _ => 0,
-    };
-    let place = u64::from(point.object) * 4294967296 + u64::from(point.class);
-    let mixed = place
-        .wrapping_mul(0x9E37_79B9_7F4A_7C15)
-        .wrapping_add(value)
-        .wrapping_mul(0xD1B5_4A32_D192_ED03);
-    (mixed >> 32) as u32
+    }
+}
+
+/// A point that is looked for, with what its value counts for in tags, so that the points of other classes are tagged at once.
+#[derive(Clone, Copy)]
+pub struct Sought<'a> {
+    pub point: PointRef<'a>,
+    weight: u64,
+}
+
+impl<'a> Sought<'a> {
+    pub(crate) fn new(point: PointRef<'a>) -> Sought<'a>
+        ensures { result.point ≡ point.entry }
+    {
+        Sought {
+            point,
+            weight: weight(point.value),
+        }
+    }
+
+    // The same in another class.
+    #[inline(always)]
+    pub(crate) fn in_class(self, class: u32) -> Sought<'a>
+        ensures { result.point ≡ record { object = self.entry.point.object; class = class; value = self.entry.point.value } }
+    {
+        Sought {
+            point: PointRef {
+                object: self.point.object,
+                class,
+                value: self.point.value,
+            },
+            weight: self.weight,
+        }
+    }
+
+    // The tag of the point, the same for equal ones: the upper half of a product of its parts with odd numbers.
+    #[inline(always)]
+    fn tag(self) -> u32 {
+        let place = u64::from(self.point.object) * 4294967296 + u64::from(self.point.class);
+        let mixed = place
+            .wrapping_mul(0x9E37_79B9_7F4A_7C15)
+            .wrapping_add(self.weight)
+            .wrapping_mul(0xD1B5_4A32_D192_ED03);
+        (mixed >> 32) as u32
+    }
 }
 
 /// The tag of a point, and the index at which a point with it was entered last.
@@ -101,13 +139,13 @@ impl Covers {
 
     // The index at which a point was entered; none where it wasn't.
     #[inline(always)]
-    pub(crate) fn index_of(&self, store: &Store, point: PointRef) -> Option<usize>
-        ensures { MatchOption result (held_of store.now (lent_point point.entry) ≡ None)
-            (λ index. point_at store.now index ≡ Some (lent_point point.entry)) }
+    pub(crate) fn index_of(&self, store: &Store, sought: Sought) -> Option<usize>
+        ensures { MatchOption result (held_of store.now (lent_point sought.entry.point) ≡ None)
+            (λ index. point_at store.now index ≡ Some (lent_point sought.entry.point)) }
     {
-        match self.near_index(store, point, tag(point)) {
+        match self.near_index(store, sought.point, sought.tag()) {
             Some(index) => Some(index),
-            None => store.index_of(point),
+            None => store.index_of(sought.point),
         }
     }
 
@@ -117,20 +155,20 @@ impl Covers {
     pub(crate) fn enter(
         &mut self,
         store: &mut Store,
-        point: PointRef,
+        sought: Sought,
         thread: u32,
     ) -> Result<Seat, NoMemory>
-        ensures entered { IfOk result (IsSeat store.new thread (lent_point point.entry)) }
+        ensures entered { IfOk result (IsSeat store.new thread (lent_point sought.entry.point)) }
         ensures stay { (index : ℕ) (other : PointOf) → point_at store.old index ≡ Some other
             → point_at store.new index ≡ Some other }
         ensures same { IsSameStore store.old store.new }
         ensures covers { self.new ≡ self.old }
     {
-        let tag = tag(point);
-        if let Some(index) = self.near_index(store, point, tag) {
+        let tag = sought.tag();
+        if let Some(index) = self.near_index(store, sought.point, tag) {
             return store.enter_at(index, thread);
         }
-        let seat = store.enter(point, thread)?;
+        let seat = store.enter(sought.point, thread)?;
         self.guess(tag, seat.index)?;
         Ok(seat)
     }
